@@ -1,0 +1,3 @@
+pub mod Names
+pub mod Times
+pub mod Errors
