@@ -1,3 +1,8 @@
 pub mod Names
 pub mod Times
 pub mod Errors
+pub mod Command
+pub mod History
+pub mod Reply
+pub mod Exchange
+pub mod Machine
