@@ -1,0 +1,9 @@
+pub mod Buffers
+pub mod Forms
+pub mod Frames
+pub mod Inserted
+pub mod KeyAdded
+pub mod Requests
+pub mod Serving
+pub mod SmallReplies
+pub mod Endings

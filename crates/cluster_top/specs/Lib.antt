@@ -1,1 +1,11 @@
 pub mod Collections
+pub mod Commands
+pub mod Fates
+pub mod Forms
+pub mod Framing
+pub mod Headline
+pub mod Kept
+pub mod Replies
+pub mod Serving
+pub mod Taking
+pub mod Words

@@ -1,4 +1,4 @@
-ghost use Rattle.std.specs.Prelude.{◌≡◌, ℕ, ℤ, List, Bool, true, false, ◌||◌, ◌&&◌, IsTrue, OnOk};
+ghost use Rattle.std.specs.Prelude.{◌≡◌, ℕ, ℤ, List, Bool, true, false, ◌||◌, ◌&&◌, IsTrue, OnOk, OnErr};
 ghost use Rattle.std.specs.Ordering.{int_eq};
 ghost use Rattle.std.specs.Str.{bytes_eq};
 
@@ -46,17 +46,21 @@ impl Collections {
         requires { is_created self.old namespace.now ≡ false }
         ensures created { OnOk result ((n : List ℕ) → is_created self.new n ≡ (bytes_eq n namespace.now || is_created self.old n)) }
         ensures kept { OnOk result ((n : List ℕ) (k : ℤ) → is_kept self.new n k ≡ is_kept self.old n k) }
+        ensures err_created { OnErr result ((n : List ℕ) → is_created self.new n ≡ is_created self.old n) }
+        ensures err_kept { OnErr result ((n : List ℕ) (k : ℤ) → is_kept self.new n k ≡ is_kept self.old n k) }
     {
         let name = String::from_str(alloc, namespace)?;
         self.keys.insert(name, BTreeSet::new(alloc))?;
         Ok(())
     }
 
-    /// Keeps a document with the key under a namespace that was created.
+    /// Keeps a document with the key under a namespace that was created. An `Err` changes nothing.
     pub fn keep(&mut self, namespace: &str, key: i32) -> Result<(), AllocError>
         requires { is_created self.old namespace.now ≡ true }
         ensures created { OnOk result ((n : List ℕ) → is_created self.new n ≡ is_created self.old n) }
         ensures kept { OnOk result ((n : List ℕ) (k : ℤ) → is_kept self.new n k ≡ ((bytes_eq n namespace.now && int_eq k key) || is_kept self.old n k)) }
+        ensures err_created { OnErr result ((n : List ℕ) → is_created self.new n ≡ is_created self.old n) }
+        ensures err_kept { OnErr result ((n : List ℕ) (k : ℤ) → is_kept self.new n k ≡ is_kept self.old n k) }
     {
         if let Some(keys) = self.keys.get_mut(namespace) {
             keys.insert(key)?;

@@ -2,3 +2,19 @@
 #![tactic(auto)]
 
 mod collections;
+mod command;
+mod connection;
+mod form;
+mod framing;
+mod pipe;
+mod reply;
+mod request;
+mod server;
+mod store;
+mod streams;
+mod top;
+mod words;
+
+pub use outside::spoken::{Exchange, LinkEnd, Spoken};
+pub use top::{Ended, run};
+pub use words::node_count;

@@ -26,10 +26,12 @@ abbrev mutual
   ReadsValue bytes (int64_value z) = (bytes ≡ to_le_bytes w64 (cast_unsigned w64 z)) × FitsSigned w64 z
   ReadsValue bytes min_key_value = bytes ≡ []
   ReadsValue bytes max_key_value = bytes ≡ []
+
   -- the elements of an array, whatever their names
   pub ReadsItems : List ℕ → Items → Type 0
   ReadsItems bytes no_items = bytes ≡ []
   ReadsItems bytes (item d ds) = (name value rest : List ℕ) × (bytes ≡ element (kind_of d) name value ++ rest) × HasNoZero name × ReadsValue value d × ReadsItems rest ds
+
   -- the elements of a document
   pub ReadsMembers : List ℕ → Members → Type 0
   ReadsMembers bytes no_members = bytes ≡ []

@@ -52,10 +52,12 @@ abbrev mutual
   written_value (int64_value z) = to_le_bytes w64 (cast_unsigned w64 z)
   written_value min_key_value = []
   written_value max_key_value = []
+
   -- the values of an array from this index on
   pub written_items : ℕ → Items → List ℕ
   written_items i no_items = []
   written_items i (item d ds) = element (kind_of d) (decimal i) (written_value d) ++ written_items (i + 1) ds
+
   pub written_members : Members → List ℕ
   written_members no_members = []
   written_members (member name d ms) = element (kind_of d) name (written_value d) ++ written_members ms

@@ -11,9 +11,11 @@ abbrev mutual
   is_value_taken (int32_value z) = true
   is_value_taken (timestamp_value n) = true
   is_value_taken d = false
+
   pub are_items_taken : Items → Bool
   are_items_taken no_items = true
   are_items_taken (item d ds) = is_value_taken d && are_items_taken ds
+
   pub are_members_taken : Members → Bool
   are_members_taken no_members = true
   are_members_taken (member name d ms) = is_value_taken d && are_members_taken ms

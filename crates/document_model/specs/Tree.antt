@@ -21,10 +21,12 @@ mutual
     int64_value : ℤ → Datum
     min_key_value : Datum
     max_key_value : Datum
+
   -- the values of an array, in order
   pub data Items : Type 0 where
     no_items : Items
     item : Datum → Items → Items
+
   -- the members of a document, each a name and a value, in order; names may repeat
   pub data Members : Type 0 where
     no_members : Members
@@ -41,9 +43,11 @@ abbrev mutual
   value_levels (document_value ms) = document_levels ms
   value_levels (array_value ds) = array_levels ds
   value_levels d = 0
+
   pub array_levels : Items → ℕ
   array_levels no_items = 1
   array_levels (item d ds) = max (suc (value_levels d)) (array_levels ds)
+
   pub document_levels : Members → ℕ
   document_levels no_members = 1
   document_levels (member name d ms) = max (suc (value_levels d)) (document_levels ms)

@@ -1,6 +1,6 @@
 -- The history of the clients' writes, and the unsharded collection that it stands for: one map a namespace from
 -- keys to documents.
-use Rattle.std.specs.Prelude.{◌≡◌, ◌<◌, ◌⊎◌, ℕ, ℤ, List, [], ◌∷◌, ◌++◌, Option, Some, None, Bool, false, ◌&&◌, if◌then◌else◌, codes, filter, nat_le}
+use Rattle.std.specs.Prelude.{◌≡◌, ◌<◌, ◌⊎◌, ℕ, ℤ, List, [], ◌∷◌, ◌++◌, Option, Some, None, Bool, false, IsTrue, ◌&&◌, if◌then◌else◌, codes, filter, nat_le}
 use Rattle.std.specs.Ordering.{int_eq}
 use Rattle.std.specs.List.{AllByRecursion}
 use Rattle.std.specs.Str.{bytes_eq}
@@ -92,7 +92,7 @@ IsBefore d e = (d.time < e.time) ⊎ ((d.time ≡ e.time) × (d.shard < e.shard)
 pub record IsSameStatement (d e : Entry) : Type 0 where
   pub number : d.number ≡ e.number
   pub namespace : d.namespace ≡ e.namespace
-  pub key : key_written d.operation ≡ key_written e.operation
+  pub key : IsTrue (same_key (key_written d.operation) (key_written e.operation))
 
 -- An entry may follow these: it comes after each of them, it is told what its operation tells on the document that
 -- they leave, and it is none of their statements.

@@ -6,3 +6,5 @@ pub mod History
 pub mod Reply
 pub mod Exchange
 pub mod Machine
+pub mod Laws
+pub mod Examples

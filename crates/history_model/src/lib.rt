@@ -1,3 +1,12 @@
 //! What the cluster does with documents: names, times, entries, the history that they make, and the right replies.
-//! Definitions, and the laws between them.
+//! Definitions, and the laws between them: a law is a function that does nothing, whose contract is the law.
 #![tactic(auto)]
+
+pub mod examples;
+mod laws;
+
+pub use laws::{
+    later_writes_tell_later, machine_makes_one_history, no_entry_twice, one_command, one_document,
+    one_run, others_untouched, own_entry, refused_leaves, second_insert_is_refused,
+    told_writes_stand,
+};

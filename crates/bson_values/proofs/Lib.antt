@@ -1,0 +1,2 @@
+pub mod NameTests
+pub mod Views

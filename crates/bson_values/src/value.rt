@@ -1,0 +1,224 @@
+//! Values, and the documents and arrays that hold them.
+
+ghost use Rattle.std.specs.Prelude.{◌≡◌, ◌≤◌, length, All, OnOk, OnErr};
+ghost use Rattle.document_model.specs.Tree.{no_items, item, joined_items, no_members, member, joined};
+ghost use Rattle.bson_values.specs.Sizes.{datum_size, items_size, members_size};
+ghost use Rattle.bson_values.specs.Sound.{IsDatum, AreItems, AreMembers};
+ghost use Rattle.bson_values.specs.View.{datum_of, items_of, members_of};
+
+use crate::text::{Blob, Memory, Name, Text};
+use std::alloc::Global;
+use std::marker::Model;
+
+/// A value of one of the kept types (BSON 1.1, `element`).
+#[cycle(value)]
+#[derive(Drop)]
+pub enum Value {
+    /// A UTF-8 string, type 02.
+    Text(Text),
+    /// A document, type 03.
+    Doc(Document),
+    /// An array, type 04.
+    Array(Array),
+    /// Bytes and their subtype, type 05.
+    Binary { subtype: u8, bytes: Blob },
+    /// An ObjectId, type 07.
+    ObjectId([u8; 12]),
+    /// A boolean, type 08.
+    Bool(bool),
+    /// A date, type 09, in milliseconds since 1970.
+    Date(i64),
+    /// Null, type 0A.
+    Null,
+    /// A 32-bit number, type 10.
+    Int32(i32),
+    /// A timestamp, type 11: seconds in the high 32 bits, a count in the low.
+    Timestamp(u64),
+    /// A 64-bit number, type 12.
+    Int64(i64),
+    /// The least value, type FF.
+    MinKey,
+    /// The greatest value, type 7F.
+    MaxKey,
+}
+
+/// A member of a document.
+#[cycle(value)]
+#[derive(Drop)]
+pub struct Member {
+    pub name: Name,
+    pub value: Value,
+}
+
+/// A document: members in order, whose names may repeat.
+#[cycle(value)]
+#[derive(Drop)]
+pub struct Document {
+    pub(crate) members: Vec<Member>,
+}
+
+/// An array: values in order.
+#[cycle(value)]
+#[derive(Drop)]
+pub struct Array {
+    pub(crate) values: Vec<Value>,
+}
+
+impl Model for Document {
+    ghost use Rattle.document_model.specs.Tree.{Members};
+    ghost use Rattle.bson_values.specs.Code.{members_code};
+
+    ghost Value = { Members };
+
+    ghost coded = { members_code };
+
+    ghost use Rattle.bson_values.specs.View.{members_of};
+    ghost use Rattle.bson_values.specs.Sound.{AreMembers};
+    ghost use Rattle.bson_values.specs.Sizes.{members_size};
+
+    ghost view = { λ d. members_of d.members.items };
+
+    ghost invariant = { λ d. AreMembers (members_of d.members.items) };
+
+    ghost size = { members_size };
+
+    ghost use Rattle.bson_values.specs.Falls.{members_fall};
+
+    ghost size_decreases = { λ d h. members_fall d.members.items };
+}
+
+impl Model for Array {
+    ghost use Rattle.document_model.specs.Tree.{Items};
+    ghost use Rattle.bson_values.specs.Code.{items_code};
+
+    ghost Value = { Items };
+
+    ghost coded = { items_code };
+
+    ghost use Rattle.bson_values.specs.View.{items_of};
+    ghost use Rattle.bson_values.specs.Sound.{AreItems};
+    ghost use Rattle.bson_values.specs.Sizes.{items_size};
+
+    ghost view = { λ a. items_of a.values.items };
+
+    ghost invariant = { λ a. AreItems (items_of a.values.items) };
+
+    ghost size = { items_size };
+
+    ghost use Rattle.bson_values.specs.Falls.{items_fall};
+
+    ghost size_decreases = { λ a h. items_fall a.values.items };
+}
+
+// The length that the type states.
+fn look_at_id(bytes: &[u8; 12])
+    ensures { length bytes.now ≡ 12 }
+{
+    let _bytes = *bytes;
+}
+
+impl Value {
+    // What the types alone say of the value; each arm touches it, so that the fact is known.
+    fn look(&self)
+        ensures { IsDatum (datum_of self.now) }
+    {
+        match self {
+            Value::Text(text) => {
+                let _text = text.as_str();
+            }
+            Value::Doc(document) => {
+                let _members = &document.members;
+            }
+            Value::Array(array) => {
+                let _values = &array.values;
+            }
+            Value::Binary { subtype, bytes: _ } => {
+                let _subtype = *subtype;
+            }
+            Value::ObjectId(bytes) => {
+                look_at_id(bytes);
+            }
+            Value::Bool(_) => {}
+            Value::Date(n) => {
+                let _n = *n;
+            }
+            Value::Null => {}
+            Value::Int32(n) => {
+                let _n = *n;
+            }
+            Value::Timestamp(n) => {
+                let _n = *n;
+            }
+            Value::Int64(n) => {
+                let _n = *n;
+            }
+            Value::MinKey => {}
+            Value::MaxKey => {}
+        }
+    }
+}
+
+impl Document {
+    /// The document without members.
+    pub fn new(alloc: Global) -> Document
+        ensures { result ≡ no_members }
+    {
+        Document {
+            members: Vec::new(alloc),
+        }
+    }
+
+    /// Puts a member behind the others. Fails for want of memory, and then changes nothing.
+    #[tactic(auto, using(crate::proofs::Views::pushed_members))]
+    pub fn push(&mut self, name: Name, value: Value) -> Result<(), Memory>
+        ensures ok { OnOk result (self.new ≡ joined self.old (member name (datum_of value) no_members)) }
+        ensures err { OnErr result (self.new ≡ self.old) }
+    {
+        let _name = name.as_str();
+        value.look();
+        self.members.push(Member { name, value })?;
+        Ok(())
+    }
+
+    /// The members, in order.
+    #[tactic(auto, using(crate::proofs::Views::members_inside))]
+    pub fn members(&self) -> &[Member]
+        ensures members { members_of result.now ≡ self.now }
+        ensures inside { All (λ m. datum_size (datum_of m.value) ≤ members_size self.now) result.now }
+        ensures sound { AreMembers self.now }
+    {
+        self.members.as_slice()
+    }
+}
+
+impl Array {
+    /// The array without values.
+    pub fn new(alloc: Global) -> Array
+        ensures { result ≡ no_items }
+    {
+        Array {
+            values: Vec::new(alloc),
+        }
+    }
+
+    /// Puts a value behind the others. Fails for want of memory, and then changes nothing.
+    #[tactic(auto, using(crate::proofs::Views::pushed_items))]
+    pub fn push(&mut self, value: Value) -> Result<(), Memory>
+        ensures ok { OnOk result (self.new ≡ joined_items self.old (item (datum_of value) no_items)) }
+        ensures err { OnErr result (self.new ≡ self.old) }
+    {
+        value.look();
+        self.values.push(value)?;
+        Ok(())
+    }
+
+    /// The values, in order.
+    #[tactic(auto, using(crate::proofs::Views::items_inside))]
+    pub fn values(&self) -> &[Value]
+        ensures values { items_of result.now ≡ self.now }
+        ensures inside { All (λ v. datum_size (datum_of v) ≤ items_size self.now) result.now }
+        ensures sound { AreItems self.now }
+    {
+        self.values.as_slice()
+    }
+}

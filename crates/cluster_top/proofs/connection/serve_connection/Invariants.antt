@@ -1,0 +1,21 @@
+use Rattle.std.proofs.Common.{◌≡◌, ℕ, List, ◌+◌, ◌-◌, ◌*◌, ◌^◌, ◌≤◌, ◌++◌, length}
+use Rattle.outside.specs.Streams.{Took}
+use Rattle.wire_model.specs.Frames.{IsPartial}
+use Rattle.cluster_top.specs.Kept.{time_of}
+use Rattle.cluster_top.specs.Serving.{Serving}
+use Rattle.cluster_top.proofs.connection.serve_connection.Given as goal
+
+abbrev pub decreases-loop-taken : goal.decreases-loop-taken
+decreases-loop-taken g l = l.limit - l.taken
+
+-- what was taken is requests that were answered, and what the buffer holds, which begins no whole one
+abbrev pub invariant-loop-taken : goal.invariant-loop-taken
+invariant-loop-taken g l = record {
+  most : l.taken ≤ l.limit;
+  partial : IsPartial l.buffer.items;
+  answered : l.server.answered + length l.buffer.items ≤ l.taken;
+  time : time_of l.server.store ≤ 2 ^ 63 + 2 * l.server.answered;
+  source_later : g.S.Source.fault_count l.fn.input ≤ g.S.Source.fault_count l.input;
+  sink_later : g.K.Sink.fault_count l.fn.out ≤ g.K.Sink.fault_count l.out;
+  went : (consumed : List ℕ) × (length consumed + length l.buffer.items ≡ l.taken) × Took g.S.Source.tells (g.S.Source.left l.fn.input) (consumed ++ l.buffer.items) (g.S.Source.left l.input) × Serving (g.C.Clock.gives l.clock) g.K.Sink.tells (g.K.Sink.held l.fn.out) (g.K.Sink.held l.out) consumed l.server;
+}

@@ -1,0 +1,56 @@
+use Rattle.std.proofs.Common.{◌≡◌, ◌≤◌, ℕ, ◌+◌, ◌++◌, List, length, take, drop, arith, sym, subst, ap, ◌∙◌}
+use Rattle.std.proofs.lemmas.List.{take_rest}
+use Rattle.wire_model.specs.Frames.{IsPartial, IsMalformed}
+use Rattle.wire_model.specs.Outline.{IsBytes}
+use Rattle.wire_model.proofs.Outlines.{outline_partial, outline_malformed}
+use Rattle.cluster_top.specs.Serving.{Serving, Stopped}
+use Rattle.cluster_top.proofs.Frames.{seen_at, seen_some, passed_bytes}
+use Rattle.cluster_top.proofs.pipe.answer_all.Goals as goal
+
+pub returns-in-Partial-clause-served : goal.returns-in-Partial-clause-served
+returns-in-Partial-clause-served g c = λ held_before consumed s.
+    (subst IsPartial (take_rest c.args.bytes.now c.requests.at) ((outline_partial _).0 (sym c.in-Partial.ensures)), c.requests.invariant.served held_before consumed s)
+
+pub returns-in-Malformed-clause-served : goal.returns-in-Malformed-clause-served
+returns-in-Malformed-clause-served g c = λ held_before consumed s.
+    (subst IsMalformed (take_rest c.args.bytes.now c.requests.at) (outline_malformed _ (sym c.in-Malformed.ensures)), c.requests.invariant.served held_before consumed s)
+
+pub answer_one-requires-clause-request : goal.answer_one-requires-clause-request
+answer_one-requires-clause-request g c = (seen_at c.args.bytes.now c.requests.at c.in-Request.whole (λ i. omega (arith, c.type_inv.bytes i)) c.requests.invariant.within c.in-Request.ensures).0
+
+pub overflow_add-at : goal.overflow_add-at
+overflow_add-at g c = let here = seen_at c.args.bytes.now c.requests.at c.in-Request.whole (λ i. omega (arith, c.type_inv.bytes i)) c.requests.invariant.within c.in-Request.ensures in record { fits = omega (arith, here.1, c.requires.count) }
+
+pub requests-smaller : goal.requests-smaller
+requests-smaller g c =
+    let are : IsBytes c.args.bytes.now = λ i. omega (arith, c.type_inv.bytes i) in
+    let here = seen_at c.args.bytes.now c.requests.at c.in-Request.whole are c.requests.invariant.within c.in-Request.ensures in
+    omega (arith, here.1, seen_some c.args.bytes.now c.requests.at c.in-Request.whole are c.requests.invariant.within c.in-Request.ensures)
+
+pub requests-preserved : goal.requests-preserved
+requests-preserved g c =
+    let are : IsBytes c.args.bytes.now = λ i. omega (arith, c.type_inv.bytes i) in
+    let here = seen_at c.args.bytes.now c.requests.at c.in-Request.whole are c.requests.invariant.within c.in-Request.ensures in
+    let some = seen_some c.args.bytes.now c.requests.at c.in-Request.whole are c.requests.invariant.within c.in-Request.ensures in
+    record {
+      within = here.1;
+      answered = omega (arith, c.answer_one.ensures.answered c.in-Answered.is, c.requests.invariant.answered, some);
+      time = omega (arith, c.answer_one.ensures.answered c.in-Answered.is, c.answer_one.ensures.time c.in-Answered.is, c.requests.invariant.time);
+      later = omega (arith, c.answer_one.ensures.later);
+      served = λ held_before consumed s.
+          subst (λ (bytes : List ℕ). Serving (g.C.Clock.gives c.args.clock.now) g.K.Sink.tells held_before (g.K.Sink.held c.answer_one.new.out) bytes c.answer_one.new.server)
+          (passed_bytes consumed c.args.bytes.now c.requests.at c.in-Request.whole)
+          (c.in-Answered.ensures.served held_before (consumed ++ take c.requests.at c.args.bytes.now) (c.requests.invariant.served held_before consumed s));
+    }
+
+pub overflow_add-result : goal.overflow_add-result
+overflow_add-result g c = let here = seen_at c.args.bytes.now c.requests.at c.in-Request.whole (λ i. omega (arith, c.type_inv.bytes i)) c.requests.invariant.within c.in-Request.ensures in record { fits = omega (arith, here.1, c.requires.count) }
+
+pub returns-in-WriteFailed-clause-within : goal.returns-in-WriteFailed-clause-within
+returns-in-WriteFailed-clause-within g c = (seen_at c.args.bytes.now c.requests.at c.in-Request.whole (λ i. omega (arith, c.type_inv.bytes i)) c.requests.invariant.within c.in-Request.ensures).1
+
+pub returns-in-WriteFailed-clause-served : goal.returns-in-WriteFailed-clause-served
+returns-in-WriteFailed-clause-served g c = λ held_before consumed s.
+    subst (λ (bytes : List ℕ). Stopped (g.C.Clock.gives c.args.clock.now) g.K.Sink.tells held_before (g.K.Sink.held c.answer_one.new.out) bytes)
+    (passed_bytes consumed c.args.bytes.now c.requests.at c.in-Request.whole)
+    (c.in-WriteFailed.ensures.served held_before (consumed ++ take c.requests.at c.args.bytes.now) (c.requests.invariant.served held_before consumed s))

@@ -1,0 +1,17 @@
+use Rattle.std.proofs.Common.{ℕ, List, ◌+◌, ◌-◌, ◌*◌, ◌^◌, ◌≤◌, ◌++◌, length, take}
+use Rattle.cluster_top.specs.Kept.{time_of}
+use Rattle.cluster_top.specs.Serving.{Serving}
+use Rattle.cluster_top.proofs.pipe.answer_all.Given as goal
+
+abbrev pub decreases-requests : goal.decreases-requests
+decreases-requests g l = length l.bytes - l.at
+
+-- the requests before the place were answered
+abbrev pub invariant-requests : goal.invariant-requests
+invariant-requests g l = record {
+  within : l.at ≤ length l.bytes;
+  answered : l.server.answered ≤ l.fn.server.answered + l.at;
+  time : time_of l.server.store ≤ 2 ^ 63 + 2 * l.server.answered;
+  later : g.K.Sink.fault_count l.fn.out ≤ g.K.Sink.fault_count l.out;
+  served : (held_before consumed : List ℕ) → Serving (g.C.Clock.gives l.clock) g.K.Sink.tells held_before (g.K.Sink.held l.fn.out) consumed l.fn.server → Serving (g.C.Clock.gives l.clock) g.K.Sink.tells held_before (g.K.Sink.held l.out) (consumed ++ take l.at l.bytes) l.server;
+}

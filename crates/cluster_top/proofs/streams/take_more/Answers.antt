@@ -1,0 +1,24 @@
+use Rattle.std.specs.Prelude.{replicate}
+use Rattle.std.proofs.Common.{◌-◌, ◌≡◌, ◌≤◌, ℕ, List, length, take, drop, vec_len, ◌+◌, ◌++◌, arith, ap, sym, ◌∙◌, true, false, Ok}
+use Rattle.std.specs.Result.{is_ok, result_unwrap_or}
+use Rattle.std.proofs.lemmas.List.{length-take-le}
+use Rattle.cluster_top.proofs.Buffers.{taken_into}
+use Rattle.cluster_top.proofs.streams.take_more.Goals as goal
+
+pub returns-in-Ok-clause-taken : goal.returns-in-Ok-clause-taken
+returns-in-Ok-clause-taken g c =
+    let told : c.unwrap_or.result ≡ c.in-Ok.count = c.unwrap_or.ensures ∙ ap (λ r. result_unwrap_or r 0) c.in-Ok.is in
+    let grown : is_ok c.resize.result ≡ true = grind (arith, c.is_err.ensures.negation, c.if-is_err.false) in
+    let len : vec_len c.resize.new.self ≡ c.len-held.result + c.args.room = rw grown at c.resize.ensures.len in
+    let items = rw grown at c.resize.ensures.items in
+    let old_len : c.len-held.result ≡ length c.args.buffer.now.items = omega (arith, c.len-held.ensures, c.args.buffer.now.ok) in
+    let cut = rw told at c.truncate.ensures.items in
+    let done = taken_into c.args.buffer.now.items c.resize.new.self.items c.deref_mut.result.now c.take-count.new.buf _ _ c.truncate.new.self.items c.len-held.result c.args.room c.in-Ok.count _ old_len (items ∙ ap (λ k. take (c.len-held.result + c.args.room) c.args.buffer.now.items ++ replicate (c.len-held.result + c.args.room - k) 0) (sym c.len-held.ensures ∙ old_len)) c.deref_mut.ensures.value c.in-Ok.ensures.len c.in-Ok.ensures.count len cut in
+    record {
+      bytes = take c.in-Ok.count c.take-count.new.buf;
+      buffer = done.0;
+      took = c.in-Ok.ensures.took;
+      count_of = length-take-le c.in-Ok.count c.take-count.new.buf done.1;
+      some = c.if-count-gt0.true;
+      most = done.2;
+    }

@@ -1,0 +1,86 @@
+//! One connection, from its first byte to its last.
+
+ghost use Rattle.std.specs.Prelude.{◌≡◌, ◌≤◌, ◌^◌, take, drop, vec_len};
+ghost use Rattle.outside.specs.Causes.{Rose};
+ghost use Rattle.cluster_top.specs.Headline.{Machine};
+
+use crate::framing::unframed;
+use crate::pipe::{Stop, answer_all};
+use crate::server::Server;
+use crate::streams::{Taken, take_more};
+use outside::clock::Clock;
+use outside::streams::{Sink, Source};
+use std::alloc::Global;
+
+/// The most bytes that are asked of a source at once.
+const PIECE: u64 = 65_536;
+
+/// How a connection ended: its status, and how many of the bytes taken stand after the last whole request.
+#[derive(Clone, Copy, Debug, PartialEq, Eq)]
+pub struct Ending {
+    pub status: u8,
+    pub rest: u64,
+}
+
+fn ended(status: u8, rest: usize) -> Ending
+    ensures status { result.status ≡ status }
+    ensures rest { result.rest ≡ rest }
+{
+    Ending {
+        status,
+        rest: rest as u64,
+    }
+}
+
+/// Drops the first `count` bytes.
+fn drop_front(buffer: &mut Vec<u8>, count: usize)
+    requires { count ≤ vec_len buffer.old }
+    ensures { buffer.new.items ≡ drop count buffer.old.items }
+{
+    let left = buffer.len() - count;
+    buffer.rotate_left(count);
+    buffer.truncate(left);
+}
+
+/// Serves the requests of one connection, in which at most `limit` bytes are taken. Each whole request is served, at one
+/// moment of the clock, before more is taken.
+pub fn serve_connection<S: Source, K: Sink, C: Clock>(
+    alloc: Global,
+    input: &mut S,
+    out: &mut K,
+    clock: &C,
+    limit: u64,
+) -> Ending
+    requires { limit ≤ 2 ^ 40 }
+    ensures machine { Machine (record {
+      source_tells = S.tells;
+      left_before = S.left input.old;
+      left_after = S.left input.new;
+      source_failed = Rose (S.fault_count input.old) (S.fault_count input.new);
+      sink_tells = K.tells;
+      held_before = K.held out.old;
+      held_after = K.held out.new;
+      sink_failed = Rose (K.fault_count out.old) (K.fault_count out.new);
+    }) (C.gives clock.now) limit result.status result.rest }
+{
+    let mut server = Server::new(alloc);
+    let mut buffer = Vec::new(alloc);
+    let mut taken = 0;
+    while taken < limit {
+        let room = (limit - taken).min(PIECE) as usize;
+        match take_more(input, &mut buffer, room) {
+            Taken::Bytes(count) => taken += count as u64,
+            Taken::End => return ended(0, buffer.len()),
+            Taken::Failed => return ended(3, buffer.len()),
+            Taken::NoMemory => return ended(7, buffer.len()),
+        }
+        let round = answer_all(alloc, &buffer, &mut server, out, clock);
+        match round.stop {
+            Stop::Partial => drop_front(&mut buffer, round.at),
+            Stop::Malformed => return ended(9, buffer.len() - round.at),
+            Stop::WriteFailed => return ended(4, unframed(&buffer[round.at..])),
+            Stop::NoMemory => return ended(7, unframed(&buffer[round.at..])),
+        }
+    }
+    ended(10, buffer.len())
+}

@@ -1,0 +1,41 @@
+-- The bytes of a request ask for one command, where they spell one document.
+use Rattle.std.proofs.Common.{◌≡◌, ℕ, ℤ, List, refl, sym, ap, subst, ◌∙◌}
+use Rattle.std.specs.Prelude.{codes, Some}
+use Rattle.document_model.specs.Tree.{Members}
+use Rattle.document_model.specs.Grammar.{ReadsAs}
+use Rattle.history_model.specs.Names.{full_name}
+use Rattle.history_model.proofs.Documents.{one_document}
+use Rattle.history_model.specs.Command.{Command, insert_command, id_document, insert_body, first_name, IsInsert, AsksFor, asks_insert, asks_unknown, asks_otherwise, Asks, asks_read, asks_faulty}
+
+same_insert : (body : Members) (database collection base set : List ℕ) (n m : ℤ) → IsInsert body database collection n → IsInsert body base set m → insert_command (full_name database collection) (id_document n) ≡ insert_command (full_name base set) (id_document m)
+same_insert body database collection base set n m is are =
+    let e : insert_body collection (id_document n) database ≡ insert_body set (id_document m) base = sym is.form ∙ are.form in
+    cc
+
+-- an insert's body begins with that name
+named_insert : (body : Members) (database collection : List ℕ) (n : ℤ) → IsInsert body database collection n → first_name body ≡ Some (codes "insert")
+named_insert body database collection n is = ap first_name is.form
+
+-- a document asks for one command
+pub asks_for_one : (body : Members) (c d : Command) → AsksFor body c → AsksFor body d → c ≡ d
+asks_for_one body _ _ (asks_insert database collection n is) (asks_insert base set m are) = same_insert body database collection base set n m is are
+asks_for_one body _ _ (asks_insert database collection n is) (asks_unknown other) = absurd (other (named_insert body database collection n is))
+asks_for_one body _ _ (asks_insert database collection n is) (asks_otherwise named none) = absurd (none database collection n is)
+asks_for_one body _ _ (asks_unknown other) (asks_insert database collection n is) = absurd (other (named_insert body database collection n is))
+asks_for_one body _ _ (asks_unknown other) (asks_unknown another) = refl
+asks_for_one body _ _ (asks_unknown other) (asks_otherwise named none) = absurd (other named)
+asks_for_one body _ _ (asks_otherwise named none) (asks_insert database collection n is) = absurd (none database collection n is)
+asks_for_one body _ _ (asks_otherwise named none) (asks_unknown other) = absurd (other named)
+asks_for_one body _ _ (asks_otherwise named none) (asks_otherwise same never) = refl
+
+-- whatever shows that bytes spell one document
+pub one_command : (spells_one : (bytes : List ℕ) (a b : Members) → ReadsAs bytes a → ReadsAs bytes b → a ≡ b) → (bytes : List ℕ) (c d : Command) → Asks bytes c → Asks bytes d → c ≡ d
+one_command spells_one bytes c d (asks_read body _ reads taken asks) (asks_read other _ also kept wants) =
+    asks_for_one body c d asks (subst (λ (ms : Members). AsksFor ms d) (spells_one bytes other body also reads) wants)
+one_command spells_one bytes c _ (asks_read body _ reads taken asks) (asks_faulty none) = absurd (none body reads taken)
+one_command spells_one bytes _ d (asks_faulty none) (asks_read body _ reads taken asks) = absurd (none body reads taken)
+one_command spells_one bytes _ _ (asks_faulty none) (asks_faulty never) = refl
+
+-- the bytes of a request ask for one command
+pub asks_one : (bytes : List ℕ) (c d : Command) → Asks bytes c → Asks bytes d → c ≡ d
+asks_one = one_command one_document

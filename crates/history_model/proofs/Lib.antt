@@ -1,0 +1,10 @@
+pub mod Lists
+pub mod Keys
+pub mod Stores
+pub mod Runs
+pub mod Documents
+pub mod Asked
+pub mod Standing
+pub mod Determined
+pub mod Sample
+pub mod Growing

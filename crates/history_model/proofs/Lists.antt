@@ -1,0 +1,41 @@
+-- What holds of each item of a list, and what stands in one.
+use Rattle.std.proofs.Common.{◌≡◌, ◌⊎◌, inl, inr, List, [], ◌∷◌, ◌++◌, refl, sym, ap, subst}
+use Rattle.std.specs.List.{AllByRecursion}
+use Rattle.history_model.specs.History.{IsIn}
+
+pub all_push : {X : Type 0} (P : X → Type 0) (xs : List X) (y : X) → AllByRecursion P xs → P y → AllByRecursion P (xs ++ y ∷ [])
+all_push P [] y all one = (one, tt)
+all_push P (x ∷ xs) y all one = (all.0, all_push P xs y all.1 one)
+
+pub all_weaken : {X : Type 0} (P Q : X → Type 0) (xs : List X) → ((x : X) → P x → Q x) → AllByRecursion P xs → AllByRecursion Q xs
+all_weaken P Q [] f all = tt
+all_weaken P Q (x ∷ xs) f all = (f x all.0, all_weaken P Q xs f all.1)
+
+pub in_first : {X : Type 0} (x : X) (xs : List X) → IsIn x (x ∷ xs)
+in_first x xs = ([], xs, refl)
+
+pub in_later : {X : Type 0} (x y : X) (xs : List X) → IsIn x xs → IsIn x (y ∷ xs)
+in_later x y xs (front, back, e) = (y ∷ front, back, ap (λ l. y ∷ l) e)
+
+pub in_cons : {X : Type 0} (x y : X) (xs : List X) → IsIn x (y ∷ xs) → (x ≡ y) ⊎ IsIn x xs
+in_cons {X = X} x y xs i = by_front i.0 i.1 i.2
+  where
+    by_front : (front back : List X) → y ∷ xs ≡ front ++ x ∷ back → (x ≡ y) ⊎ IsIn x xs
+    by_front [] back e = inl (cc)
+    by_front (f ∷ front) back e = inr (front, back, cc)
+
+pub in_none : {X : Type 0} (x : X) → IsIn x [] → ⊥
+in_none {X = X} x i = by_front i.0 i.1 i.2
+  where
+    by_front : (front back : List X) → [] ≡ front ++ x ∷ back → ⊥
+    by_front [] back e = cc
+    by_front (f ∷ front) back e = cc
+
+-- what holds of each item holds of one that stands there
+pub all_at : {X : Type 0} (P : X → Type 0) (x : X) (xs : List X) → AllByRecursion P xs → IsIn x xs → P x
+all_at P x [] all i = absurd (in_none x i)
+all_at P x (y ∷ xs) all i = by_cases (in_cons x y xs i) (λ j. all_at P x xs all.1 j)
+  where
+    by_cases : (x ≡ y) ⊎ IsIn x xs → (IsIn x xs → P x) → P x
+    by_cases (inl e) later = subst P (sym e) all.0
+    by_cases (inr j) later = later j

@@ -1,0 +1,103 @@
+-- The two inserts, one after the other.
+use Rattle.std.proofs.Common.{◌≡◌, ◌⊎◌, inl, inr, ℕ, ◌≤◌, ◌<◌, [], ◌∷◌, refl, sym, ap, subst, ◌∙◌, arith, rules}
+use Rattle.std.specs.Prelude.{Some}
+use Rattle.history_model.specs.Times.{timestamp}
+use Rattle.history_model.specs.Errors.{duplicate_key}
+use Rattle.history_model.specs.History.{StatementNumber, Entry, IsIn, done, fails_with}
+use Rattle.history_model.specs.Reply.{write_reply, operation_time}
+use Rattle.history_model.specs.Exchange.{Exchange, IsEntryOf, IsRight, right_write, right_refusal, IsFresh, number_for}
+use Rattle.history_model.specs.Machine.{serves, nothing_more, empty_store, store_after}
+use Rattle.history_model.specs.Examples.{command, done_reply, duplicate_reply, entry_at, first, first_entry, second, second_entry}
+use Rattle.history_model.proofs.Lists.{in_first, in_later, in_cons, in_none}
+use Rattle.history_model.proofs.Runs.{fresh_insert}
+use Rattle.history_model.proofs.Standing.{nothing_told}
+use Rattle.history_model.proofs.Sample.{request_asks}
+use Rattle.history_model.proofs.examples.told.Goals as goal
+
+pub returns-clause-runs : goal.returns-clause-runs
+returns-clause-runs c =
+    serves empty_store _ 1000000 (1000000 ∷ []) command first (second ∷ []) request_asks refl
+    (serves (store_after empty_store 1000000 command) _ 1000000 [] command second [] request_asks refl (nothing_more _))
+
+is_first : IsEntryOf first first_entry
+is_first = record { document = _; asked = request_asks; operation = refl; number = refl }
+
+is_second : IsEntryOf second second_entry
+is_second = record { document = _; asked = request_asks; operation = refl; number = refl }
+
+sent_by : (e : Entry) → (e ≡ first_entry) ⊎ IsIn e (second_entry ∷ []) → (x : Exchange) × IsIn x (first ∷ second ∷ []) × IsEntryOf x e
+sent_by e (inl same) = (first, in_first first (second ∷ []), subst (λ (d : Entry). IsEntryOf first d) (sym same) is_first)
+sent_by e (inr i) = by_second (in_cons e second_entry [] i)
+  where
+    by_second : (e ≡ second_entry) ⊎ IsIn e [] → (x : Exchange) × IsIn x (first ∷ second ∷ []) × IsEntryOf x e
+    by_second (inl same) = (second, in_later second first (second ∷ []) (in_first second []), subst (λ (d : Entry). IsEntryOf second d) (sym same) is_second)
+    by_second (inr j) = absurd (in_none e j)
+
+told_first : (t : ℕ) → operation_time first.reply ≡ Some t → t ≤ first_entry.time
+told_first t shows =
+    let same : timestamp 1000 2 ≡ t = cc in
+    omega arith
+
+told_second : (t : ℕ) → operation_time second.reply ≡ Some t → t ≤ second_entry.time
+told_second t shows =
+    let same : timestamp 1000 3 ≡ t = cc in
+    omega arith
+
+nothing_fresh : IsFresh [] []
+nothing_fresh x y e t i j earlier k is shows = absurd (in_none x i)
+
+second_fresh : IsFresh (second_entry ∷ []) (second ∷ [])
+second_fresh = fresh_insert 2 2 second [] second_entry [] (search rules) refl told_second tt nothing_fresh
+
+both_fresh : IsFresh (first_entry ∷ second_entry ∷ []) (first ∷ second ∷ [])
+both_fresh = fresh_insert 0 1 first (second ∷ []) first_entry (second_entry ∷ []) (search rules) refl told_first (search rules) second_fresh
+
+pub returns-clause-one : goal.returns-clause-one
+returns-clause-one c = record {
+  legal = search rules;
+  sent = λ e i. sent_by e (in_cons e first_entry (second_entry ∷ []) i);
+  right = (
+    right_write first_entry (in_first first_entry (second_entry ∷ [])) is_first refl,
+    (right_write second_entry (in_later second_entry first_entry (second_entry ∷ []) (in_first second_entry [])) is_second refl, tt),
+  );
+  fresh = both_fresh;
+}
+
+pub returns-clause-lost : goal.returns-clause-lost
+returns-clause-lost c one = nothing_told (first ∷ second ∷ []) first done (timestamp 1000 2) one (in_first first (second ∷ [])) refl
+
+-- the first request with the second's reply
+abbrev mixed : Exchange
+mixed = record first { reply = Some duplicate_reply }
+
+not_told : (e : Entry) → IsEntryOf mixed e → mixed.reply ≡ Some (write_reply e.outcome e.time) → (e ≡ first_entry) ⊎ IsIn e (second_entry ∷ []) → ⊥
+not_told e is told (inl same) =
+    let reply : duplicate_reply ≡ done_reply = (let s : Some duplicate_reply ≡ Some (write_reply e.outcome e.time) = told in
+    let r : duplicate_reply ≡ write_reply e.outcome e.time = cc in
+    r ∙ ap (λ (d : Entry). write_reply d.outcome d.time) same) in
+    cc
+not_told e is told (inr i) = by_second (in_cons e second_entry [] i)
+  where
+    by_second : (e ≡ second_entry) ⊎ IsIn e [] → ⊥
+    by_second (inl same) =
+        let number : (number_for mixed 0).session ≡ second_entry.number.session = ap (λ (n : StatementNumber). n.session) (sym is.number ∙ ap (λ (d : Entry). d.number) same) in
+        cc
+    by_second (inr j) = in_none e j
+
+not_right : IsRight (first_entry ∷ second_entry ∷ []) mixed → ⊥
+not_right (right_write e i is told) = not_told e is told (in_cons e first_entry (second_entry ∷ []) i)
+not_right (right_refusal refusal asks told) = cc
+
+pub returns-clause-wrong : goal.returns-clause-wrong
+returns-clause-wrong c = not_right
+
+abbrev stale_entry : Entry
+stale_entry = entry_at (timestamp 1000 2) 2 (fails_with duplicate_key)
+
+is_stale : IsEntryOf second stale_entry
+is_stale = record { document = _; asked = request_asks; operation = refl; number = refl }
+
+pub returns-clause-stale : goal.returns-clause-stale
+returns-clause-stale c fresh =
+    let less : timestamp 1000 2 < timestamp 1000 2 = fresh first second stale_entry (timestamp 1000 2) (in_first first (second ∷ [])) (in_later second first (second ∷ []) (in_first second [])) (omega arith) (in_later stale_entry first_entry (stale_entry ∷ []) (in_first stale_entry [])) is_stale refl in
+    omega arith

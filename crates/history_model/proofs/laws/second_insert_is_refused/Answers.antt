@@ -1,0 +1,6 @@
+-- The first insert leaves a document, which stands until the second.
+use Rattle.history_model.proofs.Standing.{second_insert_is_refused}
+use Rattle.history_model.proofs.laws.second_insert_is_refused.Goals as goal
+
+pub returns : goal.returns
+returns c = second_insert_is_refused

@@ -1,0 +1,6 @@
+-- Causes: what a count of faults says of an error.
+use Rattle.std.specs.Prelude.{ℕ, ◌+◌, ◌-◌, ◌^◌, ◌≤◌, min}
+
+-- The count rose. At its last value, 2^64 - 1, it is said to have risen, since it stays there.
+abbrev pub Rose : ℕ → ℕ → Type 0
+Rose before after = min (before + 1) (2 ^ 64 - 1) ≤ after

@@ -1,0 +1,14 @@
+//! Places in the program where a test may hold it.
+
+/// A place that the program passes.
+#[derive(Clone, Copy, Debug, PartialEq, Eq)]
+pub enum Place {
+    /// Before a node's second worker evaluates its half of a request.
+    Half,
+}
+
+/// What stands at the places.
+pub trait Gate {
+    /// The program passes this place.
+    fn pass(&self, place: Place);
+}

@@ -1,0 +1,46 @@
+//! What was said on a link.
+use bson_values::Blob;
+
+/// A link that ended, and what was said on it.
+#[derive(Drop)]
+pub struct Spoken<L> {
+    /// The link, as it was at its end.
+    pub link: L,
+    /// Why it ended.
+    pub end: LinkEnd,
+    /// The requests with their replies, in the order in which the requests came.
+    pub said: Vec<Exchange>,
+}
+
+/// One request, with its reply if there was one.
+#[derive(Debug, Drop)]
+pub struct Exchange {
+    /// The number of the step that took the request.
+    pub came: u64,
+    /// The number of the step that gave the reply, or `came` where there is none.
+    pub step: u64,
+    /// The bytes of the request's whole message.
+    pub request: Blob,
+    /// The bytes of the reply's whole message.
+    pub reply: Option<Blob>,
+}
+
+/// Why a link ended.
+#[derive(Clone, Copy, Debug, PartialEq, Eq)]
+pub enum LinkEnd {
+    /// The link was at its end.
+    AtEnd,
+    /// The next bytes begin no message (MongoDB manual, "Wire Protocol").
+    NoFrame {
+        /// The place of the fault, in bytes from the link's first.
+        place: u64,
+    },
+    /// A fault was met while bytes were taken from the link.
+    ReadFault,
+    /// A fault was met while bytes were put into the link.
+    WriteFault,
+    /// 2^40 bytes were taken from the link.
+    Long,
+    /// No memory was found for a message or a reply.
+    Lost,
+}

@@ -1,0 +1,101 @@
+//! Streams of bytes: where bytes come from, where bytes go to, and the links that clients open.
+ghost use Rattle.std.specs.Prelude.{◌≡◌, ℕ, ◌<◌, ◌≤◌, List, [], length, take, Bool, IsTrue, IfOk, OnErr};
+ghost use Rattle.outside.specs.Causes.{Rose};
+ghost use Rattle.outside.specs.Streams.{Took, Put};
+
+/// The device failed. What it was asked for was not done, and its count of faults rose.
+#[derive(Clone, Copy, Debug, PartialEq, Eq)]
+pub struct Failed;
+
+/// A stream that bytes are taken from.
+pub trait Source {
+    // Whether the type tells which bytes it gives.
+    ghost tells: { Bool };
+
+    // The bytes that are left, where the type tells them.
+    ghost left: { Self → List ℕ };
+
+    // How many faults the source met.
+    ghost fault_count: { Self → ℕ };
+
+    // What a take leaves alone. Where the value is a sink too, it is what that holds, and its count of faults.
+    ghost beside: { Self → List ℕ × ℕ } = { λ _. ([], 0) };
+
+    /// Takes bytes into the front of `buf`, and gives their number, of which 0 for a `buf` with room is the end.
+    /// It may take fewer than there is room for.
+    ///
+    /// # Errors
+    /// `Failed` if the source met a fault: no byte was taken, and the fault is counted.
+    fn take(&mut self, buf: &mut [u8]) -> Result<usize, Failed>
+        ensures count { IfOk result (λ n. n ≤ length buf.old) }
+        ensures len { length buf.new ≡ length buf.old }
+        ensures took { IfOk result (λ n. Took tells (left self.old) (take n buf.new) (left self.new)) }
+        ensures at_end { IfOk result (λ n. 0 < length buf.old → n ≡ 0 → IsTrue tells → left self.new ≡ []) }
+        ensures nothing { OnErr result (Took tells (left self.old) [] (left self.new)) }
+        ensures cause { OnErr result (Rose (fault_count self.old) (fault_count self.new)) }
+        ensures later { fault_count self.old ≤ fault_count self.new }
+        ensures aside { beside self.new ≡ beside self.old };
+}
+
+/// A stream that bytes are put into.
+pub trait Sink {
+    // Whether the type tells which bytes it holds.
+    ghost tells: { Bool };
+
+    // The bytes that were put, where the type tells them.
+    ghost held: { Self → List ℕ };
+
+    // How many faults the sink met.
+    ghost fault_count: { Self → ℕ };
+
+    // What a put leaves alone. Where the value is a source too, it is what that has left, and its count of faults.
+    ghost beside: { Self → List ℕ × ℕ } = { λ _. ([], 0) };
+
+    /// Puts bytes of the front of `piece`, and gives their number: at least one, if `piece` has any.
+    ///
+    /// # Errors
+    /// `Failed` if the sink met a fault: no byte was put, and the fault is counted.
+    fn put(&mut self, piece: &[u8]) -> Result<usize, Failed>
+        ensures count { IfOk result (λ n. n ≤ length piece.now) }
+        ensures some { IfOk result (λ n. 0 < length piece.now → 0 < n) }
+        ensures put { IfOk result (λ n. Put tells (held self.old) (take n piece.now) (held self.new)) }
+        ensures nothing { OnErr result (Put tells (held self.old) [] (held self.new)) }
+        ensures cause { OnErr result (Rose (fault_count self.old) (fault_count self.new)) }
+        ensures later { fault_count self.old ≤ fault_count self.new }
+        ensures aside { beside self.new ≡ beside self.old };
+}
+
+/// A client's link: requests are taken from it, and replies are put into it. Each direction has its own count of
+/// faults.
+pub trait Link: Source + Sink {
+    // A take leaves alone what was put and the faults of puts.
+    ghost take_is_apart: { (l : Self) → Self.Source.beside l ≡ (Self.Sink.held l, Self.Sink.fault_count l) };
+
+    // A put leaves alone what is left and the faults of takes.
+    ghost put_is_apart: { (l : Self) → Self.Sink.beside l ≡ (Self.Source.left l, Self.Source.fault_count l) };
+}
+
+/// A place where clients open links.
+pub trait Acceptor {
+    /// What a client opens.
+    type Link: Link + Drop;
+
+    // How many faults the acceptor met.
+    ghost fault_count: { Self → ℕ };
+
+    /// Listens on a port from here on.
+    ///
+    /// # Errors
+    /// `Failed` if the acceptor met a fault, which is counted.
+    fn listen(&mut self, port: u16) -> Result<(), Failed>
+        ensures cause { OnErr result (Rose (fault_count self.old) (fault_count self.new)) }
+        ensures later { fault_count self.old ≤ fault_count self.new };
+
+    /// The next link that a client opens.
+    ///
+    /// # Errors
+    /// `Failed` if the acceptor met a fault, which is counted.
+    fn next(&mut self) -> Result<Self::Link, Failed>
+        ensures cause { OnErr result (Rose (fault_count self.old) (fault_count self.new)) }
+        ensures later { fault_count self.old ≤ fault_count self.new };
+}

@@ -1,0 +1,5 @@
+pub mod Bytes
+pub mod Fronts
+pub mod Outlines
+pub mod Readings
+pub mod Speaking
