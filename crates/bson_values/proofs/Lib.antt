@@ -1,2 +1,16 @@
+pub mod Again
+pub mod Copies
+pub mod KindTests
+pub mod Leaves
+pub mod Lengths
+pub mod Levels
+pub mod NameScan
 pub mod NameTests
+pub mod Puts
+pub mod ReadLoop
+pub mod Spelled
+pub mod Steps
+pub mod Takes
+pub mod Utf8Tests
 pub mod Views
+pub mod Whole

@@ -1,5 +1,5 @@
 -- Lists of members and values, seen as data.
-use Rattle.std.proofs.Common.{◌≡◌, ◌≤◌, ℕ, get_or, List, [], ◌∷◌, ◌++◌, ap, refl, arith}
+use Rattle.std.proofs.Common.{length, ◌≡◌, ◌≤◌, ℕ, get_or, List, [], ◌∷◌, ◌++◌, ap, refl, arith}
 use Rattle.std.specs.List.{All}
 use Rattle.std.proofs.lemmas.List.Elements.{All-cons}
 use Rattle.document_model.specs.Tree.{Datum, Items, no_items, item, Members, no_members, member, joined, joined_items}
@@ -7,7 +7,7 @@ use Rattle.document_model.specs.Grammar.{HasNoZero}
 use Rattle.std.specs.Str.{IsUtf8}
 use Rattle.bson_values.specs.declared.value.Member.{Member}
 use Rattle.bson_values.specs.declared.value.Value.{Value}
-use Rattle.bson_values.specs.Sizes.{datum_size, items_size, members_size}
+use Rattle.bson_values.specs.Sizes.{datum_size, items_count, items_size, members_count, members_size}
 use Rattle.bson_values.specs.Sound.{IsDatum, AreItems, AreMembers}
 use Rattle.bson_values.specs.View.{datum_of, members_of, items_of}
 
@@ -38,3 +38,11 @@ pub items_inside : (vs : List Value) → All (λ v. datum_size (datum_of v) ≤ 
 items_inside [] = λ k d l. absurd (omega arith)
 items_inside (v ∷ vs) =
     All-cons (λ (v' : Value). datum_size (datum_of v') ≤ items_size (items_of (v ∷ vs))) v vs (omega arith) (λ k d l. let below : datum_size (datum_of (get_or vs k d)) ≤ items_size (items_of vs) = items_inside vs k d l in omega arith)
+
+pub count_members : (ms : List Member) → members_count (members_of ms) ≡ length ms
+count_members [] = refl
+count_members (m ∷ ms) = omega (arith, count_members ms)
+
+pub count_items : (vs : List Value) → items_count (items_of vs) ≡ length vs
+count_items [] = refl
+count_items (v ∷ vs) = omega (arith, count_items vs)

@@ -1,7 +1,12 @@
 -- What a reader answers.
-use Rattle.std.specs.Prelude.{◌≡◌, Result, Ok, Err}
-use Rattle.bson_values.specs.declared.reading.BsonFault.{BsonFault}
-use Rattle.bson_values.specs.declared.reading.BsonFault.TheVariants.{Memory}
+use Rattle.std.specs.Prelude.{◌≡◌, ℕ, Option, Some, None, Result, Ok, Err}
+use Rattle.bson_values.specs.declared.fault.BsonFault.{BsonFault}
+use Rattle.bson_values.specs.declared.fault.BsonFault.TheVariants.{Short, BadLength, BadType, BadText, BadBool, Deep, Trailing, Memory}
+
+infixl 10 ◌>>=◌
+abbrev pub ◌>>=◌ : {A B : Type 0} → Result A BsonFault → (A → Result B BsonFault) → Result B BsonFault
+(Ok x) >>= f = f x
+(Err e) >>= f = Err e
 
 -- Unless memory ran out, an error is this one.
 abbrev pub Fails : {Y : Type 0} → BsonFault → Result Y BsonFault → Type 0
@@ -12,3 +17,13 @@ Fails e read = read ≡ Err e
 abbrev pub Gives : {X Y : Type 0} → (X → Y) → Result X BsonFault → Result Y BsonFault → Type 0
 Gives view (Ok x) read = read ≡ Ok (view x)
 Gives view (Err e) read = Fails e read
+
+abbrev pub fault_place : BsonFault → Option ℕ
+fault_place (Short place) = Some place
+fault_place (BadLength place) = Some place
+fault_place (BadType place byte) = Some place
+fault_place (BadText place) = Some place
+fault_place (BadBool place) = Some place
+fault_place (Deep place) = Some place
+fault_place (Trailing place) = Some place
+fault_place Memory = None

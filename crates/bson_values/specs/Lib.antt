@@ -1,7 +1,10 @@
 pub mod Code
 pub mod Falls
 pub mod Faults
+pub mod Kinds
 pub mod Names
+pub mod Reading
+pub mod Rests
 pub mod Sizes
 pub mod Sound
 pub mod View

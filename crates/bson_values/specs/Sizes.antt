@@ -15,3 +15,12 @@ abbrev mutual
   pub members_size : Members → ℕ
   members_size no_members = 0
   members_size (member name d ms) = datum_size d + members_size ms
+
+-- how many members stand in a document, and how many values in an array
+abbrev pub members_count : Members → ℕ
+members_count no_members = 0
+members_count (member name d ms) = members_count ms + 1
+
+abbrev pub items_count : Items → ℕ
+items_count no_items = 0
+items_count (item d ds) = items_count ds + 1

@@ -2,12 +2,16 @@
 #![tactic(auto)]
 
 mod copying;
+mod fault;
+mod kind;
 mod reading;
+mod scan;
 mod text;
 mod value;
 mod writing;
 
-pub use reading::{BsonFault, read};
+pub use fault::BsonFault;
+pub use reading::{one_spelling, read};
 pub use text::{Blob, Memory, Name, Text, is_name};
 pub use value::{Array, Document, Member, Value};
 pub use writing::write;

@@ -1,8 +1,8 @@
 //! Values, and the documents and arrays that hold them.
 
-ghost use Rattle.std.specs.Prelude.{◌≡◌, ◌≤◌, length, All, OnOk, OnErr};
+ghost use Rattle.std.specs.Prelude.{◌≡◌, ◌≤◌, ◌==◌, length, All, OnOk, OnErr};
 ghost use Rattle.document_model.specs.Tree.{no_items, item, joined_items, no_members, member, joined};
-ghost use Rattle.bson_values.specs.Sizes.{datum_size, items_size, members_size};
+ghost use Rattle.bson_values.specs.Sizes.{datum_size, items_count, items_size, members_count, members_size};
 ghost use Rattle.bson_values.specs.Sound.{IsDatum, AreItems, AreMembers};
 ghost use Rattle.bson_values.specs.View.{datum_of, items_of, members_of};
 
@@ -168,6 +168,21 @@ impl Document {
         }
     }
 
+    /// How many members there are.
+    #[tactic(auto, using(crate::proofs::Views::count_members))]
+    pub fn len(&self) -> usize
+        ensures { result ≡ members_count self.now }
+    {
+        self.members.len()
+    }
+
+    /// Whether there is no member.
+    pub fn is_empty(&self) -> bool
+        ensures { result ≡ (members_count self.now == 0) }
+    {
+        self.len() == 0
+    }
+
     /// Puts a member behind the others. Fails for want of memory, and then changes nothing.
     #[tactic(auto, using(crate::proofs::Views::pushed_members))]
     pub fn push(&mut self, name: Name, value: Value) -> Result<(), Memory>
@@ -199,6 +214,21 @@ impl Array {
         Array {
             values: Vec::new(alloc),
         }
+    }
+
+    /// How many values there are.
+    #[tactic(auto, using(crate::proofs::Views::count_items))]
+    pub fn len(&self) -> usize
+        ensures { result ≡ items_count self.now }
+    {
+        self.values.len()
+    }
+
+    /// Whether there is no value.
+    pub fn is_empty(&self) -> bool
+        ensures { result ≡ (items_count self.now == 0) }
+    {
+        self.len() == 0
     }
 
     /// Puts a value behind the others. Fails for want of memory, and then changes nothing.

@@ -1,15 +1,23 @@
 //! Writing a document as bytes.
 
-ghost use Rattle.std.specs.Prelude.{◌≡◌, ◌≤◌, ◌++◌, length, OnOk, OnErr};
+ghost use Rattle.std.specs.Prelude.{◌≡◌, ◌≤◌, ◌<◌, ◌+◌, ◌-◌, ◌^◌, ◌∷◌, [], ◌++◌, length, take, drop, OnOk, OnErr};
+ghost use Rattle.std.specs.Int.{w32, w64, to_le_bytes};
 ghost use Rattle.document_model.specs.Tree.{document_levels};
-ghost use Rattle.document_model.specs.Spelling.{written};
+ghost use Rattle.document_model.specs.Spelling.{kind_of, string, framed, written, written_value, written_items, written_members};
 ghost use Rattle.document_model.specs.Grammar.{ReadsAs};
+ghost use Rattle.bson_values.specs.View.{datum_of};
 
 use crate::text::Memory;
-use crate::value::Document;
+use crate::value::{Array, Document, Value};
+use byteorder::{ByteOrder, LittleEndian};
+use itoa::Buffer;
 
-/// Puts the document's one spelling behind the bytes (BSON 1.1, `document`). Fails for want of memory, and then
-/// leaves the bytes as they were.
+#[cfg(test)]
+mod tests;
+
+/// Puts the document's one spelling behind the bytes (BSON 1.1, `document`). The document has at most 104 levels and
+/// its spelling at most 200,000,000 bytes. Fails for want of memory, and then leaves the bytes as they were.
+#[tactic(auto, using(crate::proofs::Spelled::written_spelled))]
 pub fn write(doc: &Document, out: &mut Vec<u8>) -> Result<(), Memory>
     requires levels { document_levels doc.now ≤ 104 }
     requires size { length (written doc.now) ≤ 200000000 }
@@ -18,7 +26,192 @@ pub fn write(doc: &Document, out: &mut Vec<u8>) -> Result<(), Memory>
     ensures spells { OnOk result (ReadsAs (written doc.now) doc.now) }
     ensures err { OnErr result (out.new.items ≡ out.old.items) }
 {
-    let _doc = doc;
-    let _out = out;
-    Err(Memory)
+    let _members = doc.members();
+    let len = out.len();
+    let done = put_document(doc, out);
+    if done.is_err() {
+        out.truncate(len);
+    }
+    done
+}
+
+/// The byte that names the type (BSON 1.1, `element`).
+fn kind(value: &Value) -> u8
+    ensures { result ≡ kind_of (datum_of value.now) }
+{
+    match value {
+        Value::Text(_) => 0x02,
+        Value::Doc(_) => 0x03,
+        Value::Array(_) => 0x04,
+        Value::Binary { .. } => 0x05,
+        Value::ObjectId(_) => 0x07,
+        Value::Bool(_) => 0x08,
+        Value::Date(_) => 0x09,
+        Value::Null => 0x0a,
+        Value::Int32(_) => 0x10,
+        Value::Timestamp(_) => 0x11,
+        Value::Int64(_) => 0x12,
+        Value::MinKey => 0xff,
+        Value::MaxKey => 0x7f,
+    }
+}
+
+/// Puts the bytes.
+fn put(bytes: &[u8], out: &mut Vec<u8>) -> Result<(), Memory>
+    ensures ok { OnOk result (out.new.items ≡ out.old.items ++ bytes.now) }
+    ensures err { OnErr result (out.new.items ≡ out.old.items) }
+{
+    out.extend_from_slice(bytes)?;
+    Ok(())
+}
+
+/// Puts the number's four bytes, the lowest first.
+fn put_u32(n: u32, out: &mut Vec<u8>) -> Result<(), Memory>
+    ensures ok { OnOk result (out.new.items ≡ out.old.items ++ to_le_bytes w32 n) }
+    ensures err { OnErr result (out.new.items ≡ out.old.items) }
+{
+    let mut bytes = [0; 4];
+    LittleEndian::write_u32(&mut bytes, n);
+    put(&bytes, out)
+}
+
+/// Puts the number's eight bytes, the lowest first.
+fn put_u64(n: u64, out: &mut Vec<u8>) -> Result<(), Memory>
+    ensures ok { OnOk result (out.new.items ≡ out.old.items ++ to_le_bytes w64 n) }
+    ensures err { OnErr result (out.new.items ≡ out.old.items) }
+{
+    let mut bytes = [0; 8];
+    LittleEndian::write_u64(&mut bytes, n);
+    put(&bytes, out)
+}
+
+/// Puts what stands before a value: its type, its name and 00.
+fn put_head(kind: u8, name: &str, out: &mut Vec<u8>) -> Result<(), Memory>
+    ensures ok { OnOk result (out.new.items ≡ out.old.items ++ (kind ∷ name.now ++ 0 ∷ [])) }
+    ensures kept { take (length out.old.items) out.new.items ≡ out.old.items }
+{
+    put(&[kind], out)?;
+    put(name.as_bytes(), out)?;
+    put(&[0], out)
+}
+
+/// Puts a text: its length with the last 00, its bytes, and 00 (BSON 1.1, `string`).
+fn put_text(text: &str, out: &mut Vec<u8>) -> Result<(), Memory>
+    requires { length text.now + 1 < 2 ^ 32 }
+    ensures ok { OnOk result (out.new.items ≡ out.old.items ++ string text.now) }
+    ensures kept { take (length out.old.items) out.new.items ≡ out.old.items }
+{
+    put_u32(text.len() as u32 + 1, out)?;
+    put(text.as_bytes(), out)?;
+    put(&[0], out)
+}
+
+/// Puts bytes: their number, the subtype, and themselves (BSON 1.1, `binary`).
+fn put_binary(subtype: u8, bytes: &[u8], out: &mut Vec<u8>) -> Result<(), Memory>
+    requires { length bytes.now < 2 ^ 32 }
+    ensures ok { OnOk result (out.new.items ≡ out.old.items ++ (to_le_bytes w32 (length bytes.now) ++ (subtype ∷ bytes.now))) }
+    ensures kept { take (length out.old.items) out.new.items ≡ out.old.items }
+{
+    put_u32(bytes.len() as u32, out)?;
+    put(&[subtype], out)?;
+    put(bytes, out)
+}
+
+/// Writes the number over the four bytes at that place, the lowest first.
+fn set_u32(at: usize, n: u32, bytes: &mut [u8])
+    requires { at + 4 ≤ length bytes.old }
+    ensures { bytes.new ≡ take at bytes.old ++ (to_le_bytes w32 n ++ drop (at + 4) bytes.old) }
+{
+    LittleEndian::write_u32(&mut bytes[at..], n);
+}
+
+/// Ends a document that begins at `start` with room for its length: puts the last 00, and then the length, which is
+/// that of all bytes from `start` on (BSON 1.1, `document`).
+fn end_document(start: usize, out: &mut Vec<u8>) -> Result<(), Memory>
+    requires room { start + 4 ≤ length out.old.items }
+    requires short { length out.old.items + 1 - start < 2 ^ 32 }
+    ensures ok { OnOk result (out.new.items ≡ take start out.old.items ++ framed (drop (start + 4) out.old.items)) }
+    ensures err { OnErr result (out.new.items ≡ out.old.items) }
+{
+    put(&[0], out)?;
+    let len = (out.len() - start) as u32;
+    set_u32(start, len, out.as_mut_slice());
+    Ok(())
+}
+
+/// Puts a value's bytes.
+#[cycle(writing)]
+fn put_value(value: &Value, out: &mut Vec<u8>) -> Result<(), Memory>
+    requires { length (written_value (datum_of value.now)) ≤ 200000000 }
+    ensures ok { OnOk result (out.new.items ≡ out.old.items ++ written_value (datum_of value.now)) }
+    ensures kept { take (length out.old.items) out.new.items ≡ out.old.items }
+{
+    match value {
+        Value::Text(text) => put_text(text.as_str(), out),
+        Value::Doc(document) => put_document(document, out),
+        Value::Array(array) => put_array(array, out),
+        Value::Binary { subtype, bytes } => put_binary(*subtype, bytes.as_slice(), out),
+        Value::ObjectId(bytes) => put(bytes, out),
+        Value::Bool(b) => put(&[u8::from(*b)], out),
+        Value::Date(n) => put_u64(n.cast_unsigned(), out),
+        Value::Int32(n) => put_u32(n.cast_unsigned(), out),
+        Value::Timestamp(n) => put_u64(*n, out),
+        Value::Int64(n) => put_u64(n.cast_unsigned(), out),
+        Value::Null | Value::MinKey | Value::MaxKey => Ok(()),
+    }
+}
+
+/// Puts a document. An `Err` may leave a part of it.
+#[cycle(writing)]
+fn put_document(document: &Document, out: &mut Vec<u8>) -> Result<(), Memory>
+    requires { length (written document.now) ≤ 200000000 }
+    ensures ok { OnOk result (out.new.items ≡ out.old.items ++ written document.now) }
+    ensures kept { take (length out.old.items) out.new.items ≡ out.old.items }
+{
+    let start = out.len();
+    put_u32(0, out)?;
+    put_members(document, out)?;
+    end_document(start, out)
+}
+
+/// Puts an array. An `Err` may leave a part of it.
+#[cycle(writing)]
+fn put_array(array: &Array, out: &mut Vec<u8>) -> Result<(), Memory>
+    requires { length (framed (written_items 0 array.now)) ≤ 200000000 }
+    ensures ok { OnOk result (out.new.items ≡ out.old.items ++ framed (written_items 0 array.now)) }
+    ensures kept { take (length out.old.items) out.new.items ≡ out.old.items }
+{
+    let start = out.len();
+    put_u32(0, out)?;
+    put_items(array, out)?;
+    end_document(start, out)
+}
+
+/// Puts the members of a document.
+#[cycle(writing)]
+fn put_members(document: &Document, out: &mut Vec<u8>) -> Result<(), Memory>
+    requires { length (written_members document.now) ≤ 200000000 }
+    ensures ok { OnOk result (out.new.items ≡ out.old.items ++ written_members document.now) }
+    ensures kept { take (length out.old.items) out.new.items ≡ out.old.items }
+{
+    for member in &document.members {
+        put_head(kind(&member.value), member.name.as_str(), out)?;
+        put_value(&member.value, out)?;
+    }
+    Ok(())
+}
+
+/// Puts the values of an array under their places as names: `0`, `1` and so on.
+#[cycle(writing)]
+fn put_items(array: &Array, out: &mut Vec<u8>) -> Result<(), Memory>
+    requires { length (written_items 0 array.now) ≤ 200000000 }
+    ensures ok { OnOk result (out.new.items ≡ out.old.items ++ written_items 0 array.now) }
+    ensures kept { take (length out.old.items) out.new.items ≡ out.old.items }
+{
+    let mut place = Buffer::new();
+    for (i, value) in array.values.iter().enumerate() {
+        put_head(kind(value), place.format(i), out)?;
+        put_value(value, out)?;
+    }
+    Ok(())
 }

@@ -8,7 +8,7 @@ use byteorder::{ByteOrder, LittleEndian};
 /// The number of bytes of a message before its document: header, flag bits and the section's kind.
 pub const BODY_AT: usize = 21;
 
-/// A length and the type of its document's shortest form: no shorter message holds a document.
+/// What stands before the document, and the shortest document: its length and the 00 that ends it.
 const LEAST_REQUEST: usize = 26;
 
 const HEADER: usize = 16;

@@ -1,5 +1,5 @@
--- What is read so far: texts, documents, arrays, 32-bit numbers and timestamps, nested within 100 levels. The other
--- kinds are refused until they are taken.
+-- What is read so far: texts, documents, arrays, 32-bit numbers and timestamps, nested within 100 levels. Documents
+-- with other kinds are refused so far.
 use Rattle.std.specs.Prelude.{◌≤◌, Bool, true, false, IsTrue, ◌&&◌}
 use Rattle.document_model.specs.Tree.{Datum, text_value, document_value, array_value, int32_value, timestamp_value, Items, no_items, item, Members, no_members, member, document_levels}
 

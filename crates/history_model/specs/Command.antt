@@ -1,5 +1,5 @@
 -- What a request asks for, or its refusal. So far a client may insert one document, `{_id: <int32>}`, into a
--- collection that is its own to write.
+-- collection of a database that is open to clients.
 use Rattle.std.specs.Prelude.{◌≡◌, ◌≢◌, ℕ, List, codes, Option, Some, None, false, ℤ, pos}
 use Rattle.document_model.specs.Tree.{Members, no_members, member, no_items, item, text_value, document_value, array_value, int32_value, int64_value}
 use Rattle.document_model.specs.Grammar.{ReadsAs}
@@ -17,7 +17,7 @@ pub data Command : Type 0 where
   insert_command : List ℕ → Members → Command
   refused_command : Refusal → Command
 
--- a body that is no document of the profile, with the place of the fault
+-- a body that is not taken, with the place of the fault
 abbrev pub no_document_at : ℕ → Refusal
 no_document_at place = record { error = invalid_bson; evidence = Some (member (codes "place") (int64_value (pos place)) no_members) }
 

@@ -15,7 +15,7 @@ pub data IsPartial (bytes : List ℕ) : Type 0 where
   no_header : length bytes < 16 → IsPartial bytes
   no_whole : HasHeader bytes → length bytes < stated_length bytes → IsPartial bytes
 
--- no request begins these bytes, however they go on
+-- no whole request stands at the front of these bytes
 abbrev pub BeginsNoRequest : List ℕ → Type 0
 BeginsNoRequest bytes = (m : Message) (more : List ℕ) → IsRequest m → bytes ≢ message_bytes m ++ more
 

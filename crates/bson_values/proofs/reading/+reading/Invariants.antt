@@ -1,0 +1,46 @@
+use Rattle.std.proofs.Common.{◌≡◌, ◌+◌, ◌*◌, ◌<◌, length}
+use Rattle.bson_values.specs.Kinds.{is_taken}
+use Rattle.bson_values.specs.Reading.{value_at}
+use Rattle.bson_values.proofs.ReadLoop.{ReadsOn, ReadsItemsOn}
+use Rattle.bson_values.proofs.reading.+reading.Given as goal
+
+abbrev pub decreases-read_value : goal.decreases-read_value
+decreases-read_value l = 4 * l.level
+
+abbrev pub decreases-read_member : goal.decreases-read_member
+decreases-read_member l = 4 * l.level + 1
+
+abbrev pub decreases-read_item : goal.decreases-read_item
+decreases-read_item l = 4 * l.level + 1
+
+abbrev pub decreases-read_members : goal.decreases-read_members
+decreases-read_members l = 4 * l.level + 2
+
+abbrev pub decreases-read_items : goal.decreases-read_items
+decreases-read_items l = 4 * l.level + 2
+
+abbrev pub decreases-read_document : goal.decreases-read_document
+decreases-read_document l = 4 * l.level + 3
+
+abbrev pub decreases-read_array : goal.decreases-read_array
+decreases-read_array l = 4 * l.level + 3
+
+abbrev pub invariant-read_members-members : goal.invariant-read_members-members
+invariant-read_members-members l = record {
+  below : length l.left < l.total;
+  taken : length l.bytes + l.space ≡ length l.left + l.room;
+  read : ReadsOn l.total (value_at l.total is_taken l.level) l.room l.bytes l.document l.space l.left;
+}
+
+abbrev pub decreases-read_members-members : goal.decreases-read_members-members
+decreases-read_members-members l = length l.left
+
+abbrev pub invariant-read_items-items : goal.invariant-read_items-items
+invariant-read_items-items l = record {
+  below : length l.left < l.total;
+  taken : length l.bytes + l.space ≡ length l.left + l.room;
+  read : ReadsItemsOn l.total (value_at l.total is_taken l.level) l.room l.bytes l.array l.space l.left;
+}
+
+abbrev pub decreases-read_items-items : goal.decreases-read_items-items
+decreases-read_items-items l = length l.left

@@ -1,0 +1,10 @@
+use Rattle.std.proofs.Common.{arith}
+use Rattle.bson_values.proofs.Whole.{is_found, is_only}
+use Rattle.bson_values.proofs.reading.read.Goals as goal
+
+pub returns-clause-found : goal.returns-clause-found
+returns-clause-found c =
+    is_found c.args.bytes.now c.read_exactly.result (λ i. omega (arith, c.type_inv.bytes i)) c.read_exactly.ensures.exact
+
+pub returns-clause-only : goal.returns-clause-only
+returns-clause-only c = λ ms n le reads taken. is_only c.args.bytes.now c.read_exactly.result ms n c.read_exactly.ensures.exact le reads taken

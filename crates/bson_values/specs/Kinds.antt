@@ -1,0 +1,61 @@
+-- The types of elements and their bytes (BSON 1.1, `element`), and which of them are read.
+use Rattle.std.specs.Prelude.{ℕ, Bool, true, false, ◌&&◌, Option, Some, None, ◌==◌, if◌then◌else◌}
+use Rattle.bson_values.specs.declared.kind.Kind.{Kind}
+use Rattle.bson_values.specs.declared.kind.Kind.TheVariants.{Text, Doc, Array, Binary, ObjectId, Bool as Boolean, Date, Null, Int32, Timestamp, Int64, MinKey, MaxKey}
+use Rattle.document_model.specs.Tree.{Datum, text_value, document_value, array_value, binary_value, object_id_value, boolean_value, date_value, null_value, int32_value, timestamp_value, int64_value, min_key_value, max_key_value, Items, no_items, item, Members, no_members, member}
+
+abbrev pub kind_from : ℕ → Option Kind
+kind_from b =
+    if b == 0x02 then Some Text
+    else if b == 0x03 then Some Doc
+    else if b == 0x04 then Some Array
+    else if b == 0x05 then Some Binary
+    else if b == 0x07 then Some ObjectId
+    else if b == 0x08 then Some Boolean
+    else if b == 0x09 then Some Date
+    else if b == 0x0A then Some Null
+    else if b == 0x10 then Some Int32
+    else if b == 0x11 then Some Timestamp
+    else if b == 0x12 then Some Int64
+    else if b == 0xFF then Some MinKey
+    else if b == 0x7F then Some MaxKey
+    else None
+
+-- what is read so far
+abbrev pub is_taken : Kind → Bool
+is_taken Text = true
+is_taken Doc = true
+is_taken Array = true
+is_taken Int32 = true
+is_taken Timestamp = true
+is_taken kind = false
+
+abbrev pub type_of : Datum → Kind
+type_of (text_value s) = Text
+type_of (document_value ms) = Doc
+type_of (array_value ds) = Array
+type_of (binary_value subtype content) = Binary
+type_of (object_id_value content) = ObjectId
+type_of (boolean_value b) = Boolean
+type_of (date_value z) = Date
+type_of null_value = Null
+type_of (int32_value z) = Int32
+type_of (timestamp_value n) = Timestamp
+type_of (int64_value z) = Int64
+type_of min_key_value = MinKey
+type_of max_key_value = MaxKey
+
+-- whether each value inside is of a kind that the test takes
+abbrev mutual
+  pub value_passes : (Kind → Bool) → Datum → Bool
+  value_passes taken (document_value ms) = members_pass taken ms
+  value_passes taken (array_value ds) = items_pass taken ds
+  value_passes taken d = true
+
+  pub items_pass : (Kind → Bool) → Items → Bool
+  items_pass taken no_items = true
+  items_pass taken (item d ds) = taken (type_of d) && (value_passes taken d && items_pass taken ds)
+
+  pub members_pass : (Kind → Bool) → Members → Bool
+  members_pass taken no_members = true
+  members_pass taken (member name d ms) = taken (type_of d) && (value_passes taken d && members_pass taken ms)

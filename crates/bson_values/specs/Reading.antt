@@ -1,0 +1,198 @@
+-- Reading from left to right, with the first fault that is met. `total` is the number of all bytes: the place of
+-- the first of some bytes is total less their number. `room` is how many bytes, the last 00 with them, the document
+-- still has by its length.
+use Rattle.std.specs.Prelude.{ℕ, zero, suc, ◌+◌, ◌-◌, ◌^◌, List, [], ◌∷◌, length, take, drop, slice_index, Bool, true, false, Option, Some, None, Result, Ok, Err, nat_lt, nat_le, ◌==◌, if◌then◌else◌}
+use Rattle.std.specs.Int.{w32, w64, from_le_bytes, cast_signed}
+use Rattle.std.specs.Str.{is_utf8}
+use Rattle.bson_values.specs.declared.fault.BsonFault.{BsonFault}
+use Rattle.bson_values.specs.declared.fault.BsonFault.TheVariants.{Short, BadLength, BadType, BadText, BadBool, Deep, Trailing}
+use Rattle.bson_values.specs.declared.kind.Kind.{Kind}
+use Rattle.bson_values.specs.declared.kind.Kind.TheVariants as kinds
+use Rattle.bson_values.specs.Faults.{◌>>=◌}
+use Rattle.bson_values.specs.Kinds.{kind_from}
+use Rattle.document_model.specs.Tree.{Datum, text_value, document_value, array_value, binary_value, object_id_value, boolean_value, date_value, null_value, int32_value, timestamp_value, int64_value, min_key_value, max_key_value, Items, no_items, item, Members, no_members, member}
+
+-- a kind, the room and the bytes: the value, and the bytes behind it
+abbrev pub Reader : Type 0
+Reader = Kind → ℕ → List ℕ → Result (Datum × List ℕ) BsonFault
+
+-- A length that is at least so much, and has so many bytes beside those that it counts.
+unfoldable pub length_within : ℕ → ℕ → ℕ → ℕ → ℕ → List ℕ → Result (ℕ × List ℕ) BsonFault
+length_within least beside room place n rest =
+    if nat_lt n least then Err (BadLength place)
+    else if nat_le (2 ^ 31) n then Err (BadLength place)
+    else if nat_lt room (n + beside) then Err (BadLength place)
+    else Ok (n, rest)
+
+-- a text, whose place is known
+unfoldable pub utf8_at : ℕ → List ℕ → Result (List ℕ) BsonFault
+utf8_at place text = if is_utf8 text then Ok text else Err (BadText place)
+
+module _ (total : ℕ) where
+  unfoldable pub length_at : ℕ → ℕ → ℕ → List ℕ → Result (ℕ × List ℕ) BsonFault
+  length_at least beside room bytes =
+      if length bytes == 0 then Err (Short total)
+      else if nat_lt room 5 then Err (BadLength (total - length bytes))
+      else if nat_lt (length bytes) 4 then Err (Short total)
+      else length_within least beside room (total - length bytes) (from_le_bytes w32 (take 4 bytes)) (drop 4 bytes)
+
+  -- so many bytes
+  unfoldable pub fixed_at : ℕ → ℕ → List ℕ → Result (List ℕ × List ℕ) BsonFault
+  fixed_at n room bytes =
+      if nat_lt room n then (if nat_lt (length bytes) room then Err (Short total) else Err (Trailing (total - length bytes + (room - 1))))
+      else if nat_lt (length bytes) n then Err (Short total)
+      else Ok (take n bytes, drop n bytes)
+
+  -- a text whose length with its final 00 is known
+  unfoldable pub text_at : ℕ → List ℕ → Result (List ℕ × List ℕ) BsonFault
+  text_at n bytes =
+      if nat_lt (length bytes) n then Err (Short total)
+      else if slice_index bytes (n - 1) == 0 then (utf8_at (total - length bytes) (take (n - 1) bytes) >>= λ text. Ok (text, drop n bytes))
+      else Err (BadText (total - length bytes))
+
+  unfoldable pub string_at : ℕ → List ℕ → Result (List ℕ × List ℕ) BsonFault
+  string_at room bytes = length_at 1 4 room bytes >>= λ x. text_at x.0 x.1
+
+  -- subtype and content of a known length
+  unfoldable pub content_at : ℕ → List ℕ → Result (Datum × List ℕ) BsonFault
+  content_at n [] = Err (Short total)
+  content_at n (subtype ∷ bytes) = if nat_lt (length bytes) n then Err (Short total) else Ok (binary_value subtype (take n bytes), drop n bytes)
+
+  unfoldable pub binary_at : ℕ → List ℕ → Result (Datum × List ℕ) BsonFault
+  binary_at room bytes = length_at 0 5 room bytes >>= λ x. content_at x.0 x.1
+
+  unfoldable pub boolean_at : List ℕ → Result (Datum × List ℕ) BsonFault
+  boolean_at [] = Err (Short total)
+  boolean_at (zero ∷ bytes) = Ok (boolean_value false, bytes)
+  boolean_at (suc zero ∷ bytes) = Ok (boolean_value true, bytes)
+  boolean_at (suc (suc b) ∷ bytes) = Err (BadBool (total - (length bytes + 1)))
+
+  -- a document or an array where no level is left
+  unfoldable pub deep_unless : List ℕ → Result (ℕ × List ℕ) BsonFault → BsonFault
+  deep_unless bytes (Err (BadLength place)) = BadLength place
+  deep_unless bytes read = if length bytes == 0 then Short total else Deep (total - length bytes)
+
+  unfoldable pub deep_at : ℕ → List ℕ → BsonFault
+  deep_at room bytes = deep_unless bytes (length_at 5 0 room bytes)
+
+  unfoldable pub scalar_at : Reader
+  scalar_at kinds.Text room bytes = string_at room bytes >>= λ x. Ok (text_value x.0, x.1)
+  scalar_at kinds.Doc room bytes = Err (deep_at room bytes)
+  scalar_at kinds.Array room bytes = Err (deep_at room bytes)
+  scalar_at kinds.Binary room bytes = binary_at room bytes
+  scalar_at kinds.ObjectId room bytes = fixed_at 12 room bytes >>= λ x. Ok (object_id_value x.0, x.1)
+  scalar_at kinds.Bool room bytes = boolean_at bytes
+  scalar_at kinds.Date room bytes = fixed_at 8 room bytes >>= λ x. Ok (date_value (cast_signed w64 (from_le_bytes w64 x.0)), x.1)
+  scalar_at kinds.Null room bytes = Ok (null_value, bytes)
+  scalar_at kinds.Int32 room bytes = fixed_at 4 room bytes >>= λ x. Ok (int32_value (cast_signed w32 (from_le_bytes w32 x.0)), x.1)
+  scalar_at kinds.Timestamp room bytes = fixed_at 8 room bytes >>= λ x. Ok (timestamp_value (from_le_bytes w64 x.0), x.1)
+  scalar_at kinds.Int64 room bytes = fixed_at 8 room bytes >>= λ x. Ok (int64_value (cast_signed w64 (from_le_bytes w64 x.0)), x.1)
+  scalar_at kinds.MinKey room bytes = Ok (min_key_value, bytes)
+  scalar_at kinds.MaxKey room bytes = Ok (max_key_value, bytes)
+
+  -- A name ends at its first 00; the place is that of its first byte.
+  unfoldable pub name_from : ℕ → ℕ → List ℕ → Result (List ℕ × List ℕ) BsonFault
+  name_from place zero bytes = Err (BadText place)
+  name_from place (suc room) [] = Err (Short total)
+  name_from place (suc room) (b ∷ bytes) =
+      if b == 0 then Ok ([], bytes) else (name_from place room bytes >>= λ x. Ok (b ∷ x.0, x.1))
+
+  -- what room is left behind a name: the value stands before the document's last byte
+  unfoldable pub room_at : ℕ → List ℕ → Result ℕ BsonFault
+  room_at zero rest = Err (Trailing (total - (length rest + 1)))
+  room_at (suc room) rest = Ok (suc room)
+
+  -- a name in an array: the room and the bytes behind it
+  unfoldable pub index_at : ℕ → List ℕ → Result (ℕ × List ℕ) BsonFault
+  index_at room bytes = do
+    name ← name_from (total - length bytes) room bytes
+    left ← room_at (room - (length bytes - length name.1)) name.1
+    Ok (left, name.1)
+
+  -- a name in a document: its text, and the room and the bytes behind it
+  unfoldable pub name_at : ℕ → List ℕ → Result (List ℕ × ℕ × List ℕ) BsonFault
+  name_at room bytes = do
+    name ← name_from (total - length bytes) room bytes
+    text ← utf8_at (total - length bytes) name.0
+    left ← room_at (room - (length bytes - length name.1)) name.1
+    Ok (text, left, name.1)
+
+  module _ (taken : Kind → Bool) where
+    unfoldable pub checked_kind : ℕ → ℕ → List ℕ → Option Kind → Result (Option Kind × List ℕ) BsonFault
+    checked_kind room b bytes None = Err (BadType (total - (length bytes + 1)) b)
+    checked_kind room b bytes (Some kind) =
+        if taken kind then (if room == 0 then Err (Trailing (total - (length bytes + 1))) else Ok (Some kind, bytes))
+        else Err (BadType (total - (length bytes + 1)) b)
+
+    -- the kind of the next element, or none at the 00 that ends the document
+    unfoldable pub kind_at : ℕ → List ℕ → Result (Option Kind × List ℕ) BsonFault
+    kind_at zero bytes = Err (Trailing (total - (length bytes + 1)))
+    kind_at (suc room) [] = Err (Short total)
+    kind_at (suc room) (b ∷ bytes) =
+        if b == 0 then (if room == 0 then Ok (None, bytes) else Err (Trailing (total - (length bytes + 1))))
+        else checked_kind room b bytes (kind_from b)
+
+    unfoldable pub member_behind : Reader → ℕ → Option Kind → List ℕ → Result (Option (List ℕ × Datum) × List ℕ) BsonFault
+    member_behind value_at room None bytes = Ok (None, bytes)
+    member_behind value_at room (Some kind) bytes = do
+      name ← name_at (room - 1) bytes
+      value ← value_at kind name.1 name.2
+      Ok (Some (name.0, value.0), value.1)
+
+    -- the next member, or none at the end of the document
+    unfoldable pub member_at : Reader → ℕ → List ℕ → Result (Option (List ℕ × Datum) × List ℕ) BsonFault
+    member_at value_at room bytes = kind_at room bytes >>= λ kind. member_behind value_at room kind.0 kind.1
+
+    unfoldable pub item_behind : Reader → ℕ → Option Kind → List ℕ → Result (Option Datum × List ℕ) BsonFault
+    item_behind value_at room None bytes = Ok (None, bytes)
+    item_behind value_at room (Some kind) bytes = do
+      left ← index_at (room - 1) bytes
+      value ← value_at kind left.0 left.1
+      Ok (Some value.0, value.1)
+
+    unfoldable pub item_at : Reader → ℕ → List ℕ → Result (Option Datum × List ℕ) BsonFault
+    item_at value_at room bytes = kind_at room bytes >>= λ kind. item_behind value_at room kind.0 kind.1
+
+    -- the members behind a first one; none if there is no first one
+    unfoldable pub members_behind : (ℕ → List ℕ → Result (Members × List ℕ) BsonFault) → ℕ → List ℕ → Option (List ℕ × Datum) → List ℕ → Result (Members × List ℕ) BsonFault
+    members_behind members_at room bytes None rest = Ok (no_members, rest)
+    members_behind members_at room bytes (Some first) rest = do
+      others ← members_at (room - (length bytes - length rest)) rest
+      Ok (member first.0 first.1 others.0, others.1)
+
+    unfoldable pub items_behind : (ℕ → List ℕ → Result (Items × List ℕ) BsonFault) → ℕ → List ℕ → Option Datum → List ℕ → Result (Items × List ℕ) BsonFault
+    items_behind items_at room bytes None rest = Ok (no_items, rest)
+    items_behind items_at room bytes (Some first) rest = do
+      others ← items_at (room - (length bytes - length rest)) rest
+      Ok (item first others.0, others.1)
+
+    -- The members and the 00 behind them. The number is above that of the bytes.
+    unfoldable pub members_with : Reader → ℕ → ℕ → List ℕ → Result (Members × List ℕ) BsonFault
+    members_with value_at zero room bytes = Err (Short total)
+    members_with value_at (suc n) room bytes = member_at value_at room bytes >>= λ first. members_behind (members_with value_at n) room bytes first.0 first.1
+
+    unfoldable pub items_with : Reader → ℕ → ℕ → List ℕ → Result (Items × List ℕ) BsonFault
+    items_with value_at zero room bytes = Err (Short total)
+    items_with value_at (suc n) room bytes = item_at value_at room bytes >>= λ first. items_behind (items_with value_at n) room bytes first.0 first.1
+
+    unfoldable pub document_with : Reader → ℕ → List ℕ → Result (Members × List ℕ) BsonFault
+    document_with value_at room bytes = length_at 5 0 room bytes >>= λ x. members_with value_at (length x.1 + 1) (x.0 - 4) x.1
+
+    unfoldable pub array_with : Reader → ℕ → List ℕ → Result (Items × List ℕ) BsonFault
+    array_with value_at room bytes = length_at 5 0 room bytes >>= λ x. items_with value_at (length x.1 + 1) (x.0 - 4) x.1
+
+    -- a value with so many levels inside
+    unfoldable pub value_at : ℕ → Reader
+    value_at zero kind room bytes = scalar_at kind room bytes
+    value_at (suc n) kinds.Doc room bytes = document_with (value_at n) room bytes >>= λ x. Ok (document_value x.0, x.1)
+    value_at (suc n) kinds.Array room bytes = array_with (value_at n) room bytes >>= λ x. Ok (array_value x.0, x.1)
+    value_at (suc n) kind room bytes = scalar_at kind room bytes
+
+-- The document that begins the bytes, within so many levels, and the bytes behind it. Nothing holds it: its length
+-- can be any.
+unfoldable pub document_at : (Kind → Bool) → ℕ → List ℕ → Result (Members × List ℕ) BsonFault
+document_at taken levels bytes = document_with (length bytes) taken (value_at (length bytes) taken levels) (2 ^ 31) bytes
+
+-- the document that begins the bytes, and its length
+unfoldable pub whole_at : List ℕ → (Kind → Bool) → Result (Members × ℕ) BsonFault
+whole_at bytes taken = document_at taken 99 bytes >>= λ x. Ok (x.0, length bytes - length x.1)

@@ -1,0 +1,71 @@
+//! Why bytes are no document.
+
+ghost use Rattle.std.specs.Prelude.{◌≡◌};
+ghost use Rattle.bson_values.specs.Faults.{fault_place};
+ghost use Rattle.bson_values.specs.declared.fault.BsonFault.TheVariants.{Memory};
+
+use crate::text;
+use std::alloc::{AllocError, AllocFailed};
+
+/// Why bytes are no document. Each place counts from the first byte that was handed in.
+#[derive(Clone, Copy, Debug, PartialEq, Eq)]
+pub enum BsonFault {
+    /// The bytes end first; the place is their number.
+    Short { place: usize },
+    /// A length is below its least or past what holds it.
+    BadLength { place: usize },
+    /// The type of an element is not one that is read.
+    BadType { place: usize, byte: u8 },
+    /// A text is no UTF-8 or has no 00 at its end.
+    BadText { place: usize },
+    /// A boolean is neither 00 nor 01.
+    BadBool { place: usize },
+    /// A document or an array at level 101.
+    Deep { place: usize },
+    /// The 00 of a document stands before its stated end, or another byte stands there.
+    Trailing { place: usize },
+    /// Want of memory.
+    Memory,
+}
+
+impl BsonFault {
+    /// Where the fault is, unless memory ran out.
+    pub fn place(&self) -> Option<usize>
+        ensures { result ≡ fault_place self.now }
+    {
+        match self {
+            BsonFault::Short { place } => Some(*place),
+            BsonFault::BadLength { place } => Some(*place),
+            BsonFault::BadType { place, .. } => Some(*place),
+            BsonFault::BadText { place } => Some(*place),
+            BsonFault::BadBool { place } => Some(*place),
+            BsonFault::Deep { place } => Some(*place),
+            BsonFault::Trailing { place } => Some(*place),
+            BsonFault::Memory => None,
+        }
+    }
+}
+
+impl From<AllocError> for BsonFault {
+    ghost from_gives = { λ _ e. e ≡ Memory };
+
+    fn from(_e: AllocError) -> BsonFault {
+        BsonFault::Memory
+    }
+}
+
+impl<T: Drop> From<AllocFailed<T>> for BsonFault {
+    ghost from_gives = { λ _ e. e ≡ Memory };
+
+    fn from(_e: AllocFailed<T>) -> BsonFault {
+        BsonFault::Memory
+    }
+}
+
+impl From<text::Memory> for BsonFault {
+    ghost from_gives = { λ _ e. e ≡ Memory };
+
+    fn from(_e: text::Memory) -> BsonFault {
+        BsonFault::Memory
+    }
+}

@@ -1,0 +1,226 @@
+//! Reading what holds no value: lengths, texts, names and types.
+//!
+//! `total` is the number of all bytes that were handed in, so the place of the first of some bytes is total less
+//! their number. `room` is how many bytes, the last 00 with them, the document still has by its length.
+
+ghost use Rattle.std.specs.Prelude.{◌≡◌, ◌≢◌, ◌+◌, ◌<◌, ◌≤◌, length, IfOk, IfErr, IfNone};
+ghost use Rattle.bson_values.specs.Faults.{Gives};
+ghost use Rattle.bson_values.specs.Kinds.{is_taken};
+ghost use Rattle.bson_values.specs.Reading.{length_at, fixed_at, utf8_at, text_at, string_at, name_from, room_at, index_at, name_at, kind_at};
+ghost use Rattle.bson_values.specs.Rests.{IsRest};
+
+use crate::fault::BsonFault;
+use crate::kind::Kind;
+use byteorder::{ByteOrder, LittleEndian};
+use std::str;
+
+// Lengths are signed: from this on they are negative.
+const LENGTHS: usize = 0x8000_0000;
+
+/// Reads a length that is at least so much, and has so many bytes beside those that it counts.
+#[tactic(auto, unfolding(crate::specs::Reading::length_at, crate::specs::Reading::length_within))]
+pub fn read_length(
+    total: usize,
+    least: usize,
+    beside: usize,
+    room: usize,
+    bytes: &[u8],
+) -> Result<(usize, &[u8]), BsonFault>
+    requires total { length bytes.now ≤ total }
+    requires beside { beside ≤ 8 }
+    ensures gives { Gives (λ x. (x.0, x.1.now)) result (length_at total least beside room bytes.now) }
+    ensures memory { IfErr result (λ e. e ≢ BsonFault.Memory) }
+    ensures fits { IfOk result (λ x. (least ≤ x.0) × (x.0 + beside ≤ room) × (length x.1.now + 4 ≡ length bytes.now)) }
+{
+    if bytes.is_empty() {
+        return Err(BsonFault::Short { place: total });
+    }
+    let place = total - bytes.len();
+    if room < 5 {
+        return Err(BsonFault::BadLength { place });
+    }
+    if bytes.len() < 4 {
+        return Err(BsonFault::Short { place: total });
+    }
+    let (front, rest) = bytes.split_at(4);
+    let length = LittleEndian::read_u32(front) as usize;
+    if length < least || length >= LENGTHS || room < length + beside {
+        return Err(BsonFault::BadLength { place });
+    }
+    Ok((length, rest))
+}
+
+/// Reads so many bytes.
+#[tactic(auto, unfolding(crate::specs::Reading::fixed_at))]
+pub fn read_fixed(
+    total: usize,
+    count: usize,
+    room: usize,
+    bytes: &[u8],
+) -> Result<(&[u8], &[u8]), BsonFault>
+    requires total { length bytes.now ≤ total }
+    requires room { 0 < room }
+    ensures gives { Gives (λ x. (x.0.now, x.1.now)) result (fixed_at total count room bytes.now) }
+    ensures rest { IfOk result (λ x. (length x.0.now ≡ count) × IsRest bytes.now room x.1.now) }
+{
+    if room < count {
+        if bytes.len() < room {
+            return Err(BsonFault::Short { place: total });
+        }
+        return Err(BsonFault::Trailing {
+            place: total - bytes.len() + (room - 1),
+        });
+    }
+    if bytes.len() < count {
+        return Err(BsonFault::Short { place: total });
+    }
+    Ok(bytes.split_at(count))
+}
+
+/// The text that the bytes are.
+#[tactic(auto, unfolding(crate::specs::Reading::utf8_at), using(crate::proofs::Utf8Tests::utf8_tests))]
+pub fn read_utf8(place: usize, bytes: &[u8]) -> Result<&str, BsonFault>
+    ensures gives { Gives (λ s. s.now) result (utf8_at place bytes.now) }
+    ensures same { IfOk result (λ s. s.now ≡ bytes.now) }
+{
+    match str::from_utf8(bytes) {
+        Ok(text) => Ok(text),
+        Err(_) => Err(BsonFault::BadText { place }),
+    }
+}
+
+/// Reads a text whose length with its final 00 is known.
+#[tactic(auto, unfolding(crate::specs::Reading::text_at))]
+pub fn read_text(total: usize, count: usize, bytes: &[u8]) -> Result<(&str, &[u8]), BsonFault>
+    requires total { length bytes.now ≤ total }
+    requires count { 0 < count }
+    ensures gives { Gives (λ x. (x.0.now, x.1.now)) result (text_at total count bytes.now) }
+    ensures rest { IfOk result (λ x. length x.1.now + count ≡ length bytes.now) }
+{
+    if bytes.len() < count {
+        return Err(BsonFault::Short { place: total });
+    }
+    let place = total - bytes.len();
+    if bytes[count - 1] != 0 {
+        return Err(BsonFault::BadText { place });
+    }
+    let (front, _) = bytes.split_at(count - 1);
+    let (_, rest) = bytes.split_at(count);
+    let text = read_utf8(place, front)?;
+    Ok((text, rest))
+}
+
+/// Reads a text with its length (BSON 1.1, `string`).
+#[tactic(auto, unfolding(crate::specs::Reading::string_at))]
+pub fn read_string(total: usize, room: usize, bytes: &[u8]) -> Result<(&str, &[u8]), BsonFault>
+    requires total { length bytes.now ≤ total }
+    ensures gives { Gives (λ x. (x.0.now, x.1.now)) result (string_at total room bytes.now) }
+    ensures rest { IfOk result (λ x. IsRest bytes.now room x.1.now) }
+{
+    let (count, rest) = read_length(total, 1, 4, room, bytes)?;
+    read_text(total, count, rest)
+}
+
+/// Finds a name's end, and gives the bytes before and behind it (BSON 1.1, `cstring`).
+pub fn scan_name(
+    total: usize,
+    place: usize,
+    room: usize,
+    bytes: &[u8],
+) -> Result<(&[u8], &[u8]), BsonFault>
+    ensures gives { Gives (λ x. (x.0.now, x.1.now)) result (name_from total place room bytes.now) }
+    ensures rest { IfOk result (λ x. (length x.0.now + (length x.1.now + 1) ≡ length bytes.now) × (length x.0.now < room)) }
+{
+    for (i, b) in bytes.iter().enumerate() {
+        if i == room {
+            return Err(BsonFault::BadText { place });
+        }
+        if *b == 0 {
+            return Ok((&bytes[..i], &bytes[i + 1..]));
+        }
+    }
+    if bytes.len() < room {
+        return Err(BsonFault::Short { place: total });
+    }
+    Err(BsonFault::BadText { place })
+}
+
+/// What room is left behind a name, which is some.
+#[tactic(auto, unfolding(crate::specs::Reading::room_at))]
+pub fn check_room(total: usize, room: usize, rest: &[u8]) -> Result<usize, BsonFault>
+    requires total { length rest.now < total }
+    ensures gives { Gives (λ x. x) result (room_at total room rest.now) }
+    ensures same { IfOk result (λ x. (x ≡ room) × (0 < x)) }
+{
+    if room == 0 {
+        return Err(BsonFault::Trailing {
+            place: total - (rest.len() + 1),
+        });
+    }
+    Ok(room)
+}
+
+/// Passes a name in an array, and gives the room and the bytes behind it.
+#[tactic(auto, unfolding(crate::specs::Reading::index_at))]
+pub fn skip_name(total: usize, room: usize, bytes: &[u8]) -> Result<(usize, &[u8]), BsonFault>
+    requires total { length bytes.now ≤ total }
+    ensures gives { Gives (λ x. (x.0, x.1.now)) result (index_at total room bytes.now) }
+    ensures rest { IfOk result (λ x. (0 < x.0) × (length x.1.now < length bytes.now) × (length bytes.now + x.0 ≡ length x.1.now + room)) }
+{
+    let (_, rest) = scan_name(total, total - bytes.len(), room, bytes)?;
+    let left = check_room(total, room - (bytes.len() - rest.len()), rest)?;
+    Ok((left, rest))
+}
+
+/// Reads a name in a document, and gives its text, and the room and the bytes behind it.
+#[tactic(auto, unfolding(crate::specs::Reading::name_at))]
+pub fn read_name(total: usize, room: usize, bytes: &[u8]) -> Result<(&str, usize, &[u8]), BsonFault>
+    requires total { length bytes.now ≤ total }
+    ensures gives { Gives (λ x. (x.0.now, x.1, x.2.now)) result (name_at total room bytes.now) }
+    ensures rest { IfOk result (λ x. (0 < x.1) × (length x.2.now < length bytes.now) × (length bytes.now + x.1 ≡ length x.2.now + room)) }
+{
+    let place = total - bytes.len();
+    let (name, rest) = scan_name(total, place, room, bytes)?;
+    let text = read_utf8(place, name)?;
+    let left = check_room(total, room - (bytes.len() - rest.len()), rest)?;
+    Ok((text, left, rest))
+}
+
+/// Reads the type of the next element. There is none at the 00 that ends the document.
+#[tactic(auto, unfolding(crate::specs::Reading::kind_at, crate::specs::Reading::checked_kind))]
+pub fn read_kind(
+    total: usize,
+    room: usize,
+    bytes: &[u8],
+) -> Result<(Option<Kind>, &[u8]), BsonFault>
+    requires total { length bytes.now < total }
+    ensures gives { Gives (λ x. (x.0, x.1.now)) result (kind_at total is_taken room bytes.now) }
+    ensures rest { IfOk result (λ x. (0 < room) × (length x.1.now + 1 ≡ length bytes.now)) }
+    ensures end { IfOk result (λ x. IfNone x.0 (room ≡ 1)) }
+{
+    if room == 0 {
+        return Err(BsonFault::Trailing {
+            place: total - (bytes.len() + 1),
+        });
+    }
+    let Some((byte, rest)) = bytes.split_first() else {
+        return Err(BsonFault::Short { place: total });
+    };
+    let byte = *byte;
+    let place = total - bytes.len();
+    if byte == 0 {
+        if room != 1 {
+            return Err(BsonFault::Trailing { place });
+        }
+        return Ok((None, rest));
+    }
+    match Kind::from_byte(byte) {
+        Some(kind) if kind.is_taken() => {
+            if room == 1 {
+                return Err(BsonFault::Trailing { place });
+            }
+            Ok((Some(kind), rest))
+        }
+        _ => Err(BsonFault::BadType { place, byte }),
+    }
+}
