@@ -7,8 +7,8 @@ use Rattle.std.proofs.lemmas.List.{length-take-le}
 use Rattle.std.proofs.lemmas.Nat.{from_le_bytes-to_le_bytes_4}
 use Rattle.document_model.specs.Spelling.{framed}
 use Rattle.document_model.specs.Grammar.{ReadsAs}
-use Rattle.bson_values.specs.declared.reading.BsonFault.{BsonFault}
-use Rattle.bson_values.specs.declared.reading.BsonFault.TheVariants.{Memory}
+use Rattle.bson_values.specs.declared.fault.BsonFault.{BsonFault}
+use Rattle.bson_values.specs.declared.fault.BsonFault.TheVariants.{Memory}
 use Rattle.bson_values.specs.Faults.{Fails}
 use Rattle.document_model.specs.Tree.{Members}
 use Rattle.history_model.specs.Names.{MakeNamespace, is_reserved}
