@@ -192,8 +192,10 @@ fn read_member(
     bytes: &[u8],
 ) -> Result<(Option<Member>, &[u8]), BsonFault>
     requires total { length bytes.now < total }
-    ensures gives { Gives (λ x. (option_map (λ m. (m.name, datum_of m.value)) x.0, x.1.now)) result (member_at total is_taken (value_at total is_taken level) room bytes.now) }
-    ensures rest { IfOk result (λ x. (length x.1.now < length bytes.now) × (length bytes.now ≤ length x.1.now + room)) }
+    ensures gives { Gives (λ x. (option_map (λ m. (m.name, datum_of m.value)) x.0, x.1.now)) result
+        (member_at total is_taken (value_at total is_taken level) room bytes.now) }
+    ensures rest { IfOk result (λ x.
+        (length x.1.now < length bytes.now) × (length bytes.now ≤ length x.1.now + room)) }
     ensures end { IfOk result (λ x. IfNone x.0 (length bytes.now ≡ length x.1.now + room)) }
 {
     let (kind, rest) = read_kind(total, room, bytes)?;
@@ -217,8 +219,10 @@ fn read_item(
     bytes: &[u8],
 ) -> Result<(Option<Value>, &[u8]), BsonFault>
     requires total { length bytes.now < total }
-    ensures gives { Gives (λ x. (option_map (λ v. datum_of v) x.0, x.1.now)) result (item_at total is_taken (value_at total is_taken level) room bytes.now) }
-    ensures rest { IfOk result (λ x. (length x.1.now < length bytes.now) × (length bytes.now ≤ length x.1.now + room)) }
+    ensures gives { Gives (λ x. (option_map (λ v. datum_of v) x.0, x.1.now)) result
+        (item_at total is_taken (value_at total is_taken level) room bytes.now) }
+    ensures rest { IfOk result (λ x.
+        (length x.1.now < length bytes.now) × (length bytes.now ≤ length x.1.now + room)) }
     ensures end { IfOk result (λ x. IfNone x.0 (length bytes.now ≡ length x.1.now + room)) }
 {
     let (kind, rest) = read_kind(total, room, bytes)?;
@@ -240,7 +244,8 @@ fn read_members(
     bytes: &[u8],
 ) -> Result<(Document, &[u8]), BsonFault>
     requires total { length bytes.now < total }
-    ensures gives { Gives (λ x. (x.0, x.1.now)) result (members_with total is_taken (value_at total is_taken level) (length bytes.now + 1) room bytes.now) }
+    ensures gives { Gives (λ x. (x.0, x.1.now)) result
+        (members_with total is_taken (value_at total is_taken level) (length bytes.now + 1) room bytes.now) }
     ensures rest { IfOk result (λ x. length bytes.now ≡ length x.1.now + room) }
 {
     let mut document = Document::new(alloc);
@@ -267,7 +272,8 @@ fn read_items(
     bytes: &[u8],
 ) -> Result<(Array, &[u8]), BsonFault>
     requires total { length bytes.now < total }
-    ensures gives { Gives (λ x. (x.0, x.1.now)) result (items_with total is_taken (value_at total is_taken level) (length bytes.now + 1) room bytes.now) }
+    ensures gives { Gives (λ x. (x.0, x.1.now)) result
+        (items_with total is_taken (value_at total is_taken level) (length bytes.now + 1) room bytes.now) }
     ensures rest { IfOk result (λ x. length bytes.now ≡ length x.1.now + room) }
 {
     let mut array = Array::new(alloc);
@@ -295,7 +301,8 @@ fn read_document(
     bytes: &[u8],
 ) -> Result<(Document, &[u8]), BsonFault>
     requires total { length bytes.now ≤ total }
-    ensures gives { Gives (λ x. (x.0, x.1.now)) result (document_with total is_taken (value_at total is_taken level) room bytes.now) }
+    ensures gives { Gives (λ x. (x.0, x.1.now)) result
+        (document_with total is_taken (value_at total is_taken level) room bytes.now) }
     ensures rest { IfOk result (λ x. IsRest bytes.now room x.1.now) }
 {
     let (count, rest) = read_length(total, 5, 0, room, bytes)?;
@@ -313,7 +320,8 @@ fn read_array(
     bytes: &[u8],
 ) -> Result<(Array, &[u8]), BsonFault>
     requires total { length bytes.now ≤ total }
-    ensures gives { Gives (λ x. (x.0, x.1.now)) result (array_with total is_taken (value_at total is_taken level) room bytes.now) }
+    ensures gives { Gives (λ x. (x.0, x.1.now)) result
+        (array_with total is_taken (value_at total is_taken level) room bytes.now) }
     ensures rest { IfOk result (λ x. IsRest bytes.now room x.1.now) }
 {
     let (count, rest) = read_length(total, 5, 0, room, bytes)?;
@@ -331,12 +339,16 @@ fn read_exactly(alloc: Global, bytes: &[u8]) -> Result<(Document, usize), BsonFa
 }
 
 /// Reads the document that begins the bytes, and gives it with its length in bytes; what follows is left (BSON 1.1,
-/// `document`). Fails with the first fault in the order of the bytes, or for want of memory.
+/// `document`). Fails where no front of the bytes spells a document that is taken, or for want of memory. Which fault is
+/// told, and its place, is not promised yet.
 pub fn read(alloc: Global, bytes: &[u8]) -> Result<(Document, usize), BsonFault>
     // What is read is spelled by the bytes.
-    ensures found { IfOk result (λ x. (x.1 ≤ length bytes.now) × ReadsAs (take x.1 bytes.now) x.0 × IsTaken x.0) }
+    ensures found { IfOk result (λ x.
+        (x.1 ≤ length bytes.now) × ReadsAs (take x.1 bytes.now) x.0 × IsTaken x.0) }
     // What some front of the bytes spells is read, unless memory runs out.
-    ensures only { (ms : Members) (n : ℕ) → n ≤ length bytes.now → ReadsAs (take n bytes.now) ms → IsTaken ms → Gives (λ x. x) result (Ok (ms, n)) }
+    ensures only { (ms : Members) (n : ℕ) →
+        n ≤ length bytes.now → ReadsAs (take n bytes.now) ms → IsTaken ms →
+        Gives (λ x. x) result (Ok (ms, n)) }
 {
     read_exactly(alloc, bytes)
 }
@@ -344,7 +356,8 @@ pub fn read(alloc: Global, bytes: &[u8]) -> Result<(Document, usize), BsonFault>
 /// No spelling of a document begins another, and no bytes spell two documents: what was written is what is read,
 /// whatever follows it.
 pub fn one_spelling()
-    ensures { (a b x y : List ℕ) (ms ns : Members) → ReadsAs a ms → ReadsAs b ns → a ++ x ≡ b ++ y → (a ≡ b) × (ms ≡ ns) }
+    ensures { (a b x y : List ℕ) (ms ns : Members) →
+        ReadsAs a ms → ReadsAs b ns → a ++ x ≡ b ++ y → (a ≡ b) × (ms ≡ ns) }
 {}
 
 #[cfg(test)]

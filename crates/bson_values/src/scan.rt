@@ -30,7 +30,8 @@ pub fn read_length(
     requires beside { beside ≤ 8 }
     ensures gives { Gives (λ x. (x.0, x.1.now)) result (length_at total least beside room bytes.now) }
     ensures memory { IfErr result (λ e. e ≢ BsonFault.Memory) }
-    ensures fits { IfOk result (λ x. (least ≤ x.0) × (x.0 + beside ≤ room) × (length x.1.now + 4 ≡ length bytes.now)) }
+    ensures fits { IfOk result (λ x.
+        (least ≤ x.0) × (x.0 + beside ≤ room) × (length x.1.now + 4 ≡ length bytes.now)) }
 {
     if bytes.is_empty() {
         return Err(BsonFault::Short { place: total });
@@ -129,7 +130,8 @@ pub fn scan_name(
     bytes: &[u8],
 ) -> Result<(&[u8], &[u8]), BsonFault>
     ensures gives { Gives (λ x. (x.0.now, x.1.now)) result (name_from total place room bytes.now) }
-    ensures rest { IfOk result (λ x. (length x.0.now + (length x.1.now + 1) ≡ length bytes.now) × (length x.0.now < room)) }
+    ensures rest { IfOk result (λ x.
+        (length x.0.now + (length x.1.now + 1) ≡ length bytes.now) × (length x.0.now < room)) }
 {
     for (i, b) in bytes.iter().enumerate() {
         if i == room {
@@ -165,7 +167,8 @@ pub fn check_room(total: usize, room: usize, rest: &[u8]) -> Result<usize, BsonF
 pub fn skip_name(total: usize, room: usize, bytes: &[u8]) -> Result<(usize, &[u8]), BsonFault>
     requires total { length bytes.now ≤ total }
     ensures gives { Gives (λ x. (x.0, x.1.now)) result (index_at total room bytes.now) }
-    ensures rest { IfOk result (λ x. (0 < x.0) × (length x.1.now < length bytes.now) × (length bytes.now + x.0 ≡ length x.1.now + room)) }
+    ensures rest { IfOk result (λ x. (0 < x.0) × (length x.1.now < length bytes.now)
+        × (length bytes.now + x.0 ≡ length x.1.now + room)) }
 {
     let (_, rest) = scan_name(total, total - bytes.len(), room, bytes)?;
     let left = check_room(total, room - (bytes.len() - rest.len()), rest)?;
@@ -177,7 +180,8 @@ pub fn skip_name(total: usize, room: usize, bytes: &[u8]) -> Result<(usize, &[u8
 pub fn read_name(total: usize, room: usize, bytes: &[u8]) -> Result<(&str, usize, &[u8]), BsonFault>
     requires total { length bytes.now ≤ total }
     ensures gives { Gives (λ x. (x.0.now, x.1, x.2.now)) result (name_at total room bytes.now) }
-    ensures rest { IfOk result (λ x. (0 < x.1) × (length x.2.now < length bytes.now) × (length bytes.now + x.1 ≡ length x.2.now + room)) }
+    ensures rest { IfOk result (λ x. (0 < x.1) × (length x.2.now < length bytes.now)
+        × (length bytes.now + x.1 ≡ length x.2.now + room)) }
 {
     let place = total - bytes.len();
     let (name, rest) = scan_name(total, place, room, bytes)?;

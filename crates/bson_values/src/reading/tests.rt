@@ -1,4 +1,5 @@
 use super::*;
+use crate::text::{Memory, is_name};
 use std::alloc::AllocError;
 use std::test::*;
 
@@ -93,14 +94,28 @@ fn levels(rt: HostRuntime) -> Result<(), Fail> {
     Ok(())
 }
 
-// A document that is made is the one that is read.
+// Each way to make a part succeeds while there is memory.
+fn make(alloc: Global) -> Result<Document, Memory> {
+    let bytes = Blob::of(alloc, &[0, 255])?.copy()?;
+    let mut array = Array::new(alloc);
+    array.push(Value::Text(Text::of(alloc, "hi")?.copy()?))?;
+    array.push(Value::Binary { subtype: 4, bytes })?;
+    let mut document = Document::new(alloc);
+    document.push(Name::of(alloc, "_id")?.copy()?, Value::Int32(1))?;
+    document.push(Name::of(alloc, "values")?, Value::Array(array))?;
+    Ok(document)
+}
+
 #[test]
 fn made(rt: HostRuntime) -> Result<(), Fail> {
-    let name = Name::of(rt.alloc(), "_id").ok().ok_or("memory")?;
-    let mut document = Document::new(rt.alloc());
-    document.push(name, Value::Int32(1)).ok().ok_or("memory")?;
-    assert_eq!(rt; document.len(), 1);
+    let document = make(rt.alloc()).ok().ok_or("there is memory")?;
+    assert_eq!(rt; document.len(), 2);
     assert!(rt; matches!(document.get("_id"), Some(Value::Int32(1))));
+    let Some(Value::Array(array)) = document.get("values") else {
+        return Err(Fail::from("the array is there"));
+    };
+    assert_eq!(rt; array.len(), 2);
+    assert!(rt; !is_name("a\0b"));
     Ok(())
 }
 
