@@ -1,15 +1,14 @@
 -- How a connection ends.
-use Rattle.std.specs.Prelude.{◌≡◌, ◌≢◌, ℕ, ◌+◌, ◌-◌, ◌<◌, ◌≤◌, ◌⊎◌, Bool, IsTrue, List, [], ◌∷◌, ◌++◌, length, take, drop}
-use Rattle.std.proofs.Common.{refl, ap, sym, ◌∙◌, subst, inl, inr, arith, append_assoc, append-nil, length-append, length-drop}
+use Rattle.std.specs.Prelude.{◌≡◌, ◌≢◌, ℕ, ◌+◌, ◌-◌, ◌≤◌, ◌⊎◌, Bool, IsTrue, List, [], ◌∷◌, ◌++◌, length, take, drop}
+use Rattle.std.proofs.Common.{refl, ap, sym, ◌∙◌, subst, inl, arith, append_assoc, append-nil, length-append, length-drop}
 use Rattle.std.proofs.lemmas.List.{length-take-le, take-append-drop, take_rest}
 use Rattle.std.specs.List.{flat_map, AllByRecursion}
 use Rattle.std.proofs.lemmas.Grind.{flat_map-append}
-use Rattle.outside.specs.Streams.{Took, Put}
+use Rattle.outside.specs.Streams.{Took}
 use Rattle.wire_model.specs.Messages.{Message, message_bytes, IsRequest}
-use Rattle.wire_model.specs.Frames.{Frames, IsPartial, IsMalformed}
-use Rattle.wire_model.specs.Spoken.{IsFront}
+use Rattle.wire_model.specs.Frames.{IsPartial, IsMalformed}
 use Rattle.history_model.specs.Exchange.{Exchange, spoken}
-use Rattle.cluster_top.specs.Headline.{requests_of, AllAnswered, SomeAnswered, Cause, input_ended, read_failed, write_failed, no_memory, no_request, too_long, Told, Spoke, Machine, Headline}
+use Rattle.cluster_top.specs.Headline.{requests_of, AllAnswered, SomeAnswered, Cause, input_ended, read_failed, write_failed, no_memory, no_request, too_long, Told, Machine, Headline}
 use Rattle.cluster_top.specs.Framing.{Unframed}
 use Rattle.cluster_top.specs.Serving.{Serving, Stopped}
 use Rattle.outside.specs.Causes.{Rose}

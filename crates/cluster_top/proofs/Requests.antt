@@ -1,5 +1,5 @@
 -- What documents ask for.
-use Rattle.std.specs.Prelude.{◌≡◌, ◌≢◌, ℕ, zero, suc, ◌+◌, ◌<◌, ◌≤◌, ◌^◌, ℤ, List, [], ◌∷◌, ◌++◌, Option, Some, None, Result, Ok, Err, IfOk, Bool, true, false, codes, length, take, unwrap_or}
+use Rattle.std.specs.Prelude.{◌≡◌, ℕ, zero, suc, ◌+◌, ◌≤◌, ℤ, List, [], ◌∷◌, Some, None, Result, Ok, Err, IfOk, false, codes, length, take, unwrap_or}
 use Rattle.std.specs.Int.{w32, to_le_bytes, from_le_bytes}
 use Rattle.std.proofs.Common.{refl, ap, sym, subst, ◌∙◌, arith, length-append}
 use Rattle.std.proofs.Math.Seq.{take-length}
@@ -16,7 +16,7 @@ use Rattle.document_model.specs.Stage.{IsTaken}
 use Rattle.bson_values.specs.declared.text.Memory.{Memory as Lack}
 use Rattle.cluster_top.specs.declared.command.Command.{Command}
 use Rattle.cluster_top.specs.Commands.{command_meant}
-use Rattle.history_model.specs.Command.{Asks, asks_read, IsInsert, AsksFor, asks_insert, asks_unknown, asks_otherwise, refused_command, no_document_at, id_document, insert_body, first_name}
+use Rattle.history_model.specs.Command.{Asks, asks_read, AsksFor, asks_otherwise, refused_command, no_document_at, id_document, insert_body, first_name}
 use Rattle.cluster_top.specs.Forms.{insert_form}
 
 some_same : {A : Type 0} (u v : A) → Some u ≡ Some v → u ≡ v

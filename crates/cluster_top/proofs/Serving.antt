@@ -1,6 +1,6 @@
 -- How a connection goes on.
-use Rattle.std.specs.Prelude.{map, Option, Some, None, IsSome}
-use Rattle.std.proofs.Common.{◌≡◌, ℕ, zero, suc, ◌+◌, ◌*◌, Bool, List, [], ◌∷◌, ◌++◌, length, take, drop, refl, ap, sym, ◌∙◌, subst, arith, append_assoc, append-nil, length-append}
+use Rattle.std.specs.Prelude.{Some, IsSome}
+use Rattle.std.proofs.Common.{◌≡◌, ℕ, ◌+◌, ◌*◌, Bool, List, [], ◌∷◌, ◌++◌, length, take, drop, refl, ap, sym, ◌∙◌, subst, arith, append_assoc, append-nil, length-append}
 use Rattle.std.specs.List.{flat_map, AllByRecursion}
 use Rattle.std.proofs.Math.Seq.{take-append_seam}
 use Rattle.std.proofs.lemmas.List.{map-append, take-append-drop}
@@ -8,7 +8,7 @@ use Rattle.std.proofs.lemmas.Grind.{flat_map-append}
 use Rattle.document_model.specs.Tree.{Members}
 use Rattle.document_model.specs.Spelling.{written}
 use Rattle.wire_model.specs.Messages.{Message, message_bytes, IsRequest}
-use Rattle.wire_model.specs.Spoken.{reply_id, reply_message, spoken_from, IsFront}
+use Rattle.wire_model.specs.Spoken.{reply_id, reply_message}
 use Rattle.history_model.specs.Command.{Command, Asks}
 use Rattle.history_model.specs.Exchange.{Exchange, answered, spoken, InTurn}
 use Rattle.history_model.specs.Machine.{Store, Runs, reply_to, store_after}

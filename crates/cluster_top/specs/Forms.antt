@@ -1,5 +1,5 @@
 -- The form of an insert, as a test on a document.
-use Rattle.std.specs.Prelude.{ℕ, ℤ, List, codes, Option, Some, None, Bool, ◌&&◌, if◌then◌else◌}
+use Rattle.std.specs.Prelude.{ℕ, ℤ, List, codes, Option, Some, None, ◌&&◌, if◌then◌else◌}
 use Rattle.std.specs.Str.{bytes_eq}
 use Rattle.document_model.specs.Tree.{Datum, text_value, document_value, array_value, int32_value, Items, no_items, item, Members, no_members, member}
 

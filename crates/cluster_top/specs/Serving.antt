@@ -1,5 +1,5 @@
 -- How far a connection has come: its exchanges so far, beside the server that made them.
-use Rattle.std.specs.Prelude.{◌≡◌, ℕ, ◌+◌, ◌*◌, Bool, List, [], ◌∷◌, ◌++◌, length, IsSome}
+use Rattle.std.specs.Prelude.{◌≡◌, ℕ, ◌+◌, ◌*◌, Bool, List, [], ◌∷◌, length, IsSome}
 use Rattle.std.specs.List.{flat_map, AllByRecursion}
 use Rattle.outside.specs.Streams.{Put}
 use Rattle.wire_model.specs.Messages.{Message, message_bytes, IsRequest}

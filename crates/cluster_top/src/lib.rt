@@ -12,6 +12,8 @@ mod request;
 mod server;
 mod store;
 mod streams;
+#[cfg(test)]
+mod tests;
 mod top;
 mod words;
 

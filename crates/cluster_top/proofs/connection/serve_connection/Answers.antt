@@ -1,10 +1,9 @@
-use Rattle.std.proofs.Common.{◌≡◌, ◌≤◌, ◌<◌, ℕ, ◌+◌, ◌-◌, ◌++◌, List, [], length, take, drop, vec_len, arith, sym, subst, ap, ◌∙◌, refl, inl, inr, length-append, length-drop}
+use Rattle.std.proofs.Common.{◌≡◌, ◌≤◌, ◌<◌, ℕ, ◌+◌, ◌-◌, ◌++◌, List, [], length, take, drop, arith, sym, subst, ap, ◌∙◌, inl, inr, length-append, length-drop}
 use Rattle.outside.specs.Streams.{Took}
-use Rattle.outside.proofs.Relations.{rose_later, later_rose}
+use Rattle.outside.proofs.Relations.{later_rose}
 use Rattle.wire_model.specs.Frames.{IsPartial, no_header}
-use Rattle.cluster_top.specs.Headline.{Told, input_ended, read_failed, write_failed, no_memory, no_request, too_long}
+use Rattle.cluster_top.specs.Headline.{input_ended, read_failed, write_failed, no_memory, no_request, too_long}
 use Rattle.cluster_top.specs.Framing.{Unframed}
-use Rattle.cluster_top.specs.Serving.{Serving}
 use Rattle.cluster_top.specs.declared.pipe.Stop.TheVariants as stops
 use Rattle.cluster_top.proofs.Serving.{stopped_between}
 use Rattle.cluster_top.proofs.Endings.{ended, stopped, took_no_more, took_round, round_length, unframed_at, partial_left, told_by, stop_is, serving_new}

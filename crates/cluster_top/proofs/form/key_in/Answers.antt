@@ -1,7 +1,6 @@
-use Rattle.std.proofs.Common.{◌≡◌, ◌≢◌, length, None, arith, sym, subst, ap, ◌∙◌}
+use Rattle.std.proofs.Common.{◌≡◌, ◌≢◌, length, None, arith, sym, subst}
 use Rattle.document_model.specs.Tree.{Items}
-use Rattle.bson_values.specs.View.{datum_of}
-use Rattle.cluster_top.specs.Forms.{key_in, only_id}
+use Rattle.cluster_top.specs.Forms.{only_id}
 use Rattle.cluster_top.proofs.Forms.{only_id-other}
 use Rattle.cluster_top.proofs.form.key_in.Goals as goal
 

@@ -1,4 +1,4 @@
-use Rattle.std.proofs.Common.{◌≡◌, List, ℕ, ◌-◌, ◌≤◌, length, take, drop, arith, ◌++◌, ◌∷◌, [], sym, ap, ◌∙◌, refl}
+use Rattle.std.proofs.Common.{◌≡◌, List, ℕ, ◌-◌, length, take, drop, arith, ◌++◌, ◌∷◌, [], sym, ap, ◌∙◌, refl}
 use Rattle.std.proofs.lemmas.List.{take_rest}
 use Rattle.std.specs.List.{flat_map, AllByRecursion}
 use Rattle.wire_model.specs.Messages.{Message, message_bytes, IsRequest}

@@ -1,6 +1,6 @@
-use Rattle.std.proofs.Common.{◌≡◌, refl, sym, subst, true, false, ◌∙◌, None, Some, Ok, Err}
+use Rattle.std.proofs.Common.{◌≡◌, sym, true, false, ◌∙◌}
 use Rattle.std.specs.Bool.{IsTrue}
-use Rattle.history_model.specs.Command.{asks_unknown, AsksFor}
+use Rattle.history_model.specs.Command.{asks_unknown}
 use Rattle.cluster_top.proofs.Forms.{insert_form-is}
 use Rattle.cluster_top.proofs.Requests.{refused_form}
 use Rattle.cluster_top.proofs.request.asked_by.Goals as goal

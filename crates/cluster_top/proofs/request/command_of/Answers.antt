@@ -1,7 +1,7 @@
-use Rattle.std.proofs.Common.{◌≡◌, ℕ, List, refl, sym, subst, ap, length, take, arith}
+use Rattle.std.proofs.Common.{ℕ, List, sym, subst, length, take, arith}
 use Rattle.std.proofs.Math.Seq.{take-length}
 use Rattle.document_model.specs.Grammar.{ReadsAs}
-use Rattle.history_model.specs.Command.{asks_read, asks_faulty, Asks, AsksFor}
+use Rattle.history_model.specs.Command.{asks_faulty}
 use Rattle.cluster_top.proofs.Requests.{states_all, refuses, if_asks}
 use Rattle.cluster_top.proofs.request.command_of.Goals as goal
 

@@ -1,7 +1,5 @@
 use Rattle.std.proofs.Common.{◌≡◌, refl, sym, true, false, ◌∙◌, ap, rules, w32, Err}
 use mir.Val.{to_z, of_z}
-use Rattle.cluster_base.specs.declared.namespace.Namespace.{Namespace}
-use Rattle.cluster_base.specs.declared.namespace.NameFault.{NameFault}
 use Rattle.std.proofs.lemmas.Int.{to_z-of_z}
 use Rattle.history_model.specs.Command.{asks_insert}
 use Rattle.cluster_top.proofs.Requests.{refused_insert}

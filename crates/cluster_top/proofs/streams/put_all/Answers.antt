@@ -1,4 +1,4 @@
-use Rattle.std.proofs.Common.{Bool, ◌≡◌, ℕ, ◌+◌, ◌-◌, ◌≤◌, ◌++◌, List, length, take, drop, arith, length-drop, append_assoc, ap, sym, ◌∙◌}
+use Rattle.std.proofs.Common.{Bool, ℕ, ◌+◌, ◌-◌, List, length, take, drop, arith}
 use Rattle.std.proofs.lemmas.List.{take_rest}
 use Rattle.std.proofs.Math.Seq.{take-add}
 use Rattle.outside.specs.Streams.{Put}

@@ -1,5 +1,5 @@
 use Rattle.std.specs.Prelude.{replicate}
-use Rattle.std.proofs.Common.{◌-◌, ◌≡◌, ◌≤◌, ℕ, List, length, take, drop, vec_len, ◌+◌, ◌++◌, arith, ap, sym, ◌∙◌, true, false, Ok}
+use Rattle.std.proofs.Common.{◌-◌, ◌≡◌, length, take, vec_len, ◌+◌, ◌++◌, arith, ap, sym, ◌∙◌, true}
 use Rattle.std.specs.Result.{is_ok, result_unwrap_or}
 use Rattle.std.proofs.lemmas.List.{length-take-le}
 use Rattle.cluster_top.proofs.Buffers.{taken_into}

@@ -1,4 +1,4 @@
-use Rattle.std.specs.Prelude.{◌≡◌, ◌≢◌, IsNone, is_some, Option, None, Some, Bool, true, false, not, ℕ}
+use Rattle.std.specs.Prelude.{◌≡◌, ◌≢◌, IsNone, is_some, Option, None, Some, true, not, ℕ}
 use Rattle.std.proofs.Common.{ap, sym, ◌∙◌}
 use Rattle.cluster_top.specs.Words.{node_count_of}
 use Rattle.cluster_top.proofs.Endings.{told_by, headline_of, not_refused}

@@ -1,7 +1,4 @@
-use Rattle.std.proofs.Common.{◌≡◌, ℕ, ◌-◌, List, [], length, take, drop, refl, sym, ◌∙◌, subst}
-use Rattle.std.proofs.lemmas.List.{take_rest}
-use Rattle.cluster_top.specs.Kept.{Represents}
-use Rattle.history_model.specs.Machine.{Store, reply_to}
+use Rattle.std.proofs.Common.{ℕ, List, refl}
 use Rattle.wire_model.specs.Outline.{request_in}
 use Rattle.cluster_top.specs.Commands.{command_meant}
 use Rattle.cluster_top.proofs.Serving.{reply_bytes}
