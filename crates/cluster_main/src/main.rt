@@ -14,6 +14,7 @@ use std::rt::Env;
 use std::{env, io};
 
 const BAD_WORDS: u8 = 2;
+
 const NO_MEMORY: u8 = 7;
 
 /// The words behind the program's name, or the status of a command line that can't be read.
