@@ -11,7 +11,7 @@ use Rattle.history_model.specs.Times.{time_of_moment}
 use Rattle.history_model.specs.Command.{insert_command, id_document}
 use Rattle.history_model.specs.History.{key_of, same_key}
 use Rattle.history_model.specs.Machine as plain
-use Rattle.history_model.specs.Machine.{has_collection, find_document, documents_with, store_after}
+use Rattle.history_model.specs.Machine.{find_document, documents_with, store_after}
 use Rattle.cluster_top.specs.Collections.{is_created, is_kept}
 use Rattle.cluster_top.specs.Kept.{Represents}
 use Rattle.cluster_top.specs.declared.store.Store.{Store}
@@ -66,10 +66,6 @@ documents_when ns n key k ds (Some b) e = absorbed (bytes_eq n ns && int_eq k ke
 pub documents_after : (ns n : List ℕ) (key k : ℤ) (ds : List (List ℕ × Members)) →
     is_some (find_document n (Some (int32_value k)) (documents_with ns (id_document key) ds)) ≡ ((bytes_eq n ns && int_eq k key) || is_some (find_document n (Some (int32_value k)) ds))
 documents_after ns n key k ds = documents_when ns n key k ds (find_document ns (Some (int32_value key)) ds) refl
-
-or_false : (u : Bool) → u ≡ (u || false)
-or_false true = refl
-or_false false = refl
 
 or_swapped : (a b c r : Bool) → r ≡ (b || c) → (a || r) ≡ (b || (a || c))
 or_swapped true b c r h = or_true b

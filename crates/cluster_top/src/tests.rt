@@ -144,7 +144,7 @@ const DUPLICATE_780: &[u8] = b"\x88\0\0\0\x0c\x03\0\0\x01\0\0\0\xdd\x07\0\0\0\0\
     \0";
 
 /// What comes in, what is put, and how the run ends.
-#[derive(Drop)]
+#[derive(Clone, Copy)]
 struct Case {
     name: &'static str,
     input: &'static [&'static [u8]],
@@ -154,12 +154,194 @@ struct Case {
 }
 
 /// The numbers of the calls that fail, with pieces of ten bytes at most.
-#[derive(Drop)]
+#[derive(Clone, Copy)]
 struct Fault {
     take: u64,
     put: u64,
     case: Case,
 }
+
+/// Requests, and what becomes of them where nothing fails.
+const REPLIES: &[Case] = &[
+    Case {
+        name: "nothing",
+        input: &[],
+        put: &[],
+        status: 0,
+        rest: 0,
+    },
+    Case {
+        name: "the same insert twice",
+        input: &[INSERT, INSERT],
+        put: &[DONE, DUPLICATE],
+        status: 0,
+        rest: 0,
+    },
+    Case {
+        name: "a header in part",
+        input: &[b"\x54\0\0\0\x01\0\0\0\0\0\0\0\xdd\x07\0"],
+        put: &[],
+        status: 0,
+        rest: 15,
+    },
+    Case {
+        name: "48,000,000 bytes to come",
+        input: &[b"\x00\x6c\xdc\x02\x01\0\0\0\0\0\0\0\xdd\x07\0\0"],
+        put: &[],
+        status: 0,
+        rest: 16,
+    },
+    Case {
+        name: "48,000,001 bytes to come",
+        input: &[b"\x01\x6c\xdc\x02\x01\0\0\0\0\0\0\0\xdd\x07\0\0"],
+        put: &[],
+        status: 9,
+        rest: 16,
+    },
+    Case {
+        name: "an insert behind a query",
+        input: &[INSERT, INSERT, QUERY, INSERT],
+        put: &[DONE, DUPLICATE],
+        status: 9,
+        rest: 100,
+    },
+    Case {
+        name: "no such command",
+        input: &[UNKNOWN],
+        put: &[REFUSED_59],
+        status: 0,
+        rest: 0,
+    },
+    Case {
+        name: "a text without its last byte",
+        input: &[SHORT_TEXT],
+        put: &[REFUSED_22],
+        status: 0,
+        rest: 0,
+    },
+    Case {
+        name: "a kind that is not read",
+        input: &[b"\x20\0\0\0\x01\0\0\0\0\0\0\0\xdd\x07\0\0\0\0\0\0\0\x0b\0\0\0\x08foo\0\x01\0"],
+        put: &[REFUSED_22],
+        status: 0,
+        rest: 0,
+    },
+    Case {
+        name: "an insert of nothing",
+        input: &[
+            b"\x28\0\0\0\x01\0\0\0\0\0\0\0\xdd\x07\0\0\0\0\0\0\0\x13\0\0\0\x02insert\0\x02\0\0\0c\0\0",
+        ],
+        put: &[REFUSED_22],
+        status: 0,
+        rest: 0,
+    },
+    Case {
+        name: "an insert into admin",
+        input: &[INTO_ADMIN],
+        put: &[REFUSED_22],
+        status: 0,
+        rest: 0,
+    },
+    Case {
+        name: "a refusal, another namespace, another key",
+        input: &[INSERT, UNKNOWN, INSERT_E, INSERT_KEY],
+        put: &[DONE, SECOND_59, DONE_E, DONE_KEY],
+        status: 0,
+        rest: 0,
+    },
+];
+
+/// What becomes of requests where a call fails.
+const FAULTS: &[Fault] = &[
+    Fault {
+        take: 0,
+        put: NEVER,
+        case: Case {
+            name: "the first take",
+            input: &[INSERT],
+            put: &[],
+            status: 3,
+            rest: 0,
+        },
+    },
+    Fault {
+        take: 1,
+        put: NEVER,
+        case: Case {
+            name: "the second take",
+            input: &[INSERT, INSERT, HEADER],
+            put: &[DONE, DUPLICATE],
+            status: 3,
+            rest: 16,
+        },
+    },
+    Fault {
+        take: NEVER,
+        put: NEVER,
+        case: Case {
+            name: "no call",
+            input: &[INSERT, INSERT, HEADER],
+            put: &[DONE, DUPLICATE],
+            status: 0,
+            rest: 16,
+        },
+    },
+    Fault {
+        take: NEVER,
+        put: 0,
+        case: Case {
+            name: "the first put",
+            input: &[INSERT, INSERT, HEADER],
+            put: &[],
+            status: 4,
+            rest: 16,
+        },
+    },
+    Fault {
+        take: NEVER,
+        put: 3,
+        case: Case {
+            name: "the fourth put",
+            input: &[INSERT],
+            put: &[b"\x40\0\0\0\x01\0\0\0\x01\0\0\0\xdd\x07\0\0\0\0\0\0\0\x2b\0\0\0\x10n\0\x01\0"],
+            status: 4,
+            rest: 0,
+        },
+    },
+    Fault {
+        take: NEVER,
+        put: 9,
+        case: Case {
+            name: "a put of the second reply",
+            input: &[INSERT, INSERT],
+            put: &[DONE, b"\x88\0\0\0\x02\0\0\0\x01\0\0\0\xdd\x07\0\0\0\0\0\0"],
+            status: 4,
+            rest: 0,
+        },
+    },
+    Fault {
+        take: 1,
+        put: 0,
+        case: Case {
+            name: "a put before the second take",
+            input: &[INSERT],
+            put: &[],
+            status: 4,
+            rest: 0,
+        },
+    },
+    Fault {
+        take: 0,
+        put: 0,
+        case: Case {
+            name: "a take before the first put",
+            input: &[INSERT],
+            put: &[],
+            status: 3,
+            rest: 0,
+        },
+    },
+];
 
 /// A sink that takes ten bytes a call at most, and fails at one call.
 #[derive(Drop)]
@@ -259,97 +441,7 @@ fn ends<R: Threads + Wait + Sync, K: Sink>(
 #[test]
 fn replies(rt: HostRuntime) -> Result<(), Fail> {
     let alloc = rt.alloc();
-    let cases = [
-        Case {
-            name: "nothing",
-            input: &[],
-            put: &[],
-            status: 0,
-            rest: 0,
-        },
-        Case {
-            name: "the same insert twice",
-            input: &[INSERT, INSERT],
-            put: &[DONE, DUPLICATE],
-            status: 0,
-            rest: 0,
-        },
-        Case {
-            name: "a header in part",
-            input: &[b"\x54\0\0\0\x01\0\0\0\0\0\0\0\xdd\x07\0"],
-            put: &[],
-            status: 0,
-            rest: 15,
-        },
-        Case {
-            name: "48,000,000 bytes to come",
-            input: &[b"\x00\x6c\xdc\x02\x01\0\0\0\0\0\0\0\xdd\x07\0\0"],
-            put: &[],
-            status: 0,
-            rest: 16,
-        },
-        Case {
-            name: "48,000,001 bytes to come",
-            input: &[b"\x01\x6c\xdc\x02\x01\0\0\0\0\0\0\0\xdd\x07\0\0"],
-            put: &[],
-            status: 9,
-            rest: 16,
-        },
-        Case {
-            name: "an insert behind a query",
-            input: &[INSERT, INSERT, QUERY, INSERT],
-            put: &[DONE, DUPLICATE],
-            status: 9,
-            rest: 100,
-        },
-        Case {
-            name: "no such command",
-            input: &[UNKNOWN],
-            put: &[REFUSED_59],
-            status: 0,
-            rest: 0,
-        },
-        Case {
-            name: "a text without its last byte",
-            input: &[SHORT_TEXT],
-            put: &[REFUSED_22],
-            status: 0,
-            rest: 0,
-        },
-        Case {
-            name: "a kind that is not read",
-            input: &[
-                b"\x20\0\0\0\x01\0\0\0\0\0\0\0\xdd\x07\0\0\0\0\0\0\0\x0b\0\0\0\x08foo\0\x01\0",
-            ],
-            put: &[REFUSED_22],
-            status: 0,
-            rest: 0,
-        },
-        Case {
-            name: "an insert of nothing",
-            input: &[
-                b"\x28\0\0\0\x01\0\0\0\0\0\0\0\xdd\x07\0\0\0\0\0\0\0\x13\0\0\0\x02insert\0\x02\0\0\0c\0\0",
-            ],
-            put: &[REFUSED_22],
-            status: 0,
-            rest: 0,
-        },
-        Case {
-            name: "an insert into admin",
-            input: &[INTO_ADMIN],
-            put: &[REFUSED_22],
-            status: 0,
-            rest: 0,
-        },
-        Case {
-            name: "a refusal, another namespace, another key",
-            input: &[INSERT, UNKNOWN, INSERT_E, INSERT_KEY],
-            put: &[DONE, SECOND_59, DONE_E, DONE_KEY],
-            status: 0,
-            rest: 0,
-        },
-    ];
-    for case in &cases {
+    for case in REPLIES {
         let name = case.name;
         let mut sink = MemSink::new(vec![in alloc]?);
         let input = joined(alloc, case.input)?;
@@ -364,99 +456,7 @@ fn replies(rt: HostRuntime) -> Result<(), Fail> {
 #[test]
 fn faults(rt: HostRuntime) -> Result<(), Fail> {
     let alloc = rt.alloc();
-    let faults = [
-        Fault {
-            take: 0,
-            put: NEVER,
-            case: Case {
-                name: "the first take",
-                input: &[INSERT],
-                put: &[],
-                status: 3,
-                rest: 0,
-            },
-        },
-        Fault {
-            take: 1,
-            put: NEVER,
-            case: Case {
-                name: "the second take",
-                input: &[INSERT, INSERT, HEADER],
-                put: &[DONE, DUPLICATE],
-                status: 3,
-                rest: 16,
-            },
-        },
-        Fault {
-            take: NEVER,
-            put: NEVER,
-            case: Case {
-                name: "no call",
-                input: &[INSERT, INSERT, HEADER],
-                put: &[DONE, DUPLICATE],
-                status: 0,
-                rest: 16,
-            },
-        },
-        Fault {
-            take: NEVER,
-            put: 0,
-            case: Case {
-                name: "the first put",
-                input: &[INSERT, INSERT, HEADER],
-                put: &[],
-                status: 4,
-                rest: 16,
-            },
-        },
-        Fault {
-            take: NEVER,
-            put: 3,
-            case: Case {
-                name: "the fourth put",
-                input: &[INSERT],
-                put: &[
-                    b"\x40\0\0\0\x01\0\0\0\x01\0\0\0\xdd\x07\0\0\0\0\0\0\0\x2b\0\0\0\x10n\0\x01\0",
-                ],
-                status: 4,
-                rest: 0,
-            },
-        },
-        Fault {
-            take: NEVER,
-            put: 9,
-            case: Case {
-                name: "a put of the second reply",
-                input: &[INSERT, INSERT],
-                put: &[DONE, b"\x88\0\0\0\x02\0\0\0\x01\0\0\0\xdd\x07\0\0\0\0\0\0"],
-                status: 4,
-                rest: 0,
-            },
-        },
-        Fault {
-            take: 1,
-            put: 0,
-            case: Case {
-                name: "a put before the second take",
-                input: &[INSERT],
-                put: &[],
-                status: 4,
-                rest: 0,
-            },
-        },
-        Fault {
-            take: 0,
-            put: 0,
-            case: Case {
-                name: "a take before the first put",
-                input: &[INSERT],
-                put: &[],
-                status: 3,
-                rest: 0,
-            },
-        },
-    ];
-    for fault in &faults {
+    for fault in FAULTS {
         let case = &fault.case;
         let name = case.name;
         let mut sink = NarrowSink::new(alloc, fault.put);

@@ -16,11 +16,6 @@ runs_push (nothing_more store) moment command x asks told = serves store _ momen
 runs_push (serves store end first moments c y said wants says runs) moment command x asks told =
     serves store _ first _ c y _ wants says (runs_push runs moment command x asks told)
 
--- each request of a run has a moment, and a reply
-pub runs_moments : {start end : Store} {moments : List ℕ} {said : List Exchange} → Runs start moments said end → length moments ≡ length said
-runs_moments (nothing_more store) = refl
-runs_moments (serves store end moment moments c x said asks told runs) = omega (arith, runs_moments runs)
-
 answered_first : (x : Exchange) (said : List Exchange) (reply : Option Members) (d : Members) → reply ≡ Some d → (elim reply [ None ↦ answered said | Some r ↦ (x.request, r) ∷ answered said ]) ≡ (x.request, d) ∷ answered said
 answered_first x said None d e = cc
 answered_first x said (Some r) d e =

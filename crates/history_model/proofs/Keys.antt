@@ -16,6 +16,3 @@ same_key_is a b e = cc
 
 pub same_key_right : (a b c : Option Datum) → same_key a b ≡ true → same_key c a ≡ same_key c b
 same_key_right a b c e = ap (λ (k : Option Datum). same_key c k) (same_key_is a b e)
-
-pub same_key_left : (a b c : Option Datum) → same_key a b ≡ true → same_key a c ≡ same_key b c
-same_key_left a b c e = ap (λ (k : Option Datum). same_key k c) (same_key_is a b e)

@@ -1,5 +1,5 @@
 -- Numbers of four bytes in a list of bytes.
-use Rattle.std.proofs.Common.{◌≡◌, ℕ, ◌+◌, ◌*◌, ◌<◌, ◌≤◌, ◌^◌, ◌⊎◌, inl, inr, List, ◌++◌, length, get_or, take, drop, refl, sym, ap, ◌∙◌, arith, length-drop}
+use Rattle.std.proofs.Common.{◌≡◌, ℕ, ◌+◌, ◌<◌, ◌≤◌, ◌^◌, ◌⊎◌, inl, inr, List, ◌++◌, length, get_or, take, drop, refl, sym, ap, ◌∙◌, arith, length-drop}
 use Rattle.std.specs.Int.{w32, from_le_bytes}
 use Rattle.std.proofs.lemmas.List.{take-append-drop, drop-drop, get_or-take, get_or-drop, get_or_past, length-take-le, length-take}
 use Rattle.std.proofs.lemmas.Nat.{le_bytes_4}
@@ -32,7 +32,3 @@ next_part k l bytes = sym (rw drop-drop at (take-append-drop l (drop k bytes)))
 
 pub number_front : (k : ℕ) (bytes : List ℕ) → IsBytes bytes → k + 4 ≤ length bytes → drop k bytes ≡ int32 (number_at k bytes) ++ drop (k + 4) bytes
 number_front k bytes are room = next_part k 4 bytes ∙ ap (λ (four : List ℕ). four ++ drop (k + 4) bytes) (sym (number_bytes k bytes are room))
-
--- the number of four bytes, in Horner's form
-pub number_by_bytes : (four : List ℕ) → from_le_bytes w32 four ≡ get_or four 0 0 + 256 * (get_or four 1 0 + 256 * (get_or four 2 0 + 256 * (get_or four 3 0 + 256 * 0)))
-number_by_bytes four = omega arith

@@ -6,11 +6,11 @@ use Rattle.std.proofs.lemmas.Bool.Decides.{Decides-and, Decides-eqb, Decides-lik
 use Rattle.std.proofs.lemmas.Bool.{ltb-true, ltb-false}
 use Rattle.std.proofs.lemmas.List.{length-take-le, take-take}
 use Rattle.std.specs.Int.{w32, from_le_bytes}
-use Rattle.wire_model.specs.Messages.{Message, message_bytes, IsRequest, op_msg, most_bytes, stated_length, opcode, int32}
+use Rattle.wire_model.specs.Messages.{message_bytes, op_msg, most_bytes, stated_length, opcode, int32}
 use Rattle.wire_model.specs.Frames.{HasHeader, IsPartial, no_header, no_whole, IsMalformed, bad_header, bad_message, BeginsNoRequest}
 use Rattle.wire_model.specs.Outline.{Outline, partial_outline, request_outline, malformed_outline, number_at, is_header, is_whole_request, outline, IsBytes, request_in, HasRequest}
 use Rattle.wire_model.proofs.Bytes.{number_fits, number_front, next_part}
-use Rattle.wire_model.proofs.Fronts.{Starts, starts_at, header_of}
+use Rattle.wire_model.proofs.Fronts.{starts_at}
 
 decides_le : (a b : ℕ) → Decides (nat_le a b) (a ≤ b)
 decides_le a b = (λ e. grind (arith, nat_tests), λ h. grind (arith, nat_tests))
@@ -161,18 +161,6 @@ outline_malformed bytes e = of_malformed bytes (subst (λ (o : Outline). Seen by
 
 pub outline_request : (bytes : List ℕ) (n : ℕ) → IsBytes bytes → outline bytes ≡ request_outline n → HasRequest n bytes
 outline_request bytes n are e = of_request bytes n are (subst (λ (o : Outline). Seen bytes o) e (seen bytes))
-
--- a request at the front is seen
-pub request_outlined : (m : Message) (more bytes : List ℕ) → IsRequest m → bytes ≡ message_bytes m ++ more → outline bytes ≡ request_outline (length m.body + 21)
-request_outlined m more bytes is e = to_request m more bytes (outline bytes) is e (starts_at m more bytes is e) (seen bytes)
-  where
-    to_request : (m : Message) (more bytes : List ℕ) (o : Outline) → IsRequest m → bytes ≡ message_bytes m ++ more → Starts m more bytes → Seen bytes o → o ≡ request_outline (length m.body + 21)
-    to_request m more bytes _ is e s (seen_short short) = absurd (omega (arith, s.size))
-    to_request m more bytes _ is e s (seen_unfinished h short) = absurd (omega (arith, s.size, s.states))
-    to_request m more bytes _ is e s (seen_request h fits w) = ap request_outline s.states
-    to_request m more bytes _ is e s (seen_bad_header there never) = absurd (never (header_of m more bytes is s))
-    to_request m more bytes _ is e s (seen_bad_message h fits never) =
-        absurd (never (record { least = omega (arith, s.states, is.least); flags = s.flags; kind = s.kind; inner = omega (arith, s.states, s.inner) }))
 
 -- what is malformed is seen
 pub malformed_outlined : (bytes : List ℕ) → IsBytes bytes → IsMalformed bytes → outline bytes ≡ malformed_outline

@@ -1,7 +1,6 @@
 -- The bytes of a connection have one reading as requests and a rest.
 use Rattle.std.proofs.Common.{◌≡◌, ℕ, ◌⊎◌, inl, inr, List, [], ◌∷◌, ◌++◌, length, take, drop, refl, sym, ap, ◌∙◌, arith, append_assoc}
 use Rattle.std.specs.List.{flat_map, AllByRecursion}
-use Rattle.std.proofs.lemmas.List.{flat_map_more}
 use Rattle.wire_model.specs.Messages.{Message, message_bytes, IsRequest}
 use Rattle.wire_model.specs.Frames.{IsPartial, no_header, no_whole, IsMalformed, bad_header, bad_message, Frames}
 use Rattle.wire_model.proofs.Fronts.{Starts, starts_at, header_of}
@@ -53,28 +52,3 @@ same_readings (r ∷ rs) (q ∷ qs) rest left e are is ends stops =
 
 pub one_reading : (bytes : List ℕ) (rs qs : List Message) (rest left : List ℕ) → Frames bytes rs rest → Frames bytes qs left → (rs ≡ qs) × (rest ≡ left)
 one_reading bytes rs qs rest left f g = same_readings rs qs rest left (sym f.whole ∙ g.whole) f.each g.each f.ends g.ends
-
--- a rest alone, and one request before what is read already
-pub frames_rest : (rest : List ℕ) → IsPartial rest ⊎ IsMalformed rest → Frames rest [] rest
-frames_rest rest ends = record { whole = refl; each = tt; ends = ends }
-
-pub frames_first : (m : Message) (bytes more rest : List ℕ) (qs : List Message) → IsRequest m → bytes ≡ message_bytes m ++ more → Frames more qs rest → Frames bytes (m ∷ qs) rest
-frames_first m bytes more rest qs is e f = record {
-  whole = e ∙ ap (λ (l : List ℕ). message_bytes m ++ l) f.whole ∙ sym (append_assoc (message_bytes m) (flat_map message_bytes qs) rest);
-  each = (is, f.each);
-  ends = f.ends;
-}
-
--- requests that were read one after another, and then what ends
-pub frames_so_far : (bytes rest : List ℕ) (rs : List Message) → bytes ≡ flat_map message_bytes rs ++ rest → AllByRecursion IsRequest rs → IsPartial rest ⊎ IsMalformed rest → Frames bytes rs rest
-frames_so_far bytes rest rs e each ends = record { whole = e; each = each; ends = ends }
-
-pub requests_push : (rs : List Message) (m : Message) → AllByRecursion IsRequest rs → IsRequest m → AllByRecursion IsRequest (rs ++ m ∷ [])
-requests_push [] m each is = (is, tt)
-requests_push (r ∷ rs) m each is = (each.0, requests_push rs m each.1 is)
-
--- one more request was read of the rest
-pub bytes_push : (bytes rest more : List ℕ) (rs : List Message) (m : Message) → bytes ≡ flat_map message_bytes rs ++ rest → rest ≡ message_bytes m ++ more → bytes ≡ flat_map message_bytes (rs ++ m ∷ []) ++ more
-bytes_push bytes rest more rs m e first =
-    e ∙ ap (λ (l : List ℕ). flat_map message_bytes rs ++ l) first ∙ sym (append_assoc (flat_map message_bytes rs) (message_bytes m) more)
-    ∙ ap (λ (l : List ℕ). l ++ more) (flat_map_more message_bytes [] rs m)

@@ -1,9 +1,9 @@
 -- The bytes of replies, as they grow by one.
-use Rattle.std.proofs.Common.{◌≡◌, ℕ, ◌+◌, List, [], ◌∷◌, ◌++◌, length, refl, sym, ap, ◌∙◌, arith, append_assoc}
+use Rattle.std.proofs.Common.{◌≡◌, ℕ, ◌+◌, List, [], ◌∷◌, ◌++◌, length, sym, ap, ◌∙◌, arith, append_assoc}
 use Rattle.std.proofs.lemmas.List.{append-nil}
 use Rattle.document_model.specs.Tree.{Members}
 use Rattle.wire_model.specs.Messages.{Message, message_bytes}
-use Rattle.wire_model.specs.Spoken.{reply_message, spoken_from, IsFront}
+use Rattle.wire_model.specs.Spoken.{reply_message, spoken_from}
 
 -- one more reply
 pub spoken_push : (number : ℕ) (xs : List (Message × Members)) (m : Message) (d : Members) → spoken_from number (xs ++ (m, d) ∷ []) ≡ spoken_from number xs ++ message_bytes (reply_message (number + length xs) m d)
@@ -14,16 +14,3 @@ spoken_push number (x ∷ xs) m d =
     let e : (number + 1) + length xs ≡ number + length (x ∷ xs) = omega arith in
     ap (λ (l : List ℕ). message_bytes (reply_message number x.0 x.1) ++ l) (spoken_push (number + 1) xs m d ∙ ap (λ (n : ℕ). spoken_from (number + 1) xs ++ message_bytes (reply_message n m d)) e)
     ∙ sym (append_assoc (message_bytes (reply_message number x.0 x.1)) (spoken_from (number + 1) xs) _)
-
--- bytes begin themselves, and begin what goes on from bytes that they begin
-pub front_whole : (bytes : List ℕ) → IsFront bytes bytes
-front_whole bytes = ([], sym (append-nil bytes))
-
-pub front_of : (front more : List ℕ) → IsFront front (front ++ more)
-front_of front more = (more, refl)
-
-pub front_grows : (front bytes more : List ℕ) → IsFront front bytes → IsFront front (bytes ++ more)
-front_grows front bytes more f = (f.0 ++ more, ap (λ (l : List ℕ). l ++ more) f.1 ∙ append_assoc front f.0 more)
-
-pub front_after : (front bytes part : List ℕ) → IsFront part bytes → IsFront (front ++ part) (front ++ bytes)
-front_after front bytes part f = (f.0, ap (λ (l : List ℕ). front ++ l) f.1 ∙ sym (append_assoc front part f.0))
