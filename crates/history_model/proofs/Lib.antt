@@ -7,4 +7,5 @@ pub mod Asked
 pub mod Standing
 pub mod Determined
 pub mod Sample
+pub mod SampleHistory
 pub mod Growing

@@ -23,7 +23,7 @@ body_spelled = ap indexed (decimal_digit 0 (omega arith))
 text_reads : (s : List ℕ) → IsUtf8 s → length s < 100 → ReadsValue (string s) (text_value s)
 text_reads s utf8 short = (refl, utf8, omega arith)
 
-id_reads : ReadsAs id_bytes (id_document (pos 1))
+pub id_reads : ReadsAs id_bytes (id_document (pos 1))
 id_reads = (take 9 (drop 4 id_bytes), refl, omega arith, (take 4 (drop 9 id_bytes), [], refl, search rules, search rules, (refl, search rules), refl))
 
 array_reads : ReadsValue (framed (element 0x03 (48 ∷ []) id_bytes)) (array_value (item (document_value (id_document (pos 1))) no_items))

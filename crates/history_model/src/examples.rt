@@ -1,6 +1,7 @@
 //! The definitions on values that one can check by hand.
 
 ghost use Rattle.std.specs.Prelude.{◌≡◌, ◌∷◌, [], codes, Some, false, true, pos};
+ghost use Rattle.document_model.specs.Grammar.{ReadsAs};
 ghost use Rattle.document_model.specs.Spelling.{written};
 ghost use Rattle.document_model.specs.Stage.{IsTaken};
 ghost use Rattle.document_model.specs.Tree.{member, no_members, null_value};
@@ -9,10 +10,11 @@ ghost use Rattle.wire_model.specs.Spoken.{reply_message};
 ghost use Rattle.history_model.specs.Command.{Asks, AsksFor, id_document, insert_body, no_command, no_document_at, refused_command};
 ghost use Rattle.history_model.specs.Errors.{duplicate_key};
 ghost use Rattle.history_model.specs.Examples.{body, command, done_reply, duplicate_reply, entry_at, first, first_entry, id_bytes, reply_bytes, request, request_bytes, second, second_entry};
-ghost use Rattle.history_model.specs.Exchange.{InTurn, IsFresh, IsRight, OneHistory, spoken};
-ghost use Rattle.history_model.specs.History.{IsBefore, IsSameStatement, Legal, done, fails_with};
+ghost use Rattle.history_model.specs.Exchange.{InTurn, IsEntryOf, IsFresh, IsRight, OneHistory, spoken};
+ghost use Rattle.history_model.specs.History.{Follows, IsBefore, IsIn, IsSameStatement, Legal, done, fails_with};
+ghost use Rattle.history_model.specs.Laws.{Stands};
 ghost use Rattle.history_model.specs.Machine.{Runs, Store, empty_store, reply_to, store_after};
-ghost use Rattle.history_model.specs.Names.{IsCollectionName, IsDatabaseName, MakeNamespace, full_name, is_reserved};
+ghost use Rattle.history_model.specs.Names.{IsCollectionName, IsDatabaseName, IsNamespace, MakeNamespace, full_name, is_reserved};
 ghost use Rattle.history_model.specs.Times.{retained_at, time_of_moment, timestamp};
 
 /// `{_id: 1}`, the insert of it into `d.c`, and the reply to that, in bytes.
@@ -76,4 +78,16 @@ pub fn told()
     ensures lost { OneHistory [] (first ∷ second ∷ []) → ⊥ }
     ensures wrong { IsRight (first_entry ∷ second_entry ∷ []) (record first { reply = Some duplicate_reply }) → ⊥ }
     ensures stale { IsFresh (first_entry ∷ entry_at (timestamp 1000 2) 2 (fails_with duplicate_key) ∷ []) (first ∷ second ∷ []) → ⊥ }
+{}
+
+/// What spells a document, what is a full name, and how an entry stands to its request and to the entries before it.
+pub fn related()
+    ensures reads { ReadsAs id_bytes (id_document (pos 1)) × (ReadsAs [] (id_document (pos 1)) → ⊥) }
+    ensures namespace { IsNamespace (codes "d.c") × (IsNamespace [] → ⊥) }
+    ensures entry_of { IsEntryOf first first_entry × (IsEntryOf second first_entry → ⊥) }
+    ensures kept { IsIn second_entry (first_entry ∷ second_entry ∷ []) × (IsIn second_entry [] → ⊥) }
+    ensures follows { Follows (first_entry ∷ []) second_entry × (Follows (second_entry ∷ []) first_entry → ⊥) }
+    ensures stands { Stands (first_entry ∷ []) first done (timestamp 1000 2) × (Stands [] first done (timestamp 1000 2) → ⊥) }
+    ensures right { IsRight (first_entry ∷ second_entry ∷ []) second }
+    ensures fresh { IsFresh (first_entry ∷ second_entry ∷ []) (first ∷ second ∷ []) }
 {}

@@ -5,6 +5,7 @@
 
 pub mod clock;
 pub mod disk;
+pub mod examples;
 pub mod gate;
 pub mod memory;
 pub mod spoken;

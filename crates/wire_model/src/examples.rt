@@ -4,6 +4,7 @@ ghost use Rattle.std.specs.Prelude.{◌≡◌, ◌++◌, [], ◌∷◌, replicat
 ghost use Rattle.wire_model.specs.Examples.{empty_body, flagged_bytes, header_stating, least_bytes, least_request};
 ghost use Rattle.wire_model.specs.Frames.{BeginsNoRequest, Frames, HasHeader, IsMalformed, IsPartial};
 ghost use Rattle.wire_model.specs.Messages.{IsRequest, message_bytes};
+ghost use Rattle.wire_model.specs.Outline.{HasRequest, IsBytes, malformed_outline, outline, partial_outline, request_outline};
 ghost use Rattle.wire_model.specs.Spoken.{IsFront, reply_id, reply_message};
 ghost use Rattle.document_model.specs.Tree.{Members};
 
@@ -39,4 +40,11 @@ pub fn numbered()
     ensures first { (reply_id 1 ≡ 1) × (reply_id 2147483647 ≡ 2147483647) × (reply_id 2147483648 ≡ 0) }
     ensures names { (document : Members) → (reply_message 2 least_request document).answers ≡ 1 }
     ensures front { IsFront (1 ∷ []) (1 ∷ 2 ∷ []) × (IsFront (2 ∷ []) (1 ∷ 2 ∷ []) → ⊥) }
+{}
+
+/// What stands first in bytes: part of a message, a request of 26 bytes, or no request.
+pub fn outlined()
+    ensures outlines { (outline [] ≡ partial_outline) × (outline least_bytes ≡ request_outline 26) × (outline flagged_bytes ≡ malformed_outline) }
+    ensures bytes { IsBytes (0 ∷ 255 ∷ []) × (IsBytes (256 ∷ []) → ⊥) }
+    ensures request { HasRequest 26 least_bytes × (HasRequest 0 [] → ⊥) }
 {}

@@ -1,29 +1,23 @@
 -- The two inserts, one after the other.
-use Rattle.std.proofs.Common.{◌≡◌, ◌⊎◌, inl, inr, ℕ, ◌≤◌, ◌<◌, [], ◌∷◌, refl, sym, ap, subst, ◌∙◌, arith, rules}
+use Rattle.std.proofs.Common.{◌≡◌, ◌⊎◌, inl, inr, ◌<◌, [], ◌∷◌, refl, sym, ap, subst, ◌∙◌, arith, rules}
 use Rattle.std.specs.Prelude.{Some}
 use Rattle.history_model.specs.Times.{timestamp}
 use Rattle.history_model.specs.Errors.{duplicate_key}
 use Rattle.history_model.specs.History.{StatementNumber, Entry, IsIn, done, fails_with}
-use Rattle.history_model.specs.Reply.{write_reply, operation_time}
-use Rattle.history_model.specs.Exchange.{Exchange, IsEntryOf, IsRight, right_write, right_refusal, IsFresh, number_for}
+use Rattle.history_model.specs.Reply.{write_reply}
+use Rattle.history_model.specs.Exchange.{Exchange, IsEntryOf, IsRight, right_write, right_refusal, number_for}
 use Rattle.history_model.specs.Machine.{serves, nothing_more, empty_store, store_after}
 use Rattle.history_model.specs.Examples.{command, done_reply, duplicate_reply, entry_at, first, first_entry, second, second_entry}
 use Rattle.history_model.proofs.Lists.{in_first, in_later, in_cons, in_none}
-use Rattle.history_model.proofs.Runs.{fresh_insert}
 use Rattle.history_model.proofs.Standing.{nothing_told}
 use Rattle.history_model.proofs.Sample.{request_asks}
+use Rattle.history_model.proofs.SampleHistory.{is_first, is_second, both_fresh}
 use Rattle.history_model.proofs.examples.told.Goals as goal
 
 pub returns-clause-runs : goal.returns-clause-runs
 returns-clause-runs c =
     serves empty_store _ 1000000 (1000000 ∷ []) command first (second ∷ []) request_asks refl
     (serves (store_after empty_store 1000000 command) _ 1000000 [] command second [] request_asks refl (nothing_more _))
-
-is_first : IsEntryOf first first_entry
-is_first = record { document = _; asked = request_asks; operation = refl; number = refl }
-
-is_second : IsEntryOf second second_entry
-is_second = record { document = _; asked = request_asks; operation = refl; number = refl }
 
 sent_by : (e : Entry) → (e ≡ first_entry) ⊎ IsIn e (second_entry ∷ []) → (x : Exchange) × IsIn x (first ∷ second ∷ []) × IsEntryOf x e
 sent_by e (inl same) = (first, in_first first (second ∷ []), subst (λ (d : Entry). IsEntryOf first d) (sym same) is_first)
@@ -32,25 +26,6 @@ sent_by e (inr i) = by_second (in_cons e second_entry [] i)
     by_second : (e ≡ second_entry) ⊎ IsIn e [] → (x : Exchange) × IsIn x (first ∷ second ∷ []) × IsEntryOf x e
     by_second (inl same) = (second, in_later second first (second ∷ []) (in_first second []), subst (λ (d : Entry). IsEntryOf second d) (sym same) is_second)
     by_second (inr j) = absurd (in_none e j)
-
-told_first : (t : ℕ) → operation_time first.reply ≡ Some t → t ≤ first_entry.time
-told_first t shows =
-    let same : timestamp 1000 2 ≡ t = cc in
-    omega arith
-
-told_second : (t : ℕ) → operation_time second.reply ≡ Some t → t ≤ second_entry.time
-told_second t shows =
-    let same : timestamp 1000 3 ≡ t = cc in
-    omega arith
-
-nothing_fresh : IsFresh [] []
-nothing_fresh x y e t i j earlier k is shows = absurd (in_none x i)
-
-second_fresh : IsFresh (second_entry ∷ []) (second ∷ [])
-second_fresh = fresh_insert 2 2 second [] second_entry [] (search rules) refl told_second tt nothing_fresh
-
-both_fresh : IsFresh (first_entry ∷ second_entry ∷ []) (first ∷ second ∷ [])
-both_fresh = fresh_insert 0 1 first (second ∷ []) first_entry (second_entry ∷ []) (search rules) refl told_first (search rules) second_fresh
 
 pub returns-clause-one : goal.returns-clause-one
 returns-clause-one c = record {
