@@ -1,0 +1,113 @@
+//! From the words to the status.
+
+ghost use Rattle.std.specs.Prelude.{◌≡◌, ◌≢◌, ◌↔◌, [], ◌^◌, ℕ, Err, IfOk, IsNone, vec_len};
+ghost use Rattle.outside.specs.Causes.{Rose};
+ghost use Rattle.outside.specs.Streams.{Took, Put};
+ghost use Rattle.cluster_top.specs.Headline.{Headline};
+ghost use Rattle.cluster_top.specs.Words.{node_count_of};
+ghost use Rattle.std.specs.Process.{exit_status};
+ghost use Rattle.cluster_main.specs.declared.words.NoWords.TheVariants as none;
+
+use crate::line::told;
+use crate::words::{NoWords, words_of};
+use bson_values::{Memory, Text};
+use cluster_top::{node_count, run};
+use outside::clock::Clock;
+use outside::memory::{MemAcceptor, MemDisk, OpenGate};
+use outside::streams::{Sink, Source};
+use std::alloc::Global;
+use std::env;
+use std::io::Eprint;
+use std::process::ExitCode;
+use std::rt::Env;
+use std::sync::Wait;
+use std::thread::Threads;
+
+const BAD_WORDS: u8 = 2;
+
+const NO_MEMORY: u8 = 7;
+
+/// Empty disks in memory.
+fn empty_disks(alloc: Global, count: usize) -> Result<Vec<MemDisk>, Memory>
+    ensures { IfOk result (λ disks. vec_len disks ≡ count) }
+{
+    let mut disks = Vec::new(alloc);
+    for _ in 0..count {
+        disks.push(MemDisk::new(Vec::new(alloc), Vec::new(alloc)))?;
+    }
+    Ok(disks)
+}
+
+/// Runs the cluster as the words say, over these streams and over empty disks in memory. Gives the status.
+fn status_of<R: Threads + Wait + Sync, S: Source, K: Sink, C: Clock + Sync>(
+    rt: &R,
+    alloc: Global,
+    words: Result<Vec<Text>, NoWords>,
+    input: &mut S,
+    out: &mut K,
+    clock: &C,
+) -> u8
+    ensures unreadable { words ≡ Err none.Unreadable → result ≡ 2 }
+    ensures no_memory { words ≡ Err none.Memory → result ≡ 7 }
+    ensures words { IfOk words (λ given. (result ≡ 2) ↔ IsNone (node_count_of given.items)) }
+    ensures refused { result ≡ 2 → Took S.tells (S.left input.old) [] (S.left input.new) × Put K.tells (K.held out.old) [] (K.held out.new) }
+    ensures headline { result ≢ 2 → (rest : ℕ) × Headline (record {
+      source_tells = S.tells;
+      left_before = S.left input.old;
+      left_after = S.left input.new;
+      source_failed = Rose (S.fault_count input.old) (S.fault_count input.new);
+      sink_tells = K.tells;
+      held_before = K.held out.old;
+      held_after = K.held out.new;
+      sink_failed = Rose (K.fault_count out.old) (K.fault_count out.new);
+    }) (C.gives clock.now) (2 ^ 40) result rest }
+{
+    let words = match words {
+        Ok(words) => words,
+        Err(NoWords::Unreadable) => return BAD_WORDS,
+        Err(NoWords::Memory) => return NO_MEMORY,
+    };
+    let Some(count) = node_count(&words) else {
+        return BAD_WORDS;
+    };
+    let Ok(disks) = empty_disks(alloc, count) else {
+        return NO_MEMORY;
+    };
+    let mut acceptor = MemAcceptor::new(Vec::new(alloc), Vec::new(alloc));
+    run(
+        rt,
+        alloc,
+        &words,
+        input,
+        out,
+        &mut acceptor,
+        disks,
+        clock,
+        &OpenGate,
+    )
+    .status
+}
+
+/// Runs the cluster as the words of the command line say, over these streams, and tells of its end.
+pub fn serve<
+    R: Env + AllocGlobal + Eprint + Threads + Wait + Sync,
+    S: Source,
+    K: Sink,
+    C: Clock + Sync,
+>(rt: &R, input: &mut S, out: &mut K, clock: &C) -> ExitCode
+    ensures refused { exit_status result ≡ 2 → Took S.tells (S.left input.old) [] (S.left input.new) × Put K.tells (K.held out.old) [] (K.held out.new) }
+    ensures headline { exit_status result ≢ 2 → (rest : ℕ) × Headline (record {
+      source_tells = S.tells;
+      left_before = S.left input.old;
+      left_after = S.left input.new;
+      source_failed = Rose (S.fault_count input.old) (S.fault_count input.new);
+      sink_tells = K.tells;
+      held_before = K.held out.old;
+      held_after = K.held out.new;
+      sink_failed = Rose (K.fault_count out.old) (K.fault_count out.new);
+    }) (C.gives clock.now) (2 ^ 40) (exit_status result) rest }
+{
+    let words = words_of(rt.alloc(), env::args(rt));
+    let status = status_of(rt, rt.alloc(), words, input, out, clock);
+    told(rt, status)
+}
