@@ -4,6 +4,7 @@
 mod collections;
 mod command;
 mod connection;
+pub mod examples;
 mod form;
 mod framing;
 mod pipe;
