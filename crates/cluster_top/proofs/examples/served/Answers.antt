@@ -1,4 +1,4 @@
-use Rattle.std.proofs.Common.{◌≡◌, ℕ, List, [], ◌∷◌, refl}
+use Rattle.std.proofs.Common.{ℕ, List, [], ◌∷◌, refl}
 use Rattle.history_model.specs.Command.{insert_command, refused_command}
 use Rattle.history_model.specs.Machine.{Store, Runs, serves, nothing_more, empty_store, store_after}
 use Rattle.history_model.specs.Examples.{command, first, second}
