@@ -2,6 +2,8 @@
 //! words of a write.
 #![tactic(auto)]
 
+mod key;
 mod order;
 
+pub use key::Key;
 pub use order::{class, compare};
