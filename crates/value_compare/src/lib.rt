@@ -5,5 +5,5 @@
 mod key;
 mod order;
 
-pub use key::Key;
+pub use key::{Key, KeyFault, key_of};
 pub use order::{class, compare};
