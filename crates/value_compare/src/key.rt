@@ -7,7 +7,6 @@ ghost use Rattle.std.specs.Ordering.{as_partial_cmp};
 ghost use Rattle.bson_values.specs.View.{datum_of};
 ghost use Rattle.value_order.specs.Keys.{absent_key, is_key, valid_key, wrong_kind};
 ghost use Rattle.value_order.specs.Order.{order, same_value};
-
 ghost use Rattle.value_compare.specs.declared.key.KeyFault.TheVariants.{Absent, Kind, Memory};
 ghost use Rattle.value_order.proofs.Flat.{order_total};
 ghost use Rattle.value_order.proofs.Spans.{same_value_equivalence};

@@ -4,6 +4,10 @@
 
 mod key;
 mod order;
+mod span;
+mod words;
 
 pub use key::{Key, KeyFault, key_of};
 pub use order::{class, compare};
+pub use span::{Bound, KeyRange, Span, inside};
+pub use words::{OpWords, Reply};

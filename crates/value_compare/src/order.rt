@@ -56,7 +56,13 @@ fn compare_within(a: &Value, b: &Value) -> Ordering
         (Value::Text(a), Value::Text(b)) => a.as_str().cmp(b.as_str()),
         (Value::Doc(a), Value::Doc(b)) => compare_documents(a, b),
         (Value::Array(a), Value::Array(b)) => compare_arrays(a, b),
-        (Value::Binary { subtype, bytes }, Value::Binary { subtype: other, bytes: others }) => {
+        (
+            Value::Binary { subtype, bytes },
+            Value::Binary {
+                subtype: other,
+                bytes: others,
+            },
+        ) => {
             let (bytes, others) = (bytes.as_slice(), others.as_slice());
             bytes
                 .len()
