@@ -5,6 +5,8 @@
 mod key;
 mod order;
 mod span;
+#[cfg(test)]
+mod tests;
 mod words;
 
 pub use key::{Key, KeyFault, key_of};
