@@ -1,9 +1,9 @@
 -- What the laws of the order say of keys and spans.
 use Rattle.std.proofs.Common.{◌≡◌, ℕ, ℤ, refl, sym, ap, ◌∙◌, Ordering, Less, Equal, Greater}
 use Rattle.std.specs.Prelude.{Bool, true, false, ◌==◌, ◌&&◌, if◌then◌else◌}
-use Rattle.std.specs.Ordering.{ordering_then, ordering_reverse, is_le, is_lt, is_eq}
+use Rattle.std.specs.Ordering.{ordering_then, ordering_reverse, is_le, is_lt, is_eq, int_cmp, int_eq}
 use Rattle.std.specs.Cmp.{IsEquivalence, Equal-is, second_so}
-use Rattle.std.proofs.lemmas.Cmp.{eq_by_cmp_equiv, tied_itself, alike_right}
+use Rattle.std.proofs.lemmas.Cmp.{eq_by_cmp_equiv, alike_right}
 use Rattle.document_model.specs.Tree.{Datum, document_value, array_value, min_key_value, max_key_value, int32_value, int64_value}
 use Rattle.value_order.specs.Order.{class_of, order, same_value}
 use Rattle.value_order.specs.Keys.{is_key, Bound, value_of_bound, Span, range_span, point_span, min_bound, max_bound, inside}
@@ -11,9 +11,6 @@ use Rattle.value_order.proofs.Flat.{order_total, one_class}
 
 pub same_value_equivalence : IsEquivalence same_value
 same_value_equivalence = eq_by_cmp_equiv order_total
-
-pub one_number : (z : ℤ) → same_value (int32_value z) (int64_value z) ≡ true
-one_number z = ap is_eq (tied_itself order_total (int32_value z))
 
 is_equal : (a b : Datum) → same_value a b ≡ true → order a b ≡ Equal
 is_equal a b e = (Equal-is (order a b)).0 e
@@ -58,3 +55,17 @@ pub one_range : (least middle greatest : Bound) (key : Datum) → inside (range_
 one_range least middle greatest key in_first =
     apart (order key (value_of_bound middle)) (order (value_of_bound middle) key) _ (order_total.antisymm key (value_of_bound middle))
     (second_so _ _ in_first)
+
+then_Equal : (o : Ordering) → is_eq (ordering_then o Equal) ≡ is_eq o
+then_Equal Less = refl
+then_Equal Equal = refl
+then_Equal Greater = refl
+
+pub same_int32 : (a b : ℤ) → same_value (int32_value a) (int32_value b) ≡ int_eq a b
+same_int32 a b = then_Equal (int_cmp a b)
+
+pub same_int64 : (a b : ℤ) → same_value (int64_value a) (int64_value b) ≡ int_eq a b
+same_int64 a b = then_Equal (int_cmp a b)
+
+pub same_kinds : (a b : ℤ) → same_value (int32_value a) (int64_value b) ≡ int_eq a b
+same_kinds a b = then_Equal (int_cmp a b)

@@ -1,6 +1,7 @@
 //! The laws of the order and of spans.
 
 ghost use Rattle.std.specs.Prelude.{◌≡◌, ℤ, true, false};
+ghost use Rattle.std.specs.Ordering.{int_eq};
 ghost use Rattle.std.specs.Cmp.{IsEquivalence, IsTotalOrder};
 ghost use Rattle.document_model.specs.Tree.{Datum, int32_value, int64_value};
 ghost use Rattle.value_order.specs.Keys.{Bound, Span, inside, is_key, max_bound, min_bound, range_span};
@@ -14,10 +15,12 @@ pub fn order_is_total()
     ensures equality { IsEquivalence same_value }
 {}
 
-/// A number of 32 bits and one of 64 bits are one value where they are equal.
-#[tactic(auto, using(crate::proofs::Spans::one_number))]
+/// Two numbers are one value exactly where they are equal, of 32 bits or of 64.
+#[tactic(auto, using(crate::proofs::Spans::same_int32, crate::proofs::Spans::same_int64, crate::proofs::Spans::same_kinds))]
 pub fn numbers_of_both_kinds()
-    ensures { (z : ℤ) → same_value (int32_value z) (int64_value z) ≡ true }
+    ensures int32 { (a b : ℤ) → same_value (int32_value a) (int32_value b) ≡ int_eq a b }
+    ensures int64 { (a b : ℤ) → same_value (int64_value a) (int64_value b) ≡ int_eq a b }
+    ensures both { (a b : ℤ) → same_value (int32_value a) (int64_value b) ≡ int_eq a b }
 {}
 
 /// What compares equal to a key is a key, and stands inside the same spans.
