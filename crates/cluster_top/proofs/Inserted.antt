@@ -1,5 +1,5 @@
 -- What the plain store holds after an insert.
-use Rattle.std.proofs.Common.{◌≡◌, ◌+◌, ℕ, ℤ, List, [], ◌∷◌, ◌++◌, Bool, true, false, ◌||◌, ◌&&◌, Option, Some, None, refl, sym, max, if◌then◌else◌}
+use Rattle.std.proofs.Common.{◌≡◌, ◌+◌, ℕ, ℤ, List, [], ◌∷◌, ◌++◌, Bool, true, false, ◌||◌, ◌&&◌, Option, Some, None, refl, sym, ap, ◌∙◌, max, if◌then◌else◌}
 use Rattle.std.specs.Prelude.{is_some}
 use Rattle.std.specs.List.{list_any}
 use Rattle.std.specs.Ordering.{int_eq}
@@ -9,7 +9,9 @@ use Rattle.std.proofs.lemmas.Slice.Eq.{bytes_eq-Decides}
 use Rattle.document_model.specs.Tree.{Datum, int32_value, Members}
 use Rattle.history_model.specs.Times.{time_of_moment}
 use Rattle.history_model.specs.Command.{insert_command, id_document}
-use Rattle.history_model.specs.History.{key_of, same_key}
+use Rattle.value_order.specs.Keys.{key_of}
+use Rattle.value_order.proofs.Spans.{same_int32}
+use Rattle.history_model.specs.History.{same_key}
 use Rattle.history_model.specs.Machine as plain
 use Rattle.history_model.specs.Machine.{find_document, documents_with, store_after}
 use Rattle.cluster_top.specs.Collections.{is_created, is_kept}
@@ -60,7 +62,10 @@ is_there ns n key k ds there same =
 
 documents_when : (ns n : List ℕ) (key k : ℤ) (ds : List (List ℕ × Members)) (before : Option Members) → find_document ns (Some (int32_value key)) ds ≡ before →
     is_some (find_document n (Some (int32_value k)) (elim before [ None ↦ ds ++ (ns, id_document key) ∷ [] | Some b ↦ ds ])) ≡ ((bytes_eq n ns && int_eq k key) || is_some (find_document n (Some (int32_value k)) ds))
-documents_when ns n key k ds None e = rw (turned_bytes n ns, turned_keys k key) (found_behind n (Some (int32_value k)) ds (ns, id_document key))
+documents_when ns n key k ds None e =
+    rw (turned_bytes n ns, turned_keys k key)
+    (found_behind n (Some (int32_value k)) ds (ns, id_document key)
+    ∙ ap (λ (same : Bool). (bytes_eq ns n && same) || is_some (find_document n (Some (int32_value k)) ds)) (same_int32 key k))
 documents_when ns n key k ds (Some b) e = absorbed (bytes_eq n ns && int_eq k key) _ (is_there ns n key k ds (rw e refl))
 
 pub documents_after : (ns n : List ℕ) (key k : ℤ) (ds : List (List ℕ × Members)) →

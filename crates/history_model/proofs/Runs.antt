@@ -6,7 +6,8 @@ use Rattle.document_model.specs.Tree.{Datum, Members}
 use Rattle.history_model.specs.Times.{time_of_moment}
 use Rattle.history_model.specs.Errors.{ErrorCode}
 use Rattle.history_model.specs.Command.{Refusal, insert_command, refused_command, Asks}
-use Rattle.history_model.specs.History.{router_session, StatementNumber, insert_operation, effect, Outcome, Entry, key_of, document_left, writes_to, IsBefore, IsSameStatement, Follows, LegalAfter, IsIn}
+use Rattle.value_order.specs.Keys.{key_of}
+use Rattle.history_model.specs.History.{router_session, StatementNumber, insert_operation, effect, Outcome, Entry, document_left, writes_to, IsBefore, IsSameStatement, Follows, LegalAfter, IsIn}
 use Rattle.history_model.specs.Reply.{write_reply, refusal_reply, operation_time}
 use Rattle.history_model.specs.Exchange.{Exchange, InTurn, number_for, IsEntryOf, IsRight, right_write, right_refusal, IsFresh, OneHistory}
 use Rattle.history_model.specs.Machine.{Store, empty_store, has_collection, find_document, time_before_write, reply_to, store_after, Runs, nothing_more, serves}

@@ -4,7 +4,8 @@ use Rattle.std.specs.Prelude.{true, false, Option, Some, None, if◌then◌else�
 use Rattle.std.specs.List.{AllByRecursion}
 use Rattle.document_model.specs.Tree.{Datum, Members}
 use Rattle.history_model.specs.Errors.{ErrorCode, duplicate_key}
-use Rattle.history_model.specs.History.{router_session, StatementNumber, Operation, insert_operation, Outcome, fails_with, effect, Entry, key_of, key_written, writes_to, document_after, document_left, IsBefore, IsSameStatement, Follows, LegalAfter, Legal, IsIn}
+use Rattle.value_order.specs.Keys.{key_of}
+use Rattle.history_model.specs.History.{router_session, StatementNumber, Operation, insert_operation, Outcome, fails_with, effect, Entry, key_written, writes_to, document_after, document_left, IsBefore, IsSameStatement, Follows, LegalAfter, Legal, IsIn}
 use Rattle.history_model.specs.Reply.{write_reply, refusal_reply, operation_time}
 use Rattle.history_model.specs.Exchange.{Exchange, IsEntryOf, IsRight, right_write, right_refusal, OneHistory}
 use Rattle.history_model.specs.Laws.{Stands}

@@ -4,7 +4,8 @@ use Rattle.std.specs.Prelude.{Bool, true, false, ◌&&◌, Option, Some, None, i
 use Rattle.std.specs.Str.{bytes_eq}
 use Rattle.std.proofs.lemmas.Slice.Eq.{bytes_eq-Decides}
 use Rattle.document_model.specs.Tree.{Datum, Members}
-use Rattle.history_model.specs.History.{insert_operation, effect, Entry, key_of, same_key, writes_to, document_after}
+use Rattle.value_order.specs.Keys.{key_of}
+use Rattle.history_model.specs.History.{insert_operation, effect, Entry, same_key, writes_to, document_after}
 use Rattle.history_model.specs.Machine.{find_document, documents_with}
 use Rattle.history_model.proofs.Keys.{same_key_right}
 

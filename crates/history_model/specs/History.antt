@@ -1,10 +1,11 @@
 -- The history of the clients' writes, and the unsharded collection that it stands for: one map a namespace from
 -- keys to documents.
-use Rattle.std.specs.Prelude.{◌≡◌, ◌<◌, ◌⊎◌, ℕ, ℤ, List, [], ◌∷◌, ◌++◌, Option, Some, None, Bool, false, IsTrue, ◌&&◌, if◌then◌else◌, codes, filter, nat_le}
-use Rattle.std.specs.Ordering.{int_eq}
+use Rattle.std.specs.Prelude.{◌≡◌, ◌<◌, ◌⊎◌, ℕ, ℤ, List, [], ◌∷◌, ◌++◌, Option, Some, None, Bool, false, IsTrue, ◌&&◌, if◌then◌else◌, filter, nat_le}
 use Rattle.std.specs.List.{AllByRecursion}
 use Rattle.std.specs.Str.{bytes_eq}
-use Rattle.document_model.specs.Tree.{Datum, int32_value, Members, get}
+use Rattle.document_model.specs.Tree.{Datum, Members}
+use Rattle.value_order.specs.Order.{same_value}
+use Rattle.value_order.specs.Keys.{key_of}
 use Rattle.history_model.specs.Errors.{ErrorCode, duplicate_key}
 
 -- who numbers statements: a client by 16 bytes, or a router for one request of one of its lives
@@ -38,15 +39,7 @@ pub record Entry : Type 0 where
   pub operation : Operation
   pub outcome : Outcome
 
--- the key of a document is its first _id
-abbrev pub key_of : Members → Option Datum
-key_of document = get (codes "_id") document
-
--- Two keys are one where they compare equal; so far a key is a 32-bit number.
-abbrev pub same_value : Datum → Datum → Bool
-same_value (int32_value a) (int32_value b) = int_eq a b
-same_value a b = false
-
+-- two keys are one where they compare equal
 abbrev pub same_key : Option Datum → Option Datum → Bool
 same_key (Some a) (Some b) = same_value a b
 same_key a b = false

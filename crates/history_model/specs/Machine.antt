@@ -6,7 +6,8 @@ use Rattle.std.specs.Str.{bytes_eq}
 use Rattle.document_model.specs.Tree.{Datum, Members}
 use Rattle.history_model.specs.Times.{time_of_moment}
 use Rattle.history_model.specs.Command.{Command, insert_command, refused_command, Asks}
-use Rattle.history_model.specs.History.{insert_operation, effect, key_of, same_key}
+use Rattle.value_order.specs.Keys.{key_of}
+use Rattle.history_model.specs.History.{insert_operation, effect, same_key}
 use Rattle.history_model.specs.Reply.{write_reply, refusal_reply}
 use Rattle.history_model.specs.Exchange.{Exchange}
 

@@ -1,0 +1,34 @@
+-- How a value is told from others: as the document that holds it alone. And so bounds and ranges.
+use Rattle.std.specs.Prelude.{◌≡◌, ℕ, [], refl, ◌==◌, if◌then◌else◌}
+use Rattle.std.specs.Coded.{Coded, code_by, coded×, coded_ℕ}
+use Rattle.document_model.specs.Tree.{Datum, null_value, Members, no_members, member}
+use Rattle.value_order.specs.Keys.{Bound, min_bound, key_bound, max_bound, Range}
+use Rattle.bson_values.specs.Code.{members_code}
+
+abbrev pub first_value : Members → Datum
+first_value no_members = null_value
+first_value (member name d ms) = d
+
+abbrev pub datum_code : Coded Datum
+datum_code = code_by Members members_code (λ d. member [] d no_members) (λ ms. first_value ms) (λ d. refl)
+
+-- a bound as its place and the key there, if any
+abbrev pub bound_parts : Bound → ℕ × Datum
+bound_parts min_bound = (0, null_value)
+bound_parts (key_bound key) = (1, key)
+bound_parts max_bound = (2, null_value)
+
+abbrev pub bound_from : ℕ × Datum → Bound
+bound_from parts = if parts.0 == 0 then min_bound else if parts.0 == 1 then key_bound parts.1 else max_bound
+
+abbrev pub bound_back : (b : Bound) → bound_from (bound_parts b) ≡ b
+bound_back min_bound = refl
+bound_back (key_bound key) = refl
+bound_back max_bound = refl
+
+abbrev pub bound_code : Coded Bound
+bound_code = code_by (ℕ × Datum) (coded× coded_ℕ datum_code) bound_parts bound_from bound_back
+
+abbrev pub range_code : Coded Range
+range_code =
+    code_by (Bound × Bound) (coded× bound_code bound_code) (λ r. (r.min, r.max)) (λ p. record { min = p.0; max = p.1 }) (λ r. refl)

@@ -1,0 +1,15 @@
+//! The order of values as code (MongoDB manual, "Comparison/Sort Order"), and what rests on it: keys, ranges of keys, and the
+//! words of a write.
+#![tactic(auto)]
+
+mod key;
+mod order;
+mod span;
+#[cfg(test)]
+mod tests;
+mod words;
+
+pub use key::{Key, KeyFault, key_of};
+pub use order::{class, compare};
+pub use span::{Bound, KeyRange, Span, inside};
+pub use words::{OpWords, Reply};

@@ -1,0 +1,168 @@
+//! Ranges of keys, and single keys (MongoDB manual, "Data Partitioning with Chunks").
+
+ghost use Rattle.std.specs.Prelude.{◌≡◌, ◌≢◌, ◌↔◌, IfOk, IfSome, None};
+ghost use Rattle.std.specs.declared.cmp.Ordering.TheVariants.{Less};
+ghost use Rattle.value_order.specs.Keys.{IsRange, inside, key_bound, order_bounds};
+ghost use Rattle.value_compare.specs.Bounds.{bound_of};
+ghost use Rattle.value_compare.specs.Spans.{span_of};
+
+use crate::key::Key;
+use bson_values::Memory;
+use std::cmp::Ordering;
+use std::marker::Model;
+
+/// Where a range begins or ends.
+#[derive(Drop)]
+pub enum Bound {
+    /// Below all keys.
+    MinKey,
+    /// At a key.
+    At(Key),
+    /// Above all keys.
+    MaxKey,
+}
+
+impl Bound {
+    /// Which of two bounds is less.
+    pub fn compare(&self, other: &Bound) -> Ordering
+        ensures { result ≡ order_bounds (bound_of self.now) (bound_of other.now) }
+    {
+        match other {
+            Bound::At(key) => self.compare_to_key(key),
+            Bound::MinKey => match self {
+                Bound::MinKey => Ordering::Equal,
+                Bound::At(key) => {
+                    let _key = key.value();
+                    Ordering::Greater
+                }
+                Bound::MaxKey => Ordering::Greater,
+            },
+            Bound::MaxKey => match self {
+                Bound::MaxKey => Ordering::Equal,
+                Bound::At(key) => {
+                    let _key = key.value();
+                    Ordering::Less
+                }
+                Bound::MinKey => Ordering::Less,
+            },
+        }
+    }
+
+    // Which of this bound and the one at the key is less.
+    fn compare_to_key(&self, key: &Key) -> Ordering
+        ensures { result ≡ order_bounds (bound_of self.now) (key_bound key.now) }
+    {
+        let _key = key.value();
+        match self {
+            Bound::MinKey => Ordering::Less,
+            Bound::At(bound) => bound.cmp(key),
+            Bound::MaxKey => Ordering::Greater,
+        }
+    }
+
+    /// The same bound once more. Fails for want of memory.
+    pub fn copy(&self) -> Result<Bound, Memory>
+        ensures { IfOk result (λ b. bound_of b ≡ bound_of self.now) }
+    {
+        match self {
+            Bound::MinKey => Ok(Bound::MinKey),
+            Bound::At(key) => Ok(Bound::At(key.copy()?)),
+            Bound::MaxKey => Ok(Bound::MaxKey),
+        }
+    }
+}
+
+/// The keys from a bound, which is inside, to a greater one, which is not.
+#[derive(Drop)]
+pub struct KeyRange {
+    min: Bound,
+    max: Bound,
+}
+
+impl Model for KeyRange {
+    ghost use Rattle.value_order.specs.Keys.{IsRange, Range};
+    ghost use Rattle.value_compare.specs.Code.{range_code};
+
+    ghost Value = { Range };
+
+    ghost coded = { range_code };
+
+    ghost use Rattle.value_compare.specs.Bounds.{bound_of};
+
+    ghost view = { λ r. record { min = bound_of r.min; max = bound_of r.max } };
+
+    ghost invariant = { λ r. IsRange (record { min = bound_of r.min; max = bound_of r.max }) };
+}
+
+impl KeyRange {
+    /// The range from `min` to `max`; `None` where `min` is not below `max`.
+    pub fn new(min: Bound, max: Bound) -> Option<KeyRange>
+        ensures range { IfSome result (λ r. r ≡ record { min = bound_of min; max = bound_of max }) }
+        ensures none { (result ≡ None) ↔ (order_bounds (bound_of min) (bound_of max) ≢ Less) }
+    {
+        if min.compare(&max) == Ordering::Less {
+            Some(KeyRange { min, max })
+        } else {
+            None
+        }
+    }
+
+    /// Where the range begins, which is below its end.
+    pub fn min(&self) -> &Bound
+        ensures min { bound_of result.now ≡ self.now.min }
+        ensures below { IsRange self.now }
+    {
+        &self.min
+    }
+
+    /// Where the range ends.
+    pub fn max(&self) -> &Bound
+        ensures max { bound_of result.now ≡ self.now.max }
+        ensures below { IsRange self.now }
+    {
+        &self.max
+    }
+
+    /// The same range once more. Fails for want of memory.
+    pub fn copy(&self) -> Result<KeyRange, Memory>
+        ensures { IfOk result (λ r. r ≡ self.now) }
+    {
+        let min = self.min.copy()?;
+        let max = self.max.copy()?;
+        Ok(KeyRange { min, max })
+    }
+}
+
+/// A range of keys, or one key.
+#[derive(Drop)]
+pub enum Span {
+    /// The keys of a range.
+    Range(KeyRange),
+    /// This key alone.
+    Point(Key),
+}
+
+impl Span {
+    /// The same span once more. Fails for want of memory.
+    pub fn copy(&self) -> Result<Span, Memory>
+        ensures { IfOk result (λ s. span_of s ≡ span_of self.now) }
+    {
+        match self {
+            Span::Range(range) => Ok(Span::Range(range.copy()?)),
+            Span::Point(key) => Ok(Span::Point(key.copy()?)),
+        }
+    }
+}
+
+/// Whether a key stands in a span: a range holds its least bound and not its greatest. Takes no memory.
+#[tactic(auto, using(crate::proofs::Turned::greater_is_less))]
+pub fn inside(span: &Span, key: &Key) -> bool
+    ensures { result ≡ inside (span_of span.now) key.now }
+{
+    match span {
+        Span::Range(range) => {
+            range.min().compare_to_key(key).is_le() && range.max().compare_to_key(key).is_gt()
+        }
+        Span::Point(point) => point == key,
+    }
+}

@@ -1,0 +1,34 @@
+//! The words of a write: what it does, and what it is told (MongoDB manual, "insert", "update" and "delete").
+
+use crate::key::Key;
+use bson_values::Document;
+
+/// What one write statement does.
+#[derive(Drop)]
+pub enum OpWords {
+    /// Puts a document in.
+    Insert(Document),
+    /// Changes the first document that meets the filter; with `upsert`, puts one in where none does.
+    Update {
+        filter: Document,
+        change: Document,
+        upsert: bool,
+    },
+    /// Takes out the first document that meets the filter.
+    Delete {
+        filter: Document,
+    },
+}
+
+/// What one write statement is told.
+#[derive(Drop)]
+pub struct Reply {
+    /// How many documents it met or put in.
+    pub n: u32,
+    /// How many documents it changed.
+    pub modified: u32,
+    /// The key of the document that an upsert put in.
+    pub upserted: Option<Key>,
+    /// The number of its error, 0 for none (MongoDB manual, "Error Codes").
+    pub code: i32,
+}
