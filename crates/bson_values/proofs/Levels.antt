@@ -8,10 +8,6 @@ pub document_levels_pushed : (ms : Members) (name : List ℕ) (d : Datum) → do
 document_levels_pushed no_members name d = omega arith
 document_levels_pushed (member first value ms) name d = omega (arith, document_levels_pushed ms name d)
 
-pub array_levels_pushed : (ds : Items) (d : Datum) → array_levels (joined_items ds (item d no_items)) ≡ max (array_levels ds) (suc (value_levels d))
-array_levels_pushed no_items d = omega arith
-array_levels_pushed (item first ds) d = omega (arith, array_levels_pushed ds d)
-
 pub written_pushed : (ms : Members) (name : List ℕ) (d : Datum) → length (written_members (joined ms (member name d no_members))) ≡ length (written_members ms) + length name + length (written_value d) + 2
 written_pushed no_members name d =
     omega (arith, length-element (kind_of d) name (written_value d), length-append (element (kind_of d) name (written_value d)) (written_members no_members))

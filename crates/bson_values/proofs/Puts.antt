@@ -18,16 +18,6 @@ kept_on old out new first then =
     let whole : new ≡ old ++ (drop (length old) out ++ drop (length out) new) = new_is ∙ ap (λ s. s ++ drop (length out) new) out_is ∙ append_assoc old (drop (length old) out) (drop (length out) new) in
     rw whole (take-append_seam old (drop (length old) out ++ drop (length out) new))
 
-pub puts_one : (all old out rest name value : List ℕ) (kind : ℕ) → Puts all old out (element kind name value ++ rest) → Puts all old ((out ++ (kind ∷ name ++ 0 ∷ [])) ++ value) rest
-puts_one all old out rest name value kind puts = record {
-  text = simp append_assoc (simp append_assoc at puts.text);
-  kept = kept_on old out ((out ++ (kind ∷ name ++ 0 ∷ [])) ++ value) puts.kept (rw append_assoc (take-append_seam out ((kind ∷ name ++ 0 ∷ []) ++ value)));
-  room = omega (arith, puts.room, length-append (element kind name value) rest);
-}
-
-pub puts_all : (all old out : List ℕ) → Puts all old out [] → out ≡ old ++ all
-puts_all all old out puts = rw append-nil at puts.text
-
 -- four bytes written over the part of the bytes from a place on
 pub written_over : (at : ℕ) (bytes new four : List ℕ) → new ≡ four ++ drop 4 (take (length bytes - at) (drop at bytes)) → take at bytes ++ (new ++ drop (length bytes - at) (drop at bytes)) ≡ take at bytes ++ (four ++ drop (at + 4) bytes)
 written_over at bytes new four new_is =

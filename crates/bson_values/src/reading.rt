@@ -5,10 +5,8 @@
 ghost use Rattle.std.specs.Prelude.{◌≡◌, ◌+◌, ◌<◌, ◌≤◌, ◌++◌, ℕ, List, Ok, IfOk, IfNone, length, take};
 ghost use Rattle.std.specs.Option.{option_map};
 ghost use Rattle.document_model.specs.Tree.{Members};
-ghost use Rattle.document_model.specs.Grammar.{ReadsAs};
-ghost use Rattle.document_model.specs.Stage.{IsTaken};
+ghost use Rattle.document_model.specs.Grammar.{IsWithinLevels, ReadsAs};
 ghost use Rattle.bson_values.specs.Faults.{Gives};
-ghost use Rattle.bson_values.specs.Kinds.{is_taken};
 ghost use Rattle.bson_values.specs.Reading.{binary_at, boolean_at, deep_at, scalar_at, value_at, member_at, item_at, members_with, items_with, document_with, array_with, whole_at};
 ghost use Rattle.bson_values.specs.Rests.{IsRest};
 ghost use Rattle.bson_values.specs.View.{datum_of};
@@ -162,7 +160,7 @@ fn read_value(
 ) -> Result<(Value, &[u8]), BsonFault>
     requires total { length bytes.now ≤ total }
     requires room { 0 < room }
-    ensures gives { Gives (λ x. (datum_of x.0, x.1.now)) result (value_at total is_taken level kind room bytes.now) }
+    ensures gives { Gives (λ x. (datum_of x.0, x.1.now)) result (value_at total level kind room bytes.now) }
     ensures rest { IfOk result (λ x. IsRest bytes.now room x.1.now) }
 {
     if level == 0 {
@@ -193,7 +191,7 @@ fn read_member(
 ) -> Result<(Option<Member>, &[u8]), BsonFault>
     requires total { length bytes.now < total }
     ensures gives { Gives (λ x. (option_map (λ m. (m.name, datum_of m.value)) x.0, x.1.now)) result
-        (member_at total is_taken (value_at total is_taken level) room bytes.now) }
+        (member_at total (value_at total level) room bytes.now) }
     ensures rest { IfOk result (λ x.
         (length x.1.now < length bytes.now) × (length bytes.now ≤ length x.1.now + room)) }
     ensures end { IfOk result (λ x. IfNone x.0 (length bytes.now ≡ length x.1.now + room)) }
@@ -220,7 +218,7 @@ fn read_item(
 ) -> Result<(Option<Value>, &[u8]), BsonFault>
     requires total { length bytes.now < total }
     ensures gives { Gives (λ x. (option_map (λ v. datum_of v) x.0, x.1.now)) result
-        (item_at total is_taken (value_at total is_taken level) room bytes.now) }
+        (item_at total (value_at total level) room bytes.now) }
     ensures rest { IfOk result (λ x.
         (length x.1.now < length bytes.now) × (length bytes.now ≤ length x.1.now + room)) }
     ensures end { IfOk result (λ x. IfNone x.0 (length bytes.now ≡ length x.1.now + room)) }
@@ -245,7 +243,7 @@ fn read_members(
 ) -> Result<(Document, &[u8]), BsonFault>
     requires total { length bytes.now < total }
     ensures gives { Gives (λ x. (x.0, x.1.now)) result
-        (members_with total is_taken (value_at total is_taken level) (length bytes.now + 1) room bytes.now) }
+        (members_with total (value_at total level) (length bytes.now + 1) room bytes.now) }
     ensures rest { IfOk result (λ x. length bytes.now ≡ length x.1.now + room) }
 {
     let mut document = Document::new(alloc);
@@ -273,7 +271,7 @@ fn read_items(
 ) -> Result<(Array, &[u8]), BsonFault>
     requires total { length bytes.now < total }
     ensures gives { Gives (λ x. (x.0, x.1.now)) result
-        (items_with total is_taken (value_at total is_taken level) (length bytes.now + 1) room bytes.now) }
+        (items_with total (value_at total level) (length bytes.now + 1) room bytes.now) }
     ensures rest { IfOk result (λ x. length bytes.now ≡ length x.1.now + room) }
 {
     let mut array = Array::new(alloc);
@@ -302,7 +300,7 @@ fn read_document(
 ) -> Result<(Document, &[u8]), BsonFault>
     requires total { length bytes.now ≤ total }
     ensures gives { Gives (λ x. (x.0, x.1.now)) result
-        (document_with total is_taken (value_at total is_taken level) room bytes.now) }
+        (document_with total (value_at total level) room bytes.now) }
     ensures rest { IfOk result (λ x. IsRest bytes.now room x.1.now) }
 {
     let (count, rest) = read_length(total, 5, 0, room, bytes)?;
@@ -321,7 +319,7 @@ fn read_array(
 ) -> Result<(Array, &[u8]), BsonFault>
     requires total { length bytes.now ≤ total }
     ensures gives { Gives (λ x. (x.0, x.1.now)) result
-        (array_with total is_taken (value_at total is_taken level) room bytes.now) }
+        (array_with total (value_at total level) room bytes.now) }
     ensures rest { IfOk result (λ x. IsRest bytes.now room x.1.now) }
 {
     let (count, rest) = read_length(total, 5, 0, room, bytes)?;
@@ -331,7 +329,7 @@ fn read_array(
 // Which document, and which fault.
 #[tactic(auto, unfolding(crate::specs::Reading::whole_at, crate::specs::Reading::document_at))]
 fn read_exactly(alloc: Global, bytes: &[u8]) -> Result<(Document, usize), BsonFault>
-    ensures exact { Gives (λ x. x) result (whole_at bytes.now is_taken) }
+    ensures exact { Gives (λ x. x) result (whole_at bytes.now) }
 {
     let total = bytes.len();
     let (document, rest) = read_document(alloc, total, LEVELS, 0x8000_0000, bytes)?;
@@ -339,15 +337,15 @@ fn read_exactly(alloc: Global, bytes: &[u8]) -> Result<(Document, usize), BsonFa
 }
 
 /// Reads the document that begins the bytes, and gives it with its length in bytes; what follows is left (BSON 1.1,
-/// `document`). Fails where no front of the bytes spells a document that is taken, or for want of memory. Which fault is
+/// `document`). Fails where no front of the bytes spells a document within 100 levels, or for want of memory. Which fault is
 /// told, and its place, is not promised yet.
 pub fn read(alloc: Global, bytes: &[u8]) -> Result<(Document, usize), BsonFault>
     // What is read is spelled by the bytes.
     ensures found { IfOk result (λ x.
-        (x.1 ≤ length bytes.now) × ReadsAs (take x.1 bytes.now) x.0 × IsTaken x.0) }
+        (x.1 ≤ length bytes.now) × ReadsAs (take x.1 bytes.now) x.0 × IsWithinLevels x.0) }
     // What some front of the bytes spells is read, unless memory runs out.
     ensures only { (ms : Members) (n : ℕ) →
-        n ≤ length bytes.now → ReadsAs (take n bytes.now) ms → IsTaken ms →
+        n ≤ length bytes.now → ReadsAs (take n bytes.now) ms → IsWithinLevels ms →
         Gives (λ x. x) result (Ok (ms, n)) }
 {
     read_exactly(alloc, bytes)

@@ -1,4 +1,3 @@
 pub mod Tree
 pub mod Spelling
 pub mod Grammar
-pub mod Stage

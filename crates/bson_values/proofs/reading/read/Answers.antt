@@ -7,4 +7,4 @@ returns-clause-found c =
     is_found c.args.bytes.now c.read_exactly.result (λ i. omega (arith, c.type_inv.bytes i)) c.read_exactly.ensures.exact
 
 pub returns-clause-only : goal.returns-clause-only
-returns-clause-only c = λ ms n le reads taken. is_only c.args.bytes.now c.read_exactly.result ms n c.read_exactly.ensures.exact le reads taken
+returns-clause-only c = λ ms n le reads low. is_only c.args.bytes.now c.read_exactly.result ms n c.read_exactly.ensures.exact le reads low
