@@ -1,3 +1,4 @@
 pub mod Tree
 pub mod Spelling
 pub mod Grammar
+pub mod Faults
