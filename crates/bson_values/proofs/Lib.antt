@@ -13,4 +13,7 @@ pub mod Steps
 pub mod Takes
 pub mod Utf8Tests
 pub mod Views
+pub mod WalkedLeaves
+pub mod WalkedValues
+pub mod Walking
 pub mod Whole

@@ -164,7 +164,7 @@ checked_takes total room b bytes (Some kind) x k e =
     subst (λ (y : Option Kind × List ℕ). TakesKind (suc room) (b ∷ bytes) y.0 y.1) (ok_is all x i.1)
     (ap (λ (c : ℕ). c ∷ bytes) (sym (byte_from-kind b kind k)), some)
 
-kind_takes : (total : ℕ) (room : ℕ) (bytes : List ℕ) (x : Option Kind × List ℕ) → kind_at total room bytes ≡ Ok x → TakesKind room bytes x.0 x.1
+pub kind_takes : (total : ℕ) (room : ℕ) (bytes : List ℕ) (x : Option Kind × List ℕ) → kind_at total room bytes ≡ Ok x → TakesKind room bytes x.0 x.1
 unfolding kind_at
 kind_takes total zero bytes x e = absurd cc
 kind_takes total (suc room) [] x e = absurd cc
@@ -242,7 +242,7 @@ module _ (total : ℕ) (n : ℕ) (value_at : Reader) (sound : IsSound n value_at
       subst (λ (y : Option (List ℕ × Datum) × List ℕ). TakesMember n room bytes y.0 y.1) (ok_is all x b.2)
       (element_from n room a.0.1 kind bytes behind a.0.0 a.0.2 b.0 k.0 k.1 name.0 t, name.1)
 
-  member_takes : (room : ℕ) (bytes : List ℕ) (x : Option (List ℕ × Datum) × List ℕ) → IsBytes bytes → member_at total value_at room bytes ≡ Ok x → TakesMember n room bytes x.0 x.1
+  pub member_takes : (room : ℕ) (bytes : List ℕ) (x : Option (List ℕ × Datum) × List ℕ) → IsBytes bytes → member_at total value_at room bytes ≡ Ok x → TakesMember n room bytes x.0 x.1
   unfolding member_at
   member_takes room bytes x h e =
       let a = bind_ok (kind_at total room bytes) (λ kind. member_behind total value_at room kind.0 kind.1) x e in
@@ -266,7 +266,7 @@ module _ (total : ℕ) (n : ℕ) (value_at : Reader) (sound : IsSound n value_at
       subst (λ (y : Option Datum × List ℕ). TakesItem n room bytes y.0 y.1) (ok_is all x b.2)
       (name.0, element_from n room a.0.0 kind bytes behind name.0 a.0.1 b.0 k.0 k.1 name.1 t)
 
-  item_takes : (room : ℕ) (bytes : List ℕ) (x : Option Datum × List ℕ) → IsBytes bytes → item_at total value_at room bytes ≡ Ok x → TakesItem n room bytes x.0 x.1
+  pub item_takes : (room : ℕ) (bytes : List ℕ) (x : Option Datum × List ℕ) → IsBytes bytes → item_at total value_at room bytes ≡ Ok x → TakesItem n room bytes x.0 x.1
   unfolding item_at
   item_takes room bytes x h e =
       let a = bind_ok (kind_at total room bytes) (λ kind. item_behind total value_at room kind.0 kind.1) x e in
