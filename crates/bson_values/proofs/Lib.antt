@@ -1,5 +1,6 @@
 pub mod Again
 pub mod Copies
+pub mod FirstFault
 pub mod KindTests
 pub mod Leaves
 pub mod Lengths

@@ -2,11 +2,12 @@
 //!
 //! `total`, `room` and places are as in `scan`; `level` is how many levels a value may have inside.
 
-ghost use Rattle.std.specs.Prelude.{◌≡◌, ◌+◌, ◌<◌, ◌≤◌, ◌++◌, ℕ, List, Ok, IfOk, IfNone, length, take};
+ghost use Rattle.std.specs.Prelude.{◌≡◌, ◌≢◌, ◌+◌, ◌<◌, ◌≤◌, ◌++◌, ℕ, List, Ok, Err, IfOk, IfErr, IfNone, length, take};
 ghost use Rattle.std.specs.Option.{option_map};
+ghost use Rattle.document_model.specs.Faults.{Fault, HasFirstFault};
 ghost use Rattle.document_model.specs.Tree.{Members};
 ghost use Rattle.document_model.specs.Grammar.{IsWithinLevels, ReadsAs};
-ghost use Rattle.bson_values.specs.Faults.{Gives};
+ghost use Rattle.bson_values.specs.Faults.{Gives, fault_from};
 ghost use Rattle.bson_values.specs.Reading.{binary_at, boolean_at, deep_at, scalar_at, value_at, member_at, item_at, members_with, items_with, document_with, array_with, whole_at};
 ghost use Rattle.bson_values.specs.Rests.{IsRest};
 ghost use Rattle.bson_values.specs.View.{datum_of};
@@ -337,8 +338,8 @@ fn read_exactly(alloc: Global, bytes: &[u8]) -> Result<(Document, usize), BsonFa
 }
 
 /// Reads the document that begins the bytes, and gives it with its length in bytes; what follows is left (BSON 1.1,
-/// `document`). Fails where no front of the bytes spells a document within 100 levels, or for want of memory. Which fault is
-/// told, and its place, is not promised yet.
+/// `document`). Fails where no front of the bytes spells a document within 100 levels, with the first fault in the order
+/// of the bytes and its place, or for want of memory.
 pub fn read(alloc: Global, bytes: &[u8]) -> Result<(Document, usize), BsonFault>
     // What is read is spelled by the bytes.
     ensures found { IfOk result (λ x.
@@ -347,6 +348,12 @@ pub fn read(alloc: Global, bytes: &[u8]) -> Result<(Document, usize), BsonFault>
     ensures only { (ms : Members) (n : ℕ) →
         n ≤ length bytes.now → ReadsAs (take n bytes.now) ms → IsWithinLevels ms →
         Gives (λ x. x) result (Ok (ms, n)) }
+    // An error is the first fault of the bytes, or want of memory.
+    ensures first { IfErr result (λ e. e ≢ BsonFault.Memory →
+        (fault : Fault) × (place : ℕ) × (e ≡ fault_from fault place) × HasFirstFault bytes.now fault place) }
+    // The first fault of the bytes is told, unless memory runs out.
+    ensures faulty { (fault : Fault) (place : ℕ) →
+        HasFirstFault bytes.now fault place → Gives (λ x. x) result (Err (fault_from fault place)) }
 {
     read_exactly(alloc, bytes)
 }
@@ -356,6 +363,12 @@ pub fn read(alloc: Global, bytes: &[u8]) -> Result<(Document, usize), BsonFault>
 pub fn one_spelling()
     ensures { (a b x y : List ℕ) (ms ns : Members) →
         ReadsAs a ms → ReadsAs b ns → a ++ x ≡ b ++ y → (a ≡ b) × (ms ≡ ns) }
+{}
+
+/// Bytes have one first fault at most, at one place.
+pub fn one_fault()
+    ensures { (bytes : List ℕ) (f g : Fault) (p q : ℕ) →
+        HasFirstFault bytes f p → HasFirstFault bytes g q → (f ≡ g) × (p ≡ q) }
 {}
 
 #[cfg(test)]
