@@ -59,9 +59,9 @@ take_it all false s s' r next e goes = absurd cc
 
 pub lt_same : (a b c d : ℕ) → (c < d → a < b) → (d ≤ c → b ≤ a) → ltb a b ≡ ltb c d
 lt_same a b c d below above = elim (cases_lt c d) [
-    | inl lt ↦ lt-ltb a b (below lt) ∙ sym (lt-ltb c d lt)
-    | inr le ↦ le-ltb a b (above le) ∙ sym (le-ltb c d le)
-  ]
+  | inl lt ↦ lt-ltb a b (below lt) ∙ sym (lt-ltb c d lt)
+  | inr le ↦ le-ltb a b (above le) ∙ sym (le-ltb c d le)
+]
 
 -- ---- where the bytes stand
 

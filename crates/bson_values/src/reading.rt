@@ -88,6 +88,67 @@ fn read_boolean(total: usize, room: usize, bytes: &[u8]) -> Result<(Value, &[u8]
     }
 }
 
+#[tactic(auto, unfolding(crate::specs::Reading::scalar_at))]
+fn read_object_id(total: usize, room: usize, bytes: &[u8]) -> Result<(Value, &[u8]), BsonFault>
+    requires total { length bytes.now ≤ total }
+    requires room { 0 < room }
+    ensures gives { Gives (λ x. (datum_of x.0, x.1.now)) result (scalar_at total Kind.ObjectId room bytes.now) }
+    ensures rest { IfOk result (λ x. IsRest bytes.now room x.1.now) }
+{
+    let (front, rest) = read_fixed(total, 12, room, bytes)?;
+    let mut id = [0; 12];
+    id.copy_from_slice(front);
+    Ok((Value::ObjectId(id), rest))
+}
+
+#[tactic(auto, unfolding(crate::specs::Reading::scalar_at))]
+fn read_date(total: usize, room: usize, bytes: &[u8]) -> Result<(Value, &[u8]), BsonFault>
+    requires total { length bytes.now ≤ total }
+    requires room { 0 < room }
+    ensures gives { Gives (λ x. (datum_of x.0, x.1.now)) result (scalar_at total Kind.Date room bytes.now) }
+    ensures rest { IfOk result (λ x. IsRest bytes.now room x.1.now) }
+{
+    let (front, rest) = read_fixed(total, 8, room, bytes)?;
+    let time = LittleEndian::read_u64(front).cast_signed();
+    Ok((Value::Date(time), rest))
+}
+
+#[tactic(auto, unfolding(crate::specs::Reading::scalar_at))]
+fn read_int32(total: usize, room: usize, bytes: &[u8]) -> Result<(Value, &[u8]), BsonFault>
+    requires total { length bytes.now ≤ total }
+    requires room { 0 < room }
+    ensures gives { Gives (λ x. (datum_of x.0, x.1.now)) result (scalar_at total Kind.Int32 room bytes.now) }
+    ensures rest { IfOk result (λ x. IsRest bytes.now room x.1.now) }
+{
+    let (front, rest) = read_fixed(total, 4, room, bytes)?;
+    let number = LittleEndian::read_u32(front).cast_signed();
+    Ok((Value::Int32(number), rest))
+}
+
+#[tactic(auto, unfolding(crate::specs::Reading::scalar_at))]
+fn read_timestamp(total: usize, room: usize, bytes: &[u8]) -> Result<(Value, &[u8]), BsonFault>
+    requires total { length bytes.now ≤ total }
+    requires room { 0 < room }
+    ensures gives { Gives (λ x. (datum_of x.0, x.1.now)) result (scalar_at total Kind.Timestamp room bytes.now) }
+    ensures rest { IfOk result (λ x. IsRest bytes.now room x.1.now) }
+{
+    let (front, rest) = read_fixed(total, 8, room, bytes)?;
+    let time = LittleEndian::read_u64(front);
+    Ok((Value::Timestamp(time), rest))
+}
+
+#[tactic(auto, unfolding(crate::specs::Reading::scalar_at))]
+fn read_int64(total: usize, room: usize, bytes: &[u8]) -> Result<(Value, &[u8]), BsonFault>
+    requires total { length bytes.now ≤ total }
+    requires room { 0 < room }
+    ensures gives { Gives (λ x. (datum_of x.0, x.1.now)) result (scalar_at total Kind.Int64 room bytes.now) }
+    ensures rest { IfOk result (λ x. IsRest bytes.now room x.1.now) }
+{
+    let (front, rest) = read_fixed(total, 8, room, bytes)?;
+    let number = LittleEndian::read_u64(front).cast_signed();
+    Ok((Value::Int64(number), rest))
+}
+
 /// Reads a value that has no values inside. A document or an array has no level left.
 #[tactic(auto, unfolding(crate::specs::Reading::scalar_at))]
 fn read_scalar(
@@ -111,39 +172,13 @@ fn read_scalar(
         Kind::Doc => Err(deep_fault(total, room, bytes)),
         Kind::Array => Err(deep_fault(total, room, bytes)),
         Kind::Binary => read_binary(alloc, total, room, bytes),
-        Kind::ObjectId => {
-            let (front, rest) = read_fixed(total, 12, room, bytes)?;
-            let mut id = [0; 12];
-            id.copy_from_slice(front);
-            Ok((Value::ObjectId(id), rest))
-        }
+        Kind::ObjectId => read_object_id(total, room, bytes),
         Kind::Bool => read_boolean(total, room, bytes),
-        Kind::Date => {
-            let (front, rest) = read_fixed(total, 8, room, bytes)?;
-            Ok((
-                Value::Date(LittleEndian::read_u64(front).cast_signed()),
-                rest,
-            ))
-        }
+        Kind::Date => read_date(total, room, bytes),
         Kind::Null => Ok((Value::Null, bytes)),
-        Kind::Int32 => {
-            let (front, rest) = read_fixed(total, 4, room, bytes)?;
-            Ok((
-                Value::Int32(LittleEndian::read_u32(front).cast_signed()),
-                rest,
-            ))
-        }
-        Kind::Timestamp => {
-            let (front, rest) = read_fixed(total, 8, room, bytes)?;
-            Ok((Value::Timestamp(LittleEndian::read_u64(front)), rest))
-        }
-        Kind::Int64 => {
-            let (front, rest) = read_fixed(total, 8, room, bytes)?;
-            Ok((
-                Value::Int64(LittleEndian::read_u64(front).cast_signed()),
-                rest,
-            ))
-        }
+        Kind::Int32 => read_int32(total, room, bytes),
+        Kind::Timestamp => read_timestamp(total, room, bytes),
+        Kind::Int64 => read_int64(total, room, bytes),
         Kind::MinKey => Ok((Value::MinKey, bytes)),
         Kind::MaxKey => Ok((Value::MaxKey, bytes)),
     }
