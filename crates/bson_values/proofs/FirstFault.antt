@@ -1,8 +1,9 @@
 -- What a call tells is the first fault.
 use Rattle.std.proofs.Common.{◌≡◌, ◌≢◌, ℕ, List, Result, Ok, Err, refl, sym, ap, subst, ◌∙◌}
 use Rattle.std.specs.Prelude.{IfErr}
-use Rattle.document_model.specs.Faults.{Fault, short_fault, length_fault, type_fault, text_fault, boolean_fault, depth_fault, trailing_fault, Step, goes_on, ends_at, faulty, Walks, walks_to_end, walks_to_fault, walks_on, first_step, HasFirstFault}
+use Rattle.document_model.specs.Faults.{Fault, short_fault, length_fault, type_fault, text_fault, boolean_fault, depth_fault, trailing_fault, Step, ends_at, faulty, Walks, walks_to_end, walks_to_fault, first_step, HasFirstFault}
 use Rattle.document_model.specs.Tree.{Members}
+use Rattle.document_model.proofs.Walks.{one_outcome}
 use Rattle.bson_values.specs.declared.fault.BsonFault.{BsonFault}
 use Rattle.bson_values.specs.declared.fault.BsonFault.TheVariants.{Short, BadLength, BadType, BadText, BadBool, Deep, Trailing, Memory}
 use Rattle.bson_values.specs.Faults.{Fails, Gives, fault_from}
@@ -10,11 +11,6 @@ use Rattle.bson_values.specs.Reading.{whole_at}
 use Rattle.bson_values.proofs.Leaves.{IsBytes}
 use Rattle.bson_values.proofs.Walking.{stop, Goes}
 use Rattle.bson_values.proofs.WalkedValues.{whole_goes}
-
-one_outcome : (bytes : List ℕ) (s a b : Step) → Walks bytes s a → Walks bytes s b → a ≡ b
-one_outcome bytes _ _ _ (walks_to_end place) (walks_to_end _) = refl
-one_outcome bytes _ _ _ (walks_to_fault fault place) (walks_to_fault _ _) = refl
-one_outcome bytes _ a b (walks_on place h outer _ first) (walks_on _ _ _ _ second) = one_outcome bytes _ a b first second
 
 -- the error that a step tells
 abbrev told : Step → BsonFault

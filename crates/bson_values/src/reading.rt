@@ -407,4 +407,6 @@ pub fn one_fault()
 {}
 
 #[cfg(test)]
+mod fault_tests;
+#[cfg(test)]
 mod tests;

@@ -2,7 +2,7 @@
 -- `element`, `string`, `cstring`, `binary`; MongoDB manual, "MongoDB Limits and Thresholds": 100 levels). The bytes are
 -- walked from left to right with a stack of the documents and arrays that are open, the innermost first. A place counts
 -- the bytes before it.
-use Rattle.std.specs.Prelude.{ℕ, suc, ◌+◌, ◌-◌, ◌^◌, List, [], ◌∷◌, length, take, drop, slice_index, Bool, true, false, ◌||◌, Option, Some, None, nat_lt, nat_le, ◌==◌, if◌then◌else◌}
+use Rattle.std.specs.Prelude.{ℕ, ◌+◌, ◌-◌, ◌^◌, List, [], ◌∷◌, length, take, drop, slice_index, Bool, true, false, ◌||◌, Option, Some, None, nat_lt, nat_le, ◌==◌, if◌then◌else◌}
 use Rattle.std.specs.Int.{w32, from_le_bytes}
 use Rattle.std.specs.Option.{option_map}
 use Rattle.std.specs.Str.{is_utf8}
