@@ -1,6 +1,6 @@
 -- What one more member or value changes: how deeply a document or an array is nested, and how long its spelling is.
 use Rattle.std.proofs.Common.{◌≡◌, ℕ, suc, ◌+◌, max, List, length, arith, length-append}
-use Rattle.document_model.specs.Tree.{Datum, value_levels, array_levels, document_levels, Items, no_items, item, joined_items, Members, no_members, member, joined}
+use Rattle.document_model.specs.Tree.{Datum, value_levels, document_levels, Members, no_members, member, joined}
 use Rattle.document_model.specs.Spelling.{kind_of, element, written_value, written_members}
 use Rattle.bson_values.proofs.Spelled.{length-element}
 

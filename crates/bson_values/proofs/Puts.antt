@@ -1,8 +1,7 @@
 -- How the bytes grow: what is put stands behind what was there.
-use Rattle.std.proofs.Common.{◌≡◌, ℕ, ◌+◌, ◌-◌, ◌≤◌, List, [], ◌∷◌, ◌++◌, length, take, drop, refl, sym, ◌∙◌, ap, arith, length-append, append_assoc}
+use Rattle.std.proofs.Common.{◌≡◌, ℕ, ◌+◌, ◌-◌, ◌≤◌, List, [], ◌++◌, length, take, drop, refl, sym, ◌∙◌, ap, arith, append_assoc}
 use Rattle.std.proofs.lemmas.List.{append-nil, take-append-drop, take_rest, drop_all, drop-drop, length-drop}
 use Rattle.std.proofs.Math.Seq.{take-append_seam}
-use Rattle.document_model.specs.Spelling.{element}
 
 -- while the parts of `all` are put behind `old`: the bytes so far, and what is left to put
 pub record Puts (all old out rest : List ℕ) : Type 0 where

@@ -1,5 +1,5 @@
 -- What is read is spelled by the bytes.
-use Rattle.std.proofs.Common.{◌≡◌, ℕ, zero, suc, ◌+◌, ◌-◌, ◌^◌, ◌<◌, ◌≤◌, Bool, true, false, cond, ltb, eqb, List, [], ◌∷◌, ◌++◌, length, take, drop, Option, Some, None, Result, Ok, Err, refl, sym, ap, subst, ◌∙◌, append_assoc, arith, inl, inr}
+use Rattle.std.proofs.Common.{◌≡◌, ℕ, zero, suc, ◌+◌, ◌-◌, ◌^◌, ◌<◌, ◌≤◌, true, false, cond, ltb, eqb, List, [], ◌∷◌, ◌++◌, length, take, drop, Option, Some, None, Result, Ok, Err, refl, sym, ap, subst, ◌∙◌, append_assoc, arith, inl, inr}
 use Rattle.std.specs.Prelude.{FitsSigned}
 use Rattle.std.specs.Int.{w32, w64, from_le_bytes, to_le_bytes, cast_signed, cast_unsigned}
 use Rattle.std.specs.Str.{IsUtf8}
@@ -13,7 +13,7 @@ use Rattle.document_model.specs.Tree.{Datum, text_value, document_value, array_v
 use Rattle.document_model.specs.Spelling.{kind_of, string, framed, element}
 use Rattle.document_model.specs.Grammar.{HasNoZero, ReadsValue, ReadsItems, ReadsMembers}
 use Rattle.bson_values.specs.declared.fault.BsonFault.{BsonFault}
-use Rattle.bson_values.specs.declared.fault.BsonFault.TheVariants.{Short, BadType, Trailing}
+use Rattle.bson_values.specs.declared.fault.BsonFault.TheVariants.{Short, Trailing}
 use Rattle.bson_values.specs.declared.kind.Kind.{Kind}
 use Rattle.bson_values.specs.declared.kind.Kind.TheVariants as kinds
 use Rattle.bson_values.specs.Faults.{◌>>=◌}

@@ -1,20 +1,19 @@
 -- Lengths, texts, names and other leaves: reading and walking go together.
-use Rattle.std.proofs.Common.{◌≡◌, ℕ, zero, suc, ◌+◌, ◌-◌, ◌^◌, ◌<◌, ◌≤◌, Bool, true, false, cond, ltb, leb, eqb, List, [], ◌∷◌, length, get_or, take, drop, Option, Some, None, Result, Ok, Err, refl, sym, ap, subst, ◌∙◌, arith, length-append}
+use Rattle.std.proofs.Common.{◌≡◌, ℕ, zero, suc, ◌+◌, ◌-◌, ◌^◌, ◌<◌, Bool, true, false, cond, ltb, leb, eqb, List, [], ◌∷◌, length, get_or, take, drop, Option, Some, None, Result, Ok, Err, refl, sym, ap, subst, ◌∙◌, arith, length-append}
 use Rattle.std.specs.Prelude.{◌||◌}
 use Rattle.std.specs.Int.{w32, from_le_bytes}
 use Rattle.std.specs.Option.{option_map}
 use Rattle.std.specs.Str.{is_utf8}
-use Rattle.std.proofs.lemmas.Bool.{ltb-false, lt-ltb, le-ltb, eqb-true, cond-true, cond-false}
+use Rattle.std.proofs.lemmas.Bool.{ltb-false, lt-ltb, le-ltb, eqb-true}
 use Rattle.std.proofs.lemmas.Bool.Decides.{nat_tests}
 use Rattle.std.proofs.lemmas.List.{length-drop}
-use Rattle.document_model.specs.Faults.{Holder, last, Step, goes_on, faulty, short_fault, length_fault, text_fault, boolean_fault, depth_fault, trailing_fault, Form, before_zero, short, fixed_step, boolean_step, stated_step, length_step, text_step, binary_step, value_step, named_step}
-use Rattle.document_model.specs.Tree.{Datum}
+use Rattle.document_model.specs.Faults.{Holder, last, Step, goes_on, faulty, length_fault, text_fault, depth_fault, trailing_fault, Form, before_zero, short, fixed_step, boolean_step, stated_step, length_step, text_step, binary_step, value_step, named_step}
 use Rattle.bson_values.specs.declared.fault.BsonFault.{BsonFault}
-use Rattle.bson_values.specs.declared.fault.BsonFault.TheVariants.{Short, BadLength, BadText, Trailing}
+use Rattle.bson_values.specs.declared.fault.BsonFault.TheVariants.{Short, BadLength, BadText}
 use Rattle.bson_values.specs.Faults.{◌>>=◌}
 use Rattle.bson_values.specs.Reading.{length_within, length_at, fixed_at, utf8_at, text_at, content_at, boolean_at, deep_unless, deep_at, name_from, room_at, index_at, name_at}
 use Rattle.bson_values.proofs.Leaves.{TakesName, name_takes}
-use Rattle.bson_values.proofs.Walking.{Leads, stop, Goes, same_leads, goes_bind, split, lt_same, Stands, stands_drop, stands_at, byte_at, byte_here}
+use Rattle.bson_values.proofs.Walking.{Leads, stop, Goes, same_leads, goes_bind, split, lt_same, Stands, stands_at, byte_at, byte_here}
 
 -- what follows is read behind the bytes
 abbrev pub on_behind : {A : Type 0} → List ℕ → Holder → List Holder → A × List ℕ → Step

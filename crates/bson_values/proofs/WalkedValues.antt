@@ -1,14 +1,13 @@
 -- Elements, values and documents: reading and walking go together.
-use Rattle.std.proofs.Common.{◌≡◌, ℕ, zero, suc, ◌+◌, ◌-◌, ◌^◌, ◌<◌, ◌≤◌, Bool, true, false, cond, ltb, leb, eqb, List, [], ◌∷◌, ◌++◌, length, get_or, take, drop, Option, Some, None, Result, Ok, Err, refl, sym, ap, subst, ◌∙◌, arith, length-append}
+use Rattle.std.proofs.Common.{◌≡◌, ℕ, zero, suc, ◌+◌, ◌-◌, ◌^◌, ◌<◌, ◌≤◌, Bool, true, false, cond, ltb, leb, eqb, List, [], ◌∷◌, length, get_or, take, drop, Option, Some, None, Result, Ok, Err, refl, sym, ap, subst, ◌∙◌, arith, length-append}
 use Rattle.std.specs.Int.{w32, w64, from_le_bytes, to_le_bytes, cast_signed}
 use Rattle.std.specs.Option.{option_map}
 use Rattle.std.proofs.lemmas.Bool.{lt-ltb, le-ltb}
 use Rattle.std.proofs.lemmas.Bool.Decides.{nat_tests}
-use Rattle.document_model.specs.Faults.{Holder, last, Step, goes_on, ends_at, faulty, type_fault, depth_fault, trailing_fault, Form, fixed_form, text_form, holder_form, binary_form, boolean_form, form_of, before_zero, closed, short, fixed_step, text_step, binary_step, length_step, holder_step, value_step, named_step, typed_step, element_step, first_step, walks_on}
-use Rattle.document_model.specs.Tree.{Datum, text_value, document_value, array_value, object_id_value, date_value, null_value, int32_value, timestamp_value, int64_value, min_key_value, max_key_value, Items, item, Members, member}
+use Rattle.document_model.specs.Faults.{Holder, last, Step, goes_on, ends_at, faulty, depth_fault, trailing_fault, Form, fixed_form, text_form, holder_form, binary_form, boolean_form, form_of, before_zero, closed, fixed_step, text_step, binary_step, length_step, holder_step, value_step, named_step, typed_step, element_step, first_step, walks_on}
+use Rattle.document_model.specs.Tree.{Datum, text_value, document_value, array_value, object_id_value, date_value, null_value, int32_value, timestamp_value, int64_value, min_key_value, max_key_value, item, member}
 use Rattle.document_model.specs.Spelling.{kind_of, element}
 use Rattle.bson_values.specs.declared.fault.BsonFault.{BsonFault}
-use Rattle.bson_values.specs.declared.fault.BsonFault.TheVariants.{Trailing}
 use Rattle.bson_values.specs.declared.kind.Kind.{Kind}
 use Rattle.bson_values.specs.declared.kind.Kind.TheVariants as kinds
 use Rattle.bson_values.specs.Faults.{◌>>=◌}
@@ -16,8 +15,8 @@ use Rattle.bson_values.specs.Kinds.{kind_from}
 use Rattle.bson_values.specs.Reading.{Reader, length_at, fixed_at, string_at, text_at, binary_at, content_at, deep_at, scalar_at, name_at, index_at, checked_kind, kind_at, member_behind, member_at, item_behind, item_at, members_behind, members_with, items_behind, items_with, document_with, array_with, value_at, document_at, whole_at}
 use Rattle.bson_values.proofs.KindTests.{byte_of}
 use Rattle.bson_values.proofs.Leaves.{IsBytes, IsBytes-rest, length_takes, TakesLength, named_takes, index_takes}
-use Rattle.bson_values.proofs.Takes.{length-element, TakesKind, kind_takes, TakesElement, TakesMember, TakesItem, IsSound, member_takes, item_takes, value_takes}
-use Rattle.bson_values.proofs.Walking.{Leads, stop, Goes, same_leads, leads_goes, goes_bind, split, skip, take_it, lt_same, Stands, stands_behind, stands_at, byte_here}
+use Rattle.bson_values.proofs.Takes.{length-element, TakesKind, kind_takes, TakesMember, TakesItem, IsSound, member_takes, item_takes, value_takes}
+use Rattle.bson_values.proofs.Walking.{Goes, same_leads, leads_goes, goes_bind, split, skip, take_it, Stands, stands_behind, stands_at, byte_here}
 use Rattle.bson_values.proofs.WalkedLeaves.{on_behind, fixed_goes, length_goes, deep_leads, boolean_goes, text_goes, content_goes, named_goes, index_goes}
 
 -- ---- types

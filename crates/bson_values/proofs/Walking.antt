@@ -1,7 +1,7 @@
 -- Reading and walking go together: where a reader fails, the walk comes to the same fault at the same place.
-use Rattle.std.proofs.Common.{◌≡◌, ℕ, ◌+◌, ◌-◌, ◌<◌, ◌≤◌, Bool, true, false, cond, ltb, List, ◌++◌, length, get_or, take, drop, Result, Ok, Err, refl, sym, ap, subst, ◌∙◌, append_assoc, arith, inl, inr}
+use Rattle.std.proofs.Common.{◌≡◌, ℕ, ◌+◌, ◌<◌, ◌≤◌, Bool, true, false, cond, ltb, List, ◌++◌, length, get_or, take, drop, Result, Ok, Err, refl, sym, ap, subst, ◌∙◌, append_assoc, arith, inl, inr}
 use Rattle.std.proofs.lemmas.Bool.{cases_lt, lt-ltb, le-ltb}
-use Rattle.std.proofs.lemmas.List.{take-append-drop, drop_at, length-append, drop-drop, get_or-drop}
+use Rattle.std.proofs.lemmas.List.{take-append-drop, drop_at, length-append, get_or-drop}
 use Rattle.document_model.specs.Faults.{Step, ends_at, faulty, short_fault, length_fault, type_fault, text_fault, boolean_fault, depth_fault, trailing_fault, Walks}
 use Rattle.bson_values.specs.declared.fault.BsonFault.{BsonFault}
 use Rattle.bson_values.specs.declared.fault.BsonFault.TheVariants.{Short, BadLength, BadType, BadText, BadBool, Deep, Trailing, Memory}
