@@ -1,6 +1,6 @@
 -- What the bytes spell is read.
 use Rattle.std.proofs.Common.{◌≡◌, ℕ, zero, suc, ◌+◌, ◌-◌, ◌^◌, ◌<◌, ◌≤◌, Bool, true, false, ltb, eqb, List, [], ◌∷◌, ◌++◌, length, Option, Some, None, Result, Ok, refl, ap, subst, ◌∙◌, append_assoc, add-one, arith}
-use Rattle.std.specs.Prelude.{IsTrue, ◌&&◌, ℤ, FitsSigned}
+use Rattle.std.specs.Prelude.{ℤ, FitsSigned}
 use Rattle.std.specs.Int.{w32, w64, from_le_bytes, to_le_bytes, cast_signed, cast_unsigned}
 use Rattle.std.specs.Str.{IsUtf8}
 use Rattle.std.proofs.lemmas.Bool.{le-ltb}
@@ -16,7 +16,7 @@ use Rattle.bson_values.specs.declared.fault.BsonFault.{BsonFault}
 use Rattle.bson_values.specs.declared.kind.Kind.{Kind}
 use Rattle.bson_values.specs.declared.kind.Kind.TheVariants as kinds
 use Rattle.bson_values.specs.Faults.{◌>>=◌}
-use Rattle.bson_values.specs.Kinds.{kind_from, type_of, value_passes, items_pass, members_pass}
+use Rattle.bson_values.specs.Kinds.{kind_from, type_of}
 use Rattle.bson_values.specs.Reading.{Reader, length_at, fixed_at, string_at, content_at, binary_at, boolean_at, scalar_at, checked_kind, kind_at, member_behind, member_at, item_behind, item_at, members_behind, members_with, items_behind, items_with, document_with, array_with, value_at}
 use Rattle.bson_values.proofs.KindTests.{byte_of, kind_of-type, kind_from-byte}
 use Rattle.bson_values.proofs.Leaves.{length_again, fixed_again, string_again, index_again, named_again}
@@ -29,12 +29,12 @@ IsFlat kinds.Doc = ⊥
 IsFlat kinds.Array = ⊥
 IsFlat kind = Unit {0}
 
-at_scalar : (total : ℕ) (taken : Kind → Bool) (n : ℕ) (kind : Kind) (room : ℕ) (bytes : List ℕ) → IsFlat kind → value_at total taken n kind room bytes ≡ scalar_at total kind room bytes
+at_scalar : (total : ℕ) (n : ℕ) (kind : Kind) (room : ℕ) (bytes : List ℕ) → IsFlat kind → value_at total n kind room bytes ≡ scalar_at total kind room bytes
 unfolding value_at
-at_scalar total taken zero kind room bytes flat = refl
-at_scalar total taken (suc n) kinds.Doc room bytes flat = absurd flat
-at_scalar total taken (suc n) kinds.Array room bytes flat = absurd flat
-at_scalar total taken (suc n) kind room bytes flat = refl
+at_scalar total zero kind room bytes flat = refl
+at_scalar total (suc n) kinds.Doc room bytes flat = absurd flat
+at_scalar total (suc n) kinds.Array room bytes flat = absurd flat
+at_scalar total (suc n) kind room bytes flat = refl
 
 number_32 : (v : List ℕ) (z : ℤ) → v ≡ to_le_bytes w32 (cast_unsigned w32 z) → FitsSigned w32 z → cast_signed w32 (from_le_bytes w32 v) ≡ z
 number_32 v z e f =
@@ -107,8 +107,8 @@ scalar_again total (int64_value z) room v rest flat h fits =
 scalar_again total min_key_value room v rest flat h fits = empty min_key_value v rest h
 scalar_again total max_key_value room v rest flat h fits = empty max_key_value v rest h
 
-flat_again : (total : ℕ) (taken : Kind → Bool) (d : Datum) (n room : ℕ) (v rest : List ℕ) → IsFlat (type_of d) → ReadsValue v d → length v ≤ room → value_at total taken n (type_of d) room (v ++ rest) ≡ Ok (d, rest)
-flat_again total taken d n room v rest flat h fits = at_scalar total taken n (type_of d) room (v ++ rest) flat ∙ scalar_again total d room v rest flat h fits
+flat_again : (total : ℕ) (d : Datum) (n room : ℕ) (v rest : List ℕ) → IsFlat (type_of d) → ReadsValue v d → length v ≤ room → value_at total n (type_of d) room (v ++ rest) ≡ Ok (d, rest)
+flat_again total d n room v rest flat h fits = at_scalar total n (type_of d) room (v ++ rest) flat ∙ scalar_again total d room v rest flat h fits
 
 -- ---- types
 
@@ -127,96 +127,90 @@ byte-zero kinds.Int64 = refl
 byte-zero kinds.MinKey = refl
 byte-zero kinds.MaxKey = refl
 
-kind_by : (total : ℕ) (taken : Kind → Bool) (room b : ℕ) (kind : Kind) (rest : List ℕ) → eqb b 0 ≡ false → kind_from b ≡ Some kind → IsTrue (taken kind) → 0 < room → kind_at total taken (suc room) (b ∷ rest) ≡ Ok (Some kind, rest)
+kind_by : (total : ℕ) (room b : ℕ) (kind : Kind) (rest : List ℕ) → eqb b 0 ≡ false → kind_from b ≡ Some kind → 0 < room → kind_at total (suc room) (b ∷ rest) ≡ Ok (Some kind, rest)
 unfolding kind_at checked_kind
-kind_by total taken room b kind rest z k h some =
+kind_by total room b kind rest z k some =
     let more : eqb room 0 ≡ false = grind (arith, nat_tests) in
-    rw (z, k, h, more) refl
+    rw (z, k, more) refl
 
-kind_again : (total : ℕ) (taken : Kind → Bool) (room : ℕ) (d : Datum) (rest : List ℕ) → IsTrue (taken (type_of d)) → 1 < room → kind_at total taken room (kind_of d ∷ rest) ≡ Ok (Some (type_of d), rest)
-kind_again total taken zero d rest h some = absurd (omega arith)
-kind_again total taken (suc room) d rest h some =
-    ap (λ (b : ℕ). kind_at total taken (suc room) (b ∷ rest)) (kind_of-type d) ∙ kind_by total taken room (byte_of (type_of d)) (type_of d) rest (byte-zero (type_of d)) (kind_from-byte (type_of d)) h (omega arith)
+kind_again : (total : ℕ) (room : ℕ) (d : Datum) (rest : List ℕ) → 1 < room → kind_at total room (kind_of d ∷ rest) ≡ Ok (Some (type_of d), rest)
+kind_again total zero d rest some = absurd (omega arith)
+kind_again total (suc room) d rest some =
+    ap (λ (b : ℕ). kind_at total (suc room) (b ∷ rest)) (kind_of-type d) ∙ kind_by total room (byte_of (type_of d)) (type_of d) rest (byte-zero (type_of d)) (kind_from-byte (type_of d)) (omega arith)
 
-end_again : (total : ℕ) (taken : Kind → Bool) (rest : List ℕ) → kind_at total taken 1 (0 ∷ rest) ≡ Ok (None, rest)
+end_again : (total : ℕ) (rest : List ℕ) → kind_at total 1 (0 ∷ rest) ≡ Ok (None, rest)
 unfolding kind_at
-end_again total taken rest = refl
+end_again total rest = refl
 
 -- ---- one member, one value of an array
 
-member_again : (total : ℕ) (taken : Kind → Bool) (value_at : Reader) (room : ℕ) (name : List ℕ) (d : Datum) (v rest : List ℕ) → HasNoZero name → IsUtf8 name → IsTrue (taken (type_of d)) → length (element (kind_of d) name v) < room
-    → value_at (type_of d) (room - 1 - (length name + 1)) (v ++ rest) ≡ Ok (d, rest) → member_at total taken value_at room (element (kind_of d) name v ++ rest) ≡ Ok (Some (name, d), rest)
+member_again : (total : ℕ) (value_at : Reader) (room : ℕ) (name : List ℕ) (d : Datum) (v rest : List ℕ) → HasNoZero name → IsUtf8 name → length (element (kind_of d) name v) < room
+    → value_at (type_of d) (room - 1 - (length name + 1)) (v ++ rest) ≡ Ok (d, rest) → member_at total value_at room (element (kind_of d) name v ++ rest) ≡ Ok (Some (name, d), rest)
 unfolding member_at member_behind
-member_again total taken value_at room name d v rest no_zero utf8 h fits e =
+member_again total value_at room name d v rest no_zero utf8 fits e =
     let len = length-element (kind_of d) name v in
-    ap (λ (s : List ℕ). kind_at total taken room s >>= λ kind. member_behind total taken value_at room kind.0 kind.1) (element-append (kind_of d) name v rest)
-    ∙ ap (λ (r : Result (Option Kind × List ℕ) BsonFault). r >>= λ kind. member_behind total taken value_at room kind.0 kind.1) (kind_again total taken room d (name ++ 0 ∷ (v ++ rest)) h (omega arith))
+    ap (λ (s : List ℕ). kind_at total room s >>= λ kind. member_behind total value_at room kind.0 kind.1) (element-append (kind_of d) name v rest)
+    ∙ ap (λ (r : Result (Option Kind × List ℕ) BsonFault). r >>= λ kind. member_behind total value_at room kind.0 kind.1) (kind_again total room d (name ++ 0 ∷ (v ++ rest)) (omega arith))
     ∙ ap (λ (r : Result (List ℕ × ℕ × List ℕ) BsonFault). r >>= λ name. value_at (type_of d) name.1 name.2 >>= λ value. Ok (Some (name.0, value.0), value.1)) (named_again total (room - 1) name (v ++ rest) no_zero utf8 (omega arith))
     ∙ ap (λ (r : Result (Datum × List ℕ) BsonFault). r >>= λ value. Ok (Some (name, value.0), value.1)) e
 
-item_again : (total : ℕ) (taken : Kind → Bool) (value_at : Reader) (room : ℕ) (name : List ℕ) (d : Datum) (v rest : List ℕ) → HasNoZero name → IsTrue (taken (type_of d)) → length (element (kind_of d) name v) < room
-    → value_at (type_of d) (room - 1 - (length name + 1)) (v ++ rest) ≡ Ok (d, rest) → item_at total taken value_at room (element (kind_of d) name v ++ rest) ≡ Ok (Some d, rest)
+item_again : (total : ℕ) (value_at : Reader) (room : ℕ) (name : List ℕ) (d : Datum) (v rest : List ℕ) → HasNoZero name → length (element (kind_of d) name v) < room
+    → value_at (type_of d) (room - 1 - (length name + 1)) (v ++ rest) ≡ Ok (d, rest) → item_at total value_at room (element (kind_of d) name v ++ rest) ≡ Ok (Some d, rest)
 unfolding item_at item_behind
-item_again total taken value_at room name d v rest no_zero h fits e =
+item_again total value_at room name d v rest no_zero fits e =
     let len = length-element (kind_of d) name v in
-    ap (λ (s : List ℕ). kind_at total taken room s >>= λ kind. item_behind total taken value_at room kind.0 kind.1) (element-append (kind_of d) name v rest)
-    ∙ ap (λ (r : Result (Option Kind × List ℕ) BsonFault). r >>= λ kind. item_behind total taken value_at room kind.0 kind.1) (kind_again total taken room d (name ++ 0 ∷ (v ++ rest)) h (omega arith))
+    ap (λ (s : List ℕ). kind_at total room s >>= λ kind. item_behind total value_at room kind.0 kind.1) (element-append (kind_of d) name v rest)
+    ∙ ap (λ (r : Result (Option Kind × List ℕ) BsonFault). r >>= λ kind. item_behind total value_at room kind.0 kind.1) (kind_again total room d (name ++ 0 ∷ (v ++ rest)) (omega arith))
     ∙ ap (λ (r : Result (ℕ × List ℕ) BsonFault). r >>= λ left. value_at (type_of d) left.0 left.1 >>= λ value. Ok (Some value.0, value.1)) (index_again total (room - 1) name (v ++ rest) no_zero (omega arith))
     ∙ ap (λ (r : Result (Datum × List ℕ) BsonFault). r >>= λ value. Ok (Some value.0, value.1)) e
 
 -- ---- members, and the values of an array
 
-members_step : (total : ℕ) (taken : Kind → Bool) (value_at : Reader) (f room left : ℕ) (bytes rest behind : List ℕ) (m : List ℕ × Datum) (ms : Members) → member_at total taken value_at room bytes ≡ Ok (Some m, rest)
-    → room - (length bytes - length rest) ≡ left → members_with total taken value_at f left rest ≡ Ok (ms, behind) → members_with total taken value_at (suc f) room bytes ≡ Ok (member m.0 m.1 ms, behind)
+members_step : (total : ℕ) (value_at : Reader) (f room left : ℕ) (bytes rest behind : List ℕ) (m : List ℕ × Datum) (ms : Members) → member_at total value_at room bytes ≡ Ok (Some m, rest)
+    → room - (length bytes - length rest) ≡ left → members_with total value_at f left rest ≡ Ok (ms, behind) → members_with total value_at (suc f) room bytes ≡ Ok (member m.0 m.1 ms, behind)
 unfolding members_with members_behind
-members_step total taken value_at f room left bytes rest behind m ms first l others = rw (first, l, others) refl
+members_step total value_at f room left bytes rest behind m ms first l others = rw (first, l, others) refl
 
-members_end : (total : ℕ) (taken : Kind → Bool) (value_at : Reader) (f : ℕ) (rest : List ℕ) → members_with total taken value_at (suc f) 1 (0 ∷ rest) ≡ Ok (no_members, rest)
+members_end : (total : ℕ) (value_at : Reader) (f : ℕ) (rest : List ℕ) → members_with total value_at (suc f) 1 (0 ∷ rest) ≡ Ok (no_members, rest)
 unfolding members_with members_behind member_at member_behind
-members_end total taken value_at f rest = rw (end_again total taken rest) refl
+members_end total value_at f rest = rw (end_again total rest) refl
 
-items_step : (total : ℕ) (taken : Kind → Bool) (value_at : Reader) (f room left : ℕ) (bytes rest behind : List ℕ) (d : Datum) (ds : Items) → item_at total taken value_at room bytes ≡ Ok (Some d, rest)
-    → room - (length bytes - length rest) ≡ left → items_with total taken value_at f left rest ≡ Ok (ds, behind) → items_with total taken value_at (suc f) room bytes ≡ Ok (item d ds, behind)
+items_step : (total : ℕ) (value_at : Reader) (f room left : ℕ) (bytes rest behind : List ℕ) (d : Datum) (ds : Items) → item_at total value_at room bytes ≡ Ok (Some d, rest)
+    → room - (length bytes - length rest) ≡ left → items_with total value_at f left rest ≡ Ok (ds, behind) → items_with total value_at (suc f) room bytes ≡ Ok (item d ds, behind)
 unfolding items_with items_behind
-items_step total taken value_at f room left bytes rest behind d ds first l others = rw (first, l, others) refl
+items_step total value_at f room left bytes rest behind d ds first l others = rw (first, l, others) refl
 
-items_end : (total : ℕ) (taken : Kind → Bool) (value_at : Reader) (f : ℕ) (rest : List ℕ) → items_with total taken value_at (suc f) 1 (0 ∷ rest) ≡ Ok (no_items, rest)
+items_end : (total : ℕ) (value_at : Reader) (f : ℕ) (rest : List ℕ) → items_with total value_at (suc f) 1 (0 ∷ rest) ≡ Ok (no_items, rest)
 unfolding items_with items_behind item_at item_behind
-items_end total taken value_at f rest = rw (end_again total taken rest) refl
+items_end total value_at f rest = rw (end_again total rest) refl
 
-document_from : (total : ℕ) (taken : Kind → Bool) (value_at : Reader) (room : ℕ) (body rest : List ℕ) (ms : Members) → length body + 5 < 2 ^ 31 → length (framed body) ≤ room
-    → members_with total taken value_at (suc (length (body ++ 0 ∷ rest))) (length body + 1) (body ++ 0 ∷ rest) ≡ Ok (ms, rest) → document_with total taken value_at room (framed body ++ rest) ≡ Ok (ms, rest)
+document_from : (total : ℕ) (value_at : Reader) (room : ℕ) (body rest : List ℕ) (ms : Members) → length body + 5 < 2 ^ 31 → length (framed body) ≤ room
+    → members_with total value_at (suc (length (body ++ 0 ∷ rest))) (length body + 1) (body ++ 0 ∷ rest) ≡ Ok (ms, rest) → document_with total value_at room (framed body ++ rest) ≡ Ok (ms, rest)
 unfolding document_with
-document_from total taken value_at room body rest ms high fits e =
+document_from total value_at room body rest ms high fits e =
     let len = length-framed body in
     let k : length body + 5 - 4 ≡ length body + 1 = omega arith in
-    ap (λ (s : List ℕ). length_at total 5 0 room s >>= λ x. members_with total taken value_at (length x.1 + 1) (x.0 - 4) x.1) (framed-append body rest)
-    ∙ ap (λ (r : Result (ℕ × List ℕ) BsonFault). r >>= λ x. members_with total taken value_at (length x.1 + 1) (x.0 - 4) x.1) (length_again total 5 0 room (length body + 5) (body ++ 0 ∷ rest) (omega arith) high (omega arith) (omega arith))
+    ap (λ (s : List ℕ). length_at total 5 0 room s >>= λ x. members_with total value_at (length x.1 + 1) (x.0 - 4) x.1) (framed-append body rest)
+    ∙ ap (λ (r : Result (ℕ × List ℕ) BsonFault). r >>= λ x. members_with total value_at (length x.1 + 1) (x.0 - 4) x.1) (length_again total 5 0 room (length body + 5) (body ++ 0 ∷ rest) (omega arith) high (omega arith) (omega arith))
     ∙ rw (k, add-one) e
 
-array_from : (total : ℕ) (taken : Kind → Bool) (value_at : Reader) (room : ℕ) (body rest : List ℕ) (ds : Items) → length body + 5 < 2 ^ 31 → length (framed body) ≤ room
-    → items_with total taken value_at (suc (length (body ++ 0 ∷ rest))) (length body + 1) (body ++ 0 ∷ rest) ≡ Ok (ds, rest) → array_with total taken value_at room (framed body ++ rest) ≡ Ok (ds, rest)
+array_from : (total : ℕ) (value_at : Reader) (room : ℕ) (body rest : List ℕ) (ds : Items) → length body + 5 < 2 ^ 31 → length (framed body) ≤ room
+    → items_with total value_at (suc (length (body ++ 0 ∷ rest))) (length body + 1) (body ++ 0 ∷ rest) ≡ Ok (ds, rest) → array_with total value_at room (framed body ++ rest) ≡ Ok (ds, rest)
 unfolding array_with
-array_from total taken value_at room body rest ds high fits e =
+array_from total value_at room body rest ds high fits e =
     let len = length-framed body in
     let k : length body + 5 - 4 ≡ length body + 1 = omega arith in
-    ap (λ (s : List ℕ). length_at total 5 0 room s >>= λ x. items_with total taken value_at (length x.1 + 1) (x.0 - 4) x.1) (framed-append body rest)
-    ∙ ap (λ (r : Result (ℕ × List ℕ) BsonFault). r >>= λ x. items_with total taken value_at (length x.1 + 1) (x.0 - 4) x.1) (length_again total 5 0 room (length body + 5) (body ++ 0 ∷ rest) (omega arith) high (omega arith) (omega arith))
+    ap (λ (s : List ℕ). length_at total 5 0 room s >>= λ x. items_with total value_at (length x.1 + 1) (x.0 - 4) x.1) (framed-append body rest)
+    ∙ ap (λ (r : Result (ℕ × List ℕ) BsonFault). r >>= λ x. items_with total value_at (length x.1 + 1) (x.0 - 4) x.1) (length_again total 5 0 room (length body + 5) (body ++ 0 ∷ rest) (omega arith) high (omega arith) (omega arith))
     ∙ rw (k, add-one) e
 
-first_passes : (a b c : Bool) → IsTrue (a && (b && c)) → IsTrue a × IsTrue b × IsTrue c
-first_passes true true true h = (refl, refl, refl)
-first_passes true true false h = absurd cc
-first_passes true false c h = absurd cc
-first_passes false b c h = absurd cc
-
-value_of_document : (total : ℕ) (taken : Kind → Bool) (n room : ℕ) (v rest : List ℕ) (ms : Members) → document_with total taken (value_at total taken n) room (v ++ rest) ≡ Ok (ms, rest) → value_at total taken (suc n) kinds.Doc room (v ++ rest) ≡ Ok (document_value ms, rest)
+value_of_document : (total : ℕ) (n room : ℕ) (v rest : List ℕ) (ms : Members) → document_with total (value_at total n) room (v ++ rest) ≡ Ok (ms, rest) → value_at total (suc n) kinds.Doc room (v ++ rest) ≡ Ok (document_value ms, rest)
 unfolding value_at
-value_of_document total taken n room v rest ms e = ap (λ (r : Result (Members × List ℕ) BsonFault). r >>= λ x. Ok (document_value x.0, x.1)) e
+value_of_document total n room v rest ms e = ap (λ (r : Result (Members × List ℕ) BsonFault). r >>= λ x. Ok (document_value x.0, x.1)) e
 
-value_of_array : (total : ℕ) (taken : Kind → Bool) (n room : ℕ) (v rest : List ℕ) (ds : Items) → array_with total taken (value_at total taken n) room (v ++ rest) ≡ Ok (ds, rest) → value_at total taken (suc n) kinds.Array room (v ++ rest) ≡ Ok (array_value ds, rest)
+value_of_array : (total : ℕ) (n room : ℕ) (v rest : List ℕ) (ds : Items) → array_with total (value_at total n) room (v ++ rest) ≡ Ok (ds, rest) → value_at total (suc n) kinds.Array room (v ++ rest) ≡ Ok (array_value ds, rest)
 unfolding value_at
-value_of_array total taken n room v rest ds e = ap (λ (r : Result (Items × List ℕ) BsonFault). r >>= λ x. Ok (array_value x.0, x.1)) e
+value_of_array total n room v rest ds e = ap (λ (r : Result (Items × List ℕ) BsonFault). r >>= λ x. Ok (array_value x.0, x.1)) e
 
 document_levels-some : (ms : Members) → 0 < document_levels ms
 document_levels-some no_members = omega arith
@@ -226,79 +220,77 @@ array_levels-some : (ds : Items) → 0 < array_levels ds
 array_levels-some no_items = omega arith
 array_levels-some (item d ds) = omega arith
 
-module _ (total : ℕ) (taken : Kind → Bool) where
+module _ (total : ℕ) where
   mutual
-    value_again : (d : Datum) (n room : ℕ) (v rest : List ℕ) → ReadsValue v d → value_levels d ≤ n → IsTrue (value_passes taken d) → length v ≤ room → value_at total taken n (type_of d) room (v ++ rest) ≡ Ok (d, rest)
-    value_again (document_value ms) zero room v rest h low passes fits = absurd (omega (arith, document_levels-some ms))
-    value_again (document_value ms) (suc n) room v rest h low passes fits =
+    value_again : (d : Datum) (n room : ℕ) (v rest : List ℕ) → ReadsValue v d → value_levels d ≤ n → length v ≤ room → value_at total n (type_of d) room (v ++ rest) ≡ Ok (d, rest)
+    value_again (document_value ms) zero room v rest h low fits = absurd (omega (arith, document_levels-some ms))
+    value_again (document_value ms) (suc n) room v rest h low fits =
         let size : length (framed h.0) ≤ room = subst (λ (w : List ℕ). length w ≤ room) h.1 fits in
-        value_of_document total taken n room v rest ms
-        (ap (λ (w : List ℕ). document_with total taken (value_at total taken n) room (w ++ rest)) h.1
-        ∙ document_from total taken (value_at total taken n) room h.0 rest ms h.2 size
-        (members_again ms n (length (h.0 ++ 0 ∷ rest)) (length h.0 + 1) h.0 rest h.3 low passes (omega (arith, length-append h.0 (0 ∷ rest))) refl))
-    value_again (array_value ds) zero room v rest h low passes fits = absurd (omega (arith, array_levels-some ds))
-    value_again (array_value ds) (suc n) room v rest h low passes fits =
+        value_of_document total n room v rest ms
+        (ap (λ (w : List ℕ). document_with total (value_at total n) room (w ++ rest)) h.1
+        ∙ document_from total (value_at total n) room h.0 rest ms h.2 size
+        (members_again ms n (length (h.0 ++ 0 ∷ rest)) (length h.0 + 1) h.0 rest h.3 low (omega (arith, length-append h.0 (0 ∷ rest))) refl))
+    value_again (array_value ds) zero room v rest h low fits = absurd (omega (arith, array_levels-some ds))
+    value_again (array_value ds) (suc n) room v rest h low fits =
         let size : length (framed h.0) ≤ room = subst (λ (w : List ℕ). length w ≤ room) h.1 fits in
-        value_of_array total taken n room v rest ds
-        (ap (λ (w : List ℕ). array_with total taken (value_at total taken n) room (w ++ rest)) h.1
-        ∙ array_from total taken (value_at total taken n) room h.0 rest ds h.2 size
-        (items_again ds n (length (h.0 ++ 0 ∷ rest)) (length h.0 + 1) h.0 rest h.3 low passes (omega (arith, length-append h.0 (0 ∷ rest))) refl))
-    value_again (text_value s) n room v rest h low passes fits = flat_again total taken (text_value s) n room v rest tt h fits
-    value_again (binary_value subtype content) n room v rest h low passes fits = flat_again total taken (binary_value subtype content) n room v rest tt h fits
-    value_again (object_id_value content) n room v rest h low passes fits = flat_again total taken (object_id_value content) n room v rest tt h fits
-    value_again (boolean_value b) n room v rest h low passes fits = flat_again total taken (boolean_value b) n room v rest tt h fits
-    value_again (date_value z) n room v rest h low passes fits = flat_again total taken (date_value z) n room v rest tt h fits
-    value_again null_value n room v rest h low passes fits = flat_again total taken null_value n room v rest tt h fits
-    value_again (int32_value z) n room v rest h low passes fits = flat_again total taken (int32_value z) n room v rest tt h fits
-    value_again (timestamp_value m) n room v rest h low passes fits = flat_again total taken (timestamp_value m) n room v rest tt h fits
-    value_again (int64_value z) n room v rest h low passes fits = flat_again total taken (int64_value z) n room v rest tt h fits
-    value_again min_key_value n room v rest h low passes fits = flat_again total taken min_key_value n room v rest tt h fits
-    value_again max_key_value n room v rest h low passes fits = flat_again total taken max_key_value n room v rest tt h fits
+        value_of_array total n room v rest ds
+        (ap (λ (w : List ℕ). array_with total (value_at total n) room (w ++ rest)) h.1
+        ∙ array_from total (value_at total n) room h.0 rest ds h.2 size
+        (items_again ds n (length (h.0 ++ 0 ∷ rest)) (length h.0 + 1) h.0 rest h.3 low (omega (arith, length-append h.0 (0 ∷ rest))) refl))
+    value_again (text_value s) n room v rest h low fits = flat_again total (text_value s) n room v rest tt h fits
+    value_again (binary_value subtype content) n room v rest h low fits = flat_again total (binary_value subtype content) n room v rest tt h fits
+    value_again (object_id_value content) n room v rest h low fits = flat_again total (object_id_value content) n room v rest tt h fits
+    value_again (boolean_value b) n room v rest h low fits = flat_again total (boolean_value b) n room v rest tt h fits
+    value_again (date_value z) n room v rest h low fits = flat_again total (date_value z) n room v rest tt h fits
+    value_again null_value n room v rest h low fits = flat_again total null_value n room v rest tt h fits
+    value_again (int32_value z) n room v rest h low fits = flat_again total (int32_value z) n room v rest tt h fits
+    value_again (timestamp_value m) n room v rest h low fits = flat_again total (timestamp_value m) n room v rest tt h fits
+    value_again (int64_value z) n room v rest h low fits = flat_again total (int64_value z) n room v rest tt h fits
+    value_again min_key_value n room v rest h low fits = flat_again total min_key_value n room v rest tt h fits
+    value_again max_key_value n room v rest h low fits = flat_again total max_key_value n room v rest tt h fits
 
-    items_again : (ds : Items) (n f room : ℕ) (body rest : List ℕ) → ReadsItems body ds → array_levels ds ≤ suc n → IsTrue (items_pass taken ds) → length body ≤ f → length body + 1 ≡ room
-        → items_with total taken (value_at total taken n) (suc f) room (body ++ 0 ∷ rest) ≡ Ok (ds, rest)
-    items_again no_items n f room body rest h low passes enough is =
-        ap (λ (s : List ℕ). items_with total taken (value_at total taken n) (suc f) room (s ++ 0 ∷ rest)) h
-        ∙ ap (λ (r : ℕ). items_with total taken (value_at total taken n) (suc f) r (0 ∷ rest)) (let len : length body ≡ 0 = ap (λ (s : List ℕ). length s) h in let one : room ≡ 1 = omega arith in one)
-        ∙ items_end total taken (value_at total taken n) f rest
-    items_again (item d ds) n f room body rest h low passes enough is =
-        let p = first_passes _ _ _ passes in
+    items_again : (ds : Items) (n f room : ℕ) (body rest : List ℕ) → ReadsItems body ds → array_levels ds ≤ suc n → length body ≤ f → length body + 1 ≡ room
+        → items_with total (value_at total n) (suc f) room (body ++ 0 ∷ rest) ≡ Ok (ds, rest)
+    items_again no_items n f room body rest h low enough is =
+        ap (λ (s : List ℕ). items_with total (value_at total n) (suc f) room (s ++ 0 ∷ rest)) h
+        ∙ ap (λ (r : ℕ). items_with total (value_at total n) (suc f) r (0 ∷ rest)) (let len : length body ≡ 0 = ap (λ (s : List ℕ). length s) h in let one : room ≡ 1 = omega arith in one)
+        ∙ items_end total (value_at total n) f rest
+    items_again (item d ds) n f room body rest h low enough is =
         let front : List ℕ = element (kind_of d) h.0 h.1 in
         let len = length-element (kind_of d) h.0 h.1 in
         let size : length body ≡ length front + length h.2 = ap (λ (s : List ℕ). length s) h.3 ∙ length-append front h.2 in
         let regrouped : body ++ 0 ∷ rest ≡ front ++ (h.2 ++ 0 ∷ rest) = ap (λ (s : List ℕ). s ++ 0 ∷ rest) h.3 ∙ append_assoc front h.2 (0 ∷ rest) in
-        let value = value_again d n (room - 1 - (length h.0 + 1)) h.1 (h.2 ++ 0 ∷ rest) h.5 (omega arith) p.1 (omega arith) in
-        let first = item_again total taken (value_at total taken n) room h.0 d h.1 (h.2 ++ 0 ∷ rest) h.4 p.0 (omega arith) value in
+        let value = value_again d n (room - 1 - (length h.0 + 1)) h.1 (h.2 ++ 0 ∷ rest) h.5 (omega arith) (omega arith) in
+        let first = item_again total (value_at total n) room h.0 d h.1 (h.2 ++ 0 ∷ rest) h.4 (omega arith) value in
         let k : suc (f - 1) ≡ f = omega arith in
         let left : room - (length (front ++ (h.2 ++ 0 ∷ rest)) - length (h.2 ++ 0 ∷ rest)) ≡ length h.2 + 1 = omega (arith, length-append front (h.2 ++ 0 ∷ rest)) in
-        let others = subst (λ (g : ℕ). items_with total taken (value_at total taken n) g (length h.2 + 1) (h.2 ++ 0 ∷ rest) ≡ Ok (ds, rest)) k
-        (items_again ds n (f - 1) (length h.2 + 1) h.2 rest h.6 (omega arith) p.2 (omega arith) refl) in
-        ap (λ (s : List ℕ). items_with total taken (value_at total taken n) (suc f) room s) regrouped
-        ∙ items_step total taken (value_at total taken n) f room (length h.2 + 1) (front ++ (h.2 ++ 0 ∷ rest)) (h.2 ++ 0 ∷ rest) rest d ds first left others
+        let others = subst (λ (g : ℕ). items_with total (value_at total n) g (length h.2 + 1) (h.2 ++ 0 ∷ rest) ≡ Ok (ds, rest)) k
+        (items_again ds n (f - 1) (length h.2 + 1) h.2 rest h.6 (omega arith) (omega arith) refl) in
+        ap (λ (s : List ℕ). items_with total (value_at total n) (suc f) room s) regrouped
+        ∙ items_step total (value_at total n) f room (length h.2 + 1) (front ++ (h.2 ++ 0 ∷ rest)) (h.2 ++ 0 ∷ rest) rest d ds first left others
 
-    pub members_again : (ms : Members) (n f room : ℕ) (body rest : List ℕ) → ReadsMembers body ms → document_levels ms ≤ suc n → IsTrue (members_pass taken ms) → length body ≤ f → length body + 1 ≡ room
-        → members_with total taken (value_at total taken n) (suc f) room (body ++ 0 ∷ rest) ≡ Ok (ms, rest)
-    members_again no_members n f room body rest h low passes enough is =
-        ap (λ (s : List ℕ). members_with total taken (value_at total taken n) (suc f) room (s ++ 0 ∷ rest)) h
-        ∙ ap (λ (r : ℕ). members_with total taken (value_at total taken n) (suc f) r (0 ∷ rest)) (let len : length body ≡ 0 = ap (λ (s : List ℕ). length s) h in let one : room ≡ 1 = omega arith in one)
-        ∙ members_end total taken (value_at total taken n) f rest
-    members_again (member name d ms) n f room body rest h low passes enough is =
-        let p = first_passes _ _ _ passes in
+    pub members_again : (ms : Members) (n f room : ℕ) (body rest : List ℕ) → ReadsMembers body ms → document_levels ms ≤ suc n → length body ≤ f → length body + 1 ≡ room
+        → members_with total (value_at total n) (suc f) room (body ++ 0 ∷ rest) ≡ Ok (ms, rest)
+    members_again no_members n f room body rest h low enough is =
+        ap (λ (s : List ℕ). members_with total (value_at total n) (suc f) room (s ++ 0 ∷ rest)) h
+        ∙ ap (λ (r : ℕ). members_with total (value_at total n) (suc f) r (0 ∷ rest)) (let len : length body ≡ 0 = ap (λ (s : List ℕ). length s) h in let one : room ≡ 1 = omega arith in one)
+        ∙ members_end total (value_at total n) f rest
+    members_again (member name d ms) n f room body rest h low enough is =
         let front : List ℕ = element (kind_of d) name h.0 in
         let len = length-element (kind_of d) name h.0 in
         let size : length body ≡ length front + length h.1 = ap (λ (s : List ℕ). length s) h.2 ∙ length-append front h.1 in
         let regrouped : body ++ 0 ∷ rest ≡ front ++ (h.1 ++ 0 ∷ rest) = ap (λ (s : List ℕ). s ++ 0 ∷ rest) h.2 ∙ append_assoc front h.1 (0 ∷ rest) in
-        let value = value_again d n (room - 1 - (length name + 1)) h.0 (h.1 ++ 0 ∷ rest) h.5 (omega arith) p.1 (omega arith) in
-        let first = member_again total taken (value_at total taken n) room name d h.0 (h.1 ++ 0 ∷ rest) h.3 h.4 p.0 (omega arith) value in
+        let value = value_again d n (room - 1 - (length name + 1)) h.0 (h.1 ++ 0 ∷ rest) h.5 (omega arith) (omega arith) in
+        let first = member_again total (value_at total n) room name d h.0 (h.1 ++ 0 ∷ rest) h.3 h.4 (omega arith) value in
         let k : suc (f - 1) ≡ f = omega arith in
         let left : room - (length (front ++ (h.1 ++ 0 ∷ rest)) - length (h.1 ++ 0 ∷ rest)) ≡ length h.1 + 1 = omega (arith, length-append front (h.1 ++ 0 ∷ rest)) in
-        let others = subst (λ (g : ℕ). members_with total taken (value_at total taken n) g (length h.1 + 1) (h.1 ++ 0 ∷ rest) ≡ Ok (ms, rest)) k
-        (members_again ms n (f - 1) (length h.1 + 1) h.1 rest h.6 (omega arith) p.2 (omega arith) refl) in
-        ap (λ (s : List ℕ). members_with total taken (value_at total taken n) (suc f) room s) regrouped
-        ∙ members_step total taken (value_at total taken n) f room (length h.1 + 1) (front ++ (h.1 ++ 0 ∷ rest)) (h.1 ++ 0 ∷ rest) rest (name, d) ms first left others
+        let others = subst (λ (g : ℕ). members_with total (value_at total n) g (length h.1 + 1) (h.1 ++ 0 ∷ rest) ≡ Ok (ms, rest)) k
+        (members_again ms n (f - 1) (length h.1 + 1) h.1 rest h.6 (omega arith) (omega arith) refl) in
+        ap (λ (s : List ℕ). members_with total (value_at total n) (suc f) room s) regrouped
+        ∙ members_step total (value_at total n) f room (length h.1 + 1) (front ++ (h.1 ++ 0 ∷ rest)) (h.1 ++ 0 ∷ rest) rest (name, d) ms first left others
 
-pub document_again : (total : ℕ) (taken : Kind → Bool) (n room : ℕ) (body rest : List ℕ) (ms : Members) → length body + 5 < 2 ^ 31 → length (framed body) ≤ room → ReadsMembers body ms → document_levels ms ≤ suc n → IsTrue (members_pass taken ms)
-    → document_with total taken (value_at total taken n) room (framed body ++ rest) ≡ Ok (ms, rest)
-document_again total taken n room body rest ms high fits reads low passes =
-    document_from total taken (value_at total taken n) room body rest ms high fits
-    (members_again total taken ms n (length (body ++ 0 ∷ rest)) (length body + 1) body rest reads low passes (omega (arith, length-append body (0 ∷ rest))) refl)
+pub document_again : (total : ℕ) (n room : ℕ) (body rest : List ℕ) (ms : Members) → length body + 5 < 2 ^ 31 → length (framed body) ≤ room → ReadsMembers body ms → document_levels ms ≤ suc n
+    → document_with total (value_at total n) room (framed body ++ rest) ≡ Ok (ms, rest)
+document_again total n room body rest ms high fits reads low =
+    document_from total (value_at total n) room body rest ms high fits
+    (members_again total ms n (length (body ++ 0 ∷ rest)) (length body + 1) body rest reads low (omega (arith, length-append body (0 ∷ rest))) refl)

@@ -1,13 +1,11 @@
 -- Bytes of types: what a byte names, and back.
 use Rattle.std.proofs.Common.{◌≡◌, ℕ, Bool, true, false, cond, eqb, Option, Some, None, refl, sym, ap, ◌∙◌}
-use Rattle.std.specs.Prelude.{◌&&◌}
 use Rattle.std.proofs.lemmas.Bool.{eqb-true}
-use Rattle.document_model.specs.Tree.{Datum, text_value, document_value, array_value, binary_value, object_id_value, boolean_value, date_value, null_value, int32_value, timestamp_value, int64_value, min_key_value, max_key_value, Items, no_items, item, Members, no_members, member}
+use Rattle.document_model.specs.Tree.{Datum, text_value, document_value, array_value, binary_value, object_id_value, boolean_value, date_value, null_value, int32_value, timestamp_value, int64_value, min_key_value, max_key_value}
 use Rattle.document_model.specs.Spelling.{kind_of}
-use Rattle.document_model.specs.Stage.{is_value_taken, are_items_taken, are_members_taken}
 use Rattle.bson_values.specs.declared.kind.Kind.{Kind}
 use Rattle.bson_values.specs.declared.kind.Kind.TheVariants.{Text, Doc, Array, Binary, ObjectId, Bool as Boolean, Date, Null, Int32, Timestamp, Int64, MinKey, MaxKey}
-use Rattle.bson_values.specs.Kinds.{kind_from, is_taken, type_of, value_passes, items_pass, members_pass}
+use Rattle.bson_values.specs.Kinds.{kind_from, type_of}
 
 abbrev pub byte_of : Kind → ℕ
 byte_of Text = 0x02
@@ -82,62 +80,3 @@ byte_from-kind b kind =
     (picked b 0x12 Int64 kind _ refl
     (picked b 0xFF MinKey kind _ refl
     (picked b 0x7F MaxKey kind _ refl (none_picked b kind)))))))))))))
-
--- ---- what is read so far
-
-and_step : (a b c v w : Bool) → (a && b) ≡ v → c ≡ w → (a && (b && c)) ≡ (v && w)
-and_step true b c v w e f = cc
-and_step false b c v w e f = let no_v : v ≡ false = sym e in rw no_v refl
-
-mutual
-  pub value_passes-taken : (d : Datum) → (is_taken (type_of d) && value_passes is_taken d) ≡ is_value_taken d
-  value_passes-taken (text_value s) = refl
-  value_passes-taken (document_value ms) = members_pass-taken ms
-  value_passes-taken (array_value ds) = items_pass-taken ds
-  value_passes-taken (binary_value subtype content) = refl
-  value_passes-taken (object_id_value content) = refl
-  value_passes-taken (boolean_value b) = refl
-  value_passes-taken (date_value z) = refl
-  value_passes-taken null_value = refl
-  value_passes-taken (int32_value z) = refl
-  value_passes-taken (timestamp_value n) = refl
-  value_passes-taken (int64_value z) = refl
-  value_passes-taken min_key_value = refl
-  value_passes-taken max_key_value = refl
-
-  pub items_pass-taken : (ds : Items) → items_pass is_taken ds ≡ are_items_taken ds
-  items_pass-taken no_items = refl
-  items_pass-taken (item d ds) = and_step (is_taken (type_of d)) (value_passes is_taken d) (items_pass is_taken ds) (is_value_taken d) (are_items_taken ds) (value_passes-taken d) (items_pass-taken ds)
-
-  pub members_pass-taken : (ms : Members) → members_pass is_taken ms ≡ are_members_taken ms
-  members_pass-taken no_members = refl
-  members_pass-taken (member name d ms) = and_step (is_taken (type_of d)) (value_passes is_taken d) (members_pass is_taken ms) (is_value_taken d) (are_members_taken ms) (value_passes-taken d) (members_pass-taken ms)
-
--- ---- every kind
-
-abbrev pub any_kind : Kind → Bool
-any_kind kind = true
-
-mutual
-  pub value_passes-any : (d : Datum) → value_passes any_kind d ≡ true
-  value_passes-any (text_value s) = refl
-  value_passes-any (document_value ms) = members_pass-any ms
-  value_passes-any (array_value ds) = items_pass-any ds
-  value_passes-any (binary_value subtype content) = refl
-  value_passes-any (object_id_value content) = refl
-  value_passes-any (boolean_value b) = refl
-  value_passes-any (date_value z) = refl
-  value_passes-any null_value = refl
-  value_passes-any (int32_value z) = refl
-  value_passes-any (timestamp_value n) = refl
-  value_passes-any (int64_value z) = refl
-  value_passes-any min_key_value = refl
-  value_passes-any max_key_value = refl
-
-  pub items_pass-any : (ds : Items) → items_pass any_kind ds ≡ true
-  items_pass-any no_items = refl
-  items_pass-any (item d ds) = rw (value_passes-any d, items_pass-any ds) refl
-
-  pub members_pass-any : (ms : Members) → members_pass any_kind ms ≡ true
-  members_pass-any no_members = refl
-  members_pass-any (member name d ms) = rw (value_passes-any d, members_pass-any ms) refl

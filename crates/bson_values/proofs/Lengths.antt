@@ -1,7 +1,6 @@
 -- How long a spelling is, counted part by part. A count that would pass the greatest number stays there.
-use Rattle.std.proofs.Common.{◌≡◌, ℕ, ◌+◌, ◌-◌, ◌<◌, ◌^◌, min, List, ◌++◌, length, arith, length-append}
-use Rattle.document_model.specs.Spelling.{element, framed}
-use Rattle.bson_values.proofs.Spelled.{length-element}
+use Rattle.std.proofs.Common.{◌≡◌, ℕ, ◌+◌, ◌-◌, ◌<◌, ◌^◌, min, List, length}
+use Rattle.document_model.specs.Spelling.{framed}
 
 abbrev pub capped : ℕ → ℕ
 capped n = min n (2 ^ 64 - 1)
@@ -10,9 +9,3 @@ capped n = min n (2 ^ 64 - 1)
 pub record Counts (all rest : List ℕ) (size : ℕ) : Type 0 where
   pub fits : size < 2 ^ 64
   pub sum : capped (size + length rest) ≡ capped (length (framed all))
-
-pub counts_one : (all rest name value : List ℕ) (kind size : ℕ) → Counts all (element kind name value ++ rest) size → Counts all rest (capped (capped (size + (length name + 2)) + capped (length value)))
-counts_one all rest name value kind size counts =
-    let first : length (element kind name value) ≡ length name + length value + 2 = length-element kind name value in
-    let whole : length (element kind name value ++ rest) ≡ length (element kind name value) + length rest = length-append (element kind name value) rest in
-    record { fits = omega arith; sum = omega (arith, first, whole, counts.sum) }

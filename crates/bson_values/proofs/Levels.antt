@@ -1,16 +1,12 @@
 -- What one more member or value changes: how deeply a document or an array is nested, and how long its spelling is.
 use Rattle.std.proofs.Common.{◌≡◌, ℕ, suc, ◌+◌, max, List, length, arith, length-append}
-use Rattle.document_model.specs.Tree.{Datum, value_levels, array_levels, document_levels, Items, no_items, item, joined_items, Members, no_members, member, joined}
+use Rattle.document_model.specs.Tree.{Datum, value_levels, document_levels, Members, no_members, member, joined}
 use Rattle.document_model.specs.Spelling.{kind_of, element, written_value, written_members}
 use Rattle.bson_values.proofs.Spelled.{length-element}
 
 pub document_levels_pushed : (ms : Members) (name : List ℕ) (d : Datum) → document_levels (joined ms (member name d no_members)) ≡ max (document_levels ms) (suc (value_levels d))
 document_levels_pushed no_members name d = omega arith
 document_levels_pushed (member first value ms) name d = omega (arith, document_levels_pushed ms name d)
-
-pub array_levels_pushed : (ds : Items) (d : Datum) → array_levels (joined_items ds (item d no_items)) ≡ max (array_levels ds) (suc (value_levels d))
-array_levels_pushed no_items d = omega arith
-array_levels_pushed (item first ds) d = omega (arith, array_levels_pushed ds d)
 
 pub written_pushed : (ms : Members) (name : List ℕ) (d : Datum) → length (written_members (joined ms (member name d no_members))) ≡ length (written_members ms) + length name + length (written_value d) + 2
 written_pushed no_members name d =

@@ -1,5 +1,6 @@
 pub mod Again
 pub mod Copies
+pub mod FirstFault
 pub mod KindTests
 pub mod Leaves
 pub mod Lengths
@@ -13,4 +14,7 @@ pub mod Steps
 pub mod Takes
 pub mod Utf8Tests
 pub mod Views
+pub mod WalkedLeaves
+pub mod WalkedValues
+pub mod Walking
 pub mod Whole

@@ -13,10 +13,6 @@ use Rattle.bson_values.specs.Reading.{name_from}
 abbrev pub after : List ℕ → Result (List ℕ × List ℕ) BsonFault → Result (List ℕ × List ℕ) BsonFault
 after front read = read >>= λ x. Ok (front ++ x.0, x.1)
 
-pub begins : (read : Result (List ℕ × List ℕ) BsonFault) → after [] read ≡ read
-begins (Ok x) = refl
-begins (Err e) = refl
-
 regroup : (front : List ℕ) (b : ℕ) (read : Result (List ℕ × List ℕ) BsonFault) → after front (read >>= λ x. Ok (b ∷ x.0, x.1)) ≡ after (front ++ b ∷ []) read
 regroup front b (Ok x) = ap (λ (name : List ℕ). Ok (name, x.1)) (simp append_assoc)
 regroup front b (Err e) = refl

@@ -1,8 +1,7 @@
 -- How the bytes grow: what is put stands behind what was there.
-use Rattle.std.proofs.Common.{◌≡◌, ℕ, ◌+◌, ◌-◌, ◌≤◌, List, [], ◌∷◌, ◌++◌, length, take, drop, refl, sym, ◌∙◌, ap, arith, length-append, append_assoc}
+use Rattle.std.proofs.Common.{◌≡◌, ℕ, ◌+◌, ◌-◌, ◌≤◌, List, [], ◌++◌, length, take, drop, refl, sym, ◌∙◌, ap, arith, append_assoc}
 use Rattle.std.proofs.lemmas.List.{append-nil, take-append-drop, take_rest, drop_all, drop-drop, length-drop}
 use Rattle.std.proofs.Math.Seq.{take-append_seam}
-use Rattle.document_model.specs.Spelling.{element}
 
 -- while the parts of `all` are put behind `old`: the bytes so far, and what is left to put
 pub record Puts (all old out rest : List ℕ) : Type 0 where
@@ -17,16 +16,6 @@ kept_on old out new first then =
     let out_is : out ≡ old ++ drop (length old) out = sym (take-append-drop (length old) out) ∙ ap (λ s. s ++ drop (length old) out) first in
     let whole : new ≡ old ++ (drop (length old) out ++ drop (length out) new) = new_is ∙ ap (λ s. s ++ drop (length out) new) out_is ∙ append_assoc old (drop (length old) out) (drop (length out) new) in
     rw whole (take-append_seam old (drop (length old) out ++ drop (length out) new))
-
-pub puts_one : (all old out rest name value : List ℕ) (kind : ℕ) → Puts all old out (element kind name value ++ rest) → Puts all old ((out ++ (kind ∷ name ++ 0 ∷ [])) ++ value) rest
-puts_one all old out rest name value kind puts = record {
-  text = simp append_assoc (simp append_assoc at puts.text);
-  kept = kept_on old out ((out ++ (kind ∷ name ++ 0 ∷ [])) ++ value) puts.kept (rw append_assoc (take-append_seam out ((kind ∷ name ++ 0 ∷ []) ++ value)));
-  room = omega (arith, puts.room, length-append (element kind name value) rest);
-}
-
-pub puts_all : (all old out : List ℕ) → Puts all old out [] → out ≡ old ++ all
-puts_all all old out puts = rw append-nil at puts.text
 
 -- four bytes written over the part of the bytes from a place on
 pub written_over : (at : ℕ) (bytes new four : List ℕ) → new ≡ four ++ drop 4 (take (length bytes - at) (drop at bytes)) → take at bytes ++ (new ++ drop (length bytes - at) (drop at bytes)) ≡ take at bytes ++ (four ++ drop (at + 4) bytes)

@@ -4,7 +4,6 @@ use Rattle.document_model.specs.Tree.{Datum, Items, no_items, item, Members, no_
 use Rattle.bson_values.specs.declared.fault.BsonFault.{BsonFault}
 use Rattle.bson_values.specs.declared.fault.BsonFault.TheVariants as faults
 use Rattle.bson_values.specs.Faults.{◌>>=◌, Fails}
-use Rattle.bson_values.specs.Kinds.{is_taken}
 use Rattle.bson_values.specs.Reading.{Reader, member_at, members_behind, members_with, item_at, items_behind, items_with}
 
 -- a reader that goes on after one that failed fails in the same way
@@ -28,14 +27,11 @@ with_front front read = read >>= λ x. Ok (joined front x.0, x.1)
 pub record ReadsOn (total : ℕ) (value_at : Reader) (room : ℕ) (bytes : List ℕ) (front : Members) (space : ℕ) (left : List ℕ) : Type 0 where
   pub fuel : ℕ
   pub enough : length left < fuel
-  pub same : with_front front (members_with total is_taken value_at fuel space left) ≡ members_with total is_taken value_at (length bytes + 1) room bytes
+  pub same : with_front front (members_with total value_at fuel space left) ≡ members_with total value_at (length bytes + 1) room bytes
 
 front_none : (read : Result (Members × List ℕ) BsonFault) → with_front no_members read ≡ read
 front_none (Ok x) = refl
 front_none (Err e) = refl
-
-pub begins : (total : ℕ) (value_at : Reader) (room : ℕ) (bytes : List ℕ) → ReadsOn total value_at room bytes no_members room bytes
-begins total value_at room bytes = record { fuel = length bytes + 1; enough = omega arith; same = front_none _ }
 
 joined-end : (ms : Members) → joined ms no_members ≡ ms
 joined-end no_members = refl
@@ -50,48 +46,48 @@ regroup : (front : Members) (name : List ℕ) (d : Datum) (read : Result (Member
 regroup front name d (Ok x) = ap (λ (ms : Members). Ok (ms, x.1)) (sym (joined-one front name d x.0))
 regroup front name d (Err e) = refl
 
-one_more : (total : ℕ) (value_at : Reader) (n space : ℕ) (left rest : List ℕ) (name : List ℕ) (d : Datum) → member_at total is_taken value_at space left ≡ Ok (Some (name, d), rest)
-    → members_with total is_taken value_at (suc n) space left ≡ (members_with total is_taken value_at n (space - (length left - length rest)) rest >>= λ x. Ok (member name d x.0, x.1))
+one_more : (total : ℕ) (value_at : Reader) (n space : ℕ) (left rest : List ℕ) (name : List ℕ) (d : Datum) → member_at total value_at space left ≡ Ok (Some (name, d), rest)
+    → members_with total value_at (suc n) space left ≡ (members_with total value_at n (space - (length left - length rest)) rest >>= λ x. Ok (member name d x.0, x.1))
 unfolding members_with members_behind
 one_more total value_at n space left rest name d h = rw h refl
 
-none_more : (total : ℕ) (value_at : Reader) (n space : ℕ) (left rest : List ℕ) → member_at total is_taken value_at space left ≡ Ok (None, rest)
-    → members_with total is_taken value_at (suc n) space left ≡ Ok (no_members, rest)
+none_more : (total : ℕ) (value_at : Reader) (n space : ℕ) (left rest : List ℕ) → member_at total value_at space left ≡ Ok (None, rest)
+    → members_with total value_at (suc n) space left ≡ Ok (no_members, rest)
 unfolding members_with members_behind
 none_more total value_at n space left rest h = rw h refl
 
-no_more : (total : ℕ) (value_at : Reader) (n space : ℕ) (left : List ℕ) (e : BsonFault) → member_at total is_taken value_at space left ≡ Err e
-    → members_with total is_taken value_at (suc n) space left ≡ Err e
+no_more : (total : ℕ) (value_at : Reader) (n space : ℕ) (left : List ℕ) (e : BsonFault) → member_at total value_at space left ≡ Err e
+    → members_with total value_at (suc n) space left ≡ Err e
 unfolding members_with members_behind
 no_more total value_at n space left e h = rw h refl
 
 -- there is some fuel left
 spent : (total : ℕ) (value_at : Reader) (room : ℕ) (bytes : List ℕ) (front : Members) (space : ℕ) (left : List ℕ) → (on : ReadsOn total value_at room bytes front space left)
-    → with_front front (members_with total is_taken value_at (suc (on.fuel - 1)) space left) ≡ members_with total is_taken value_at (length bytes + 1) room bytes
+    → with_front front (members_with total value_at (suc (on.fuel - 1)) space left) ≡ members_with total value_at (length bytes + 1) room bytes
 spent total value_at room bytes front space left on =
     let k : on.fuel ≡ suc (on.fuel - 1) = omega (arith, on.enough) in
-    subst (λ (fuel : ℕ). with_front front (members_with total is_taken value_at fuel space left) ≡ members_with total is_taken value_at (length bytes + 1) room bytes) k on.same
+    subst (λ (fuel : ℕ). with_front front (members_with total value_at fuel space left) ≡ members_with total value_at (length bytes + 1) room bytes) k on.same
 
 pub goes_on : (total : ℕ) (value_at : Reader) (room : ℕ) (bytes : List ℕ) (front : Members) (space : ℕ) (left rest name : List ℕ) (d : Datum)
-    → member_at total is_taken value_at space left ≡ Ok (Some (name, d), rest) → length rest < length left
+    → member_at total value_at space left ≡ Ok (Some (name, d), rest) → length rest < length left
     → ReadsOn total value_at room bytes front space left → ReadsOn total value_at room bytes (joined front (member name d no_members)) (space - (length left - length rest)) rest
 goes_on total value_at room bytes front space left rest name d h shorter on =
     let enough : length rest < on.fuel - 1 = omega (arith, on.enough) in
     let step = ap (λ (r : Result (Members × List ℕ) BsonFault). with_front front r) (one_more total value_at (on.fuel - 1) space left rest name d h)
-    ∙ regroup front name d (members_with total is_taken value_at (on.fuel - 1) (space - (length left - length rest)) rest) in
+    ∙ regroup front name d (members_with total value_at (on.fuel - 1) (space - (length left - length rest)) rest) in
     record { fuel = on.fuel - 1; enough = enough; same = sym step ∙ spent total value_at room bytes front space left on }
 
 pub ends : (total : ℕ) (value_at : Reader) (room : ℕ) (bytes : List ℕ) (front : Members) (space : ℕ) (left rest : List ℕ)
-    → member_at total is_taken value_at space left ≡ Ok (None, rest)
-    → ReadsOn total value_at room bytes front space left → members_with total is_taken value_at (length bytes + 1) room bytes ≡ Ok (front, rest)
+    → member_at total value_at space left ≡ Ok (None, rest)
+    → ReadsOn total value_at room bytes front space left → members_with total value_at (length bytes + 1) room bytes ≡ Ok (front, rest)
 ends total value_at room bytes front space left rest h on =
     let step = ap (λ (r : Result (Members × List ℕ) BsonFault). with_front front r) (none_more total value_at (on.fuel - 1) space left rest h)
     ∙ ap (λ (ms : Members). Ok (ms, rest)) (joined-end front) in
     sym (spent total value_at room bytes front space left on) ∙ step
 
 pub fails : (total : ℕ) (value_at : Reader) (room : ℕ) (bytes : List ℕ) (front : Members) (space : ℕ) (left : List ℕ) (e : BsonFault)
-    → member_at total is_taken value_at space left ≡ Err e
-    → ReadsOn total value_at room bytes front space left → members_with total is_taken value_at (length bytes + 1) room bytes ≡ Err e
+    → member_at total value_at space left ≡ Err e
+    → ReadsOn total value_at room bytes front space left → members_with total value_at (length bytes + 1) room bytes ≡ Err e
 fails total value_at room bytes front space left e h on =
     sym (spent total value_at room bytes front space left on) ∙ ap (λ (r : Result (Members × List ℕ) BsonFault). with_front front r) (no_more total value_at (on.fuel - 1) space left e h)
 
@@ -105,14 +101,11 @@ items_with_front front read = read >>= λ x. Ok (joined_items front x.0, x.1)
 pub record ReadsItemsOn (total : ℕ) (value_at : Reader) (room : ℕ) (bytes : List ℕ) (front : Items) (space : ℕ) (left : List ℕ) : Type 0 where
   pub fuel : ℕ
   pub enough : length left < fuel
-  pub same : items_with_front front (items_with total is_taken value_at fuel space left) ≡ items_with total is_taken value_at (length bytes + 1) room bytes
+  pub same : items_with_front front (items_with total value_at fuel space left) ≡ items_with total value_at (length bytes + 1) room bytes
 
 items_front_none : (read : Result (Items × List ℕ) BsonFault) → items_with_front no_items read ≡ read
 items_front_none (Ok x) = refl
 items_front_none (Err e) = refl
-
-pub items_begins : (total : ℕ) (value_at : Reader) (room : ℕ) (bytes : List ℕ) → ReadsItemsOn total value_at room bytes no_items room bytes
-items_begins total value_at room bytes = record { fuel = length bytes + 1; enough = omega arith; same = items_front_none _ }
 
 items_joined-end : (ms : Items) → joined_items ms no_items ≡ ms
 items_joined-end no_items = refl
@@ -127,47 +120,47 @@ items_regroup : (front : Items) (d : Datum) (read : Result (Items × List ℕ) B
 items_regroup front d (Ok x) = ap (λ (ms : Items). Ok (ms, x.1)) (sym (items_joined-one front d x.0))
 items_regroup front d (Err e) = refl
 
-items_one_more : (total : ℕ) (value_at : Reader) (n space : ℕ) (left rest : List ℕ) (d : Datum) → item_at total is_taken value_at space left ≡ Ok (Some d, rest)
-    → items_with total is_taken value_at (suc n) space left ≡ (items_with total is_taken value_at n (space - (length left - length rest)) rest >>= λ x. Ok (item d x.0, x.1))
+items_one_more : (total : ℕ) (value_at : Reader) (n space : ℕ) (left rest : List ℕ) (d : Datum) → item_at total value_at space left ≡ Ok (Some d, rest)
+    → items_with total value_at (suc n) space left ≡ (items_with total value_at n (space - (length left - length rest)) rest >>= λ x. Ok (item d x.0, x.1))
 unfolding items_with items_behind
 items_one_more total value_at n space left rest d h = rw h refl
 
-items_none_more : (total : ℕ) (value_at : Reader) (n space : ℕ) (left rest : List ℕ) → item_at total is_taken value_at space left ≡ Ok (None, rest)
-    → items_with total is_taken value_at (suc n) space left ≡ Ok (no_items, rest)
+items_none_more : (total : ℕ) (value_at : Reader) (n space : ℕ) (left rest : List ℕ) → item_at total value_at space left ≡ Ok (None, rest)
+    → items_with total value_at (suc n) space left ≡ Ok (no_items, rest)
 unfolding items_with items_behind
 items_none_more total value_at n space left rest h = rw h refl
 
-items_no_more : (total : ℕ) (value_at : Reader) (n space : ℕ) (left : List ℕ) (e : BsonFault) → item_at total is_taken value_at space left ≡ Err e
-    → items_with total is_taken value_at (suc n) space left ≡ Err e
+items_no_more : (total : ℕ) (value_at : Reader) (n space : ℕ) (left : List ℕ) (e : BsonFault) → item_at total value_at space left ≡ Err e
+    → items_with total value_at (suc n) space left ≡ Err e
 unfolding items_with items_behind
 items_no_more total value_at n space left e h = rw h refl
 
 -- there is some fuel left
 items_spent : (total : ℕ) (value_at : Reader) (room : ℕ) (bytes : List ℕ) (front : Items) (space : ℕ) (left : List ℕ) → (on : ReadsItemsOn total value_at room bytes front space left)
-    → items_with_front front (items_with total is_taken value_at (suc (on.fuel - 1)) space left) ≡ items_with total is_taken value_at (length bytes + 1) room bytes
+    → items_with_front front (items_with total value_at (suc (on.fuel - 1)) space left) ≡ items_with total value_at (length bytes + 1) room bytes
 items_spent total value_at room bytes front space left on =
     let k : on.fuel ≡ suc (on.fuel - 1) = omega (arith, on.enough) in
-    subst (λ (fuel : ℕ). items_with_front front (items_with total is_taken value_at fuel space left) ≡ items_with total is_taken value_at (length bytes + 1) room bytes) k on.same
+    subst (λ (fuel : ℕ). items_with_front front (items_with total value_at fuel space left) ≡ items_with total value_at (length bytes + 1) room bytes) k on.same
 
 pub items_goes_on : (total : ℕ) (value_at : Reader) (room : ℕ) (bytes : List ℕ) (front : Items) (space : ℕ) (left rest : List ℕ) (d : Datum)
-    → item_at total is_taken value_at space left ≡ Ok (Some d, rest) → length rest < length left
+    → item_at total value_at space left ≡ Ok (Some d, rest) → length rest < length left
     → ReadsItemsOn total value_at room bytes front space left → ReadsItemsOn total value_at room bytes (joined_items front (item d no_items)) (space - (length left - length rest)) rest
 items_goes_on total value_at room bytes front space left rest d h shorter on =
     let enough : length rest < on.fuel - 1 = omega (arith, on.enough) in
     let step = ap (λ (r : Result (Items × List ℕ) BsonFault). items_with_front front r) (items_one_more total value_at (on.fuel - 1) space left rest d h)
-    ∙ items_regroup front d (items_with total is_taken value_at (on.fuel - 1) (space - (length left - length rest)) rest) in
+    ∙ items_regroup front d (items_with total value_at (on.fuel - 1) (space - (length left - length rest)) rest) in
     record { fuel = on.fuel - 1; enough = enough; same = sym step ∙ items_spent total value_at room bytes front space left on }
 
 pub items_ends : (total : ℕ) (value_at : Reader) (room : ℕ) (bytes : List ℕ) (front : Items) (space : ℕ) (left rest : List ℕ)
-    → item_at total is_taken value_at space left ≡ Ok (None, rest)
-    → ReadsItemsOn total value_at room bytes front space left → items_with total is_taken value_at (length bytes + 1) room bytes ≡ Ok (front, rest)
+    → item_at total value_at space left ≡ Ok (None, rest)
+    → ReadsItemsOn total value_at room bytes front space left → items_with total value_at (length bytes + 1) room bytes ≡ Ok (front, rest)
 items_ends total value_at room bytes front space left rest h on =
     let step = ap (λ (r : Result (Items × List ℕ) BsonFault). items_with_front front r) (items_none_more total value_at (on.fuel - 1) space left rest h)
     ∙ ap (λ (ms : Items). Ok (ms, rest)) (items_joined-end front) in
     sym (items_spent total value_at room bytes front space left on) ∙ step
 
 pub items_fails : (total : ℕ) (value_at : Reader) (room : ℕ) (bytes : List ℕ) (front : Items) (space : ℕ) (left : List ℕ) (e : BsonFault)
-    → item_at total is_taken value_at space left ≡ Err e
-    → ReadsItemsOn total value_at room bytes front space left → items_with total is_taken value_at (length bytes + 1) room bytes ≡ Err e
+    → item_at total value_at space left ≡ Err e
+    → ReadsItemsOn total value_at room bytes front space left → items_with total value_at (length bytes + 1) room bytes ≡ Err e
 items_fails total value_at room bytes front space left e h on =
     sym (items_spent total value_at room bytes front space left on) ∙ ap (λ (r : Result (Items × List ℕ) BsonFault). items_with_front front r) (items_no_more total value_at (on.fuel - 1) space left e h)

@@ -1,5 +1,6 @@
 -- What a reader answers.
 use Rattle.std.specs.Prelude.{◌≡◌, ℕ, Option, Some, None, Result, Ok, Err}
+use Rattle.document_model.specs.Faults.{Fault, short_fault, length_fault, type_fault, text_fault, boolean_fault, depth_fault, trailing_fault}
 use Rattle.bson_values.specs.declared.fault.BsonFault.{BsonFault}
 use Rattle.bson_values.specs.declared.fault.BsonFault.TheVariants.{Short, BadLength, BadType, BadText, BadBool, Deep, Trailing, Memory}
 
@@ -27,3 +28,13 @@ fault_place (BadBool place) = Some place
 fault_place (Deep place) = Some place
 fault_place (Trailing place) = Some place
 fault_place Memory = None
+
+-- the fault of a definition, as the program tells it
+abbrev pub fault_from : Fault → ℕ → BsonFault
+fault_from short_fault place = Short place
+fault_from length_fault place = BadLength place
+fault_from (type_fault byte) place = BadType place byte
+fault_from text_fault place = BadText place
+fault_from boolean_fault place = BadBool place
+fault_from depth_fault place = Deep place
+fault_from trailing_fault place = Trailing place

@@ -1,8 +1,8 @@
--- The types of elements and their bytes (BSON 1.1, `element`), and which of them are read.
-use Rattle.std.specs.Prelude.{ℕ, Bool, true, false, ◌&&◌, Option, Some, None, ◌==◌, if◌then◌else◌}
+-- The types of elements and their bytes (BSON 1.1, `element`).
+use Rattle.std.specs.Prelude.{ℕ, Option, Some, None, ◌==◌, if◌then◌else◌}
 use Rattle.bson_values.specs.declared.kind.Kind.{Kind}
 use Rattle.bson_values.specs.declared.kind.Kind.TheVariants.{Text, Doc, Array, Binary, ObjectId, Bool as Boolean, Date, Null, Int32, Timestamp, Int64, MinKey, MaxKey}
-use Rattle.document_model.specs.Tree.{Datum, text_value, document_value, array_value, binary_value, object_id_value, boolean_value, date_value, null_value, int32_value, timestamp_value, int64_value, min_key_value, max_key_value, Items, no_items, item, Members, no_members, member}
+use Rattle.document_model.specs.Tree.{Datum, text_value, document_value, array_value, binary_value, object_id_value, boolean_value, date_value, null_value, int32_value, timestamp_value, int64_value, min_key_value, max_key_value}
 
 abbrev pub kind_from : ℕ → Option Kind
 kind_from b =
@@ -21,15 +21,6 @@ kind_from b =
     else if b == 0x7F then Some MaxKey
     else None
 
--- what is read so far
-abbrev pub is_taken : Kind → Bool
-is_taken Text = true
-is_taken Doc = true
-is_taken Array = true
-is_taken Int32 = true
-is_taken Timestamp = true
-is_taken kind = false
-
 abbrev pub type_of : Datum → Kind
 type_of (text_value s) = Text
 type_of (document_value ms) = Doc
@@ -44,18 +35,3 @@ type_of (timestamp_value n) = Timestamp
 type_of (int64_value z) = Int64
 type_of min_key_value = MinKey
 type_of max_key_value = MaxKey
-
--- whether each value inside is of a kind that the test takes
-abbrev mutual
-  pub value_passes : (Kind → Bool) → Datum → Bool
-  value_passes taken (document_value ms) = members_pass taken ms
-  value_passes taken (array_value ds) = items_pass taken ds
-  value_passes taken d = true
-
-  pub items_pass : (Kind → Bool) → Items → Bool
-  items_pass taken no_items = true
-  items_pass taken (item d ds) = taken (type_of d) && (value_passes taken d && items_pass taken ds)
-
-  pub members_pass : (Kind → Bool) → Members → Bool
-  members_pass taken no_members = true
-  members_pass taken (member name d ms) = taken (type_of d) && (value_passes taken d && members_pass taken ms)

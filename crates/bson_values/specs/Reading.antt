@@ -1,7 +1,7 @@
 -- Reading from left to right, with the first fault that is met. `total` is the number of all bytes: the place of
 -- the first of some bytes is total less their number. `room` is how many bytes, the last 00 with them, the document
 -- still has by its length.
-use Rattle.std.specs.Prelude.{ℕ, zero, suc, ◌+◌, ◌-◌, ◌^◌, List, [], ◌∷◌, length, take, drop, slice_index, Bool, true, false, Option, Some, None, Result, Ok, Err, nat_lt, nat_le, ◌==◌, if◌then◌else◌}
+use Rattle.std.specs.Prelude.{ℕ, zero, suc, ◌+◌, ◌-◌, ◌^◌, List, [], ◌∷◌, length, take, drop, slice_index, true, false, Option, Some, None, Result, Ok, Err, nat_lt, nat_le, ◌==◌, if◌then◌else◌}
 use Rattle.std.specs.Int.{w32, w64, from_le_bytes, cast_signed}
 use Rattle.std.specs.Str.{is_utf8}
 use Rattle.bson_values.specs.declared.fault.BsonFault.{BsonFault}
@@ -117,82 +117,79 @@ module _ (total : ℕ) where
     left ← room_at (room - (length bytes - length name.1)) name.1
     Ok (text, left, name.1)
 
-  module _ (taken : Kind → Bool) where
-    unfoldable pub checked_kind : ℕ → ℕ → List ℕ → Option Kind → Result (Option Kind × List ℕ) BsonFault
-    checked_kind room b bytes None = Err (BadType (total - (length bytes + 1)) b)
-    checked_kind room b bytes (Some kind) =
-        if taken kind then (if room == 0 then Err (Trailing (total - (length bytes + 1))) else Ok (Some kind, bytes))
-        else Err (BadType (total - (length bytes + 1)) b)
+  unfoldable pub checked_kind : ℕ → ℕ → List ℕ → Option Kind → Result (Option Kind × List ℕ) BsonFault
+  checked_kind room b bytes None = Err (BadType (total - (length bytes + 1)) b)
+  checked_kind room b bytes (Some kind) = if room == 0 then Err (Trailing (total - (length bytes + 1))) else Ok (Some kind, bytes)
 
-    -- the kind of the next element, or none at the 00 that ends the document
-    unfoldable pub kind_at : ℕ → List ℕ → Result (Option Kind × List ℕ) BsonFault
-    kind_at zero bytes = Err (Trailing (total - (length bytes + 1)))
-    kind_at (suc room) [] = Err (Short total)
-    kind_at (suc room) (b ∷ bytes) =
-        if b == 0 then (if room == 0 then Ok (None, bytes) else Err (Trailing (total - (length bytes + 1))))
-        else checked_kind room b bytes (kind_from b)
+  -- the kind of the next element, or none at the 00 that ends the document
+  unfoldable pub kind_at : ℕ → List ℕ → Result (Option Kind × List ℕ) BsonFault
+  kind_at zero bytes = Err (Trailing (total - (length bytes + 1)))
+  kind_at (suc room) [] = Err (Short total)
+  kind_at (suc room) (b ∷ bytes) =
+      if b == 0 then (if room == 0 then Ok (None, bytes) else Err (Trailing (total - (length bytes + 1))))
+      else checked_kind room b bytes (kind_from b)
 
-    unfoldable pub member_behind : Reader → ℕ → Option Kind → List ℕ → Result (Option (List ℕ × Datum) × List ℕ) BsonFault
-    member_behind value_at room None bytes = Ok (None, bytes)
-    member_behind value_at room (Some kind) bytes = do
-      name ← name_at (room - 1) bytes
-      value ← value_at kind name.1 name.2
-      Ok (Some (name.0, value.0), value.1)
+  unfoldable pub member_behind : Reader → ℕ → Option Kind → List ℕ → Result (Option (List ℕ × Datum) × List ℕ) BsonFault
+  member_behind value_at room None bytes = Ok (None, bytes)
+  member_behind value_at room (Some kind) bytes = do
+    name ← name_at (room - 1) bytes
+    value ← value_at kind name.1 name.2
+    Ok (Some (name.0, value.0), value.1)
 
-    -- the next member, or none at the end of the document
-    unfoldable pub member_at : Reader → ℕ → List ℕ → Result (Option (List ℕ × Datum) × List ℕ) BsonFault
-    member_at value_at room bytes = kind_at room bytes >>= λ kind. member_behind value_at room kind.0 kind.1
+  -- the next member, or none at the end of the document
+  unfoldable pub member_at : Reader → ℕ → List ℕ → Result (Option (List ℕ × Datum) × List ℕ) BsonFault
+  member_at value_at room bytes = kind_at room bytes >>= λ kind. member_behind value_at room kind.0 kind.1
 
-    unfoldable pub item_behind : Reader → ℕ → Option Kind → List ℕ → Result (Option Datum × List ℕ) BsonFault
-    item_behind value_at room None bytes = Ok (None, bytes)
-    item_behind value_at room (Some kind) bytes = do
-      left ← index_at (room - 1) bytes
-      value ← value_at kind left.0 left.1
-      Ok (Some value.0, value.1)
+  unfoldable pub item_behind : Reader → ℕ → Option Kind → List ℕ → Result (Option Datum × List ℕ) BsonFault
+  item_behind value_at room None bytes = Ok (None, bytes)
+  item_behind value_at room (Some kind) bytes = do
+    left ← index_at (room - 1) bytes
+    value ← value_at kind left.0 left.1
+    Ok (Some value.0, value.1)
 
-    unfoldable pub item_at : Reader → ℕ → List ℕ → Result (Option Datum × List ℕ) BsonFault
-    item_at value_at room bytes = kind_at room bytes >>= λ kind. item_behind value_at room kind.0 kind.1
+  unfoldable pub item_at : Reader → ℕ → List ℕ → Result (Option Datum × List ℕ) BsonFault
+  item_at value_at room bytes = kind_at room bytes >>= λ kind. item_behind value_at room kind.0 kind.1
 
-    -- the members behind a first one; none if there is no first one
-    unfoldable pub members_behind : (ℕ → List ℕ → Result (Members × List ℕ) BsonFault) → ℕ → List ℕ → Option (List ℕ × Datum) → List ℕ → Result (Members × List ℕ) BsonFault
-    members_behind members_at room bytes None rest = Ok (no_members, rest)
-    members_behind members_at room bytes (Some first) rest = do
-      others ← members_at (room - (length bytes - length rest)) rest
-      Ok (member first.0 first.1 others.0, others.1)
+  -- the members behind a first one; none if there is no first one
+  unfoldable pub members_behind : (ℕ → List ℕ → Result (Members × List ℕ) BsonFault) → ℕ → List ℕ → Option (List ℕ × Datum) → List ℕ → Result (Members × List ℕ) BsonFault
+  members_behind members_at room bytes None rest = Ok (no_members, rest)
+  members_behind members_at room bytes (Some first) rest = do
+    others ← members_at (room - (length bytes - length rest)) rest
+    Ok (member first.0 first.1 others.0, others.1)
 
-    unfoldable pub items_behind : (ℕ → List ℕ → Result (Items × List ℕ) BsonFault) → ℕ → List ℕ → Option Datum → List ℕ → Result (Items × List ℕ) BsonFault
-    items_behind items_at room bytes None rest = Ok (no_items, rest)
-    items_behind items_at room bytes (Some first) rest = do
-      others ← items_at (room - (length bytes - length rest)) rest
-      Ok (item first others.0, others.1)
+  unfoldable pub items_behind : (ℕ → List ℕ → Result (Items × List ℕ) BsonFault) → ℕ → List ℕ → Option Datum → List ℕ → Result (Items × List ℕ) BsonFault
+  items_behind items_at room bytes None rest = Ok (no_items, rest)
+  items_behind items_at room bytes (Some first) rest = do
+    others ← items_at (room - (length bytes - length rest)) rest
+    Ok (item first others.0, others.1)
 
-    -- The members and the 00 behind them. The number is above that of the bytes.
-    unfoldable pub members_with : Reader → ℕ → ℕ → List ℕ → Result (Members × List ℕ) BsonFault
-    members_with value_at zero room bytes = Err (Short total)
-    members_with value_at (suc n) room bytes = member_at value_at room bytes >>= λ first. members_behind (members_with value_at n) room bytes first.0 first.1
+  -- The members and the 00 behind them. The number is above that of the bytes.
+  unfoldable pub members_with : Reader → ℕ → ℕ → List ℕ → Result (Members × List ℕ) BsonFault
+  members_with value_at zero room bytes = Err (Short total)
+  members_with value_at (suc n) room bytes = member_at value_at room bytes >>= λ first. members_behind (members_with value_at n) room bytes first.0 first.1
 
-    unfoldable pub items_with : Reader → ℕ → ℕ → List ℕ → Result (Items × List ℕ) BsonFault
-    items_with value_at zero room bytes = Err (Short total)
-    items_with value_at (suc n) room bytes = item_at value_at room bytes >>= λ first. items_behind (items_with value_at n) room bytes first.0 first.1
+  unfoldable pub items_with : Reader → ℕ → ℕ → List ℕ → Result (Items × List ℕ) BsonFault
+  items_with value_at zero room bytes = Err (Short total)
+  items_with value_at (suc n) room bytes = item_at value_at room bytes >>= λ first. items_behind (items_with value_at n) room bytes first.0 first.1
 
-    unfoldable pub document_with : Reader → ℕ → List ℕ → Result (Members × List ℕ) BsonFault
-    document_with value_at room bytes = length_at 5 0 room bytes >>= λ x. members_with value_at (length x.1 + 1) (x.0 - 4) x.1
+  unfoldable pub document_with : Reader → ℕ → List ℕ → Result (Members × List ℕ) BsonFault
+  document_with value_at room bytes = length_at 5 0 room bytes >>= λ x. members_with value_at (length x.1 + 1) (x.0 - 4) x.1
 
-    unfoldable pub array_with : Reader → ℕ → List ℕ → Result (Items × List ℕ) BsonFault
-    array_with value_at room bytes = length_at 5 0 room bytes >>= λ x. items_with value_at (length x.1 + 1) (x.0 - 4) x.1
+  unfoldable pub array_with : Reader → ℕ → List ℕ → Result (Items × List ℕ) BsonFault
+  array_with value_at room bytes = length_at 5 0 room bytes >>= λ x. items_with value_at (length x.1 + 1) (x.0 - 4) x.1
 
-    -- a value with so many levels inside
-    unfoldable pub value_at : ℕ → Reader
-    value_at zero kind room bytes = scalar_at kind room bytes
-    value_at (suc n) kinds.Doc room bytes = document_with (value_at n) room bytes >>= λ x. Ok (document_value x.0, x.1)
-    value_at (suc n) kinds.Array room bytes = array_with (value_at n) room bytes >>= λ x. Ok (array_value x.0, x.1)
-    value_at (suc n) kind room bytes = scalar_at kind room bytes
+  -- a value with so many levels inside
+  unfoldable pub value_at : ℕ → Reader
+  value_at zero kind room bytes = scalar_at kind room bytes
+  value_at (suc n) kinds.Doc room bytes = document_with (value_at n) room bytes >>= λ x. Ok (document_value x.0, x.1)
+  value_at (suc n) kinds.Array room bytes = array_with (value_at n) room bytes >>= λ x. Ok (array_value x.0, x.1)
+  value_at (suc n) kind room bytes = scalar_at kind room bytes
 
 -- The document that begins the bytes, within so many levels, and the bytes behind it. Nothing holds it: its length
 -- can be any.
-unfoldable pub document_at : (Kind → Bool) → ℕ → List ℕ → Result (Members × List ℕ) BsonFault
-document_at taken levels bytes = document_with (length bytes) taken (value_at (length bytes) taken levels) (2 ^ 31) bytes
+unfoldable pub document_at : ℕ → List ℕ → Result (Members × List ℕ) BsonFault
+document_at levels bytes = document_with (length bytes) (value_at (length bytes) levels) (2 ^ 31) bytes
 
 -- the document that begins the bytes, and its length
-unfoldable pub whole_at : List ℕ → (Kind → Bool) → Result (Members × ℕ) BsonFault
-whole_at bytes taken = document_at taken 99 bytes >>= λ x. Ok (x.0, length bytes - length x.1)
+unfoldable pub whole_at : List ℕ → Result (Members × ℕ) BsonFault
+whole_at bytes = document_at 99 bytes >>= λ x. Ok (x.0, length bytes - length x.1)

@@ -1,7 +1,7 @@
 //! The types of elements (BSON 1.1, `element`).
 
 ghost use Rattle.std.specs.Prelude.{◌≡◌};
-ghost use Rattle.bson_values.specs.Kinds.{kind_from, is_taken};
+ghost use Rattle.bson_values.specs.Kinds.{kind_from};
 
 /// One of the kept types.
 #[derive(Clone, Copy, Debug, PartialEq, Eq)]
@@ -41,16 +41,6 @@ impl Kind {
             0xFF => Some(Kind::MinKey),
             0x7F => Some(Kind::MaxKey),
             _ => None,
-        }
-    }
-
-    /// Whether values of the type are read so far.
-    pub fn is_taken(self) -> bool
-        ensures { result ≡ is_taken self }
-    {
-        match self {
-            Kind::Text | Kind::Doc | Kind::Array | Kind::Int32 | Kind::Timestamp => true,
-            _ => false,
         }
     }
 }

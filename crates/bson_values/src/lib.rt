@@ -11,7 +11,7 @@ mod value;
 mod writing;
 
 pub use fault::BsonFault;
-pub use reading::{one_spelling, read};
+pub use reading::{one_fault, one_spelling, read};
 pub use text::{Blob, Memory, Name, Text, is_name};
 pub use value::{Array, Document, Member, Value};
 pub use writing::write;

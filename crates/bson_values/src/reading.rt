@@ -2,13 +2,12 @@
 //!
 //! `total`, `room` and places are as in `scan`; `level` is how many levels a value may have inside.
 
-ghost use Rattle.std.specs.Prelude.{◌≡◌, ◌+◌, ◌<◌, ◌≤◌, ◌++◌, ℕ, List, Ok, IfOk, IfNone, length, take};
+ghost use Rattle.std.specs.Prelude.{◌≡◌, ◌≢◌, ◌+◌, ◌<◌, ◌≤◌, ◌++◌, ℕ, List, Ok, Err, IfOk, IfErr, IfNone, length, take};
 ghost use Rattle.std.specs.Option.{option_map};
+ghost use Rattle.document_model.specs.Faults.{Fault, HasFirstFault};
 ghost use Rattle.document_model.specs.Tree.{Members};
-ghost use Rattle.document_model.specs.Grammar.{ReadsAs};
-ghost use Rattle.document_model.specs.Stage.{IsTaken};
-ghost use Rattle.bson_values.specs.Faults.{Gives};
-ghost use Rattle.bson_values.specs.Kinds.{is_taken};
+ghost use Rattle.document_model.specs.Grammar.{IsWithinLevels, ReadsAs};
+ghost use Rattle.bson_values.specs.Faults.{Gives, fault_from};
 ghost use Rattle.bson_values.specs.Reading.{binary_at, boolean_at, deep_at, scalar_at, value_at, member_at, item_at, members_with, items_with, document_with, array_with, whole_at};
 ghost use Rattle.bson_values.specs.Rests.{IsRest};
 ghost use Rattle.bson_values.specs.View.{datum_of};
@@ -89,6 +88,67 @@ fn read_boolean(total: usize, room: usize, bytes: &[u8]) -> Result<(Value, &[u8]
     }
 }
 
+#[tactic(auto, unfolding(crate::specs::Reading::scalar_at))]
+fn read_object_id(total: usize, room: usize, bytes: &[u8]) -> Result<(Value, &[u8]), BsonFault>
+    requires total { length bytes.now ≤ total }
+    requires room { 0 < room }
+    ensures gives { Gives (λ x. (datum_of x.0, x.1.now)) result (scalar_at total Kind.ObjectId room bytes.now) }
+    ensures rest { IfOk result (λ x. IsRest bytes.now room x.1.now) }
+{
+    let (front, rest) = read_fixed(total, 12, room, bytes)?;
+    let mut id = [0; 12];
+    id.copy_from_slice(front);
+    Ok((Value::ObjectId(id), rest))
+}
+
+#[tactic(auto, unfolding(crate::specs::Reading::scalar_at))]
+fn read_date(total: usize, room: usize, bytes: &[u8]) -> Result<(Value, &[u8]), BsonFault>
+    requires total { length bytes.now ≤ total }
+    requires room { 0 < room }
+    ensures gives { Gives (λ x. (datum_of x.0, x.1.now)) result (scalar_at total Kind.Date room bytes.now) }
+    ensures rest { IfOk result (λ x. IsRest bytes.now room x.1.now) }
+{
+    let (front, rest) = read_fixed(total, 8, room, bytes)?;
+    let time = LittleEndian::read_u64(front).cast_signed();
+    Ok((Value::Date(time), rest))
+}
+
+#[tactic(auto, unfolding(crate::specs::Reading::scalar_at))]
+fn read_int32(total: usize, room: usize, bytes: &[u8]) -> Result<(Value, &[u8]), BsonFault>
+    requires total { length bytes.now ≤ total }
+    requires room { 0 < room }
+    ensures gives { Gives (λ x. (datum_of x.0, x.1.now)) result (scalar_at total Kind.Int32 room bytes.now) }
+    ensures rest { IfOk result (λ x. IsRest bytes.now room x.1.now) }
+{
+    let (front, rest) = read_fixed(total, 4, room, bytes)?;
+    let number = LittleEndian::read_u32(front).cast_signed();
+    Ok((Value::Int32(number), rest))
+}
+
+#[tactic(auto, unfolding(crate::specs::Reading::scalar_at))]
+fn read_timestamp(total: usize, room: usize, bytes: &[u8]) -> Result<(Value, &[u8]), BsonFault>
+    requires total { length bytes.now ≤ total }
+    requires room { 0 < room }
+    ensures gives { Gives (λ x. (datum_of x.0, x.1.now)) result (scalar_at total Kind.Timestamp room bytes.now) }
+    ensures rest { IfOk result (λ x. IsRest bytes.now room x.1.now) }
+{
+    let (front, rest) = read_fixed(total, 8, room, bytes)?;
+    let time = LittleEndian::read_u64(front);
+    Ok((Value::Timestamp(time), rest))
+}
+
+#[tactic(auto, unfolding(crate::specs::Reading::scalar_at))]
+fn read_int64(total: usize, room: usize, bytes: &[u8]) -> Result<(Value, &[u8]), BsonFault>
+    requires total { length bytes.now ≤ total }
+    requires room { 0 < room }
+    ensures gives { Gives (λ x. (datum_of x.0, x.1.now)) result (scalar_at total Kind.Int64 room bytes.now) }
+    ensures rest { IfOk result (λ x. IsRest bytes.now room x.1.now) }
+{
+    let (front, rest) = read_fixed(total, 8, room, bytes)?;
+    let number = LittleEndian::read_u64(front).cast_signed();
+    Ok((Value::Int64(number), rest))
+}
+
 /// Reads a value that has no values inside. A document or an array has no level left.
 #[tactic(auto, unfolding(crate::specs::Reading::scalar_at))]
 fn read_scalar(
@@ -112,39 +172,13 @@ fn read_scalar(
         Kind::Doc => Err(deep_fault(total, room, bytes)),
         Kind::Array => Err(deep_fault(total, room, bytes)),
         Kind::Binary => read_binary(alloc, total, room, bytes),
-        Kind::ObjectId => {
-            let (front, rest) = read_fixed(total, 12, room, bytes)?;
-            let mut id = [0; 12];
-            id.copy_from_slice(front);
-            Ok((Value::ObjectId(id), rest))
-        }
+        Kind::ObjectId => read_object_id(total, room, bytes),
         Kind::Bool => read_boolean(total, room, bytes),
-        Kind::Date => {
-            let (front, rest) = read_fixed(total, 8, room, bytes)?;
-            Ok((
-                Value::Date(LittleEndian::read_u64(front).cast_signed()),
-                rest,
-            ))
-        }
+        Kind::Date => read_date(total, room, bytes),
         Kind::Null => Ok((Value::Null, bytes)),
-        Kind::Int32 => {
-            let (front, rest) = read_fixed(total, 4, room, bytes)?;
-            Ok((
-                Value::Int32(LittleEndian::read_u32(front).cast_signed()),
-                rest,
-            ))
-        }
-        Kind::Timestamp => {
-            let (front, rest) = read_fixed(total, 8, room, bytes)?;
-            Ok((Value::Timestamp(LittleEndian::read_u64(front)), rest))
-        }
-        Kind::Int64 => {
-            let (front, rest) = read_fixed(total, 8, room, bytes)?;
-            Ok((
-                Value::Int64(LittleEndian::read_u64(front).cast_signed()),
-                rest,
-            ))
-        }
+        Kind::Int32 => read_int32(total, room, bytes),
+        Kind::Timestamp => read_timestamp(total, room, bytes),
+        Kind::Int64 => read_int64(total, room, bytes),
         Kind::MinKey => Ok((Value::MinKey, bytes)),
         Kind::MaxKey => Ok((Value::MaxKey, bytes)),
     }
@@ -162,7 +196,7 @@ fn read_value(
 ) -> Result<(Value, &[u8]), BsonFault>
     requires total { length bytes.now ≤ total }
     requires room { 0 < room }
-    ensures gives { Gives (λ x. (datum_of x.0, x.1.now)) result (value_at total is_taken level kind room bytes.now) }
+    ensures gives { Gives (λ x. (datum_of x.0, x.1.now)) result (value_at total level kind room bytes.now) }
     ensures rest { IfOk result (λ x. IsRest bytes.now room x.1.now) }
 {
     if level == 0 {
@@ -193,7 +227,7 @@ fn read_member(
 ) -> Result<(Option<Member>, &[u8]), BsonFault>
     requires total { length bytes.now < total }
     ensures gives { Gives (λ x. (option_map (λ m. (m.name, datum_of m.value)) x.0, x.1.now)) result
-        (member_at total is_taken (value_at total is_taken level) room bytes.now) }
+        (member_at total (value_at total level) room bytes.now) }
     ensures rest { IfOk result (λ x.
         (length x.1.now < length bytes.now) × (length bytes.now ≤ length x.1.now + room)) }
     ensures end { IfOk result (λ x. IfNone x.0 (length bytes.now ≡ length x.1.now + room)) }
@@ -220,7 +254,7 @@ fn read_item(
 ) -> Result<(Option<Value>, &[u8]), BsonFault>
     requires total { length bytes.now < total }
     ensures gives { Gives (λ x. (option_map (λ v. datum_of v) x.0, x.1.now)) result
-        (item_at total is_taken (value_at total is_taken level) room bytes.now) }
+        (item_at total (value_at total level) room bytes.now) }
     ensures rest { IfOk result (λ x.
         (length x.1.now < length bytes.now) × (length bytes.now ≤ length x.1.now + room)) }
     ensures end { IfOk result (λ x. IfNone x.0 (length bytes.now ≡ length x.1.now + room)) }
@@ -245,7 +279,7 @@ fn read_members(
 ) -> Result<(Document, &[u8]), BsonFault>
     requires total { length bytes.now < total }
     ensures gives { Gives (λ x. (x.0, x.1.now)) result
-        (members_with total is_taken (value_at total is_taken level) (length bytes.now + 1) room bytes.now) }
+        (members_with total (value_at total level) (length bytes.now + 1) room bytes.now) }
     ensures rest { IfOk result (λ x. length bytes.now ≡ length x.1.now + room) }
 {
     let mut document = Document::new(alloc);
@@ -273,7 +307,7 @@ fn read_items(
 ) -> Result<(Array, &[u8]), BsonFault>
     requires total { length bytes.now < total }
     ensures gives { Gives (λ x. (x.0, x.1.now)) result
-        (items_with total is_taken (value_at total is_taken level) (length bytes.now + 1) room bytes.now) }
+        (items_with total (value_at total level) (length bytes.now + 1) room bytes.now) }
     ensures rest { IfOk result (λ x. length bytes.now ≡ length x.1.now + room) }
 {
     let mut array = Array::new(alloc);
@@ -302,7 +336,7 @@ fn read_document(
 ) -> Result<(Document, &[u8]), BsonFault>
     requires total { length bytes.now ≤ total }
     ensures gives { Gives (λ x. (x.0, x.1.now)) result
-        (document_with total is_taken (value_at total is_taken level) room bytes.now) }
+        (document_with total (value_at total level) room bytes.now) }
     ensures rest { IfOk result (λ x. IsRest bytes.now room x.1.now) }
 {
     let (count, rest) = read_length(total, 5, 0, room, bytes)?;
@@ -321,7 +355,7 @@ fn read_array(
 ) -> Result<(Array, &[u8]), BsonFault>
     requires total { length bytes.now ≤ total }
     ensures gives { Gives (λ x. (x.0, x.1.now)) result
-        (array_with total is_taken (value_at total is_taken level) room bytes.now) }
+        (array_with total (value_at total level) room bytes.now) }
     ensures rest { IfOk result (λ x. IsRest bytes.now room x.1.now) }
 {
     let (count, rest) = read_length(total, 5, 0, room, bytes)?;
@@ -331,7 +365,7 @@ fn read_array(
 // Which document, and which fault.
 #[tactic(auto, unfolding(crate::specs::Reading::whole_at, crate::specs::Reading::document_at))]
 fn read_exactly(alloc: Global, bytes: &[u8]) -> Result<(Document, usize), BsonFault>
-    ensures exact { Gives (λ x. x) result (whole_at bytes.now is_taken) }
+    ensures exact { Gives (λ x. x) result (whole_at bytes.now) }
 {
     let total = bytes.len();
     let (document, rest) = read_document(alloc, total, LEVELS, 0x8000_0000, bytes)?;
@@ -339,16 +373,22 @@ fn read_exactly(alloc: Global, bytes: &[u8]) -> Result<(Document, usize), BsonFa
 }
 
 /// Reads the document that begins the bytes, and gives it with its length in bytes; what follows is left (BSON 1.1,
-/// `document`). Fails where no front of the bytes spells a document that is taken, or for want of memory. Which fault is
-/// told, and its place, is not promised yet.
+/// `document`). Fails where no front of the bytes spells a document within 100 levels, with the first fault in the order
+/// of the bytes and its place, or for want of memory.
 pub fn read(alloc: Global, bytes: &[u8]) -> Result<(Document, usize), BsonFault>
     // What is read is spelled by the bytes.
     ensures found { IfOk result (λ x.
-        (x.1 ≤ length bytes.now) × ReadsAs (take x.1 bytes.now) x.0 × IsTaken x.0) }
+        (x.1 ≤ length bytes.now) × ReadsAs (take x.1 bytes.now) x.0 × IsWithinLevels x.0) }
     // What some front of the bytes spells is read, unless memory runs out.
     ensures only { (ms : Members) (n : ℕ) →
-        n ≤ length bytes.now → ReadsAs (take n bytes.now) ms → IsTaken ms →
+        n ≤ length bytes.now → ReadsAs (take n bytes.now) ms → IsWithinLevels ms →
         Gives (λ x. x) result (Ok (ms, n)) }
+    // An error is the first fault of the bytes, or want of memory.
+    ensures first { IfErr result (λ e. e ≢ BsonFault.Memory →
+        (fault : Fault) × (place : ℕ) × (e ≡ fault_from fault place) × HasFirstFault bytes.now fault place) }
+    // The first fault of the bytes is told, unless memory runs out.
+    ensures faulty { (fault : Fault) (place : ℕ) →
+        HasFirstFault bytes.now fault place → Gives (λ x. x) result (Err (fault_from fault place)) }
 {
     read_exactly(alloc, bytes)
 }
@@ -360,5 +400,13 @@ pub fn one_spelling()
         ReadsAs a ms → ReadsAs b ns → a ++ x ≡ b ++ y → (a ≡ b) × (ms ≡ ns) }
 {}
 
+/// Bytes have one first fault at most, at one place.
+pub fn one_fault()
+    ensures { (bytes : List ℕ) (f g : Fault) (p q : ℕ) →
+        HasFirstFault bytes f p → HasFirstFault bytes g q → (f ≡ g) × (p ≡ q) }
+{}
+
+#[cfg(test)]
+mod fault_tests;
 #[cfg(test)]
 mod tests;

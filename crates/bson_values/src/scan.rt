@@ -5,7 +5,6 @@
 
 ghost use Rattle.std.specs.Prelude.{◌≡◌, ◌≢◌, ◌+◌, ◌<◌, ◌≤◌, length, IfOk, IfErr, IfNone};
 ghost use Rattle.bson_values.specs.Faults.{Gives};
-ghost use Rattle.bson_values.specs.Kinds.{is_taken};
 ghost use Rattle.bson_values.specs.Reading.{length_at, fixed_at, utf8_at, text_at, string_at, name_from, room_at, index_at, name_at, kind_at};
 ghost use Rattle.bson_values.specs.Rests.{IsRest};
 
@@ -198,7 +197,7 @@ pub fn read_kind(
     bytes: &[u8],
 ) -> Result<(Option<Kind>, &[u8]), BsonFault>
     requires total { length bytes.now < total }
-    ensures gives { Gives (λ x. (x.0, x.1.now)) result (kind_at total is_taken room bytes.now) }
+    ensures gives { Gives (λ x. (x.0, x.1.now)) result (kind_at total room bytes.now) }
     ensures rest { IfOk result (λ x. (0 < room) × (length x.1.now + 1 ≡ length bytes.now)) }
     ensures end { IfOk result (λ x. IfNone x.0 (room ≡ 1)) }
 {
@@ -219,12 +218,12 @@ pub fn read_kind(
         return Ok((None, rest));
     }
     match Kind::from_byte(byte) {
-        Some(kind) if kind.is_taken() => {
+        Some(kind) => {
             if room == 1 {
                 return Err(BsonFault::Trailing { place });
             }
             Ok((Some(kind), rest))
         }
-        _ => Err(BsonFault::BadType { place, byte }),
+        None => Err(BsonFault::BadType { place, byte }),
     }
 }

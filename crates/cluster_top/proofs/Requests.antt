@@ -6,13 +6,12 @@ use Rattle.std.proofs.Math.Seq.{take-length}
 use Rattle.std.proofs.lemmas.List.{length-take-le}
 use Rattle.std.proofs.lemmas.Nat.{from_le_bytes-to_le_bytes_4}
 use Rattle.document_model.specs.Spelling.{framed}
-use Rattle.document_model.specs.Grammar.{ReadsAs}
+use Rattle.document_model.specs.Grammar.{ReadsAs, IsWithinLevels}
 use Rattle.bson_values.specs.declared.fault.BsonFault.{BsonFault}
 use Rattle.bson_values.specs.declared.fault.BsonFault.TheVariants.{Memory}
 use Rattle.bson_values.specs.Faults.{Fails}
 use Rattle.document_model.specs.Tree.{Members}
 use Rattle.history_model.specs.Names.{MakeNamespace, is_reserved}
-use Rattle.document_model.specs.Stage.{IsTaken}
 use Rattle.bson_values.specs.declared.text.Memory.{Memory as Lack}
 use Rattle.cluster_top.specs.declared.command.Command.{Command}
 use Rattle.cluster_top.specs.Commands.{command_meant}
@@ -67,6 +66,6 @@ states_all body n ms fits reads states =
     subst (λ (b : List ℕ). ReadsAs b ms) whole reads
 
 -- what a document asks for is what its bytes ask for
-pub if_asks : (result : Result Command Lack) (bytes : List ℕ) (body : Members) → ReadsAs bytes body → IsTaken body → IfOk result (λ c. AsksFor body (command_meant c)) → IfOk result (λ c. Asks bytes (command_meant c))
-if_asks (Ok c) bytes body reads taken asks = asks_read body (command_meant c) reads taken asks
-if_asks (Err e) bytes body reads taken asks = tt
+pub if_asks : (result : Result Command Lack) (bytes : List ℕ) (body : Members) → ReadsAs bytes body → IsWithinLevels body → IfOk result (λ c. AsksFor body (command_meant c)) → IfOk result (λ c. Asks bytes (command_meant c))
+if_asks (Ok c) bytes body reads low asks = asks_read body (command_meant c) reads low asks
+if_asks (Err e) bytes body reads low asks = tt

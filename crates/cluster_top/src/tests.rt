@@ -220,9 +220,16 @@ const REPLIES: &[Case] = &[
         rest: 0,
     },
     Case {
-        name: "a kind that is not read",
-        input: &[b"\x20\0\0\0\x01\0\0\0\0\0\0\0\xdd\x07\0\0\0\0\0\0\0\x0b\0\0\0\x08foo\0\x01\0"],
+        name: "a kind that is not kept",
+        input: &[b"\x20\0\0\0\x01\0\0\0\0\0\0\0\xdd\x07\0\0\0\0\0\0\0\x0b\0\0\0\x01foo\0\x01\0"],
         put: &[REFUSED_22],
+        status: 0,
+        rest: 0,
+    },
+    Case {
+        name: "no such command, of a boolean",
+        input: &[b"\x20\0\0\0\x01\0\0\0\0\0\0\0\xdd\x07\0\0\0\0\0\0\0\x0b\0\0\0\x08foo\0\x01\0"],
+        put: &[REFUSED_59],
         status: 0,
         rest: 0,
     },

@@ -1,10 +1,10 @@
 -- Which bytes spell a document (BSON 1.1, "Specification"), by cases on the document: its stated length is the
 -- number of its bytes, and each element spells its member. The names in an array are free.
-use Rattle.std.specs.Prelude.{◌≡◌, ◌≢◌, ℕ, ◌+◌, ◌<◌, ◌^◌, List, [], ◌∷◌, ◌++◌, length, FitsSigned}
+use Rattle.std.specs.Prelude.{◌≡◌, ◌≢◌, ℕ, ◌+◌, ◌<◌, ◌≤◌, ◌^◌, List, [], ◌∷◌, ◌++◌, length, FitsSigned}
 use Rattle.std.specs.Int.{w32, w64, to_le_bytes, cast_unsigned}
 use Rattle.std.specs.Str.{IsUtf8}
 use Rattle.std.specs.List.{AllByRecursion}
-use Rattle.document_model.specs.Tree.{Datum, text_value, document_value, array_value, binary_value, object_id_value, boolean_value, date_value, null_value, int32_value, timestamp_value, int64_value, min_key_value, max_key_value, Items, no_items, item, Members, no_members, member}
+use Rattle.document_model.specs.Tree.{Datum, text_value, document_value, array_value, binary_value, object_id_value, boolean_value, date_value, null_value, int32_value, timestamp_value, int64_value, min_key_value, max_key_value, Items, no_items, item, Members, no_members, member, document_levels}
 use Rattle.document_model.specs.Spelling.{kind_of, string, framed, element, boolean_byte}
 
 -- a name ends at its first 00
@@ -40,3 +40,7 @@ abbrev mutual
 -- These bytes, all of them, spell this document.
 abbrev pub ReadsAs : List ℕ → Members → Type 0
 ReadsAs bytes ms = (body : List ℕ) × (bytes ≡ framed body) × (length body + 5 < 2 ^ 31) × ReadsMembers body ms
+
+-- A document that is kept is nested within 100 levels (MongoDB manual, "MongoDB Limits and Thresholds", nested depth).
+abbrev pub IsWithinLevels : Members → Type 0
+IsWithinLevels ms = document_levels ms ≤ 100

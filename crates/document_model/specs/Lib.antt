@@ -1,4 +1,4 @@
 pub mod Tree
 pub mod Spelling
 pub mod Grammar
-pub mod Stage
+pub mod Faults

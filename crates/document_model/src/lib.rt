@@ -1,3 +1,5 @@
-//! What a BSON document is, and which bytes spell it (BSON 1.1, "Specification"). Definitions alone: the
-//! crates above cite them in their contracts.
+//! What a BSON document is, and which bytes spell it (BSON 1.1, "Specification"). Definitions, which the
+//! crates above cite in their contracts, and worked examples of them.
 #![tactic(auto)]
+
+pub mod examples;

@@ -30,10 +30,10 @@ asks_for_one body _ _ (asks_otherwise named none) (asks_otherwise same never) = 
 
 -- whatever shows that bytes spell one document
 pub one_command : (spells_one : (bytes : List ℕ) (a b : Members) → ReadsAs bytes a → ReadsAs bytes b → a ≡ b) → (bytes : List ℕ) (c d : Command) → Asks bytes c → Asks bytes d → c ≡ d
-one_command spells_one bytes c d (asks_read body _ reads taken asks) (asks_read other _ also kept wants) =
+one_command spells_one bytes c d (asks_read body _ reads low asks) (asks_read other _ also kept wants) =
     asks_for_one body c d asks (subst (λ (ms : Members). AsksFor ms d) (spells_one bytes other body also reads) wants)
-one_command spells_one bytes c _ (asks_read body _ reads taken asks) (asks_faulty none) = absurd (none body reads taken)
-one_command spells_one bytes _ d (asks_faulty none) (asks_read body _ reads taken asks) = absurd (none body reads taken)
+one_command spells_one bytes c _ (asks_read body _ reads low asks) (asks_faulty none) = absurd (none body reads low)
+one_command spells_one bytes _ d (asks_faulty none) (asks_read body _ reads low asks) = absurd (none body reads low)
 one_command spells_one bytes _ _ (asks_faulty none) (asks_faulty never) = refl
 
 -- the bytes of a request ask for one command

@@ -1,14 +1,13 @@
 -- The example request asks for the example command.
-use Rattle.std.proofs.Common.{◌≡◌, ℕ, ◌<◌, List, [], ◌∷◌, ◌++◌, length, take, drop, refl, sym, ap, subst, arith, codes, rules}
+use Rattle.std.proofs.Common.{◌≡◌, ℕ, zero, suc, ◌<◌, List, [], ◌∷◌, ◌++◌, length, take, drop, refl, sym, ap, subst, arith, codes, rules}
 use Rattle.std.specs.Prelude.{pos}
 use Rattle.std.specs.Str.{IsUtf8}
 use Rattle.std.proofs.lemmas.Fmt.{decimal_digit}
-use Rattle.document_model.specs.Tree.{member, no_members, item, no_items, text_value, document_value, array_value}
+use Rattle.document_model.specs.Tree.{member, no_members, item, no_items, text_value, document_value, array_value, document_levels}
 use Rattle.document_model.specs.Spelling.{string, framed, element}
-use Rattle.document_model.specs.Grammar.{ReadsValue, ReadsMembers, ReadsAs}
-use Rattle.document_model.specs.Stage.{IsTaken}
+use Rattle.document_model.specs.Grammar.{ReadsValue, ReadsMembers, ReadsAs, IsWithinLevels}
 use Rattle.history_model.specs.Command.{AsksFor, asks_insert, Asks, asks_read, id_document}
-use Rattle.history_model.specs.Examples.{body, request, request_bytes, id_bytes, command}
+use Rattle.history_model.specs.Examples.{body, request, request_bytes, id_bytes, command, nested}
 
 -- the document, with this index in its array
 abbrev indexed : List ℕ → List ℕ
@@ -56,11 +55,15 @@ body_reads = (
   ),
 )
 
-pub body_taken : IsTaken body
-body_taken = search rules
+pub body_within : IsWithinLevels body
+body_within = omega arith
+
+pub nested_levels : (n : ℕ) → document_levels (nested n) ≡ suc n
+nested_levels zero = refl
+nested_levels (suc n) = omega (arith, nested_levels n)
 
 pub body_asks : AsksFor body command
 body_asks = asks_insert (codes "d") (codes "c") (pos 1) (record { form = refl; namespace = search rules; open_to_clients = refl })
 
 pub request_asks : Asks request.body command
-request_asks = subst (λ (bytes : List ℕ). Asks bytes command) (sym body_spelled) (asks_read body command body_reads body_taken body_asks)
+request_asks = subst (λ (bytes : List ℕ). Asks bytes command) (sym body_spelled) (asks_read body command body_reads body_within body_asks)

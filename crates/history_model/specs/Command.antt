@@ -2,8 +2,7 @@
 -- collection of a database that is open to clients.
 use Rattle.std.specs.Prelude.{◌≡◌, ◌≢◌, ℕ, List, codes, Option, Some, None, false, ℤ, pos}
 use Rattle.document_model.specs.Tree.{Members, no_members, member, no_items, item, text_value, document_value, array_value, int32_value, int64_value}
-use Rattle.document_model.specs.Grammar.{ReadsAs}
-use Rattle.document_model.specs.Stage.{IsTaken}
+use Rattle.document_model.specs.Grammar.{ReadsAs, IsWithinLevels}
 use Rattle.history_model.specs.Names.{MakeNamespace, full_name, is_reserved}
 use Rattle.history_model.specs.Errors.{ErrorCode, invalid_bson, command_not_found}
 
@@ -17,7 +16,7 @@ pub data Command : Type 0 where
   insert_command : List ℕ → Members → Command
   refused_command : Refusal → Command
 
--- a body that is not taken, with the place of the fault
+-- a body that is no such insert, with the place of the fault
 abbrev pub no_document_at : ℕ → Refusal
 no_document_at place = record { error = invalid_bson; evidence = Some (member (codes "place") (int64_value (pos place)) no_members) }
 
@@ -40,7 +39,7 @@ abbrev pub first_name : Members → Option (List ℕ)
 first_name no_members = None
 first_name (member name value ms) = Some name
 
--- the body is an insert of {_id: n} that is taken
+-- the body is an insert of {_id: n}
 pub record IsInsert (body : Members) (database collection : List ℕ) (n : ℤ) : Type 0 where
   pub form : body ≡ insert_body collection (id_document n) database
   pub namespace : MakeNamespace database collection
@@ -54,5 +53,5 @@ pub data AsksFor (body : Members) : Command → Type 0 where
 
 -- what a request's bytes ask for
 pub data Asks (bytes : List ℕ) : Command → Type 0 where
-  asks_read : (body : Members) (command : Command) → ReadsAs bytes body → IsTaken body → AsksFor body command → Asks bytes command
-  asks_faulty : ((body : Members) → ReadsAs bytes body → ¬ IsTaken body) → Asks bytes (refused_command (no_document_at 0))
+  asks_read : (body : Members) (command : Command) → ReadsAs bytes body → IsWithinLevels body → AsksFor body command → Asks bytes command
+  asks_faulty : ((body : Members) → ReadsAs bytes body → ¬ IsWithinLevels body) → Asks bytes (refused_command (no_document_at 0))

@@ -1,5 +1,5 @@
 -- Values to try the definitions on.
-use Rattle.std.specs.Prelude.{ℕ, List, [], ◌∷◌, codes, Some, pos}
+use Rattle.std.specs.Prelude.{ℕ, zero, suc, List, [], ◌∷◌, codes, Some, pos}
 use Rattle.document_model.specs.Tree.{Members, no_members, member, no_items, item, text_value, document_value, array_value, int32_value, timestamp_value}
 use Rattle.document_model.specs.Spelling.{written}
 use Rattle.wire_model.specs.Messages.{Message}
@@ -16,6 +16,11 @@ id_bytes = 0x0E ∷ 0x00 ∷ 0x00 ∷ 0x00 ∷ 0x10 ∷ 0x5F ∷ 0x69 ∷ 0x64 �
 -- {insert: "c", documents: [{_id: 1}], $db: "d"}
 abbrev pub body : Members
 body = insert_body (codes "c") (id_document (pos 1)) (codes "d")
+
+-- an empty document within so many others
+abbrev pub nested : ℕ → Members
+nested zero = no_members
+nested (suc n) = member (codes "a") (document_value (nested n)) no_members
 
 -- the request with that body, and its 84 bytes
 abbrev pub request : Message

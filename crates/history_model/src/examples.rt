@@ -1,15 +1,14 @@
 //! The definitions on values that one can check by hand.
 
 ghost use Rattle.std.specs.Prelude.{◌≡◌, ◌∷◌, [], codes, Some, false, true, pos};
-ghost use Rattle.document_model.specs.Grammar.{ReadsAs};
+ghost use Rattle.document_model.specs.Grammar.{IsWithinLevels, ReadsAs};
 ghost use Rattle.document_model.specs.Spelling.{written};
-ghost use Rattle.document_model.specs.Stage.{IsTaken};
-ghost use Rattle.document_model.specs.Tree.{member, no_members, null_value};
+ghost use Rattle.document_model.specs.Tree.{no_members};
 ghost use Rattle.wire_model.specs.Messages.{message_bytes};
 ghost use Rattle.wire_model.specs.Spoken.{reply_message};
 ghost use Rattle.history_model.specs.Command.{Asks, AsksFor, id_document, insert_body, no_command, no_document_at, refused_command};
 ghost use Rattle.history_model.specs.Errors.{duplicate_key};
-ghost use Rattle.history_model.specs.Examples.{body, command, done_reply, duplicate_reply, entry_at, first, first_entry, id_bytes, reply_bytes, request, request_bytes, second, second_entry};
+ghost use Rattle.history_model.specs.Examples.{body, command, done_reply, duplicate_reply, entry_at, first, first_entry, id_bytes, nested, reply_bytes, request, request_bytes, second, second_entry};
 ghost use Rattle.history_model.specs.Exchange.{InTurn, IsEntryOf, IsFresh, IsRight, OneHistory, spoken};
 ghost use Rattle.history_model.specs.History.{Follows, IsBefore, IsIn, IsSameStatement, Legal, done, fails_with};
 ghost use Rattle.history_model.specs.Laws.{Stands};
@@ -49,10 +48,10 @@ pub fn names()
     ensures reserved { (is_reserved (codes "admin") ≡ true) × (is_reserved (codes "d") ≡ false) }
 {}
 
-/// What documents ask for: the insert, nothing that is known, or an insert that is not taken, as into `admin`.
+/// What documents ask for: the insert, nothing that is known, or an insert that is refused, as into `admin`.
 pub fn asked()
-    ensures insert { AsksFor body command × IsTaken body }
-    ensures not_taken { IsTaken (member (codes "_id") null_value no_members) → ⊥ }
+    ensures insert { AsksFor body command × IsWithinLevels body }
+    ensures levels { IsWithinLevels (nested 99) × (IsWithinLevels (nested 100) → ⊥) }
     ensures unknown { AsksFor no_members (refused_command no_command) }
     ensures reserved { AsksFor (insert_body (codes "c") (id_document (pos 1)) (codes "admin")) (refused_command (no_document_at 0)) }
     ensures not_unknown { AsksFor body (refused_command no_command) → ⊥ }

@@ -21,7 +21,7 @@ read_items-items-preserved t c =
     let gives = rw c.in-Some.is at c.in_ok-value.ensures.gives in
     record {
       below = omega (arith, c.in_ok-value.ensures.rest);
-      taken = omega (arith, c.in_ok-value.ensures.rest);
+      used = omega (arith, c.in_ok-value.ensures.rest);
       read =
           rw c.in_ok-push.ensures.ok
           (items_goes_on c.args.total _ c.args.room c.args.bytes.now c.items.array c.items.space c.items.left.now _ _ gives c.in_ok-value.ensures.rest.0 c.items.invariant.read);
@@ -48,7 +48,7 @@ read_members-members-preserved t c =
     let gives = rw c.in-Some.is at c.in_ok-member.ensures.gives in
     record {
       below = omega (arith, c.in_ok-member.ensures.rest);
-      taken = omega (arith, c.in_ok-member.ensures.rest);
+      used = omega (arith, c.in_ok-member.ensures.rest);
       read =
           rw c.in_ok-push.ensures.ok
           (goes_on c.args.total _ c.args.room c.args.bytes.now c.members.document c.members.space c.members.left.now _ _ _ gives c.in_ok-member.ensures.rest.0 c.members.invariant.read);

@@ -1,5 +1,4 @@
 use Rattle.std.proofs.Common.{◌≡◌, ◌+◌, ◌*◌, ◌<◌, length}
-use Rattle.bson_values.specs.Kinds.{is_taken}
 use Rattle.bson_values.specs.Reading.{value_at}
 use Rattle.bson_values.proofs.ReadLoop.{ReadsOn, ReadsItemsOn}
 use Rattle.bson_values.proofs.reading.+reading.Given as goal
@@ -28,8 +27,8 @@ decreases-read_array l = 4 * l.level + 3
 abbrev pub invariant-read_members-members : goal.invariant-read_members-members
 invariant-read_members-members l = record {
   below : length l.left < l.total;
-  taken : length l.bytes + l.space ≡ length l.left + l.room;
-  read : ReadsOn l.total (value_at l.total is_taken l.level) l.room l.bytes l.document l.space l.left;
+  used : length l.bytes + l.space ≡ length l.left + l.room;
+  read : ReadsOn l.total (value_at l.total l.level) l.room l.bytes l.document l.space l.left;
 }
 
 abbrev pub decreases-read_members-members : goal.decreases-read_members-members
@@ -38,8 +37,8 @@ decreases-read_members-members l = length l.left
 abbrev pub invariant-read_items-items : goal.invariant-read_items-items
 invariant-read_items-items l = record {
   below : length l.left < l.total;
-  taken : length l.bytes + l.space ≡ length l.left + l.room;
-  read : ReadsItemsOn l.total (value_at l.total is_taken l.level) l.room l.bytes l.array l.space l.left;
+  used : length l.bytes + l.space ≡ length l.left + l.room;
+  read : ReadsItemsOn l.total (value_at l.total l.level) l.room l.bytes l.array l.space l.left;
 }
 
 abbrev pub decreases-read_items-items : goal.decreases-read_items-items

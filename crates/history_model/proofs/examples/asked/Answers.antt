@@ -1,16 +1,19 @@
 -- By the forms of the documents.
-use Rattle.std.proofs.Common.{◌≡◌, ℕ, ℤ, List, [], refl, ap, ◌∙◌, codes}
+use Rattle.std.proofs.Common.{◌≡◌, ℕ, ℤ, List, [], refl, ap, ◌∙◌, codes, arith}
 use Rattle.std.specs.Prelude.{false, pos}
 use Rattle.document_model.specs.Tree.{Members}
 use Rattle.document_model.specs.Grammar.{ReadsAs}
 use Rattle.history_model.specs.Names.{is_reserved}
 use Rattle.history_model.specs.Command.{IsInsert, asks_unknown, asks_otherwise, Asks, asks_read, asks_faulty, insert_body, id_document}
 use Rattle.history_model.specs.Examples.{command}
-use Rattle.history_model.proofs.Sample.{body_asks, body_taken, request_asks}
+use Rattle.history_model.proofs.Sample.{body_asks, body_within, nested_levels, request_asks}
 use Rattle.history_model.proofs.examples.asked.Goals as goal
 
 pub returns-clause-insert : goal.returns-clause-insert
-returns-clause-insert c = (body_asks, body_taken)
+returns-clause-insert c = (body_asks, body_within)
+
+pub returns-clause-levels : goal.returns-clause-levels
+returns-clause-levels c = (omega (arith, nested_levels 99), λ low. omega (arith, nested_levels 100))
 
 pub returns-clause-unknown : goal.returns-clause-unknown
 returns-clause-unknown c = asks_unknown (λ e. cc)
@@ -32,7 +35,7 @@ no_document : (ms : Members) → ReadsAs [] ms → ⊥
 no_document ms reads = let e = reads.1 in cc
 
 no_insert : Asks [] command → ⊥
-no_insert (asks_read ms _ reads taken asks) = no_document ms reads
+no_insert (asks_read ms _ reads low asks) = no_document ms reads
 
 pub returns-clause-unread : goal.returns-clause-unread
-returns-clause-unread c = (asks_faulty (λ ms reads taken. no_document ms reads), no_insert)
+returns-clause-unread c = (asks_faulty (λ ms reads low. no_document ms reads), no_insert)
