@@ -7,9 +7,8 @@ pub mod clock;
 pub mod disk;
 pub mod examples;
 pub mod gate;
+pub mod log;
 pub mod memory;
 pub mod spoken;
 pub mod standard;
 pub mod streams;
-#[cfg(test)]
-mod tests;

@@ -2,7 +2,6 @@
 //! calls that its list names, or where it finds no memory.
 mod acceptor;
 mod clock;
-mod disk;
 mod gate;
 mod link;
 mod plan;
@@ -11,7 +10,6 @@ mod source;
 
 pub use acceptor::MemAcceptor;
 pub use clock::FixedClock;
-pub use disk::MemDisk;
 pub use gate::OpenGate;
 pub use link::MemLink;
 pub use sink::MemSink;
