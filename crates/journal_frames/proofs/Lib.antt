@@ -5,3 +5,4 @@ pub mod Torn
 pub mod Staged
 pub mod Put
 pub mod Closed
+pub mod Loads

@@ -1,7 +1,7 @@
 -- What contracts see of a journal.
 use Rattle.std.specs.Prelude.{◌≡◌, ℕ, ◌<◌, ◌^◌, List, [], ◌∷◌, ◌++◌, length, Bool, IsTrue, refl}
 use Rattle.std.specs.Coded.{Coded, code_by, coded×, coded_list, coded_ℕ, coded_bool}
-use Rattle.outside.specs.Disks.{Outcomes, Only}
+use Rattle.outside.specs.Disks.{LeavesOnly, Only, Outcomes, Within}
 use Rattle.journal_frames.specs.Files.{Fit, Stands, blocks, body}
 
 -- a disk with the records that stand on it, and whether more can be appended
@@ -40,3 +40,9 @@ pub record IsFound (tells : Bool) (content : List ℕ) (may_leave : Outcomes) (r
   pub fits : Fit records
   pub stands : IsTrue tells → Stands content records
   pub durable : IsTrue tells → Only content may_leave
+
+-- Calls that only read: the file is as before, and a crash at any moment leaves what it might have left before.
+pub record IsUndisturbed {D : Type 0} (content : D → List ℕ) (may_leave : D → Outcomes) (moment : D → ℕ) (left_since : D → ℕ → Outcomes) (old new : D) : Type 0 where
+  pub same : content new ≡ content old
+  pub crash : Within (may_leave old) (may_leave new)
+  pub any_moment : LeavesOnly moment left_since old new (may_leave old)

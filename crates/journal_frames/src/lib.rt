@@ -3,8 +3,12 @@
 #![tactic(auto)]
 
 
+mod journal;
+mod loading;
 mod putting;
 mod scanning;
 mod synced;
 
 
+
+pub use journal::{Journal, OpenFault};
