@@ -6,3 +6,5 @@ pub mod Staged
 pub mod Put
 pub mod Closed
 pub mod Loads
+pub mod Unique
+pub mod Opened

@@ -11,9 +11,12 @@ disk_left (Err (Disk disk)) = disk
 disk_left (Err (Damaged place disk)) = disk
 disk_left (Err (Memory disk)) = disk
 
--- one thing holds of an opened journal, one where the disk failed, and one where the file is damaged
-abbrev pub ByOpening : {D : Type 0} → Result (JournalView D) (OpenFault D) → (JournalView D → Type 0) → Type 0 → (ℕ → Type 0) → Type 0
-ByOpening (Ok journal) opened failed damaged = opened journal
-ByOpening (Err (Disk disk)) opened failed damaged = failed
-ByOpening (Err (Damaged place disk)) opened failed damaged = damaged place
-ByOpening (Err (Memory disk)) opened failed damaged = Unit {0}
+-- where the disk failed
+abbrev pub IfDiskFailed : {D : Type 0} → Result (JournalView D) (OpenFault D) → Type 0 → Type 0
+IfDiskFailed (Err (Disk disk)) failed = failed
+IfDiskFailed result failed = Unit {0}
+
+-- where the file is damaged, at a place
+abbrev pub IfDamaged : {D : Type 0} → Result (JournalView D) (OpenFault D) → (ℕ → Type 0) → Type 0
+IfDamaged (Err (Damaged place disk)) damaged = damaged place
+IfDamaged result damaged = Unit {0}

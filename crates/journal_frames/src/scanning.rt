@@ -73,6 +73,7 @@ pub(crate) fn next_record(file: &[u8]) -> Next<'_>
 /// - `ScanFault::Memory` for want of memory.
 pub(crate) fn scan(alloc: Global, file: &[u8]) -> Result<(RecordList, usize), ScanFault>
     ensures found { IfOk result (λ x. Stands file.now x.0 × (x.1 ≡ length (blocks x.0)) × (x.1 ≤ length file.now)) }
+    ensures before { IfOk result (λ x. 0 < length file.now → x.1 < length file.now) }
     ensures damage { IfErr result (λ e. IsScanFault file.now e) }
 {
     let mut records = RecordList::new(alloc);

@@ -1,5 +1,5 @@
 //! A row of records that stay.
-ghost use Rattle.std.specs.Prelude.{◌≡◌, ℕ, ◌≤◌, ◌++◌, ◌∷◌, [], List, IsTrue, Bool, OnOk, IfErr, OnErr};
+ghost use Rattle.std.specs.Prelude.{◌≡◌, ℕ, ◌≤◌, ◌++◌, ◌∷◌, [], List, take, IsTrue, Bool, OnOk, IfErr, OnErr};
 ghost use Rattle.outside.specs.Causes.{Rose};
 ghost use Rattle.outside.specs.Logs.{ByFault, WithOrWithout};
 
@@ -87,5 +87,12 @@ impl RecordList {
     {
         self.items.push(bytes)?;
         Ok(())
+    }
+
+    /// Leaves the first `count` records and drops the others.
+    pub fn truncate(&mut self, count: usize)
+        ensures { self.new ≡ take count self.old }
+    {
+        self.items.truncate(count);
     }
 }
