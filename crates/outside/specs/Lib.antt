@@ -1,4 +1,6 @@
 pub mod Causes
+pub mod Disks
+pub mod Logs
 pub mod Streams
 pub mod Plan
 pub mod Memory
