@@ -3,4 +3,7 @@ pub mod Disks
 pub mod Logs
 pub mod Streams
 pub mod Plan
+pub mod CallList
 pub mod Memory
+pub mod Calls
+pub mod Moments

@@ -12,3 +12,5 @@ pub mod memory;
 pub mod spoken;
 pub mod standard;
 pub mod streams;
+#[cfg(test)]
+mod tests;
