@@ -8,3 +8,4 @@ pub mod Closed
 pub mod Loads
 pub mod Unique
 pub mod Opened
+pub mod Worked

@@ -2,13 +2,13 @@
 //! newest. A record is a gate, its length and its bytes; the gate is opened once the rest is on the disk.
 #![tactic(auto)]
 
-
 mod journal;
+pub mod laws;
 mod loading;
 mod putting;
 mod scanning;
 mod synced;
-
-
+#[cfg(test)]
+mod tests;
 
 pub use journal::{Journal, OpenFault};

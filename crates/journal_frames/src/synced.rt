@@ -21,7 +21,8 @@ pub(crate) fn write_synced<D: Disk>(disk: &mut D, at: u64, piece: &[u8]) -> Resu
     ensures later { D.fault_count disk.old ≤ D.fault_count disk.new }
 {
     disk.write_at(at, piece)?;
-    disk.sync()
+    disk.sync()?;
+    Ok(())
 }
 
 /// Cuts the file to `len` bytes, if it is longer, and syncs.
