@@ -39,15 +39,6 @@ pub within_same : (start start' : List ℕ) (calls calls' : List Call) → start
 within_same start start' calls calls' same all c left =
     subst (λ xs. left_after start xs c) all (subst (λ s. left_after s calls' c) same left)
 
--- such a call takes no time
-pub elapses_same : (start start' : List ℕ) (calls calls' : List Call) → start' ≡ start → calls' ≡ calls →
-    Elapses (length calls) (length calls') (left_after_some start calls) (left_after_some start' calls') (left_after start' calls')
-elapses_same start start' calls calls' same all = record {
-  later = omega (arith, ap length all);
-  nothing_else = λ t c le left. inl (subst (λ xs. left_after_some start xs t c) all (subst (λ s. left_after_some s calls' t c) same left));
-  keeps = λ t c le left. subst (λ s. left_after_some s calls' t c) (sym same) (subst (λ xs. left_after_some start xs t c) (sym all) left);
-}
-
 -- what was left after the calls before one more
 earlier : (start : List ℕ) (calls : List Call) (call : Call) (t k : ℕ) (c : List ℕ) → t ≤ k → k ≤ length calls →
     left_after start (take k (calls ++ call ∷ [])) c → left_after_some start calls t c

@@ -2,8 +2,8 @@
 use Rattle.std.specs.Prelude.{ℕ, ◌+◌, List, Option, None, Some, if◌then◌else◌, nat_lt}
 use Rattle.outside.specs.declared.memory.call.Call.{Call}
 
--- The bytes that the calls began on, where they are kept; the calls in order; and how many bytes the piece of the next
--- call has to have so that memory is asked for.
+-- The bytes that the calls began on, where they are kept; the calls in order; and the room: the list has memory for one
+-- more call if its piece is shorter than this.
 pub record ListState : Type 0 where
   pub start : Option (List ℕ)
   pub calls : List Call

@@ -1,6 +1,6 @@
 -- What the calls of a disk do to its file, and what a crash may do between two syncs. A file is the list of its bytes;
 -- what a crash may leave is a set of files (own; POSIX, `write` and `fsync`, leave the rest to the system).
-use Rattle.std.specs.Prelude.{◌≡◌, ◌⊎◌, ℕ, ◌+◌, ◌≤◌, min, max, List, [], ◌∷◌, ◌++◌, length, take, drop}
+use Rattle.std.specs.Prelude.{◌≡◌, ◌⊎◌, ℕ, ◌+◌, ◌≤◌, min, max, List, length, take, drop}
 
 -- what a crash may leave
 abbrev pub Outcomes : Type 1

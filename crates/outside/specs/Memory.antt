@@ -26,8 +26,8 @@ pub record AcceptorState : Type 0 where
   pub plan : PlanState
 
 -- A disk: its bytes, how many it has room for before it asks for memory, and the plan of its calls; the bytes that it was
--- made of, the calls that changed it or made it stay, and how many bytes the piece of the next one has to have so that
--- the list of calls asks for memory.
+-- made of, the calls that changed it or made it stay, and the room of their list, which has memory for one more call if
+-- its piece is shorter than this.
 pub record DiskState : Type 0 where
   pub bytes : List ℕ
   pub room : ℕ

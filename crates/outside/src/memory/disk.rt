@@ -202,7 +202,7 @@ impl Disk for MemDisk {
         Ok(n)
     }
 
-    #[tactic(auto, using(crate::proofs::Crashes::torn_same, crate::proofs::Crashes::torn_self, crate::proofs::Crashes::follows_write, crate::proofs::Crashes::elapses_listed, crate::proofs::Crashes::written_holds, crate::proofs::Crashes::replayed_append, crate::proofs::Parts::written_back))]
+    #[tactic(auto, using(crate::proofs::Crashes::torn_self, crate::proofs::Crashes::follows_write, crate::proofs::Crashes::written_holds, crate::proofs::Crashes::replayed_append, crate::proofs::Parts::written_back))]
     fn write_at(&mut self, at: u64, piece: &[u8]) -> Result<(), Failed>
         ensures wrote { OnOk result (Holds at piece.now self.old.bytes self.new.bytes) }
         ensures torn { OnErr result (Torn at (length piece.now) self.old.bytes self.new.bytes) }
@@ -212,6 +212,7 @@ impl Disk for MemDisk {
         ensures cause { OnErr result (Rose self.old.plan.faults self.new.plan.faults) }
         ensures later { self.old.plan.faults ≤ self.new.plan.faults }
 
+        // Zeros fill a gap. A write that failed changed nothing.
         ensures exactly { OnOk result (self.new.bytes ≡ written self.old.bytes at piece.now) }
         ensures read_back { OnOk result (take (length piece.now) (drop at self.new.bytes) ≡ piece.now) }
         ensures nothing { OnErr result (self.new.bytes ≡ self.old.bytes) }
@@ -246,7 +247,7 @@ impl Disk for MemDisk {
         Ok(())
     }
 
-    #[tactic(auto, using(crate::proofs::Crashes::cut_same, crate::proofs::Crashes::cut_self, crate::proofs::Crashes::follows_cut, crate::proofs::Crashes::elapses_listed, crate::proofs::Crashes::replayed_append))]
+    #[tactic(auto, using(crate::proofs::Crashes::cut_self, crate::proofs::Crashes::follows_cut, crate::proofs::Crashes::replayed_append))]
     fn cut(&mut self, len: u64) -> Result<(), Failed>
         ensures cut { OnOk result (self.new.bytes ≡ take len self.old.bytes) }
         ensures between { OnErr result (Cut len self.old.bytes self.new.bytes) }
@@ -256,6 +257,7 @@ impl Disk for MemDisk {
         ensures cause { OnErr result (Rose self.old.plan.faults self.new.plan.faults) }
         ensures later { self.old.plan.faults ≤ self.new.plan.faults }
 
+        // It is listed, unless it failed. Then nothing changed but the counts and the room of the list.
         ensures done { OnOk result (self.new ≡ disk_cut self.old len self.new.list_room) }
         ensures failed { OnErr result (self.new ≡ record (disk_failed self.old) { list_room = self.new.list_room }) }
 
@@ -275,7 +277,7 @@ impl Disk for MemDisk {
         Ok(())
     }
 
-    #[tactic(auto, using(crate::proofs::Crashes::within_synced, crate::proofs::Crashes::only_synced, crate::proofs::Crashes::elapses_listed, crate::proofs::Crashes::replayed_append))]
+    #[tactic(auto, using(crate::proofs::Crashes::within_synced, crate::proofs::Crashes::replayed_append))]
     fn sync(&mut self) -> Result<(), Failed>
         ensures durable { OnOk result (Only self.new.bytes (crash_leaves self.new)) }
         ensures same { self.new.bytes ≡ self.old.bytes }
@@ -285,6 +287,7 @@ impl Disk for MemDisk {
         ensures cause { OnErr result (Rose self.old.plan.faults self.new.plan.faults) }
         ensures later { self.old.plan.faults ≤ self.new.plan.faults }
 
+        // It is listed, unless it failed. Then nothing changed but the counts and the room of the list.
         ensures done { OnOk result (self.new ≡ disk_synced self.old self.new.list_room) }
         ensures failed { OnErr result (self.new ≡ record (disk_failed self.old) { list_room = self.new.list_room }) }
 
