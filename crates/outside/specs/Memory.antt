@@ -1,6 +1,8 @@
 -- What the memory forms are, as values.
 use Rattle.std.specs.Prelude.{ℕ, ◌+◌, ◌-◌, min, List, [], ◌∷◌, ◌++◌, length, take, drop, replicate}
 use Rattle.outside.specs.Plan.{PlanState, fresh_plan, after_call, after_fault}
+use Rattle.outside.specs.declared.memory.call.Call.{Call}
+use Rattle.outside.specs.declared.memory.call.Call.TheVariants.{Cut, Sync}
 
 -- a source: the bytes that are left, and the plan of its calls
 pub record SourceState : Type 0 where
@@ -23,11 +25,16 @@ pub record AcceptorState : Type 0 where
   pub links : List LinkState
   pub plan : PlanState
 
--- a disk: its bytes, how many it has room for before it asks for memory, and the plan of its calls
+-- A disk: its bytes, how many it has room for before it asks for memory, and the plan of its calls; the bytes that it was
+-- made of, the calls that changed it or made it stay, and the room of their list, which has memory for one more call if
+-- its piece is shorter than this.
 pub record DiskState : Type 0 where
   pub bytes : List ℕ
   pub room : ℕ
   pub plan : PlanState
+  pub start : List ℕ
+  pub calls : List Call
+  pub list_room : ℕ
 
 -- a sink before the first call
 abbrev pub fresh_sink : List ℕ → SinkState
@@ -56,17 +63,34 @@ written bytes at (b ∷ piece) =
 abbrev pub read_count : DiskState → ℕ → ℕ → ℕ
 read_count d at room = min room (length (drop at d.bytes))
 
--- a disk after a call that changed no byte
-abbrev pub disk_passed : DiskState → DiskState
-disk_passed d = record { bytes = d.bytes; room = d.room; plan = after_call d.plan }
+-- a disk before the first call
+abbrev pub fresh_disk : List ℕ → ℕ → List ℕ → DiskState
+fresh_disk bytes room numbers = record {
+  bytes = bytes;
+  room = room;
+  plan = fresh_plan numbers;
+  start = bytes;
+  calls = [];
+  list_room = 0;
+}
 
--- a disk after a cut to this length
-abbrev pub disk_cut : DiskState → ℕ → DiskState
-disk_cut d len = record { bytes = take len d.bytes; room = d.room; plan = after_call d.plan }
+-- a disk after a call that only looked at it
+abbrev pub disk_passed : DiskState → DiskState
+disk_passed d = record d { plan = after_call d.plan }
+
+-- a disk after a cut to this length, which is listed, with this room in the list
+abbrev pub disk_cut : DiskState → ℕ → ℕ → DiskState
+disk_cut d len list_room =
+    record d { bytes = take len d.bytes; plan = after_call d.plan; calls = d.calls ++ Cut len ∷ []; list_room = list_room }
+
+-- a disk after a sync, which is listed, with this room in the list
+abbrev pub disk_synced : DiskState → ℕ → DiskState
+disk_synced d list_room =
+    record d { plan = after_call d.plan; calls = d.calls ++ Sync ∷ []; list_room = list_room }
 
 -- a disk after a call that failed
 abbrev pub disk_failed : DiskState → DiskState
-disk_failed d = record { bytes = d.bytes; room = d.room; plan = after_fault d.plan }
+disk_failed d = record d { plan = after_fault d.plan }
 
 -- an acceptor after a call that gave no link
 abbrev pub acceptor_passed : AcceptorState → AcceptorState

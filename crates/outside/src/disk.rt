@@ -1,11 +1,28 @@
 //! A file of bytes that stay.
-ghost use Rattle.std.specs.Prelude.{◌≡◌, ℕ, ◌≤◌, length, IfOk, OnErr};
+ghost use Rattle.std.specs.Prelude.{◌≡◌, ℕ, ◌<◌, ◌≤◌, List, [], Bool, IsTrue, length, take, drop, Ok, IfOk, OnOk, OnErr};
 ghost use Rattle.outside.specs.Causes.{Rose};
+ghost use Rattle.outside.specs.Disks.{Cut, Elapses, Follows, Holds, Only, Torn, Within};
 
 use crate::streams::Failed;
 
-/// A file of bytes, which are read and written at places from 0 on. Each error is a fault that is counted.
+/// A file of bytes, which are read and written at places from 0 on. Each error is a fault that is counted. Until a sync,
+/// a crash may leave any bytes in a range that was written and past the old end, and may undo a cut.
 pub trait Disk: Drop {
+    // Whether the type tells what the file holds. Clauses on the content are of those that do.
+    ghost tells: { Bool };
+
+    // The file: what reads give.
+    ghost content: { Self → List ℕ };
+
+    // What a crash at this moment may leave.
+    ghost may_leave: { Self → List ℕ → Type 0 };
+
+    // The moment, by a clock that the disk's own calls move.
+    ghost moment: { Self → ℕ };
+
+    // What a crash at some moment from that one on might have left, during a call or between two.
+    ghost left_since: { Self → ℕ → List ℕ → Type 0 };
+
     // How many faults the disk met.
     ghost fault_count: { Self → ℕ };
 
@@ -14,44 +31,78 @@ pub trait Disk: Drop {
     /// # Errors
     /// `Failed` if the disk met a fault, which is counted.
     fn len(&mut self) -> Result<u64, Failed>
+        ensures answer { IfOk result (λ n. IsTrue tells → n ≡ length (content self.old)) }
+        ensures same { IsTrue tells → content self.new ≡ content self.old }
+        ensures crash { IsTrue tells → Within (may_leave self.old) (may_leave self.new) }
+        ensures time { IsTrue tells →
+            Elapses (moment self.old) (moment self.new) (left_since self.old) (left_since self.new) (may_leave self.new) }
         ensures cause { OnErr result (Rose (fault_count self.old) (fault_count self.new)) }
         ensures later { fault_count self.old ≤ fault_count self.new };
 
-    /// Reads bytes from the place `at` on into the front of `buf`, and gives their number.
+    /// Reads bytes from the place `at` on into the front of `buf`, and gives their number, of which 0 for a `buf` with
+    /// room is the end. It may read fewer than there are.
     ///
     /// # Errors
     /// `Failed` if the disk met a fault, which is counted.
     fn read(&mut self, at: u64, buf: &mut [u8]) -> Result<usize, Failed>
         ensures count { IfOk result (λ n. n ≤ length buf.old) }
         ensures len { length buf.new ≡ length buf.old }
+        ensures bytes { IfOk result (λ n. IsTrue tells → take n buf.new ≡ take n (drop at (content self.old))) }
+        ensures within { IfOk result (λ n. IsTrue tells → n ≤ length (drop at (content self.old))) }
+        ensures at_end { IfOk result (λ n. 0 < length buf.old → n ≡ 0 → IsTrue tells → drop at (content self.old) ≡ []) }
+        ensures same { IsTrue tells → content self.new ≡ content self.old }
+        ensures crash { IsTrue tells → Within (may_leave self.old) (may_leave self.new) }
+        ensures time { IsTrue tells →
+            Elapses (moment self.old) (moment self.new) (left_since self.old) (left_since self.new) (may_leave self.new) }
         ensures cause { OnErr result (Rose (fault_count self.old) (fault_count self.new)) }
         ensures later { fault_count self.old ≤ fault_count self.new };
 
-    /// Writes the whole piece from the place `at` on.
+    /// Writes the whole piece from the place `at` on, over what is there and past the end.
     ///
     /// # Errors
-    /// `Failed` if the disk met a fault, which is counted.
+    /// `Failed` if the disk met a fault, which is counted. A part of the range may be written then.
     fn write_at(&mut self, at: u64, piece: &[u8]) -> Result<(), Failed>
+        ensures wrote { OnOk result (IsTrue tells → Holds at piece.now (content self.old) (content self.new)) }
+        ensures torn { OnErr result (IsTrue tells → Torn at (length piece.now) (content self.old) (content self.new)) }
+        ensures crash { IsTrue tells → Follows (Torn at (length piece.now)) (may_leave self.old) (may_leave self.new) }
+        ensures time { IsTrue tells →
+            Elapses (moment self.old) (moment self.new) (left_since self.old) (left_since self.new) (may_leave self.new) }
         ensures cause { OnErr result (Rose (fault_count self.old) (fault_count self.new)) }
         ensures later { fault_count self.old ≤ fault_count self.new };
 
     /// Cuts the file to `len` bytes, if it is longer.
     ///
     /// # Errors
-    /// `Failed` if the disk met a fault, which is counted.
+    /// `Failed` if the disk met a fault, which is counted. A part behind `len` may be cut then.
     fn cut(&mut self, len: u64) -> Result<(), Failed>
+        ensures cut { OnOk result (IsTrue tells → content self.new ≡ take len (content self.old)) }
+        ensures between { OnErr result (IsTrue tells → Cut len (content self.old) (content self.new)) }
+        ensures crash { IsTrue tells → Follows (Cut len) (may_leave self.old) (may_leave self.new) }
+        ensures time { IsTrue tells →
+            Elapses (moment self.old) (moment self.new) (left_since self.old) (left_since self.new) (may_leave self.new) }
         ensures cause { OnErr result (Rose (fault_count self.old) (fault_count self.new)) }
         ensures later { fault_count self.old ≤ fault_count self.new };
 
-    /// Makes what was written stay over a crash.
+    /// Makes what was written and cut stay: after it a crash leaves what reads give.
     ///
     /// # Errors
-    /// `Failed` if the disk met a fault, which is counted.
+    /// `Failed` if the disk met a fault, which is counted. What a crash may leave is then no more than before.
     fn sync(&mut self) -> Result<(), Failed>
+        ensures durable { OnOk result (IsTrue tells → Only (content self.new) (may_leave self.new)) }
+        ensures same { IsTrue tells → content self.new ≡ content self.old }
+        ensures crash { IsTrue tells → Within (may_leave self.old) (may_leave self.new) }
+        ensures time { IsTrue tells →
+            Elapses (moment self.old) (moment self.new) (left_since self.old) (left_since self.new) (may_leave self.new) }
         ensures cause { OnErr result (Rose (fault_count self.old) (fault_count self.new)) }
         ensures later { fault_count self.old ≤ fault_count self.new };
 
     /// How many faults the disk met, at most 2^64 - 1.
     fn faults(&self) -> u64
         ensures { result ≡ fault_count self.now };
+
+    // This moment is one of those since an earlier one.
+    ghost counts_now: { (disk : Self) (t : ℕ) (c : List ℕ) → t ≤ moment disk → may_leave disk c → left_since disk t c };
+
+    // Since this moment there is no other.
+    ghost only_now: { (disk : Self) (c : List ℕ) → left_since disk (moment disk) c → may_leave disk c };
 }

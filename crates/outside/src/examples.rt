@@ -1,7 +1,12 @@
 //! The definitions on values that one can check by hand.
 
-ghost use Rattle.std.specs.Prelude.{[], ◌∷◌, ◌-◌, ◌^◌, false, true};
+ghost use Rattle.std.specs.Prelude.{◌≡◌, ◌⊎◌, ◌≤◌, ℕ, [], ◌∷◌, ◌-◌, ◌^◌, List, false, true};
 ghost use Rattle.outside.specs.Causes.{Rose};
+ghost use Rattle.outside.specs.Disks.{Cut, Elapses, Follows, Holds, LeavesOnly, Only, Torn, Within};
+ghost use Rattle.outside.specs.Logs.{ByFault, WithOrWithout};
+ghost use Rattle.outside.specs.Calls.{left_after, left_after_some, replayed};
+ghost use Rattle.outside.specs.declared.log.LogFault.TheVariants.{Disk as DiskFault, Memory};
+ghost use Rattle.outside.specs.declared.memory.call.Call.TheVariants.{Cut as CutTo, Sync, Write};
 ghost use Rattle.outside.specs.Streams.{Put, Took};
 
 /// A count that rises, one that stays, and one at its last value.
@@ -15,4 +20,73 @@ pub fn moved()
     ensures taken { Took true (1 ∷ 2 ∷ []) (1 ∷ []) (2 ∷ []) × (Took true (1 ∷ 2 ∷ []) (2 ∷ []) (1 ∷ []) → ⊥) }
     ensures put { Put true (1 ∷ []) (2 ∷ []) (1 ∷ 2 ∷ []) × (Put true (1 ∷ []) (2 ∷ []) (2 ∷ 1 ∷ []) → ⊥) }
     ensures untold { Took false [] (1 ∷ []) [] × Put false [] (1 ∷ []) [] }
+{}
+
+/// Bytes 1 2 3 and a piece that was written over them, past their end, and behind a gap of any bytes.
+pub fn held()
+    ensures over { Holds 1 (9 ∷ []) (1 ∷ 2 ∷ 3 ∷ []) (1 ∷ 9 ∷ 3 ∷ []) }
+    ensures past { Holds 3 (9 ∷ []) (1 ∷ 2 ∷ 3 ∷ []) (1 ∷ 2 ∷ 3 ∷ 9 ∷ []) }
+    ensures gap { Holds 4 (9 ∷ []) (1 ∷ 2 ∷ 3 ∷ []) (1 ∷ 2 ∷ 3 ∷ 7 ∷ 9 ∷ []) }
+    ensures elsewhere { Holds 1 (9 ∷ []) (1 ∷ 2 ∷ 3 ∷ []) (1 ∷ 9 ∷ 4 ∷ []) → ⊥ }
+{}
+
+/// A write of two bytes that was cut short leaves any bytes in its range, and the others as they were.
+pub fn torn()
+    ensures range { Torn 1 2 (1 ∷ 2 ∷ 3 ∷ 4 ∷ []) (1 ∷ 8 ∷ 7 ∷ 4 ∷ []) }
+    ensures grown { Torn 1 2 (1 ∷ []) (1 ∷ 8 ∷ []) }
+    ensures elsewhere { Torn 1 2 (1 ∷ 2 ∷ 3 ∷ 4 ∷ []) (1 ∷ 2 ∷ 3 ∷ 5 ∷ []) → ⊥ }
+    ensures shorter { Torn 1 2 (1 ∷ 2 ∷ 3 ∷ 4 ∷ []) (1 ∷ 2 ∷ 3 ∷ []) → ⊥ }
+{}
+
+/// A cut to one byte that was cut short leaves one byte or more, those of the front.
+pub fn cut()
+    ensures whole { Cut 1 (1 ∷ 2 ∷ 3 ∷ []) (1 ∷ []) × Cut 1 (1 ∷ 2 ∷ 3 ∷ []) (1 ∷ 2 ∷ 3 ∷ []) }
+    ensures between { Cut 1 (1 ∷ 2 ∷ 3 ∷ []) (1 ∷ 2 ∷ []) }
+    ensures too_far { Cut 1 (1 ∷ 2 ∷ 3 ∷ []) [] → ⊥ }
+    ensures changed { Cut 1 (1 ∷ 2 ∷ 3 ∷ []) (1 ∷ 9 ∷ []) → ⊥ }
+{}
+
+/// What a crash may leave where each outcome is one from before, or that after a step.
+pub fn outcomes()
+    ensures within { Within (λ c. (c ≡ []) ⊎ (c ≡ 1 ∷ [])) (λ c. c ≡ 1 ∷ []) }
+    ensures not_within { Within (λ c. c ≡ 1 ∷ []) (λ c. (c ≡ []) ⊎ (c ≡ 1 ∷ [])) → ⊥ }
+    ensures only { Only (1 ∷ []) (λ c. c ≡ 1 ∷ []) × (Only (1 ∷ []) (λ c. (c ≡ []) ⊎ (c ≡ 1 ∷ [])) → ⊥) }
+    ensures follows { Follows (Cut 1) (λ c. c ≡ 1 ∷ 2 ∷ []) (λ c. c ≡ 1 ∷ []) }
+    ensures not_follows { Follows (Cut 1) (λ c. c ≡ 1 ∷ 2 ∷ []) (λ c. c ≡ []) → ⊥ }
+{}
+
+/// Time goes on by one call. It neither forgets what might have been left nor makes it up.
+pub fn time()
+    ensures goes_on { Elapses 0 1 (left_after_some [] []) (left_after_some [] (Write 0 (1 ∷ []) ∷ []))
+        (left_after [] (Write 0 (1 ∷ []) ∷ [])) }
+    ensures back { Elapses 1 0 (λ _ c. c ≡ []) (λ _ c. c ≡ []) (λ c. c ≡ []) → ⊥ }
+    ensures forgets { Elapses 0 0 (λ _ c. c ≡ []) (λ _ _. ⊥) (λ c. c ≡ []) → ⊥ }
+    ensures makes_up { Elapses 0 0 (λ _ _. ⊥) (λ _ c. c ≡ []) (λ _. ⊥) → ⊥ }
+{}
+
+/// A disk, here the number of its moment, whose file was always empty.
+pub fn each_moment()
+    ensures leaves { LeavesOnly (λ (n : ℕ). n) (λ _ _ c. c ≡ []) 0 1 (λ c. c ≡ []) }
+    ensures not_leaves { LeavesOnly (λ (n : ℕ). n) (λ _ _ c. c ≡ []) 0 1 (λ c. c ≡ 1 ∷ []) → ⊥ }
+{}
+
+/// What a log answers where its disk failed, and where memory was wanted; a record that stands, and one that does not.
+pub fn logged()
+    ensures failed { ByFault (DiskFault 3) (λ n. n ≡ 3) ⊥ × (ByFault (DiskFault 3) (λ n. n ≡ 4) (Unit {0}) → ⊥) }
+    ensures wanted { ByFault Memory (λ _. ⊥) (Unit {0}) × (ByFault Memory (λ _. Unit {0}) ⊥ → ⊥) }
+    ensures with { WithOrWithout (λ rs. rs ≡ (1 ∷ []) ∷ []) [] (1 ∷ []) }
+    ensures without { WithOrWithout (λ rs. rs ≡ []) [] (1 ∷ []) }
+    ensures other { WithOrWithout (λ rs. rs ≡ (2 ∷ []) ∷ []) [] (1 ∷ []) → ⊥ }
+{}
+
+/// A write and a sync stay. A write without a sync leaves any bytes in its range and nothing elsewhere, and a cut without
+/// one any length between.
+pub fn crashes()
+    ensures replayed { replayed (1 ∷ 2 ∷ 3 ∷ []) (Write 1 (9 ∷ []) ∷ CutTo 2 ∷ Sync ∷ []) ≡ 1 ∷ 9 ∷ [] }
+    ensures synced { Only (1 ∷ 9 ∷ 3 ∷ []) (left_after (1 ∷ 2 ∷ 3 ∷ []) (Write 1 (9 ∷ []) ∷ Sync ∷ [])) }
+    ensures stays { left_after (1 ∷ 2 ∷ 3 ∷ []) (Write 1 (9 ∷ []) ∷ Sync ∷ []) (1 ∷ 9 ∷ 3 ∷ []) }
+    ensures any_byte { left_after (1 ∷ 2 ∷ 3 ∷ []) (Write 1 (9 ∷ []) ∷ []) (1 ∷ 7 ∷ 3 ∷ []) }
+    ensures elsewhere { left_after (1 ∷ 2 ∷ 3 ∷ []) (Write 1 (9 ∷ []) ∷ []) (1 ∷ 9 ∷ 4 ∷ []) → ⊥ }
+    ensures any_length { left_after (1 ∷ 2 ∷ 3 ∷ []) (CutTo 1 ∷ []) (1 ∷ 2 ∷ []) }
+    ensures no_other { left_after (1 ∷ 2 ∷ 3 ∷ []) (CutTo 1 ∷ []) (1 ∷ 9 ∷ []) → ⊥ }
 {}

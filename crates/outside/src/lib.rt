@@ -7,6 +7,7 @@ pub mod clock;
 pub mod disk;
 pub mod examples;
 pub mod gate;
+pub mod log;
 pub mod memory;
 pub mod spoken;
 pub mod standard;

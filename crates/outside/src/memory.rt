@@ -1,6 +1,8 @@
 //! The outside in memory, for tests and theorems. Each form does exactly what its clauses say, and fails at exactly the
 //! calls that its list names, or where it finds no memory.
 mod acceptor;
+mod call;
+mod calls;
 mod clock;
 mod disk;
 mod gate;
@@ -10,6 +12,7 @@ mod sink;
 mod source;
 
 pub use acceptor::MemAcceptor;
+pub use call::{Call, Piece};
 pub use clock::FixedClock;
 pub use disk::MemDisk;
 pub use gate::OpenGate;

@@ -1,12 +1,15 @@
-//! The outside over the standard library: any reader and any writer, such as the process's own streams, and the
-//! system's clock.
+//! The outside over the standard library: any reader and any writer, such as the process's own streams, files as
+//! disks, and the system's clock.
 ghost use Rattle.std.specs.Prelude.{◌≡◌, ℕ, ◌<◌, ◌≤◌, [], length, take, false, IfOk, OnOk, OnErr};
 ghost use Rattle.std.specs.Io.KnownBytes.{Consumes, Appends, IsAtEnd, Keeps};
 ghost use Rattle.outside.specs.Causes.{Rose};
 ghost use Rattle.outside.specs.Plan.{next_count};
 
+mod file;
+
 use crate::clock::Clock;
 use crate::streams::{Failed, Sink, Source};
+pub use file::FileDisk;
 use std::io::{Read, Write};
 use std::rt;
 use std::time::{SystemTime, UNIX_EPOCH};

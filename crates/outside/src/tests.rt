@@ -4,12 +4,15 @@ ghost use Rattle.std.specs.Prelude.{◌≡◌, IfOk};
 use crate::clock::Clock;
 use crate::disk::Disk;
 use crate::gate::{Gate, Place};
-use crate::memory::{FixedClock, MemAcceptor, MemDisk, MemLink, MemSink, MemSource, OpenGate};
-use crate::standard::{StdSink, StdSource, WallClock};
+use crate::memory::{
+    Call, FixedClock, MemAcceptor, MemDisk, MemLink, MemSink, MemSource, OpenGate,
+};
+use crate::standard::{FileDisk, StdSink, StdSource, WallClock};
 use crate::streams::{Acceptor, Failed, Sink, Source};
 use std::io::{self, ErrorKind, Read, Write};
-use std::process::Abort;
+use std::process::{self, Abort};
 use std::test::Fail;
+use std::{env, fs};
 
 type Answer = Result<usize, Failed>;
 
@@ -129,15 +132,107 @@ fn disk_calls(rt: HostRuntime) -> Result<(), Fail> {
     Ok(())
 }
 
+/// Number of the call that fails, the answers of five calls, and how many of them are listed.
+const DISK_FAULTS: [(u64, [bool; 5], usize); 6] = [
+    (9, [true, true, true, true, true], 3),
+    (0, [false, true, true, true, true], 3),
+    (1, [true, false, true, true, true], 3),
+    (2, [true, true, false, true, true], 2),
+    (3, [true, true, true, false, true], 2),
+    (4, [true, true, true, true, false], 2),
+];
+
 #[test]
-fn disk_lengths(rt: HostRuntime) -> Result<(), Fail> {
+fn disk_faults(rt: HostRuntime) -> Result<(), Fail> {
+    let alloc = rt.alloc();
+    for (failing, answers, listed) in DISK_FAULTS {
+        let mut disk = MemDisk::new(Vec::from_slice(alloc, b"abcd")?, vec![in alloc; failing]?);
+        let calls = [
+            disk.len().is_ok(),
+            disk.read(0, &mut [0; 2]).is_ok(),
+            disk.write_at(1, b"x").is_ok(),
+            disk.cut(3).is_ok(),
+            disk.sync().is_ok(),
+        ];
+        assert_eq!(rt; calls, answers);
+        assert_eq!(rt; disk.calls().len(), listed);
+        assert_eq!(rt; disk.faults(), if failing < 5 { 1 } else { 0 });
+    }
+    Ok(())
+}
+
+/// The calls, made once more on the bytes that they began on, give the bytes of the disk.
+fn replays(rt: &impl Abort, disk: &MemDisk, again: &mut MemDisk) {
+    for call in disk.calls() {
+        let done = match call {
+            Call::Write { at, piece } => again.write_at(*at, piece.as_slice()),
+            Call::Cut { len } => again.cut(*len),
+            Call::Sync => again.sync(),
+        };
+        assert_eq!(rt; done, Ok(()));
+    }
+    assert_eq!(rt; again.bytes(), disk.bytes());
+}
+
+#[test]
+fn disk_lists_calls(rt: HostRuntime) -> Result<(), Fail> {
     let alloc = rt.alloc();
     let mut disk = MemDisk::new(Vec::from_slice(alloc, b"abcd")?, vec![in alloc; 2]?);
-    for (call, len) in [(Ok(()), Ok(3)), (Err(Failed), Ok(3))] {
-        assert_eq!(rt; disk.cut(3), call);
-        assert_eq!(rt; disk.len(), len);
-    }
+    disk.make_room(1)?;
+    assert_eq!(rt; disk.write_at(5, b"x"), Ok(()));
+    assert_eq!(rt; disk.cut(3), Ok(()));
+    assert_eq!(rt; disk.write_at(0, b"y"), Err(Failed));
+    assert_eq!(rt; disk.len(), Ok(3));
     assert_eq!(rt; disk.sync(), Ok(()));
+    match disk.calls() {
+        [Call::Write { at, piece }, Call::Cut { len }, Call::Sync] => {
+            assert_eq!(rt; (*at, *len), (5, 3));
+            assert_eq!(rt; piece.as_slice(), b"x".as_slice());
+        }
+        _ => assert!(rt; false),
+    }
+    let mut again = MemDisk::new(Vec::from_slice(alloc, b"abcd")?, vec![in alloc]?);
+    replays(&rt, &disk, &mut again);
+    Ok(())
+}
+
+/// Each call of a disk over a new file.
+fn file_calls(rt: &impl Abort, disk: &mut impl Disk) {
+    assert_eq!(rt; disk.write_at(1, b"bcd"), Ok(()));
+    assert_eq!(rt; disk.sync(), Ok(()));
+    assert_eq!(rt; disk.len(), Ok(4));
+    for (len, left) in [(3, 3), (9, 3)] {
+        assert_eq!(rt; disk.cut(len), Ok(()));
+        assert_eq!(rt; disk.len(), Ok(left));
+    }
+    let mut buf = [7u8; 4];
+    assert_eq!(rt; disk.read(1, &mut buf), Ok(2));
+    assert_eq!(rt; buf, [b'b', b'c', 7, 7]);
+    assert_eq!(rt; disk.read(3, &mut buf), Ok(0));
+    assert_eq!(rt; disk.faults(), 0);
+}
+
+#[test]
+fn file_disks(rt: HostRuntime) -> Result<(), Fail> {
+    let alloc = rt.alloc();
+    let name = format!(in alloc; "outside-{}", process::id(rt.process()))?;
+    let folder = env::temp_dir(&rt)?.join(alloc, name.as_str())?;
+    fs::create_dir(&rt, folder.as_path())?;
+    let path = format!(in alloc; "{}/disk", folder.display())?;
+    file_calls(&rt, &mut FileDisk::new(rt, path));
+
+    // The file is there again for another disk.
+    let path = format!(in alloc; "{}/disk", folder.display())?;
+    assert_eq!(rt; FileDisk::new(rt, path).len(), Ok(3));
+
+    // In a folder that is not there each call fails.
+    let path = format!(in alloc; "{}/none/disk", folder.display())?;
+    let mut disk = FileDisk::new(rt, path);
+    for faults in [1, 2] {
+        assert_eq!(rt; disk.sync(), Err(Failed));
+        assert_eq!(rt; disk.faults(), faults);
+    }
+    fs::remove_dir_all(&rt, folder.as_path())?;
     Ok(())
 }
 

@@ -1,0 +1,58 @@
+-- Which records stand in the file of a journal (own format). A record is a gate, its length in 8 bytes, little-endian,
+-- and its bytes; the gate of the next record follows. A gate is open where it is 01 and not the file's last byte.
+use Rattle.std.specs.Prelude.{◌≡◌, ◌≢◌, ◌⊎◌, ℕ, ◌<◌, ◌^◌, List, [], ◌∷◌, ◌++◌, length}
+use Rattle.std.specs.Int.{w64, to_le_bytes}
+use Rattle.std.specs.List.{AllByRecursion}
+
+-- the length and the bytes of a record
+abbrev pub body : List ℕ → List ℕ
+body bytes = to_le_bytes w64 (length bytes) ++ bytes
+
+-- records whose gates are open
+abbrev pub blocks : List (List ℕ) → List ℕ
+blocks [] = []
+blocks (r ∷ records) = 1 ∷ body r ++ blocks records
+
+-- the gate that these bytes begin with is not open
+abbrev pub IsShut : List ℕ → Type 0
+IsShut [] = ⊥
+IsShut (gate ∷ []) = Unit {0}
+IsShut (gate ∷ b ∷ rest) = gate ≢ 1
+
+-- lengths that 8 bytes can tell
+abbrev pub Fit : List (List ℕ) → Type 0
+Fit records = AllByRecursion (λ r. length r < 2 ^ 64) records
+
+-- These are the records of the file: those from the front whose gates are open. An empty file has none.
+pub record Stands (file : List ℕ) (records : List (List ℕ)) : Type 0 where
+  pub rest : List ℕ
+  pub fits : Fit records
+  pub split : file ≡ blocks records ++ rest
+  pub shut : IsShut rest ⊎ (file ≡ [])
+
+-- the bytes behind an open gate begin with a record and the next gate
+pub record BeginsRecord (rest : List ℕ) : Type 0 where
+  pub bytes : List ℕ
+  pub gate : ℕ
+  pub behind : List ℕ
+  pub fits : length bytes < 2 ^ 64
+  pub split : rest ≡ body bytes ++ gate ∷ behind
+
+-- Damage at a place: an open gate stands there, and no record behind it that ends before the file's last byte.
+pub record IsDamaged (file : List ℕ) (place : ℕ) : Type 0 where
+  pub records : List (List ℕ)
+  pub gate : ℕ
+  pub rest : List ℕ
+  pub fits : Fit records
+  pub split : file ≡ blocks records ++ gate ∷ rest
+  pub open_gate : ¬ IsShut (gate ∷ rest)
+  pub no_record : ¬ BeginsRecord rest
+  pub at : place ≡ length (blocks records)
+
+-- the file has just these records, with or without one more
+abbrev pub StandsWithOrWithout : List (List ℕ) → List ℕ → List ℕ → Type 0
+StandsWithOrWithout records bytes file = Stands file records ⊎ Stands file (records ++ bytes ∷ [])
+
+-- the same records stand in both files
+abbrev pub HaveSameRecords : List ℕ → List ℕ → Type 0
+HaveSameRecords file other = (records : List (List ℕ)) × Stands file records × Stands other records

@@ -1,0 +1,22 @@
+-- What an opening answers.
+use Rattle.std.specs.Prelude.{ℕ, Result, Ok, Err}
+use Rattle.journal_frames.specs.Views.{JournalView}
+use Rattle.journal_frames.specs.declared.journal.OpenFault.{OpenFault}
+use Rattle.journal_frames.specs.declared.journal.OpenFault.TheVariants.{Disk, Damaged, Memory}
+
+-- the disk that an opening kept or handed back
+abbrev pub disk_left : {D : Type 0} → Result (JournalView D) (OpenFault D) → D
+disk_left (Ok journal) = journal.disk
+disk_left (Err (Disk disk)) = disk
+disk_left (Err (Damaged place disk)) = disk
+disk_left (Err (Memory disk)) = disk
+
+-- where the disk failed
+abbrev pub IfDiskFailed : {D : Type 0} → Result (JournalView D) (OpenFault D) → Type 0 → Type 0
+IfDiskFailed (Err (Disk disk)) failed = failed
+IfDiskFailed result failed = Unit {0}
+
+-- where the file is damaged, at a place
+abbrev pub IfDamaged : {D : Type 0} → Result (JournalView D) (OpenFault D) → (ℕ → Type 0) → Type 0
+IfDamaged (Err (Damaged place disk)) damaged = damaged place
+IfDamaged result damaged = Unit {0}

@@ -1,0 +1,48 @@
+-- What contracts see of a journal.
+use Rattle.std.specs.Prelude.{◌≡◌, ℕ, ◌<◌, ◌^◌, List, [], ◌∷◌, ◌++◌, length, Bool, IsTrue, refl}
+use Rattle.std.specs.Coded.{Coded, code_by, coded×, coded_list, coded_ℕ, coded_bool}
+use Rattle.outside.specs.Disks.{LeavesOnly, Only, Outcomes, Within}
+use Rattle.journal_frames.specs.Files.{Fit, Stands, blocks, body}
+
+-- a disk with the records that stand on it, and whether more can be appended
+pub record JournalView (D : Type 0) : Type 0 where
+  pub disk : D
+  pub records : List (List ℕ)
+  pub is_open : Bool
+
+abbrev pub journal_code : {D : Type 0} → Coded D → Coded (JournalView D)
+journal_code {D} code =
+    code_by (D × (List (List ℕ) × Bool)) (coded× code (coded× (coded_list (coded_list coded_ℕ)) coded_bool))
+    (λ j. (j.disk, (j.records, j.is_open))) (λ p. record { disk = p.0; records = p.1.0; is_open = p.1.1 }) (λ _. refl)
+
+-- open records and a closed gate
+abbrev pub at_rest : List (List ℕ) → List ℕ
+at_rest records = blocks records ++ 0 ∷ []
+
+-- The journal is open: its file is at rest and all of it is on the disk, where the disk tells it, and `end` is the
+-- place of the closed gate.
+pub record IsAtRest (tells : Bool) (content : List ℕ) (may_leave : Outcomes) (records : List (List ℕ)) (end : ℕ) : Type 0 where
+  pub size : end ≡ length (blocks records)
+  pub fits : Fit records
+  pub file : IsTrue tells → content ≡ at_rest records
+  pub durable : IsTrue tells → Only (at_rest records) may_leave
+
+-- A record can be put behind those that stand: the piece is its length, its bytes and a closed gate.
+pub record IsReady (tells : Bool) (content : List ℕ) (may_leave : Outcomes) (records : List (List ℕ)) (end : ℕ) (bytes piece : List ℕ) : Type 0 where
+  pub rest : IsAtRest tells content may_leave records end
+  pub fits : length bytes < 2 ^ 64
+  pub piece_is : piece ≡ body bytes ++ 0 ∷ []
+
+-- These records were found in the file, all of which is on the disk, and `end` is the place of the first gate that is not
+-- open.
+pub record IsFound (tells : Bool) (content : List ℕ) (may_leave : Outcomes) (records : List (List ℕ)) (end : ℕ) : Type 0 where
+  pub size : end ≡ length (blocks records)
+  pub fits : Fit records
+  pub stands : IsTrue tells → Stands content records
+  pub durable : IsTrue tells → Only content may_leave
+
+-- Calls that only read: the file is as before, and a crash at any moment leaves what it might have left before.
+pub record IsUndisturbed {D : Type 0} (content : D → List ℕ) (may_leave : D → Outcomes) (moment : D → ℕ) (left_since : D → ℕ → Outcomes) (old new : D) : Type 0 where
+  pub same : content new ≡ content old
+  pub crash : Within (may_leave old) (may_leave new)
+  pub any_moment : LeavesOnly moment left_since old new (may_leave old)

@@ -1,0 +1,18 @@
+//! The laws of the format.
+ghost use Rattle.std.specs.Prelude.{◌≡◌, ℕ, ◌++◌, ◌∷◌, [], List};
+ghost use Rattle.journal_frames.specs.Files.{Fit, IsDamaged, Stands, blocks, body};
+
+/// A file has one reading: one list of records, or damage at one place, and not both.
+pub fn one_reading()
+    ensures records { (file : List ℕ) (records others : List (List ℕ)) → Stands file records → Stands file others → records ≡ others }
+    ensures damage { (file : List ℕ) (place other : ℕ) → IsDamaged file place → IsDamaged file other → place ≡ other }
+    ensures apart { (file : List ℕ) (records : List (List ℕ)) (place : ℕ) → Stands file records → IsDamaged file place → ⊥ }
+{}
+
+/// Worked files: an empty one, one with a closed gate, one with a record of the byte 7, and one that ends in a record.
+pub fn worked_files()
+    ensures empty { Stands [] [] × (Stands [] ([] ∷ []) → ⊥) }
+    ensures closed { Stands (0 ∷ []) [] × (IsDamaged (0 ∷ []) 0 → ⊥) }
+    ensures one { Stands (1 ∷ 1 ∷ 0 ∷ 0 ∷ 0 ∷ 0 ∷ 0 ∷ 0 ∷ 0 ∷ 7 ∷ 0 ∷ []) ((7 ∷ []) ∷ []) }
+    ensures cut_short { IsDamaged (1 ∷ 1 ∷ 0 ∷ 0 ∷ 0 ∷ 0 ∷ 0 ∷ 0 ∷ 0 ∷ 7 ∷ []) 0 }
+{}

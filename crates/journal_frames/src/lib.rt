@@ -1,0 +1,14 @@
+//! The journal of a node: a row of records on a disk, which a crash at any moment leaves whole, with or without the
+//! newest. A record is a gate, its length and its bytes; the gate is opened once the rest is on the disk.
+#![tactic(auto)]
+
+mod journal;
+pub mod laws;
+mod loading;
+mod putting;
+mod scanning;
+mod synced;
+#[cfg(test)]
+mod tests;
+
+pub use journal::{Journal, OpenFault};

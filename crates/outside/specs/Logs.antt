@@ -1,0 +1,13 @@
+-- What a log answers.
+use Rattle.std.specs.Prelude.{ℕ, List, ◌⊎◌, ◌++◌, ◌∷◌, []}
+use Rattle.outside.specs.declared.log.LogFault.{LogFault}
+use Rattle.outside.specs.declared.log.LogFault.TheVariants.{Disk, Memory}
+
+-- one thing holds where a disk failed, with its count of faults, and another where memory was wanted
+abbrev pub ByFault : LogFault → (ℕ → Type 0) → Type 0 → Type 0
+ByFault (Disk faults) failed wanted = failed faults
+ByFault Memory failed wanted = wanted
+
+-- these records, or these with one more
+abbrev pub WithOrWithout : (List (List ℕ) → Type 0) → List (List ℕ) → List ℕ → Type 0
+WithOrWithout holds records record' = holds records ⊎ holds (records ++ record' ∷ [])

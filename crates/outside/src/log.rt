@@ -1,0 +1,98 @@
+//! A row of records that stay.
+ghost use Rattle.std.specs.Prelude.{◌≡◌, ℕ, ◌≤◌, ◌++◌, ◌∷◌, [], List, take, IsTrue, Bool, OnOk, IfErr, OnErr};
+ghost use Rattle.outside.specs.Causes.{Rose};
+ghost use Rattle.outside.specs.Logs.{ByFault, WithOrWithout};
+
+use bson_values::{Blob, Memory};
+use std::alloc::Global;
+use std::marker::Model;
+
+/// Why a record was not appended.
+#[derive(Clone, Copy, Debug, PartialEq, Eq)]
+pub enum LogFault {
+    /// The disk failed; its count of faults is shown. The record may stand or not, and the log must be opened again.
+    Disk { faults: u64 },
+    /// Want of memory: the log is as it was.
+    Memory,
+}
+
+/// A row of records, to which records are appended for good.
+pub trait Log {
+    // The records, in order.
+    ghost records: { Self → List (List ℕ) };
+
+    // Whether records can be appended. After a fault of the disk the log must be opened again.
+    ghost is_open: { Self → Bool };
+
+    // Whether an opening of the log would find these records.
+    ghost holds: { Self → List (List ℕ) → Type 0 };
+
+    // How many faults the log's disk met.
+    ghost fault_count: { Self → ℕ };
+
+    /// Appends a record. After it, the record stays over every crash.
+    ///
+    /// # Errors
+    /// - `LogFault::Disk` only if the disk met a fault: then the record stands or it doesn't.
+    /// - `LogFault::Memory` for want of memory: nothing changed, and nothing was written.
+    fn append(&mut self, bytes: &[u8]) -> Result<(), LogFault>
+        requires { IsTrue (is_open self.old) }
+        ensures appended { OnOk result (records self.new ≡ records self.old ++ bytes.now ∷ []) }
+        ensures open { OnOk result (IsTrue (is_open self.new)) }
+        ensures kept { OnOk result (holds self.new (records self.new)) }
+        ensures failed { IfErr result (λ e. ByFault e
+            (λ faults. WithOrWithout (holds self.new) (records self.old) bytes.now)
+            (self.new ≡ self.old)) }
+        ensures cause { IfErr result (λ e. ByFault e
+            (λ faults. (faults ≡ fault_count self.new) × Rose (fault_count self.old) (fault_count self.new))
+            (Unit {0})) }
+        ensures later { fault_count self.old ≤ fault_count self.new };
+}
+
+/// A row of records in memory, in order.
+#[derive(Drop)]
+pub struct RecordList {
+    items: Vec<Blob>,
+}
+
+impl Model for RecordList {
+    ghost use Rattle.std.specs.Prelude.{List, ℕ};
+
+    ghost Value = { List (List ℕ) };
+
+    ghost view = { λ l. l.items.items };
+}
+
+impl RecordList {
+    /// No record.
+    pub fn new(alloc: Global) -> RecordList
+        ensures { result ≡ [] }
+    {
+        RecordList {
+            items: Vec::new(alloc),
+        }
+    }
+
+    /// The records, in order.
+    pub fn as_slice(&self) -> &[Blob]
+        ensures { result.now ≡ self.now }
+    {
+        self.items.as_slice()
+    }
+
+    /// Puts a record behind the others. Fails for want of memory, and then changes nothing.
+    pub fn push(&mut self, bytes: Blob) -> Result<(), Memory>
+        ensures ok { OnOk result (self.new ≡ self.old ++ bytes ∷ []) }
+        ensures err { OnErr result (self.new ≡ self.old) }
+    {
+        self.items.push(bytes)?;
+        Ok(())
+    }
+
+    /// Leaves the first `count` records and drops the others.
+    pub fn truncate(&mut self, count: usize)
+        ensures { self.new ≡ take count self.old }
+    {
+        self.items.truncate(count);
+    }
+}

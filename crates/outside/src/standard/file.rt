@@ -1,0 +1,207 @@
+//! A disk over a file of the system.
+ghost use Rattle.std.specs.Prelude.{◌≡◌, ◌≤◌, [], length, false, Ok, IfOk, OnOk, OnErr};
+ghost use Rattle.outside.specs.Causes.{Rose};
+ghost use Rattle.outside.specs.Plan.{next_count};
+
+use crate::disk::Disk;
+use crate::streams::Failed;
+use std::fs::{File, Files, OpenFile, OpenOptions};
+use std::io;
+use std::io::{Read, Seek, SeekFrom, Write};
+use std::path::Path;
+
+/// A disk over a file, which is opened at the disk's first call, and made if it is not there. It counts the errors that
+/// it meets, and tells no bytes. A file that can't be opened is an error of each call.
+#[derive(Drop)]
+pub struct FileDisk<R: Files + Drop> {
+    file: LazyFile<R>,
+    faults: u64,
+}
+
+impl<R: Files + Drop> FileDisk<R> {
+    /// A disk over the file of this path, with no error met.
+    pub fn new(rt: R, path: String) -> FileDisk<R>
+        ensures { result.faults ≡ 0 }
+    {
+        let file = LazyFile {
+            runtime: rt,
+            path,
+            file: None,
+        };
+        FileDisk { file, faults: 0 }
+    }
+
+    /// The answer of a call, whose error is counted.
+    fn counted<T: Drop>(&mut self, answer: io::Result<T>) -> Result<T, Failed>
+        ensures same { IfOk result (λ x. answer ≡ Ok x) }
+        ensures fault { OnErr result (self.new.faults ≡ next_count self.old.faults) }
+        ensures calm { OnOk result (self.new.faults ≡ self.old.faults) }
+        ensures later { self.old.faults ≤ self.new.faults }
+    {
+        match answer {
+            Ok(x) => Ok(x),
+            Err(_) => {
+                self.faults = self.faults.saturating_add(1);
+                Err(Failed)
+            }
+        }
+    }
+}
+
+impl<R: Files + Drop> Disk for FileDisk<R> {
+    ghost tells = { false };
+
+    ghost content = { λ _. [] };
+
+    ghost may_leave = { λ _ _. Unit {0} };
+
+    ghost moment = { λ _. 0 };
+
+    ghost left_since = { λ _ _ _. Unit {0} };
+
+    ghost fault_count = { λ d. d.faults };
+
+    ghost counts_now = { λ _ _ _ _ _. tt };
+
+    ghost only_now = { λ _ _ _. tt };
+
+    fn len(&mut self) -> Result<u64, Failed>
+        ensures cause { OnErr result (Rose self.old.faults self.new.faults) }
+        ensures later { self.old.faults ≤ self.new.faults }
+
+        // An error is counted, and nothing else is.
+        ensures fault { OnErr result (self.new.faults ≡ next_count self.old.faults) }
+        ensures calm { OnOk result (self.new.faults ≡ self.old.faults) }
+    {
+        let answer = self.file.len();
+        self.counted(answer)
+    }
+
+    fn read(&mut self, at: u64, buf: &mut [u8]) -> Result<usize, Failed>
+        ensures count { IfOk result (λ n. n ≤ length buf.old) }
+        ensures len { length buf.new ≡ length buf.old }
+        ensures cause { OnErr result (Rose self.old.faults self.new.faults) }
+        ensures later { self.old.faults ≤ self.new.faults }
+
+        // An error is counted, and nothing else is.
+        ensures fault { OnErr result (self.new.faults ≡ next_count self.old.faults) }
+        ensures calm { OnOk result (self.new.faults ≡ self.old.faults) }
+    {
+        let answer = self.file.read(at, buf);
+        self.counted(answer)
+    }
+
+    fn write_at(&mut self, at: u64, piece: &[u8]) -> Result<(), Failed>
+        ensures cause { OnErr result (Rose self.old.faults self.new.faults) }
+        ensures later { self.old.faults ≤ self.new.faults }
+
+        // An error is counted, and nothing else is.
+        ensures fault { OnErr result (self.new.faults ≡ next_count self.old.faults) }
+        ensures calm { OnOk result (self.new.faults ≡ self.old.faults) }
+    {
+        let answer = self.file.write_at(at, piece);
+        self.counted(answer)
+    }
+
+    fn cut(&mut self, len: u64) -> Result<(), Failed>
+        ensures cause { OnErr result (Rose self.old.faults self.new.faults) }
+        ensures later { self.old.faults ≤ self.new.faults }
+
+        // An error is counted, and nothing else is.
+        ensures fault { OnErr result (self.new.faults ≡ next_count self.old.faults) }
+        ensures calm { OnOk result (self.new.faults ≡ self.old.faults) }
+    {
+        let answer = self.file.cut(len);
+        self.counted(answer)
+    }
+
+    fn sync(&mut self) -> Result<(), Failed>
+        ensures cause { OnErr result (Rose self.old.faults self.new.faults) }
+        ensures later { self.old.faults ≤ self.new.faults }
+
+        // An error is counted, and nothing else is.
+        ensures fault { OnErr result (self.new.faults ≡ next_count self.old.faults) }
+        ensures calm { OnOk result (self.new.faults ≡ self.old.faults) }
+    {
+        let answer = self.file.sync();
+        self.counted(answer)
+    }
+
+    fn faults(&self) -> u64
+        ensures { result ≡ self.now.faults }
+    {
+        self.faults
+    }
+}
+
+/// A file that is opened where it is first used.
+#[derive(Drop)]
+struct LazyFile<R: Files + Drop> {
+    runtime: R,
+    path: String,
+    file: Option<R::File>,
+}
+
+impl<R: Files + Drop> LazyFile<R> {
+    /// The open file. Where it was not open, it is opened, or made, and its folder is synced, so that its name stays.
+    fn open(&mut self) -> io::Result<&mut R::File> {
+        if self.file.is_none() {
+            let path = self.path.as_str();
+            let file = OpenOptions::new()
+                .read(true)
+                .write(true)
+                .create(true)
+                .open(&self.runtime, path)?;
+            File::open(&self.runtime, folder_of(path))?.sync_all()?;
+            self.file = Some(file);
+        }
+        match &mut self.file {
+            Some(file) => Ok(file),
+            None => unreachable!(),
+        }
+    }
+
+    /// The file's length in bytes.
+    fn len(&mut self) -> io::Result<u64> {
+        Ok(self.open()?.metadata()?.len())
+    }
+
+    /// Reads bytes from the place `at` on into the front of `buf`, and gives their number.
+    fn read(&mut self, at: u64, buf: &mut [u8]) -> io::Result<usize>
+        ensures count { IfOk result (λ n. n ≤ length buf.old) }
+        ensures len { length buf.new ≡ length buf.old }
+    {
+        let file = self.open()?;
+        file.seek(SeekFrom::Start(at))?;
+        file.read(buf)
+    }
+
+    /// Writes the piece from the place `at` on.
+    fn write_at(&mut self, at: u64, piece: &[u8]) -> io::Result<()> {
+        let file = self.open()?;
+        file.seek(SeekFrom::Start(at))?;
+        file.write_all(piece)
+    }
+
+    /// Cuts the file to `len` bytes, if it is longer.
+    fn cut(&mut self, len: u64) -> io::Result<()> {
+        let file = self.open()?;
+        if len < file.metadata()?.len() {
+            file.set_len(len)?;
+        }
+        Ok(())
+    }
+
+    /// Makes the file stay as it is.
+    fn sync(&mut self) -> io::Result<()> {
+        self.open()?.sync_all()
+    }
+}
+
+/// The folder that the file of this path stands in.
+fn folder_of(path: &str) -> Path<'_> {
+    match Path::new(path).parent() {
+        Some(folder) if !folder.as_str().is_empty() => folder,
+        _ => Path::new("."),
+    }
+}
