@@ -1,10 +1,9 @@
 -- The length and the bytes of a record.
-use Rattle.std.proofs.Common.{◌≡◌, ℕ, ◌+◌, ◌-◌, ◌<◌, ◌≤◌, ◌^◌, List, [], ◌∷◌, ◌++◌, length, take, drop, refl, sym, ◌∙◌, ap, subst, arith, append_assoc, length-append, take-append-drop}
-use Rattle.std.proofs.lemmas.List.{take_at, drop_at}
-use Rattle.std.proofs.lemmas.Nat.{from_le_bytes-to_le_bytes_8, le_bytes_8}
+use Rattle.std.proofs.Common.{◌≡◌, ℕ, ◌+◌, ◌<◌, ◌≤◌, List, ◌∷◌, ◌++◌, length, take, refl, ◌∙◌, ap, arith, append_assoc, length-append}
+use Rattle.std.proofs.lemmas.List.{take_at}
+use Rattle.std.proofs.lemmas.Nat.{from_le_bytes-to_le_bytes_8}
 use Rattle.std.specs.Int.{w64, to_le_bytes, from_le_bytes}
 use Rattle.journal_frames.specs.Files.{BeginsRecord, body}
-use Rattle.journal_frames.specs.Scan.{IsBody}
 
 length_bytes : (n : ℕ) → length (to_le_bytes w64 n) ≡ 8
 length_bytes n = refl
@@ -16,9 +15,10 @@ length-body bytes = length-append (to_le_bytes w64 (length bytes)) bytes
 stated : (rest : List ℕ) → (b : BeginsRecord rest) → (from_le_bytes w64 (take 8 rest) ≡ length b.bytes) × (length rest ≡ 9 + length b.bytes + length b.behind)
 stated rest b =
     let whole : rest ≡ to_le_bytes w64 (length b.bytes) ++ (b.bytes ++ b.gate ∷ b.behind) = b.split ∙ append_assoc (to_le_bytes w64 (length b.bytes)) b.bytes (b.gate ∷ b.behind) in
-    let front : take 8 rest ≡ to_le_bytes w64 (length b.bytes) = ap (λ (l : List ℕ). take 8 l) whole ∙ take_at (to_le_bytes w64 (length b.bytes)) (b.bytes ++ b.gate ∷ b.behind) 8 (length_bytes (length b.bytes)) in
-    (ap (λ (l : List ℕ). from_le_bytes w64 l) front ∙ from_le_bytes-to_le_bytes_8 (length b.bytes) b.fits,
-      ap length b.split ∙ omega (arith, length-append (body b.bytes) (b.gate ∷ b.behind), length-body b.bytes))
+    let front : take 8 rest ≡ to_le_bytes w64 (length b.bytes) = ap (λ (l : List ℕ). take 8 l) whole ∙ take_at (to_le_bytes w64 (length b.bytes)) (b.bytes ++ b.gate ∷ b.behind) 8 (length_bytes (length b.bytes)) in (
+      ap (λ (l : List ℕ). from_le_bytes w64 l) front ∙ from_le_bytes-to_le_bytes_8 (length b.bytes) b.fits,
+      ap length b.split ∙ omega (arith, length-append (body b.bytes) (b.gate ∷ b.behind), length-body b.bytes),
+    )
 
 pub no_record_short : (rest : List ℕ) → length rest < 9 → ¬ BeginsRecord rest
 no_record_short rest short b = absurd (omega (arith, (stated rest b).1))

@@ -1,5 +1,5 @@
 -- The steps of closing the end of a file, over a disk.
-use Rattle.std.proofs.Common.{◌≡◌, ◌⊎◌, inl, inr, ⊎_elim, ℕ, zero, suc, ◌+◌, ◌-◌, ◌<◌, ◌≤◌, List, [], ◌∷◌, ◌++◌, length, take, drop, refl, sym, ◌∙◌, ap, subst, arith, length-append}
+use Rattle.std.proofs.Common.{◌≡◌, ◌⊎◌, inl, inr, ℕ, zero, suc, ◌+◌, ◌-◌, ◌<◌, ◌≤◌, List, [], ◌∷◌, ◌++◌, length, take, refl, sym, ◌∙◌, ap, subst, arith, length-append}
 use Rattle.outside.specs.Disks.{After, Cut, Holds, LeavesOnly, Only, Outcomes, Torn}
 use Rattle.journal_frames.specs.Files.{Fit, IsShut, Stands, blocks}
 use Rattle.journal_frames.specs.Views.{at_rest}

@@ -1,8 +1,8 @@
 -- A file that is read piece by piece.
-use Rattle.std.proofs.Common.{◌≡◌, ℕ, ◌+◌, ◌-◌, ◌<◌, ◌≤◌, List, [], ◌∷◌, ◌++◌, length, take, drop, refl, sym, ◌∙◌, ap, subst, arith, Bool, IsTrue, length-append}
+use Rattle.std.proofs.Common.{◌≡◌, ℕ, ◌+◌, ◌-◌, ◌≤◌, List, ◌++◌, length, take, drop, refl, sym, ◌∙◌, ap, arith, Bool, IsTrue, length-append}
 use Rattle.std.proofs.Math.Seq.{take-add, take-append-add}
 use Rattle.std.proofs.lemmas.List.{length-take, length-drop, length-take-le}
-use Rattle.outside.specs.Disks.{Elapses, LeavesOnly, Outcomes, Within}
+use Rattle.outside.specs.Disks.{Elapses, Outcomes, Within}
 use Rattle.journal_frames.specs.Views.{IsUndisturbed}
 use Rattle.journal_frames.proofs.Moments.{goes_on, started}
 
@@ -40,4 +40,3 @@ pub record IsReading (tells : Bool) {D : Type 0} (content : D → List ℕ) (may
   pub bytes : IsTrue tells → take at buf ≡ take at (content old)
   pub undisturbed : IsTrue tells → IsUndisturbed content may_leave moment left_since old disk
   pub later : faults old ≤ faults disk
-

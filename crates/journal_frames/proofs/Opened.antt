@@ -1,8 +1,8 @@
 -- What was found in a file that was loaded from a disk.
-use Rattle.std.proofs.Common.{◌≡◌, ◌⊎◌, inl, inr, ⊎_elim, ℕ, List, ◌++◌, ◌∷◌, [], length, Bool, true, false, IsTrue, refl, sym, ◌∙◌, subst}
+use Rattle.std.proofs.Common.{◌≡◌, ◌⊎◌, inl, inr, ⊎_elim, ℕ, List, length, Bool, true, false, IsTrue, refl, sym, ◌∙◌, subst}
 use Rattle.outside.specs.Disks.{LeavesOnly, Only, Outcomes}
 use Rattle.journal_frames.specs.Files.{HaveSameRecords, Stands, blocks}
-use Rattle.journal_frames.specs.Views.{IsAtRest, IsFound, IsUndisturbed, at_rest}
+use Rattle.journal_frames.specs.Views.{IsAtRest, IsFound, IsUndisturbed}
 use Rattle.journal_frames.proofs.Moments.{then_run, widened}
 use Rattle.journal_frames.proofs.Staged.{stands_last}
 use Rattle.journal_frames.proofs.Unique.{one_list}

@@ -1,5 +1,5 @@
 -- The two steps of putting a record, over a disk.
-use Rattle.std.proofs.Common.{◌≡◌, inl, inr, ℕ, ◌+◌, ◌<◌, ◌^◌, List, [], ◌∷◌, ◌++◌, length, sym, ◌∙◌, ap, subst, arith, length-append}
+use Rattle.std.proofs.Common.{◌≡◌, inl, ℕ, ◌+◌, ◌<◌, ◌^◌, List, [], ◌∷◌, ◌++◌, length, ◌∙◌, ap, subst, arith, length-append}
 use Rattle.outside.specs.Disks.{After, Holds, LeavesOnly, Only, Outcomes, Torn}
 use Rattle.journal_frames.specs.Files.{Fit, StandsWithOrWithout, blocks, body}
 use Rattle.journal_frames.specs.Views.{at_rest}

@@ -1,6 +1,6 @@
 -- The records that were found so far, and what is left of the file.
-use Rattle.std.proofs.Common.{◌≡◌, ◌⊎◌, inl, inr, ⊎_elim, ℕ, ◌+◌, ◌-◌, ◌<◌, ◌≤◌, ◌^◌, List, [], ◌∷◌, ◌++◌, length, refl, sym, ◌∙◌, ap, subst, arith, append_assoc, length-append}
-use Rattle.journal_frames.specs.Files.{BeginsRecord, Fit, IsDamaged, IsShut, Stands, blocks, body}
+use Rattle.std.proofs.Common.{◌≡◌, ◌⊎◌, inl, inr, ⊎_elim, ℕ, ◌-◌, ◌<◌, ◌^◌, List, [], ◌∷◌, ◌++◌, length, refl, sym, ◌∙◌, ap, arith, append_assoc, length-append}
+use Rattle.journal_frames.specs.Files.{Fit, IsDamaged, IsShut, Stands, blocks, body}
 use Rattle.journal_frames.specs.Scan.{IsBody, IsBroken}
 
 pub record IsScanned (file : List ℕ) (records : List (List ℕ)) (rest : List ℕ) : Type 0 where

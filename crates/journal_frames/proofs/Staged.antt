@@ -1,8 +1,8 @@
 -- What a crash leaves in each of the two steps of putting a record, and of closing the end.
-use Rattle.std.proofs.Common.{◌≡◌, ◌≢◌, ◌⊎◌, inl, inr, ⊎_elim, ℕ, ◌+◌, ◌-◌, ◌<◌, ◌≤◌, ◌^◌, min, List, [], ◌∷◌, ◌++◌, length, get_or, take, drop, refl, sym, ◌∙◌, ap, subst, arith, append_assoc, length-append, take-append-drop}
-use Rattle.std.proofs.lemmas.List.{take_at, drop_at, drop_more, take_all, take_min, drop_all, append-nil, length-take, length-drop, drop-drop}
+use Rattle.std.proofs.Common.{◌≡◌, ◌≢◌, inl, inr, ℕ, ◌+◌, ◌<◌, ◌≤◌, ◌^◌, min, List, [], ◌∷◌, ◌++◌, length, get_or, take, drop, refl, sym, ◌∙◌, ap, subst, arith, append_assoc, length-append, take-append-drop}
+use Rattle.std.proofs.lemmas.List.{take_at, drop_at, drop_more, take_all, drop_all, append-nil, drop-drop}
 use Rattle.std.proofs.lemmas.Bool.{cases_eq}
-use Rattle.outside.specs.Disks.{Cut, Holds, Torn}
+use Rattle.outside.specs.Disks.{Holds, Torn}
 use Rattle.journal_frames.specs.Files.{Fit, IsShut, Stands, StandsWithOrWithout, blocks, body}
 use Rattle.journal_frames.specs.Views.{at_rest}
 use Rattle.journal_frames.proofs.Scanned.{blocks-push, fit_push}
@@ -76,9 +76,10 @@ module _ (records : List (List ℕ)) (fits : Fit records) (end : ℕ) (size : en
       let long : length (blocks records ++ gate ∷ rest) ≡ end + 1 + length rest = omega (arith, size, length-append (blocks records) (gate ∷ rest)) in
       let some : min end (length (blocks records ++ gate ∷ rest)) ≡ end = omega (arith, long) in
       let front : take end c ≡ blocks records = subst (λ m. take m c ≡ take end (blocks records ++ gate ∷ rest)) some torn.before ∙ to_gate gate rest in
-      let more : drop end c ≡ get_or c end 0 ∷ drop (end + 1) c = drop_more c end 0 (omega (arith, torn.no_shorter, long)) in
-      (get_or c end 0,
-        sym (take-append-drop end c) ∙ ap (λ (l : List ℕ). l ++ drop end c) front ∙ ap (λ (l : List ℕ). blocks records ++ l) (more ∙ ap (λ (l : List ℕ). get_or c end 0 ∷ l) (torn.after ∙ from_gate gate rest)))
+      let more : drop end c ≡ get_or c end 0 ∷ drop (end + 1) c = drop_more c end 0 (omega (arith, torn.no_shorter, long)) in (
+        get_or c end 0,
+        sym (take-append-drop end c) ∙ ap (λ (l : List ℕ). l ++ drop end c) front ∙ ap (λ (l : List ℕ). blocks records ++ l) (more ∙ ap (λ (l : List ℕ). get_or c end 0 ∷ l) (torn.after ∙ from_gate gate rest)),
+      )
 
   pub held_at : (new gate : ℕ) (rest c : List ℕ) → Holds end (new ∷ []) (blocks records ++ gate ∷ rest) c → c ≡ blocks records ++ new ∷ rest
   held_at new gate rest c holds =

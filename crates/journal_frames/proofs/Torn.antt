@@ -1,5 +1,5 @@
 -- A write or a cut that was cut short.
-use Rattle.std.proofs.Common.{◌≡◌, ℕ, ◌+◌, ◌≤◌, min, max, List, ◌++◌, length, take, drop, refl, sym, ◌∙◌, ap, arith}
+use Rattle.std.proofs.Common.{◌≡◌, ℕ, ◌+◌, min, List, length, take, drop, refl, sym, ◌∙◌, ap, arith}
 use Rattle.std.proofs.lemmas.List.{take_all, take_min, length-take, length-drop}
 use Rattle.outside.specs.Disks.{After, Cut, Elapses, Follows, Holds, LeavesOnly, Outcomes, Torn, Within}
 use Rattle.journal_frames.proofs.Moments.{goes_on, started}

@@ -1,6 +1,6 @@
 -- Worked files.
-use Rattle.std.proofs.Common.{◌≡◌, ◌⊎◌, inl, inr, ℕ, ◌<◌, ◌^◌, List, [], ◌∷◌, ◌++◌, length, refl, sym, ◌∙◌, ap, arith}
-use Rattle.journal_frames.specs.Files.{IsDamaged, Stands, blocks, body}
+use Rattle.std.proofs.Common.{◌≡◌, inr, ℕ, List, [], ◌∷◌, refl, arith}
+use Rattle.journal_frames.specs.Files.{IsDamaged, Stands}
 use Rattle.journal_frames.proofs.Bodies.{no_record_long}
 use Rattle.journal_frames.proofs.Staged.{stands_last}
 use Rattle.journal_frames.proofs.Unique.{not_both, one_list}

@@ -1,5 +1,5 @@
 -- What a look at the bytes from a gate on tells.
-use Rattle.std.specs.Prelude.{◌≡◌, ◌≢◌, ◌⊎◌, ℕ, ◌<◌, ◌^◌, List, [], ◌∷◌, ◌++◌, length}
+use Rattle.std.specs.Prelude.{◌≡◌, ◌⊎◌, ℕ, ◌<◌, ◌^◌, List, [], ◌∷◌, ◌++◌, length}
 use Rattle.journal_frames.specs.Files.{BeginsRecord, IsDamaged, IsShut, body}
 use Rattle.journal_frames.specs.declared.scanning.Next.{Next}
 use Rattle.journal_frames.specs.declared.scanning.ScanFault.{ScanFault}

@@ -189,7 +189,7 @@ impl<D: Disk> Log for Journal<D> {
             (self.new ≡ self.old)) }
         ensures cause { IfErr result (λ e. ByFault e
             (λ faults. (faults ≡ D.fault_count self.new.disk)
-                × Rose (D.fault_count self.old.disk) (D.fault_count self.new.disk))
+            × Rose (D.fault_count self.old.disk) (D.fault_count self.new.disk))
             (Unit {0})) }
         ensures later { D.fault_count self.old.disk ≤ D.fault_count self.new.disk }
 

@@ -18,7 +18,7 @@ pub(crate) fn put_record<D: Disk>(disk: &mut D, end: u64, piece: &[u8]) -> Resul
     ensures put { (records : List (List ℕ)) (bytes : List ℕ) →
         IsReady D.tells (D.content disk.old) (D.may_leave disk.old) records end bytes piece.now →
         OnOk result (IsAtRest D.tells (D.content disk.new) (D.may_leave disk.new) (records ++ bytes ∷ [])
-            (end + length piece.now)) }
+        (end + length piece.now)) }
     ensures held { (records : List (List ℕ)) (bytes : List ℕ) →
         IsReady D.tells (D.content disk.old) (D.may_leave disk.old) records end bytes piece.now →
         IsTrue D.tells → StandsWithOrWithout records bytes (D.content disk.new) }

@@ -15,7 +15,8 @@ const RECORDS: [&[u8]; 3] = [b"ab", b"", b"c"];
 
 /// A file with all of these records.
 const WHOLE: &[u8] = &[
-    1, 2, 0, 0, 0, 0, 0, 0, 0, b'a', b'b', 1, 0, 0, 0, 0, 0, 0, 0, 0, 1, 1, 0, 0, 0, 0, 0, 0, 0, b'c', 0,
+    1, 2, 0, 0, 0, 0, 0, 0, 0, b'a', b'b', 1, 0, 0, 0, 0, 0, 0, 0, 0, 1, 1, 0, 0, 0, 0, 0, 0, 0,
+    b'c', 0,
 ];
 
 /// The disk of an opening that failed.
@@ -101,8 +102,23 @@ fn appends_and_opens(rt: HostRuntime) -> Result<(), Fail> {
 /// Number of the call that fails, counted from 0 over opening an empty file (4 calls) and three appends (4 each), and how
 /// many records are acknowledged then.
 const FAILING: [(u64, usize); 17] = [
-    (0, 0), (1, 0), (2, 0), (3, 0), (4, 0), (5, 0), (6, 0), (7, 0), (8, 1), (9, 1), (10, 1), (11, 1), (12, 2), (13, 2),
-    (14, 2), (15, 2), (16, 3),
+    (0, 0),
+    (1, 0),
+    (2, 0),
+    (3, 0),
+    (4, 0),
+    (5, 0),
+    (6, 0),
+    (7, 0),
+    (8, 1),
+    (9, 1),
+    (10, 1),
+    (11, 1),
+    (12, 2),
+    (13, 2),
+    (14, 2),
+    (15, 2),
+    (16, 3),
 ];
 
 #[test]
@@ -169,7 +185,10 @@ fn calls_in_order(rt: HostRuntime) -> Result<(), Fail> {
     match Journal::open(alloc, disk) {
         Ok(journal) => {
             let disk = journal.into_disk();
-            assert_eq!(rt; call_names(alloc, &disk)?.as_str(), "sync,cut 31,sync,write 30 1,sync,");
+            assert_eq!(rt;
+                call_names(alloc, &disk)?.as_str(),
+                "sync,cut 31,sync,write 30 1,sync,"
+            );
         }
         Err(_) => assert!(rt; false),
     }
@@ -192,8 +211,14 @@ const FILES: &[(&[u8], Result<usize, u64>)] = &[
     (&[1, 1, 0, 0, 0, 0, 0, 0, 0, 9, 0], Ok(1)),
     (&[1, 255, 255, 255, 255, 255, 255, 255, 255, 9, 0], Err(0)),
     (&[1, 0, 0, 0, 0, 0, 0, 0, 128, 9, 0], Err(0)),
-    (&[1, 0, 0, 0, 0, 0, 0, 0, 0, 1, 5, 0, 0, 0, 0, 0, 0, 0, 0, 0], Err(9)),
-    (&[1, 1, 0, 0, 0, 0, 0, 0, 0, 9, 1, 1, 0, 0, 0, 0, 0, 0, 0, 9], Err(10)),
+    (
+        &[1, 0, 0, 0, 0, 0, 0, 0, 0, 1, 5, 0, 0, 0, 0, 0, 0, 0, 0, 0],
+        Err(9),
+    ),
+    (
+        &[1, 1, 0, 0, 0, 0, 0, 0, 0, 9, 1, 1, 0, 0, 0, 0, 0, 0, 0, 9],
+        Err(10),
+    ),
     (&[1, 0, 0, 0, 0, 0, 0, 0, 0, 3, 1, 1], Ok(1)),
 ];
 
@@ -263,7 +288,11 @@ fn crash_call(alloc: Global, disk: &mut MemDisk, call: &Call, crash: Crash) -> R
 fn image(alloc: Global, calls: &[Call], crash: Crash) -> Result<MemDisk, Fail> {
     let mut disk = MemDisk::new(Vec::new(alloc), Vec::new(alloc));
     for (i, call) in calls.iter().enumerate() {
-        let crash = if i + 1 == calls.len() { crash } else { Crash::Done };
+        let crash = if i + 1 == calls.len() {
+            crash
+        } else {
+            Crash::Done
+        };
         crash_call(alloc, &mut disk, call, crash)?;
     }
     Ok(disk)

@@ -1,4 +1,4 @@
-use Rattle.std.proofs.Common.{◌≡◌, ◌∙◌, ℕ, List, subst, IsTrue}
+use Rattle.std.proofs.Common.{◌≡◌, ◌∙◌, subst, IsTrue}
 use Rattle.outside.specs.Disks.{Only}
 use Rattle.journal_frames.specs.Views.{at_rest}
 use Rattle.journal_frames.proofs.Closed.{close_done, close_held, close_run, cut_done, cut_held, cut_run}

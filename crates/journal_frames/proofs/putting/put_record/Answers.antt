@@ -1,7 +1,6 @@
-use Rattle.std.proofs.Common.{◌≡◌, ℕ, ◌+◌, List, [], ◌∷◌, ◌++◌, length, sym, ◌∙◌, subst, IsTrue}
+use Rattle.std.proofs.Common.{◌≡◌, [], ◌∷◌, ◌++◌, length, subst, IsTrue}
 use Rattle.outside.specs.Disks.{Only}
-use Rattle.journal_frames.specs.Files.{StandsWithOrWithout}
-use Rattle.journal_frames.specs.Views.{IsReady, at_rest}
+use Rattle.journal_frames.specs.Views.{at_rest}
 use Rattle.journal_frames.proofs.Put.{both_runs, first_done, first_held, first_run, next_end, second_done, second_held}
 use Rattle.journal_frames.proofs.Scanned.{fit_push}
 use Rattle.journal_frames.proofs.putting.put_record.Goals as goal

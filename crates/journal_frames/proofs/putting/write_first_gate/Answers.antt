@@ -1,4 +1,4 @@
-use Rattle.std.proofs.Common.{◌≡◌, ℕ, List, subst, IsTrue}
+use Rattle.std.proofs.Common.{◌≡◌, subst, IsTrue}
 use Rattle.outside.specs.Disks.{Only}
 use Rattle.journal_frames.specs.Files.{Stands}
 use Rattle.journal_frames.specs.Views.{at_rest}

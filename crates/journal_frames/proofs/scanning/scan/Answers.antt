@@ -1,5 +1,5 @@
-use Rattle.std.proofs.Common.{◌∙◌, ap, subst, sym, List, ℕ, ◌++◌, ◌∷◌, []}
-use Rattle.journal_frames.proofs.Scanned.{IsScanned, goes_on}
+use Rattle.std.proofs.Common.{◌∙◌, ap, List, ℕ, ◌++◌, ◌∷◌, []}
+use Rattle.journal_frames.proofs.Scanned.{goes_on}
 use Rattle.journal_frames.proofs.scanning.scan.Goals as goal
 
 pub loop-records-preserved : goal.loop-records-preserved

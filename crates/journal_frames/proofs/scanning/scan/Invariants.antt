@@ -1,4 +1,4 @@
-use Rattle.std.proofs.Common.{ℕ, List, length}
+use Rattle.std.proofs.Common.{length}
 use Rattle.journal_frames.proofs.Scanned.{IsScanned}
 use Rattle.journal_frames.proofs.scanning.scan.Given as goal
 

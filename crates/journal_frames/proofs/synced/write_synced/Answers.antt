@@ -1,4 +1,4 @@
-use Rattle.std.proofs.Common.{length, sym, subst, List, ℕ}
+use Rattle.std.proofs.Common.{length, sym, subst}
 use Rattle.outside.specs.Disks.{Torn}
 use Rattle.journal_frames.proofs.Torn.{change_run, synced_run, torn_all, torn_nothing}
 use Rattle.journal_frames.proofs.synced.write_synced.Goals as goal

@@ -1,6 +1,5 @@
 use Rattle.std.proofs.Common.{◌≡◌, ◌∙◌, length, sym, ap, subst, IsTrue}
 use Rattle.journal_frames.specs.Files.{Stands}
-use Rattle.journal_frames.specs.Views.{IsFound}
 use Rattle.journal_frames.proofs.Opened.{is_found, still_stand}
 use Rattle.journal_frames.proofs.Unique.{not_both}
 use Rattle.journal_frames.proofs.journal.Journal.open.Goals as goal

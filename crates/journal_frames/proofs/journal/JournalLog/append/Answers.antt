@@ -1,5 +1,5 @@
-use Rattle.std.proofs.Common.{◌≡◌, ◌∙◌, ◌<◌, ◌^◌, ◌++◌, ◌∷◌, [], List, ℕ, length, sym, ap, subst, IsTrue, arith, length-append}
-use Rattle.journal_frames.specs.Files.{Stands, StandsWithOrWithout, body}
+use Rattle.std.proofs.Common.{◌≡◌, ◌∙◌, ◌<◌, ◌^◌, ◌++◌, ◌∷◌, [], List, ℕ, length, ap, subst, IsTrue, arith, length-append}
+use Rattle.journal_frames.specs.Files.{StandsWithOrWithout, body}
 use Rattle.journal_frames.specs.Views.{IsReady, JournalView}
 use Rattle.journal_frames.proofs.Bodies.{length-body}
 use Rattle.journal_frames.proofs.Opened.{either_where, rest_durable, rest_stands}
