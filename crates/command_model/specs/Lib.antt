@@ -1,0 +1,5 @@
+pub mod Checks
+pub mod Members
+pub mod Command
+pub mod Answers
+pub mod Worked
