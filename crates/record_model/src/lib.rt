@@ -1,0 +1,7 @@
+//! What the journal of a node keeps, and which bytes spell it. Definitions, and the laws between them: a law is a function
+//! that does nothing, whose contract is the law.
+#![tactic(auto)]
+
+mod laws;
+
+pub use laws::{one_list, one_record};
