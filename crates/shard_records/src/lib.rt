@@ -1,13 +1,8 @@
-// A library with one function.
+//! What a node of a shard keeps in its journal: records as values, and as bytes in a format that is own.
 #![tactic(auto)]
 
-ghost use Rattle.std.specs.Prelude.{◌≡◌};
-ghost use Rattle.shard_records.specs.Echo.{echo_of};
+mod record;
+mod writing;
 
-// The `ensures` clause is the contract: what `echo` returns is `echo_of` of its argument, a definition
-// in `specs/Echo.antt`, which a caller's clause can cite too.
-pub fn echo(x: usize) -> usize
-    ensures { result ≡ echo_of x }
-{
-    x
-}
+pub use record::Record;
+pub use writing::write_record;
