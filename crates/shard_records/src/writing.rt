@@ -2,7 +2,8 @@
 //!
 //! What is put stands behind the bytes that were there. After an `Err` a part may stand there too.
 
-ghost use Rattle.std.specs.Prelude.{◌≡◌, ◌<◌, ◌^◌, ◌++◌, ◌∷◌, [], length, take, OnErr, OnOk};
+ghost use Rattle.std.specs.Prelude.{◌≡◌, ◌<◌, ◌^◌, ◌++◌, ◌∷◌, [], length, take, FitsSigned, OnErr, OnOk};
+ghost use Rattle.std.specs.Int.{cast_unsigned, w64};
 ghost use Rattle.document_model.specs.Spelling.{written};
 ghost use Rattle.record_model.specs.Spelled.{AreSoundWords, IsSound, IsSoundKey, IsSoundNumber, IsSoundOutcome, IsSoundSession, IsSpellable, eight, four, key_document, spelled, spelled_creation, spelled_entry, spelled_key, spelled_number, spelled_outcome, spelled_session, spelled_text, spelled_words};
 ghost use Rattle.shard_records.specs.Meanings.{entry_meant, number_meant, outcome_meant, record_meant, session_meant, words_meant};
@@ -22,15 +23,15 @@ const NEWEST_FORMAT: u8 = 0x01;
 ///
 /// # Errors
 /// `Memory` for want of memory, and then the bytes are as they were.
-pub fn write_record(record: &Record, out: &mut Vec<u8>) -> Result<(), Memory>
-    requires { IsWritableRecord (record_meant record.now) }
-    ensures ok { OnOk result (out.new.items ≡ out.old.items ++ spelled 1 (record_meant record.now)) }
+pub fn write_record(kept: &Record, out: &mut Vec<u8>) -> Result<(), Memory>
+    requires { IsWritableRecord (record_meant kept.now) }
+    ensures ok { OnOk result (out.new.items ≡ out.old.items ++ spelled 1 (record_meant kept.now)) }
     // Where it is sound, its bytes spell no other record.
-    ensures sound { OnOk result (IsSound (record_meant record.now)) }
+    ensures sound { OnOk result (IsSound (record_meant kept.now)) }
     ensures err { OnErr result (out.new.items ≡ out.old.items) }
 {
     let len = out.len();
-    let done = put_record(record, out);
+    let done = put_record(kept, out);
     if done.is_err() {
         out.truncate(len);
     }
@@ -119,7 +120,7 @@ fn put_some_key(key: &Key, out: &mut Vec<u8>) -> Result<(), Memory>
 /// Puts whose statement it is.
 fn put_session(session: &Session, out: &mut Vec<u8>) -> Result<(), Memory>
     ensures ok { OnOk result (out.new.items ≡ out.old.items ++ spelled_session (session_meant session.now)) }
-    ensures sound { IsSoundSession (session_meant session.now) }
+    ensures sound { OnOk result (IsSoundSession (session_meant session.now)) }
     ensures kept { take (length out.old.items) out.new.items ≡ out.old.items }
 {
     match session {
@@ -140,14 +141,23 @@ fn put_session(session: &Session, out: &mut Vec<u8>) -> Result<(), Memory>
     }
 }
 
+/// Puts the number of a statement's write command in its session; below zero that of the number and 2^64.
+fn put_txn(statement: &Stmt, out: &mut Vec<u8>) -> Result<(), Memory>
+    ensures ok { OnOk result (out.new.items ≡ out.old.items ++ eight (cast_unsigned w64 statement.now.txn)) }
+    ensures fits { FitsSigned w64 statement.now.txn }
+    ensures kept { take (length out.old.items) out.new.items ≡ out.old.items }
+{
+    put_u64(statement.txn.cast_unsigned(), out)
+}
+
 /// Puts the number of a statement.
 fn put_statement(statement: &Stmt, out: &mut Vec<u8>) -> Result<(), Memory>
     ensures ok { OnOk result (out.new.items ≡ out.old.items ++ spelled_number (number_meant statement.now)) }
-    ensures sound { IsSoundNumber (number_meant statement.now) }
+    ensures sound { OnOk result (IsSoundNumber (number_meant statement.now)) }
     ensures kept { take (length out.old.items) out.new.items ≡ out.old.items }
 {
     put_session(&statement.session, out)?;
-    put_u64(statement.txn.cast_unsigned(), out)?;
+    put_txn(statement, out)?;
     put_u32(statement.index, out)
 }
 
@@ -194,13 +204,13 @@ fn put_reply(reply: &Reply, out: &mut Vec<u8>) -> Result<(), Memory>
 }
 
 /// Puts a record.
-fn put_record(record: &Record, out: &mut Vec<u8>) -> Result<(), Memory>
-    requires { IsWritableRecord (record_meant record.now) }
-    ensures ok { OnOk result (out.new.items ≡ out.old.items ++ spelled 1 (record_meant record.now)) }
-    ensures sound { OnOk result (IsSound (record_meant record.now)) }
+fn put_record(kept: &Record, out: &mut Vec<u8>) -> Result<(), Memory>
+    requires { IsWritableRecord (record_meant kept.now) }
+    ensures ok { OnOk result (out.new.items ≡ out.old.items ++ spelled 1 (record_meant kept.now)) }
+    ensures sound { OnOk result (IsSound (record_meant kept.now)) }
     ensures kept { take (length out.old.items) out.new.items ≡ out.old.items }
 {
-    match record {
+    match kept {
         Record::Entry {
             time,
             namespace,
