@@ -2,6 +2,8 @@
 #![tactic(auto)]
 
 mod record;
+#[cfg(test)]
+mod tests;
 mod writing;
 
 pub use record::Record;
