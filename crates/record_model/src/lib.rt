@@ -2,6 +2,7 @@
 //! that does nothing, whose contract is the law.
 #![tactic(auto)]
 
+pub mod examples;
 mod laws;
 
 pub use laws::{one_list, one_record};
