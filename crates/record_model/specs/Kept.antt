@@ -3,7 +3,7 @@ use Rattle.std.specs.Prelude.{◌≡◌, ℕ, ℤ, pos, List, [], ◌∷◌, Opt
 use Rattle.std.specs.Ordering.{int_eq}
 use Rattle.history_model.specs.Errors.{ErrorCode, bad_value, failed_to_parse, type_mismatch, overflow, invalid_bson, path_not_viable, cursor_not_found, max_time_expired, command_not_found, shard_key_not_found, immutable_field, shard_not_found, invalid_options, invalid_namespace, shutdown_in_progress, operation_failed, conflicting_operation, namespace_not_sharded, exceeded_memory_limit, transaction_too_old, snapshot_too_old, query_exceeded_memory, object_too_large, duplicate_key, stale_config}
 use Rattle.history_model.specs.History.{Entry}
-use Rattle.record_model.specs.Records.{EntryWords, Creation, Record, entry_record, create_record, record_of}
+use Rattle.record_model.specs.Records.{EntryWords, Creation, Record, entry_record, create_record, code_of, record_of}
 
 -- the errors that a reply may tell (MongoDB manual, "Error Codes")
 abbrev pub known_errors : List ErrorCode
@@ -18,6 +18,10 @@ known_errors =
 abbrev pub error_among : List ErrorCode → ℤ → Option ErrorCode
 error_among [] code = None
 error_among (error ∷ errors) code = if int_eq (pos error.number) code then Some error else error_among errors code
+
+-- an error, if any, is one of these
+abbrev pub IsKnown : Option ErrorCode → Type 0
+IsKnown error = error ≡ error_among known_errors (code_of error)
 
 -- the record keeps the entry, of this shard
 pub record Keeps (shard : ℕ) (w : EntryWords) (e : Entry) : Type 0 where

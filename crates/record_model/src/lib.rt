@@ -5,4 +5,4 @@
 pub mod examples;
 mod laws;
 
-pub use laws::{one_list, one_record};
+pub use laws::{entries_are_kept, one_list, one_record};
