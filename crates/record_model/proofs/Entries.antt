@@ -4,7 +4,7 @@ use Rattle.std.specs.Prelude.{Option, Some, None}
 use Rattle.std.specs.List.{AllByRecursion}
 use Rattle.document_model.specs.Tree.{Members}
 use Rattle.history_model.specs.History.{Operation, insert_operation, effect, Entry}
-use Rattle.record_model.specs.Records.{EntryWords, Creation, Record, entry_record, create_record, words_of, record_of}
+use Rattle.record_model.specs.Records.{EntryWords, Record, entry_record, create_record, words_of, record_of}
 use Rattle.record_model.specs.Kept.{IsKnown, Keeps, KeepEntries}
 
 same_operation : (a b : Operation) → words_of a ≡ words_of b → a ≡ b

@@ -6,7 +6,7 @@ use Rattle.std.proofs.lemmas.Nat.{from_le_bytes-to_le_bytes_4, from_le_bytes-to_
 use Rattle.std.proofs.lemmas.Int.{to_z-of_z}
 use Rattle.std.proofs.Math.Facts.{Fits-of_z}
 use Rattle.std.proofs.lemmas.List.{take_at, drop_at}
-use Rattle.document_model.specs.Tree.{Datum, Members, no_members, member}
+use Rattle.document_model.specs.Tree.{Datum, Members}
 use Rattle.document_model.specs.Spelling.{framed, written, written_members, boolean_byte}
 use Rattle.document_model.specs.Grammar.{ReadsAs}
 use Rattle.history_model.proofs.Documents.{one_document}

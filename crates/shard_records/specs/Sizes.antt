@@ -1,5 +1,5 @@
 -- Which records are written: each document in them has at most 104 levels and 200,000,000 bytes.
-use Rattle.std.specs.Prelude.{ℕ, ◌≤◌, length, Option, Some, None}
+use Rattle.std.specs.Prelude.{◌≤◌, length, Option, Some, None}
 use Rattle.document_model.specs.Tree.{Datum, Members, document_levels}
 use Rattle.document_model.specs.Spelling.{written}
 use Rattle.record_model.specs.Records.{OperationWords, insert_words, update_words, delete_words, Record, entry_record, create_record}
