@@ -1,0 +1,4 @@
+pub mod Records
+pub mod Spelled
+pub mod Kept
+pub mod Examples

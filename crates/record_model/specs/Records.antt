@@ -1,0 +1,59 @@
+-- What a node of a shard keeps in its journal. The records are own; an entry's words are those of the client (MongoDB
+-- manual, "insert", "update" and "delete").
+use Rattle.std.specs.Prelude.{ℕ, ℤ, pos, List, Bool, Option, Some, None}
+use Rattle.document_model.specs.Tree.{Datum, Members}
+use Rattle.history_model.specs.Errors.{ErrorCode}
+use Rattle.history_model.specs.History.{StatementNumber, Operation, insert_operation, Outcome, Entry}
+
+-- what a statement does
+pub data OperationWords : Type 0 where
+  insert_words : Members → OperationWords
+  -- filter, change, and whether a document is put in where none meets the filter
+  update_words : Members → Members → Bool → OperationWords
+  -- filter
+  delete_words : Members → OperationWords
+
+-- what a statement is told; an error is told by its number, and 0 is none
+pub record OutcomeWords : Type 0 where
+  pub count : ℕ
+  pub modified : ℕ
+  pub upserted : Option Datum
+  pub code : ℤ
+
+-- one write, without its shard, which is the journal's own
+pub record EntryWords : Type 0 where
+  pub time : ℕ
+  pub namespace : List ℕ
+  pub number : StatementNumber
+  pub words : OperationWords
+  pub outcome : OutcomeWords
+
+-- a collection begins: its name, which of the collections of that name it is, and when
+pub record Creation : Type 0 where
+  pub namespace : List ℕ
+  pub epoch : ℕ
+  pub at : ℕ
+
+pub data Record : Type 0 where
+  entry_record : EntryWords → Record
+  create_record : Creation → Record
+
+abbrev pub words_of : Operation → OperationWords
+words_of (insert_operation document) = insert_words document
+
+abbrev pub code_of : Option ErrorCode → ℤ
+code_of None = pos 0
+code_of (Some error) = pos error.number
+
+abbrev pub outcome_words : Outcome → OutcomeWords
+outcome_words o = record { count = o.count; modified = o.modified; upserted = o.upserted; code = code_of o.error }
+
+-- the record of an entry
+abbrev pub record_of : Entry → Record
+record_of e = entry_record (record {
+  time = e.time;
+  namespace = e.namespace;
+  number = e.number;
+  words = words_of e.operation;
+  outcome = outcome_words e.outcome;
+})

@@ -1,0 +1,102 @@
+-- The bytes of a record, in a format that is own: the format's number, the kind, and the fields. Numbers are
+-- little-endian; documents are BSON (BSON 1.1, "Specification"). And which records have a spelling that says what they
+-- are.
+use Rattle.std.specs.Prelude.{◌≡◌, ℕ, ◌<◌, ◌^◌, List, [], ◌∷◌, ◌++◌, length, codes, Option, Some, None, FitsSigned}
+use Rattle.std.specs.Int.{w32, w64, to_le_bytes, cast_unsigned}
+use Rattle.document_model.specs.Tree.{Datum, Members, no_members, member}
+use Rattle.document_model.specs.Spelling.{written, boolean_byte}
+use Rattle.document_model.specs.Grammar.{ReadsAs}
+use Rattle.history_model.specs.History.{Session, client_session, router_session, StatementNumber}
+use Rattle.record_model.specs.Records.{OperationWords, insert_words, update_words, delete_words, OutcomeWords, EntryWords, Creation, Record, entry_record, create_record}
+
+-- a number of four bytes, and one of eight
+abbrev pub four : ℕ → List ℕ
+four n = to_le_bytes w32 n
+
+abbrev pub eight : ℕ → List ℕ
+eight n = to_le_bytes w64 n
+
+-- the number of its bytes, and the bytes
+abbrev pub spelled_text : List ℕ → List ℕ
+spelled_text s = four (length s) ++ s
+
+-- {_id: key}
+abbrev pub key_document : Datum → Members
+key_document key = member (codes "_id") key no_members
+
+-- 00 for none; 01 and the key
+abbrev pub spelled_key : Option Datum → List ℕ
+spelled_key None = 0 ∷ []
+spelled_key (Some key) = 1 ∷ written (key_document key)
+
+-- 00 and a client's 16 bytes; 01 and the router's node, life and request
+abbrev pub spelled_session : Session → List ℕ
+spelled_session (client_session id) = 0 ∷ id
+spelled_session (router_session node life request) = 1 ∷ (four node ++ (eight life ++ eight request))
+
+abbrev pub spelled_number : StatementNumber → List ℕ
+spelled_number n = spelled_session n.session ++ (eight (cast_unsigned w64 n.transaction) ++ four n.index)
+
+abbrev pub spelled_words : OperationWords → List ℕ
+spelled_words (insert_words document) = 1 ∷ written document
+spelled_words (update_words filter change upsert) = 2 ∷ (written filter ++ (written change ++ boolean_byte upsert ∷ []))
+spelled_words (delete_words filter) = 3 ∷ written filter
+
+abbrev pub spelled_outcome : OutcomeWords → List ℕ
+spelled_outcome o = four o.count ++ (four o.modified ++ (spelled_key o.upserted ++ four (cast_unsigned w32 o.code)))
+
+abbrev pub spelled_entry : EntryWords → List ℕ
+spelled_entry e = eight e.time ++ (spelled_text e.namespace ++ (spelled_number e.number ++ (spelled_words e.words ++ spelled_outcome e.outcome)))
+
+abbrev pub spelled_creation : Creation → List ℕ
+spelled_creation c = spelled_text c.namespace ++ (eight c.epoch ++ eight c.at)
+
+-- a record in a format
+abbrev pub spelled : ℕ → Record → List ℕ
+spelled format (entry_record e) = format ∷ 0x02 ∷ spelled_entry e
+spelled format (create_record c) = format ∷ 0x20 ∷ spelled_creation c
+
+-- a document's spelling spells it
+abbrev pub IsSpellable : Members → Type 0
+IsSpellable document = ReadsAs (written document) document
+
+abbrev pub IsSoundKey : Option Datum → Type 0
+IsSoundKey None = Unit {0}
+IsSoundKey (Some key) = IsSpellable (key_document key)
+
+abbrev pub IsSoundSession : Session → Type 0
+IsSoundSession (client_session id) = length id ≡ 16
+IsSoundSession (router_session node life request) = (node < 2 ^ 32) × (life < 2 ^ 64) × (request < 2 ^ 64)
+
+pub record IsSoundNumber (n : StatementNumber) : Type 0 where
+  pub session : IsSoundSession n.session
+  pub transaction : FitsSigned w64 n.transaction
+  pub index : n.index < 2 ^ 32
+
+abbrev pub AreSoundWords : OperationWords → Type 0
+AreSoundWords (insert_words document) = IsSpellable document
+AreSoundWords (update_words filter change upsert) = IsSpellable filter × IsSpellable change
+AreSoundWords (delete_words filter) = IsSpellable filter
+
+pub record IsSoundOutcome (o : OutcomeWords) : Type 0 where
+  pub count : o.count < 2 ^ 32
+  pub modified : o.modified < 2 ^ 32
+  pub upserted : IsSoundKey o.upserted
+  pub code : FitsSigned w32 o.code
+
+pub record IsSoundEntry (e : EntryWords) : Type 0 where
+  pub time : e.time < 2 ^ 64
+  pub namespace : length e.namespace < 2 ^ 31
+  pub number : IsSoundNumber e.number
+  pub words : AreSoundWords e.words
+  pub outcome : IsSoundOutcome e.outcome
+
+pub record IsSoundCreation (c : Creation) : Type 0 where
+  pub namespace : length c.namespace < 2 ^ 31
+  pub epoch : c.epoch < 2 ^ 64
+  pub at : c.at < 2 ^ 64
+
+-- numbers fit their bytes, and documents are spelled by theirs
+abbrev pub IsSound : Record → Type 0
+IsSound (entry_record e) = IsSoundEntry e
+IsSound (create_record c) = IsSoundCreation c

@@ -1,0 +1,8 @@
+//! What the journal of a node keeps, and which bytes spell it. Definitions, and the laws between them: a law is a function
+//! that does nothing, whose contract is the law.
+#![tactic(auto)]
+
+pub mod examples;
+mod laws;
+
+pub use laws::{entries_are_kept, one_list, one_record};
