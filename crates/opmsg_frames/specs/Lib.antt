@@ -1,1 +1,3 @@
 pub mod Outlines
+pub mod Lists
+pub mod Requests

@@ -1,5 +1,7 @@
 -- What the program's outlines are by the definitions.
-use Rattle.std.specs.Prelude.{ℕ, List, Option, Some, None}
+use Rattle.std.specs.Prelude.{ℕ, ◌+◌, List, length, drop, Bool, true, false, Option, Some, None}
+use Rattle.std.specs.Str.{is_utf8}
+use Rattle.document_model.specs.Faults.{before_zero}
 use Rattle.frame_model.specs.Outline as wire
 use Rattle.opmsg_frames.specs.declared.fault.Malformed.{Malformed}
 use Rattle.opmsg_frames.specs.declared.fault.Malformed.TheVariants.{BadLength, TooLong, BadOpcode, BadFlags, BadKind, BadSection, TwoBodies, NoBody, BadQuery}
@@ -36,3 +38,19 @@ abbrev pub IfBehind : Next → (List ℕ → Type 0) → Type 0
 IfBehind (Body document behind) holds = holds behind.now
 IfBehind (Sequence content behind) holds = holds behind.now
 IfBehind next holds = Unit {0}
+
+-- the identifier of a document sequence, if it is a text, and what stands behind its 00
+abbrev pub parts_if : Bool → List ℕ → List ℕ → Option (List ℕ × List ℕ)
+parts_if false content name = None
+parts_if true content name = Some (name, drop (length name + 1) content)
+
+abbrev pub parts_by : List ℕ → Option (List ℕ) → Option (List ℕ × List ℕ)
+parts_by content None = None
+parts_by content (Some name) = parts_if (is_utf8 name) content name
+
+abbrev pub sequence_parts : List ℕ → Option (List ℕ × List ℕ)
+sequence_parts content = parts_by content (before_zero content)
+
+abbrev pub text_if : Bool → List ℕ → Option (List ℕ)
+text_if false bytes = None
+text_if true bytes = Some bytes

@@ -2,9 +2,16 @@
 //! in any pieces, and replies to bytes.
 #![tactic(auto)]
 
+mod documents;
 mod fault;
+mod lists;
 mod outline;
+mod reply;
+mod request;
 mod sections;
 
 pub use fault::Malformed;
+pub use lists::{DocList, Sequence, SequenceList};
+pub use reply::write_reply;
+pub use request::{Body, Form, Request};
 pub use outline::{Outline, outline_of};

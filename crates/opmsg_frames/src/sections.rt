@@ -6,7 +6,7 @@ ghost use Rattle.std.specs.Str.{is_utf8};
 ghost use Rattle.document_model.specs.Faults.{before_zero};
 ghost use Rattle.frame_model.specs.Messages.{number_at};
 ghost use Rattle.frame_model.specs.Outline.{are_documents, ended_fault, has_stated, is_sequence, next_section, sections_fault};
-ghost use Rattle.opmsg_frames.specs.Outlines.{IfBehind, fault_meant, next_meant};
+ghost use Rattle.opmsg_frames.specs.Outlines.{IfBehind, fault_meant, next_meant, sequence_parts, text_if};
 
 use crate::fault::Malformed;
 use byteorder::{ByteOrder, LittleEndian};
@@ -100,29 +100,36 @@ fn are_documents(bytes: &[u8]) -> bool
     true
 }
 
-/// Whether the bytes are UTF-8.
+/// The text that the bytes are.
 #[tactic(auto, using(bson_values::proofs::Utf8Tests::utf8_tests))]
-fn is_text(bytes: &[u8]) -> bool
-    ensures { result ≡ is_utf8 bytes.now }
+fn text_of(bytes: &[u8]) -> Option<&str>
+    ensures { option_map (λ t. t.now) result ≡ text_if (is_utf8 bytes.now) bytes.now }
 {
     match str::from_utf8(bytes) {
-        Ok(_) => true,
-        Err(_) => false,
+        Ok(text) => Some(text),
+        Err(_) => None,
     }
+}
+
+/// The identifier that begins a document sequence, and what stands behind it.
+pub(crate) fn split_sequence(content: &[u8]) -> Option<(&str, &[u8])>
+    ensures parts { option_map (λ x. (x.0.now, x.1.now)) result ≡ sequence_parts content.now }
+    ensures shorter { IfSome result (λ x. length x.1.now ≤ length content.now) }
+{
+    let name = before_zero(content)?;
+    let (_, documents) = content.split_at(name.len() + 1);
+    let identifier = text_of(name)?;
+    Some((identifier, documents))
 }
 
 /// Whether the bytes are an identifier, 00 and documents.
 fn is_sequence(content: &[u8]) -> bool
     ensures { result ≡ is_sequence content.now }
 {
-    let Some(name) = before_zero(content) else {
-        return false;
-    };
-    if !is_text(name) {
-        return false;
+    match split_sequence(content) {
+        Some((_, documents)) => are_documents(documents),
+        None => false,
     }
-    let (_, documents) = content.split_at(name.len() + 1);
-    are_documents(documents)
 }
 
 /// What is wrong once all sections were seen: how many of them are bodies, and whether one of the others is bad.

@@ -1,6 +1,6 @@
 use Rattle.std.proofs.Common.{length, ◌-◌, refl, sym, ◌∙◌, arith}
 use Rattle.std.proofs.lemmas.Bool.Decides.{nat_tests}
-use Rattle.opmsg_frames.proofs.Documents.{goes_on, stops, ends}
+use Rattle.opmsg_frames.proofs.StatedDocuments.{goes_on, stops, ends}
 use Rattle.opmsg_frames.proofs.sections.are_documents.Goals as goal
 
 pub loop-rest-init : goal.loop-rest-init

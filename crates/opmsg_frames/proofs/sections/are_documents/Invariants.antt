@@ -1,5 +1,5 @@
 use Rattle.std.proofs.Common.{ℕ, ◌≤◌, length}
-use Rattle.opmsg_frames.proofs.Documents.{AsBefore}
+use Rattle.opmsg_frames.proofs.StatedDocuments.{AsBefore}
 use Rattle.opmsg_frames.proofs.sections.are_documents.Given as goal
 
 abbrev pub invariant-loop-rest : goal.invariant-loop-rest

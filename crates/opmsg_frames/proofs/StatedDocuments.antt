@@ -1,12 +1,13 @@
 -- Bytes that are documents, one behind the other.
-use Rattle.std.proofs.Common.{◌≡◌, ℕ, zero, suc, ◌+◌, ◌-◌, ◌<◌, ◌≤◌, Bool, true, false, Some, List, [], ◌∷◌, length, drop, refl, sym, ap, ◌∙◌, arith, length-drop}
-use Rattle.std.specs.Prelude.{nat_le, if◌then◌else◌}
+use Rattle.std.proofs.Common.{◌≡◌, ℕ, zero, suc, ◌+◌, ◌-◌, ◌<◌, ◌≤◌, Bool, true, false, Option, Some, None, List, [], ◌∷◌, length, drop, refl, sym, ap, ◌∙◌, arith, length-drop}
+use Rattle.std.specs.Prelude.{nat_le, ◌&&◌, if◌then◌else◌}
 use Rattle.std.specs.Bool.{Decides}
 use Rattle.std.proofs.lemmas.Bool.Decides.{Decides-and, nat_tests}
 use Rattle.frame_model.specs.Messages.{number_at}
 use Rattle.std.specs.Str.{is_utf8}
 use Rattle.document_model.specs.Faults.{before_zero}
-use Rattle.frame_model.specs.Outline.{has_stated, are_documents, is_sequence}
+use Rattle.frame_model.specs.Outline.{has_stated, are_documents, is_named, is_sequence}
+use Rattle.opmsg_frames.specs.Outlines.{parts_by, parts_if, sequence_parts}
 
 decides_le : (a b : ℕ) → Decides (nat_le a b) (a ≤ b)
 decides_le a b = (λ e. grind (arith, nat_tests), λ h. grind (arith, nat_tests))
@@ -48,9 +49,29 @@ pub ends : (rest bytes : List ℕ) (n m : ℕ) → AsBefore rest bytes n m → l
 ends [] bytes n m so_far none = sym (none_left m) ∙ so_far.same
 ends (b ∷ rest) bytes n m so_far none = absurd (omega arith)
 
--- an identifier, 00 and documents
-pub named : (content name documents : List ℕ) (answer : Bool) → Some name ≡ before_zero content → is_utf8 name ≡ true → documents ≡ drop (length name + 1) content → answer ≡ are_documents (length content) documents → answer ≡ is_sequence content
-named content name documents answer e text d a = rw (sym e, text, sym d) a
+abbrev behind_in : Option (List ℕ × List ℕ) → List ℕ
+behind_in None = []
+behind_in (Some parts) = parts.1
 
-pub no_text : (content name : List ℕ) → Some name ≡ before_zero content → is_utf8 name ≡ false → false ≡ is_sequence content
-no_text content name e text = rw (sym e, text) refl
+-- an identifier, 00 and documents
+pub named : (content name documents : List ℕ) (answer : Bool) → Some (name, documents) ≡ sequence_parts content → length documents ≤ length content → ((n : ℕ) → length documents ≤ n → answer ≡ are_documents n documents) → answer ≡ is_sequence content
+named content name documents answer e short a = by_name (before_zero content) e
+  where
+    by_text : (found : List ℕ) (b : Bool) → is_utf8 found ≡ b → Some (name, documents) ≡ parts_if b content found → answer ≡ (b && are_documents (length content) (drop (length found + 1) content))
+    by_text found true t p = let d : documents ≡ drop (length found + 1) content = ap (λ (parts : Option (List ℕ × List ℕ)). behind_in parts) p in rw (sym d) (a (length content) short)
+    by_text found false t p = absurd (let q : Some (name, documents) ≡ None = p in cc)
+
+    by_name : (found : Option (List ℕ)) → Some (name, documents) ≡ parts_by content found → answer ≡ is_named content found
+    by_name None p = absurd (let q : Some (name, documents) ≡ None = p in cc)
+    by_name (Some found) p = by_text found (is_utf8 found) refl p
+
+pub unnamed : (content : List ℕ) → None ≡ sequence_parts content → false ≡ is_sequence content
+unnamed content e = by_name (before_zero content) e
+  where
+    by_text : (found : List ℕ) (b : Bool) → None ≡ parts_if b content found → false ≡ (b && are_documents (length content) (drop (length found + 1) content))
+    by_text found true p = absurd (let q : None ≡ Some (found, drop (length found + 1) content) = p in cc)
+    by_text found false p = refl
+
+    by_name : (found : Option (List ℕ)) → None ≡ parts_by content found → false ≡ is_named content found
+    by_name None p = refl
+    by_name (Some found) p = by_text found (is_utf8 found) p
