@@ -6,3 +6,7 @@ pub mod Wholes
 pub mod DocumentReads
 pub mod SectionFronts
 pub mod SectionReads
+pub mod Bytes
+pub mod Spellings
+pub mod Msgs
+pub mod Bodies

@@ -56,7 +56,7 @@ name_ends (b ∷ name) more no_zero =
     let e : eqb b 0 ≡ false = grind (arith, nat_tests, no_zero.0) in
     rw (e, name_ends name more no_zero.1) refl
 
-behind_zero : (name more : List ℕ) → drop (length name + 1) (name ++ 0 ∷ more) ≡ more
+pub behind_zero : (name more : List ℕ) → drop (length name + 1) (name ++ 0 ∷ more) ≡ more
 behind_zero name more = ap (λ (bytes : List ℕ). drop (length name + 1) bytes) (sym (append_assoc name (0 ∷ []) more)) ∙ drop_at (name ++ 0 ∷ []) more (length name + 1) (omega (arith, length-append name (0 ∷ [])))
 
 pub parts_are : (identifier : List ℕ) (documents : List (List ℕ)) → IsUtf8 identifier → HasNoZero identifier → sequence_parts (sequence_bytes identifier documents) ≡ Some (identifier, concat documents)

@@ -5,6 +5,7 @@
 mod documents;
 mod fault;
 mod lists;
+mod message;
 mod outline;
 mod reply;
 mod request;
