@@ -10,3 +10,4 @@ pub mod Bytes
 pub mod Spellings
 pub mod Msgs
 pub mod Bodies
+pub mod Queries

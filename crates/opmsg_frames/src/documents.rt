@@ -14,7 +14,7 @@ use bson_values::{BsonFault, Document, Text, read};
 use std::alloc::Global;
 
 /// Reads the document that the bytes are, all of them.
-fn read_whole(alloc: Global, bytes: &[u8]) -> Result<Document, BsonFault>
+pub(crate) fn read_whole(alloc: Global, bytes: &[u8]) -> Result<Document, BsonFault>
     ensures { IsStated bytes.now →
         Outcome (λ doc. IsKept bytes.now doc) (λ fault place. HasFirstFault bytes.now fault place) result }
 {

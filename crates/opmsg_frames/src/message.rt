@@ -1,15 +1,16 @@
 //! Reading a whole message whose outline is right.
 
-ghost use Rattle.std.specs.Prelude.{◌≡◌, ◌≢◌, ◌<◌, ◌≤◌, ◌^◌, List, None, length, IfOk};
+ghost use Rattle.std.specs.Prelude.{◌≡◌, ◌≢◌, ◌<◌, ◌≤◌, ◌^◌, ◌∷◌, [], List, None, true, length, IfOk};
 ghost use Rattle.std.specs.Int.{w32, cast_signed};
 ghost use Rattle.std.specs.List.{AllByRecursion, flat_map};
-ghost use Rattle.frame_model.specs.Messages.{op_msg, number_at, opcode};
-ghost use Rattle.frame_model.specs.Outline.{msg_fault};
+ghost use Rattle.frame_model.specs.Messages.{op_msg, op_query, number_at, opcode};
+ghost use Rattle.frame_model.specs.Outline.{is_query, msg_fault};
 ghost use Rattle.frame_model.specs.Requests as wire;
-ghost use Rattle.frame_model.specs.Sections.{IsSection, Section, bodies, section_bytes};
+ghost use Rattle.frame_model.specs.Sections.{IsSection, IsStated, Section, bodies, body_section, section_bytes};
 ghost use Rattle.opmsg_frames.specs.Requests.{IsBody, IsMeant};
 
-use crate::documents::read_sections;
+use crate::documents::{read_sections, read_whole};
+use crate::lists::SequenceList;
 use crate::request::{Body, Form, Request};
 use crate::sections::number_at;
 use bson_values::{BsonFault, Memory};
@@ -68,6 +69,39 @@ fn read_msg(alloc: Global, bytes: &[u8]) -> Result<Request, Memory>
         id: request_id(bytes),
         more: is_more(bytes),
         form: Form::Msg,
+        body,
+    })
+}
+
+/// Reads the document of a message that holds no other.
+fn read_lone(alloc: Global, bytes: &[u8]) -> Result<Body, Memory>
+    ensures { IsStated bytes.now →
+        IfOk result (λ body. (meant : wire.Body) × IsBody body meant × wire.HasBody (body_section bytes.now ∷ []) meant) }
+{
+    match read_whole(alloc, bytes) {
+        Ok(doc) => Ok(Body::Read {
+            doc,
+            sequences: SequenceList::new(alloc),
+        }),
+        Err(fault) => faulty_body(fault),
+    }
+}
+
+/// Reads a whole message of OP_QUERY.
+fn read_query(alloc: Global, bytes: &[u8]) -> Result<Request, Memory>
+    requires least { 44 ≤ length bytes.now }
+    requires most { length bytes.now ≤ 48000000 }
+    requires stated { number_at 0 bytes.now ≡ length bytes.now }
+    requires opcode { opcode bytes.now ≡ op_query }
+    requires sound { is_query bytes.now ≡ true }
+    ensures { IfOk result (λ r. (meant : wire.Request) × IsMeant r meant × (meant.bytes ≡ bytes.now) × wire.IsRequest meant) }
+{
+    let (_, document) = bytes.split_at(39);
+    let body = read_lone(alloc, document)?;
+    Ok(Request {
+        id: request_id(bytes),
+        more: false,
+        form: Form::Query,
         body,
     })
 }
