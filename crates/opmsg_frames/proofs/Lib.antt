@@ -11,3 +11,4 @@ pub mod Spellings
 pub mod Msgs
 pub mod Bodies
 pub mod Queries
+pub mod WholeMessages

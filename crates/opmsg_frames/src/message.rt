@@ -1,10 +1,10 @@
 //! Reading a whole message whose outline is right.
 
-ghost use Rattle.std.specs.Prelude.{◌≡◌, ◌≢◌, ◌<◌, ◌≤◌, ◌^◌, ◌∷◌, [], List, None, true, length, IfOk};
+ghost use Rattle.std.specs.Prelude.{◌≡◌, ◌≢◌, ◌⊎◌, ◌<◌, ◌≤◌, ◌^◌, ◌∷◌, [], List, None, true, length, IfOk};
 ghost use Rattle.std.specs.Int.{w32, cast_signed};
 ghost use Rattle.std.specs.List.{AllByRecursion, flat_map};
 ghost use Rattle.frame_model.specs.Messages.{op_msg, op_query, number_at, opcode};
-ghost use Rattle.frame_model.specs.Outline.{is_query, msg_fault};
+ghost use Rattle.frame_model.specs.Outline.{is_query, message_fault, msg_fault};
 ghost use Rattle.frame_model.specs.Requests as wire;
 ghost use Rattle.frame_model.specs.Sections.{IsSection, IsStated, Section, bodies, body_section, section_bytes};
 ghost use Rattle.opmsg_frames.specs.Requests.{IsBody, IsMeant};
@@ -15,6 +15,8 @@ use crate::request::{Body, Form, Request};
 use crate::sections::number_at;
 use bson_values::{BsonFault, Memory};
 use std::alloc::Global;
+
+const OP_MSG: u32 = 2013;
 
 /// The body whose first fault this is, unless memory ran out.
 fn faulty_body(fault: BsonFault) -> Result<Body, Memory>
@@ -104,4 +106,20 @@ fn read_query(alloc: Global, bytes: &[u8]) -> Result<Request, Memory>
         form: Form::Query,
         body,
     })
+}
+
+/// Reads a whole message whose outline is right.
+pub(crate) fn read_message(alloc: Global, bytes: &[u8]) -> Result<Request, Memory>
+    requires least { 16 ≤ length bytes.now }
+    requires most { length bytes.now ≤ 48000000 }
+    requires stated { number_at 0 bytes.now ≡ length bytes.now }
+    requires opcode { (opcode bytes.now ≡ op_msg) ⊎ (opcode bytes.now ≡ op_query) }
+    requires sound { message_fault bytes.now ≡ None }
+    ensures { IfOk result (λ r. (meant : wire.Request) × IsMeant r meant × (meant.bytes ≡ bytes.now) × wire.IsRequest meant) }
+{
+    if number_at(bytes, 12) == OP_MSG {
+        read_msg(alloc, bytes)
+    } else {
+        read_query(alloc, bytes)
+    }
 }
