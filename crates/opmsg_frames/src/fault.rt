@@ -22,3 +22,12 @@ pub enum Malformed {
     /// A message of OP_QUERY is no greeting.
     BadQuery,
 }
+
+/// Why no more requests can be read.
+#[derive(Clone, Copy, Debug, PartialEq, Eq)]
+pub enum FrameFault {
+    /// A message is none. Its first byte stands at the place among all bytes taken.
+    Malformed { fault: Malformed, place: u64 },
+    /// Want of memory. Nothing changed.
+    Memory,
+}

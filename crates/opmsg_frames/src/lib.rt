@@ -4,6 +4,7 @@
 
 mod documents;
 mod fault;
+mod framer;
 mod lists;
 mod message;
 mod outline;
@@ -11,7 +12,8 @@ mod reply;
 mod request;
 mod sections;
 
-pub use fault::Malformed;
+pub use fault::{FrameFault, Malformed};
+pub use framer::Framer;
 pub use lists::{DocList, Sequence, SequenceList};
 pub use reply::write_reply;
 pub use request::{Body, Form, Request};

@@ -1,10 +1,11 @@
 //! Reading a whole message whose outline is right.
 
-ghost use Rattle.std.specs.Prelude.{◌≡◌, ◌≢◌, ◌⊎◌, ◌<◌, ◌≤◌, ◌^◌, ◌∷◌, [], List, None, true, length, IfOk};
+ghost use Rattle.std.specs.Prelude.{◌≡◌, ◌≢◌, ◌⊎◌, ◌<◌, ◌≤◌, ◌^◌, ◌∷◌, [], List, None, true, drop, length, IfOk};
 ghost use Rattle.std.specs.Int.{w32, cast_signed};
 ghost use Rattle.std.specs.List.{AllByRecursion, flat_map};
+ghost use Rattle.frame_model.specs.Frames.{IsFirst};
 ghost use Rattle.frame_model.specs.Messages.{op_msg, op_query, number_at, opcode};
-ghost use Rattle.frame_model.specs.Outline.{is_query, message_fault, msg_fault};
+ghost use Rattle.frame_model.specs.Outline.{is_query, message_fault, message_outline, msg_fault, outline};
 ghost use Rattle.frame_model.specs.Requests as wire;
 ghost use Rattle.frame_model.specs.Sections.{IsSection, IsStated, Section, bodies, body_section, section_bytes};
 ghost use Rattle.opmsg_frames.specs.Requests.{IsBody, IsMeant};
@@ -122,4 +123,13 @@ pub(crate) fn read_message(alloc: Global, bytes: &[u8]) -> Result<Request, Memor
     } else {
         read_query(alloc, bytes)
     }
+}
+
+/// Reads the whole message of `count` bytes that begins the bytes.
+pub(crate) fn read_front(alloc: Global, bytes: &[u8], count: usize) -> Result<Request, Memory>
+    requires { outline bytes.now ≡ message_outline count }
+    ensures { IfOk result (λ r. (meant : wire.Request) × IsMeant r meant × IsFirst bytes.now meant (drop count bytes.now) × (length meant.bytes ≡ count)) }
+{
+    let (message, _) = bytes.split_at(count);
+    read_message(alloc, message)
 }
