@@ -50,12 +50,15 @@ first documents (d ∷ left) rest read number document behind e f b some l =
     rw (front, back)
     (record {
       stated = l.stated.0;
-      kept = λ ms kept. (left, record {
-        split = refl;
-        stated = l.stated.1;
-        kept = λ mss more. rw (append_assoc read (ms ∷ []) mss) (l.kept (ms ∷ mss) (ms, mss, refl, kept, more));
-        faulty = λ fault place found. l.faulty fault place (inr ((ms, kept), found));
-      });
+      kept = λ ms kept. (
+        left,
+        record {
+          split = refl;
+          stated = l.stated.1;
+          kept = λ mss more. rw (append_assoc read (ms ∷ []) mss) (l.kept (ms ∷ mss) (ms, mss, refl, kept, more));
+          faulty = λ fault place found. l.faulty fault place (inr ((ms, kept), found));
+        },
+      );
       faulty = λ fault place found. l.faulty fault place (inl found);
     })
 

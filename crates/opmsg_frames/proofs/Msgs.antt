@@ -34,24 +34,27 @@ pub is_msg : (bytes : List ℕ) → IsBytes bytes → 20 ≤ length bytes → le
 is_msg bytes are least most stated code sound =
     let f = flags_and_sections (nat_lt (length bytes) 20) (takes_flags (number_at 16 bytes)) (sections_fault (length bytes) 0 false (drop 20 bytes)) sound in
     let x = sections_exist (length bytes) 0 false (drop 20 bytes) (back_part 20 bytes are) f.1 in
-    let size : number_at 0 bytes ≡ length (flat_map section_bytes x.sections) + 20 = stated ∙ omega (arith, length-drop 20 bytes, ap (λ (l : List ℕ). length l) x.split, least) in
-    (x.sections, x.split, λ body. record {
-      number = number_at 4 bytes;
-      answers = number_at 8 bytes;
-      flags = number_at 16 bytes;
-      number_fits = number_fits 4 bytes are;
-      answers_fit = number_fits 8 bytes are;
-      flags_fit = number_fits 16 bytes are;
-      whole = joins bytes (drop 4 bytes) (drop 8 bytes) (drop 12 bytes) (drop 16 bytes) (flat_map section_bytes x.sections) (length (flat_map section_bytes x.sections) + 20) (number_at 4 bytes) (number_at 8 bytes) op_msg (number_at 16 bytes)
-          (number_front 0 bytes are (omega (arith, least)) ∙ ap (λ (n : ℕ). int32 n ++ drop 4 bytes) size)
-          (number_front 4 bytes are (omega (arith, least)))
-          (number_front 8 bytes are (omega (arith, least)))
-          (number_front 12 bytes are (omega (arith, least)) ∙ ap (λ (n : ℕ). int32 n ++ drop 16 bytes) code)
-          (number_front 16 bytes are (omega (arith, least)) ∙ ap (λ (l : List ℕ). int32 (number_at 16 bytes) ++ l) x.split);
-      most = most;
-      id = refl;
-      taken = taken_flags (low_flags (number_at 16 bytes)) f.0;
-      more = refl;
-      each = x.each;
-      one = omega (arith, x.one);
-    })
+    let size : number_at 0 bytes ≡ length (flat_map section_bytes x.sections) + 20 = stated ∙ omega (arith, length-drop 20 bytes, ap (λ (l : List ℕ). length l) x.split, least) in (
+      x.sections,
+      x.split,
+      λ body. record {
+        number = number_at 4 bytes;
+        answers = number_at 8 bytes;
+        flags = number_at 16 bytes;
+        number_fits = number_fits 4 bytes are;
+        answers_fit = number_fits 8 bytes are;
+        flags_fit = number_fits 16 bytes are;
+        whole = joins bytes (drop 4 bytes) (drop 8 bytes) (drop 12 bytes) (drop 16 bytes) (flat_map section_bytes x.sections) (length (flat_map section_bytes x.sections) + 20) (number_at 4 bytes) (number_at 8 bytes) op_msg (number_at 16 bytes)
+            (number_front 0 bytes are (omega (arith, least)) ∙ ap (λ (n : ℕ). int32 n ++ drop 4 bytes) size)
+            (number_front 4 bytes are (omega (arith, least)))
+            (number_front 8 bytes are (omega (arith, least)))
+            (number_front 12 bytes are (omega (arith, least)) ∙ ap (λ (n : ℕ). int32 n ++ drop 16 bytes) code)
+            (number_front 16 bytes are (omega (arith, least)) ∙ ap (λ (l : List ℕ). int32 (number_at 16 bytes) ++ l) x.split);
+        most = most;
+        id = refl;
+        taken = taken_flags (low_flags (number_at 16 bytes)) f.0;
+        more = refl;
+        each = x.each;
+        one = omega (arith, x.one);
+      },
+    )

@@ -87,6 +87,12 @@ is_sound bytes are least most stated code sound body =
       id = refl;
       more = refl;
       stated = (omega (arith, document, least), n);
-      greeting = (slice_index bytes 43, g.0, g.1, g.2, k,
-          number_front 39 bytes are (omega (arith, least)) ∙ ap (λ (m : ℕ). int32 m ++ drop 43 bytes) n ∙ ap (λ (l : List ℕ). int32 (length (drop 39 bytes)) ++ l) (drop-cons bytes 43 0 (omega (arith, least)) ∙ ap (λ (l : List ℕ). slice_index bytes 43 ∷ l) g.3));
+      greeting = (
+        slice_index bytes 43,
+        g.0,
+        g.1,
+        g.2,
+        k,
+        number_front 39 bytes are (omega (arith, least)) ∙ ap (λ (m : ℕ). int32 m ++ drop 43 bytes) n ∙ ap (λ (l : List ℕ). int32 (length (drop 39 bytes)) ++ l) (drop-cons bytes 43 0 (omega (arith, least)) ∙ ap (λ (l : List ℕ). slice_index bytes 43 ∷ l) g.3),
+      );
     }

@@ -50,13 +50,16 @@ at_body sections (body_section d ∷ left) rest doc read document behind e l =
     rw front
     (record {
       stated = l.each.0;
-      kept = λ ms kept. (left, record {
-        split = back;
-        low = rw back (omega (arith, rw l.split at l.low, length-append d (flat_map section_bytes left)));
-        each = l.each.1;
-        held = held_body sections left d doc ms read kept l.held;
-        faulty = λ fault place found. l.faulty fault place (inr ((ms, kept), found));
-      });
+      kept = λ ms kept. (
+        left,
+        record {
+          split = back;
+          low = rw back (omega (arith, rw l.split at l.low, length-append d (flat_map section_bytes left)));
+          each = l.each.1;
+          held = held_body sections left d doc ms read kept l.held;
+          faulty = λ fault place found. l.faulty fault place (inr ((ms, kept), found));
+        },
+      );
       faulty = λ fault place found. l.faulty fault place (inl found);
     })
 
@@ -96,13 +99,16 @@ at_sequence sections (sequence_section identifier documents ∷ left) rest doc r
       documents = documents;
       split = front;
       section = l.each.0;
-      kept = λ mss kept. (left, record {
-        split = back;
-        low = rw back (omega (arith, rw l.split at l.low, length-append (sequence_bytes identifier documents) (flat_map section_bytes left)));
-        each = l.each.1;
-        held = held_sequence sections left identifier documents doc mss read kept l.held;
-        faulty = λ fault place found. l.faulty fault place (faulty_behind documents (documents_in left) mss fault place kept found);
-      });
+      kept = λ mss kept. (
+        left,
+        record {
+          split = back;
+          low = rw back (omega (arith, rw l.split at l.low, length-append (sequence_bytes identifier documents) (flat_map section_bytes left)));
+          each = l.each.1;
+          held = held_sequence sections left identifier documents doc mss read kept l.held;
+          faulty = λ fault place found. l.faulty fault place (faulty_behind documents (documents_in left) mss fault place kept found);
+        },
+      );
       faulty = λ fault place found. l.faulty fault place (faulty_front documents (documents_in left) fault place found);
     }
 

@@ -105,9 +105,11 @@ front_code n bytes w = rw (front_number 12 n bytes (omega (arith, w.least))) w.c
 pub is_first : (n : ℕ) (bytes : List ℕ) (meant : Request) → outline bytes ≡ message_outline n → meant.bytes ≡ take n bytes → IsRequest meant → IsFirst bytes meant (drop n bytes) × (length meant.bytes ≡ n)
 is_first n bytes meant o e is =
     let w = is_whole n bytes o in
-    let l : length meant.bytes ≡ n = ap (λ (m : List ℕ). length m) e ∙ length-take-le n bytes w.fits in
-    (record {
-      whole = o ∙ ap (λ (k : ℕ). message_outline k) (sym l);
-      split = sym (take-append-drop n bytes) ∙ ap (λ (m : List ℕ). m ++ drop n bytes) (sym e);
-      reads = is;
-    }, l)
+    let l : length meant.bytes ≡ n = ap (λ (m : List ℕ). length m) e ∙ length-take-le n bytes w.fits in (
+      record {
+        whole = o ∙ ap (λ (k : ℕ). message_outline k) (sym l);
+        split = sym (take-append-drop n bytes) ∙ ap (λ (m : List ℕ). m ++ drop n bytes) (sym e);
+        reads = is;
+      },
+      l,
+    )

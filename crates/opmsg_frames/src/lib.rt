@@ -15,6 +15,9 @@ mod sections;
 pub use fault::{FrameFault, Malformed};
 pub use framer::Framer;
 pub use lists::{DocList, Sequence, SequenceList};
+pub use outline::{Outline, outline_of};
 pub use reply::write_reply;
 pub use request::{Body, Form, Request};
-pub use outline::{Outline, outline_of};
+
+#[cfg(test)]
+mod tests;

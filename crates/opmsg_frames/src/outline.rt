@@ -54,7 +54,9 @@ fn greets(name: Option<&[u8]>) -> bool
     ensures { result ≡ greets (option_map (λ n. n.now) name.entry) }
 {
     match name {
-        Some(name) => name == b"isMaster".as_slice() || name == b"ismaster".as_slice() || name == b"hello".as_slice(),
+        Some(name) => name == b"isMaster".as_slice()
+            || name == b"ismaster".as_slice()
+            || name == b"hello".as_slice(),
         None => false,
     }
 }

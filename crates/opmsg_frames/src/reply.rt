@@ -58,13 +58,7 @@ fn put_opcode(answers: i32, code: u32, out: &mut Vec<u8>) -> Result<(), Memory>
 }
 
 /// Puts a header. An `Err` may leave a part of it.
-fn put_header(
-    size: u32,
-    id: i32,
-    answers: i32,
-    code: u32,
-    out: &mut Vec<u8>,
-) -> Result<(), Memory>
+fn put_header(size: u32, id: i32, answers: i32, code: u32, out: &mut Vec<u8>) -> Result<(), Memory>
     ensures ok { OnOk result (out.new.items
         ≡ out.old.items ++ header size (cast_unsigned w32 id) (cast_unsigned w32 answers) code) }
     ensures kept { take (length out.old.items) out.new.items ≡ out.old.items }
@@ -98,13 +92,7 @@ fn put_query_head(id: i32, number: i32, size: u32, out: &mut Vec<u8>) -> Result<
 }
 
 /// Puts what stands before the document of a reply. An `Err` may leave a part of it.
-fn put_head(
-    form: Form,
-    id: i32,
-    number: i32,
-    size: u32,
-    out: &mut Vec<u8>,
-) -> Result<(), Memory>
+fn put_head(form: Form, id: i32, number: i32, size: u32, out: &mut Vec<u8>) -> Result<(), Memory>
     requires { size ≤ 200000000 }
     ensures ok { OnOk result (out.new.items ≡ out.old.items ++ reply_head (form_meant form) id number size) }
     ensures kept { take (length out.old.items) out.new.items ≡ out.old.items }

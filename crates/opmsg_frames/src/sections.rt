@@ -23,9 +23,15 @@ pub(crate) enum Next<'a> {
     /// The size says not where the next section stands.
     BadSize,
     /// A document, and what stands behind it.
-    Body { document: &'a [u8], behind: &'a [u8] },
+    Body {
+        document: &'a [u8],
+        behind: &'a [u8],
+    },
     /// What stands behind the size of a document sequence, and behind the whole.
-    Sequence { content: &'a [u8], behind: &'a [u8] },
+    Sequence {
+        content: &'a [u8],
+        behind: &'a [u8],
+    },
 }
 
 /// The little-endian number at a place.

@@ -32,16 +32,20 @@ pub sections-preserved-then-bad : goal.sections-preserved-then-bad
 sections-preserved-then-bad c = record {
   room = omega (arith, c.in-Sequence.ensures.shorter, c.sections.invariant.room);
   same = λ n enough.
-      let so_far = c.sections.invariant.same n enough in
-      (so_far.0 - 1, let next = behind_sequence c.sections.bodies c.sections.bad c.sections.rest.now c.args.bytes.now n so_far.0 so_far.1 c.in-Sequence.content.now c.in-Sequence.behind.now c.in-Sequence.ensures.next c.in-Sequence.ensures.shorter in
-      rw c.if-bad.true (rw c.if-bad.true at next));
+      let so_far = c.sections.invariant.same n enough in (
+        so_far.0 - 1,
+        let next = behind_sequence c.sections.bodies c.sections.bad c.sections.rest.now c.args.bytes.now n so_far.0 so_far.1 c.in-Sequence.content.now c.in-Sequence.behind.now c.in-Sequence.ensures.next c.in-Sequence.ensures.shorter in
+            rw c.if-bad.true (rw c.if-bad.true at next),
+      );
 }
 
 pub sections-preserved : goal.sections-preserved
 sections-preserved c = record {
   room = omega (arith, c.in-Sequence.ensures.shorter, c.sections.invariant.room);
   same = λ n enough.
-      let so_far = c.sections.invariant.same n enough in
-      (so_far.0 - 1, let next = behind_sequence c.sections.bodies c.sections.bad c.sections.rest.now c.args.bytes.now n so_far.0 so_far.1 c.in-Sequence.content.now c.in-Sequence.behind.now c.in-Sequence.ensures.next c.in-Sequence.ensures.shorter in
-      rw c.is_sequence.ensures (rw c.if-bad.false at next));
+      let so_far = c.sections.invariant.same n enough in (
+        so_far.0 - 1,
+        let next = behind_sequence c.sections.bodies c.sections.bad c.sections.rest.now c.args.bytes.now n so_far.0 so_far.1 c.in-Sequence.content.now c.in-Sequence.behind.now c.in-Sequence.ensures.next c.in-Sequence.ensures.shorter in
+            rw c.is_sequence.ensures (rw c.if-bad.false at next),
+      );
 }
