@@ -1,15 +1,15 @@
 -- A whole message of OP_MSG with which nothing is wrong.
-use Rattle.std.proofs.Common.{◌≡◌, ℕ, ◌+◌, ◌%◌, ◌<◌, ◌≤◌, ◌^◌, ◌⊎◌, inl, inr, Bool, true, false, Option, Some, None, List, [], ◌∷◌, ◌++◌, length, take, drop, refl, sym, ap, ◌∙◌, arith, length-append, length-drop}
+use Rattle.std.proofs.Common.{◌≡◌, ℕ, ◌+◌, ◌≤◌, ◌⊎◌, inl, inr, Bool, true, false, Option, Some, None, List, ◌++◌, length, drop, refl, ap, ◌∙◌, arith, length-drop}
 use Rattle.std.specs.Prelude.{◌||◌, ◌==◌, nat_lt, if◌then◌else◌}
 use Rattle.std.specs.Int.{w32, cast_signed}
-use Rattle.std.specs.List.{AllByRecursion, flat_map}
+use Rattle.std.specs.List.{flat_map}
 use Rattle.std.proofs.lemmas.Bool.Decides.{nat_tests}
 use Rattle.frame_model.specs.Messages.{int32, header, number_at, opcode, op_msg, most_bytes}
-use Rattle.frame_model.specs.Sections.{Section, section_bytes, IsSection, bodies}
-use Rattle.frame_model.specs.Requests.{Request, msg_form, Body, IsMsg, IsFlags, is_more, low_flags, msg_bytes}
+use Rattle.frame_model.specs.Sections.{Section, section_bytes}
+use Rattle.frame_model.specs.Requests.{msg_form, Body, IsMsg, is_more, low_flags}
 use Rattle.frame_model.specs.Outline.{FrameFault, bad_flags, msg_fault, sections_fault, takes_flags}
 use Rattle.opmsg_frames.proofs.Bytes.{IsBytes, back_part, number_fits, number_front}
-use Rattle.opmsg_frames.proofs.Spellings.{Exist, sections_exist}
+use Rattle.opmsg_frames.proofs.Spellings.{sections_exist}
 
 -- its flags are taken, and its sections are right
 flags_and_sections : (short taken : Bool) (sections : Option FrameFault) → (if short then Some bad_flags else if taken then sections else Some bad_flags) ≡ None → (taken ≡ true) × (sections ≡ None)

@@ -1,5 +1,5 @@
 -- A whole message of OP_QUERY that greets.
-use Rattle.std.proofs.Common.{◌≡◌, ℕ, ◌+◌, ◌-◌, ◌<◌, ◌≤◌, ◌^◌, ◌⊎◌, inl, inr, Bool, true, false, Option, Some, None, List, [], ◌∷◌, ◌++◌, length, get_or, take, drop, refl, sym, ap, ◌∙◌, add-one, drop-cons, arith, length-append, length-drop}
+use Rattle.std.proofs.Common.{◌≡◌, ℕ, ◌+◌, ◌-◌, ◌<◌, ◌≤◌, inl, inr, Bool, true, false, Option, Some, None, List, [], ◌∷◌, ◌++◌, length, take, drop, refl, sym, ap, ◌∙◌, drop-cons, arith, length-drop}
 use Rattle.std.specs.Prelude.{◌||◌, ◌&&◌, ◌==◌, nat_lt, nat_le, slice_index}
 use Rattle.std.specs.Int.{w32, cast_signed}
 use Rattle.std.specs.Str.{bytes_eq}
@@ -8,10 +8,9 @@ use Rattle.std.proofs.lemmas.Slice.Eq.{bytes_eq-Decides}
 use Rattle.std.proofs.lemmas.List.{take-append-drop, drop-drop}
 use Rattle.document_model.specs.Faults.{before_zero}
 use Rattle.frame_model.specs.Messages.{int32, header, number_at, opcode, op_query, most_bytes}
-use Rattle.frame_model.specs.Sections.{IsStated}
-use Rattle.frame_model.specs.Requests.{Request, query_form, Body, IsQuery, IsGreeting, admin_command, query_bytes}
+use Rattle.frame_model.specs.Requests.{query_form, Body, IsQuery, IsGreeting, admin_command}
 use Rattle.frame_model.specs.Outline.{is_query, greets}
-use Rattle.opmsg_frames.proofs.Bytes.{IsBytes, back_part, number_fits, number_front}
+use Rattle.opmsg_frames.proofs.Bytes.{IsBytes, number_fits, number_front}
 use Rattle.opmsg_frames.proofs.Spellings.{zero_splits}
 
 same : (a b : List ℕ) → bytes_eq a b ≡ true → a ≡ b

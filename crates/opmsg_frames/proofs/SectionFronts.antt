@@ -1,19 +1,17 @@
 -- The section that stands first in the spelling of sections.
-use Rattle.std.proofs.Common.{◌≡◌, ◌≢◌, ℕ, ◌+◌, ◌<◌, ◌≤◌, ◌^◌, Bool, true, false, eqb, Option, Some, None, List, [], ◌∷◌, ◌++◌, length, take, drop, refl, sym, ap, ◌∙◌, arith, length-append, append_assoc}
-use Rattle.std.specs.Int.{w32, from_le_bytes}
+use Rattle.std.proofs.Common.{◌≡◌, ℕ, ◌+◌, ◌<◌, ◌≤◌, ◌^◌, false, eqb, Option, Some, None, List, [], ◌∷◌, ◌++◌, length, drop, refl, sym, ap, ◌∙◌, arith, length-append, append_assoc}
 use Rattle.std.specs.List.{AllByRecursion, concat, flat_map}
-use Rattle.std.specs.Option.{option_map}
-use Rattle.std.specs.Str.{IsUtf8, is_utf8}
+use Rattle.std.specs.Str.{IsUtf8}
 use Rattle.std.proofs.lemmas.Bool.Decides.{nat_tests}
-use Rattle.std.proofs.lemmas.List.{take-append-le, take_at, drop_at}
+use Rattle.std.proofs.lemmas.List.{take_at, drop_at}
 use Rattle.std.proofs.lemmas.Nat.{from_le_bytes-to_le_bytes_4}
 use Rattle.std.proofs.lemmas.Str.{is_utf8-from_IsUtf8}
 use Rattle.document_model.specs.Faults.{before_zero}
 use Rattle.document_model.specs.Grammar.{HasNoZero}
-use Rattle.frame_model.specs.Messages.{int32, number_at}
+use Rattle.frame_model.specs.Messages.{int32}
 use Rattle.frame_model.specs.Sections.{Section, body_section, sequence_section, sequence_bytes, section_bytes, IsStated, IsSection}
-use Rattle.frame_model.specs.Outline.{Next, no_section, next_body, next_sequence, next_section, has_stated}
-use Rattle.opmsg_frames.specs.Outlines.{sequence_parts, parts_if}
+use Rattle.frame_model.specs.Outline.{Next, no_section, next_body, next_sequence, next_section}
+use Rattle.opmsg_frames.specs.Outlines.{sequence_parts}
 use Rattle.opmsg_frames.proofs.DocumentReads.{first_number, is_stated}
 
 -- the size of a section of kind 1, with what it counts, is as many bytes as it states

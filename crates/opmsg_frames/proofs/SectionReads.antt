@@ -1,13 +1,12 @@
 -- Reading sections one behind the other: what was read, and what is left.
-use Rattle.std.proofs.Common.{◌≡◌, ℕ, ◌+◌, ◌<◌, ◌≤◌, ◌^◌, ◌⊎◌, inl, inr, List, [], ◌∷◌, ◌++◌, length, refl, sym, ap, ◌∙◌, arith, length-append, append_assoc}
+use Rattle.std.proofs.Common.{◌≡◌, ℕ, ◌<◌, ◌^◌, ◌⊎◌, inl, inr, List, [], ◌∷◌, ◌++◌, length, refl, arith, length-append, append_assoc}
 use Rattle.std.specs.List.{AllByRecursion, flat_map}
-use Rattle.std.specs.Str.{IsUtf8}
 use Rattle.std.proofs.lemmas.List.{append-nil}
 use Rattle.document_model.specs.Tree.{Members}
 use Rattle.document_model.specs.Faults.{Fault, HasFirstFault}
 use Rattle.frame_model.specs.Sections.{Section, body_section, sequence_section, sequence_bytes, section_bytes, IsStated, IsSection, bodies, documents_in}
 use Rattle.frame_model.specs.Requests.{IsKept, AreKept, FirstFaulty, Hold}
-use Rattle.frame_model.specs.Outline.{Next, no_section, unknown_kind, bad_size, next_body, next_sequence, next_section}
+use Rattle.frame_model.specs.Outline.{no_section, unknown_kind, bad_size, next_body, next_sequence, next_section}
 use Rattle.opmsg_frames.proofs.SectionFronts.{next_of, next_is}
 
 -- either the body is still to come, or it was this document

@@ -1,7 +1,7 @@
 -- What is wrong with sections, section by section.
-use Rattle.std.proofs.Common.{◌≡◌, ℕ, zero, suc, ◌+◌, ◌-◌, ◌<◌, ◌≤◌, Bool, true, false, List, length, Option, refl, sym, ap, ◌∙◌, arith}
+use Rattle.std.proofs.Common.{◌≡◌, ℕ, zero, suc, ◌+◌, ◌-◌, ◌<◌, Bool, false, List, length, sym, ap, ◌∙◌, arith}
 use Rattle.std.specs.Prelude.{◌||◌, not}
-use Rattle.frame_model.specs.Outline.{FrameFault, Next, no_section, unknown_kind, bad_size, next_body, next_sequence, next_section, ended_fault, behind_fault, sections_fault, is_sequence, bad_kind, bad_section}
+use Rattle.frame_model.specs.Outline.{Next, no_section, unknown_kind, bad_size, next_body, next_sequence, next_section, ended_fault, behind_fault, sections_fault, is_sequence, bad_kind, bad_section}
 use Rattle.std.proofs.Common.{Some}
 
 -- what is wrong from here on is what is wrong with all

@@ -1,11 +1,10 @@
 -- Sections with which nothing is wrong are the spelling of sections.
-use Rattle.std.proofs.Common.{◌≡◌, ◌≢◌, ℕ, zero, suc, ◌+◌, ◌-◌, ◌<◌, ◌≤◌, ◌^◌, Bool, true, false, eqb, Option, Some, None, List, [], ◌∷◌, ◌++◌, length, take, drop, refl, sym, ap, ◌∙◌, arith, length-append, length-drop, append_assoc}
-use Rattle.std.specs.Prelude.{◌||◌, ◌&&◌, not, if◌then◌else◌, nat_le}
-use Rattle.std.specs.Bool.{Decides}
+use Rattle.std.proofs.Common.{◌≡◌, ◌≢◌, ℕ, zero, suc, ◌+◌, Bool, true, false, eqb, Option, Some, None, List, [], ◌∷◌, ◌++◌, length, take, drop, refl, sym, ap, ◌∙◌, arith, length-drop}
+use Rattle.std.specs.Prelude.{◌||◌, ◌&&◌, not, if◌then◌else◌}
 use Rattle.std.specs.Int.{w32, from_le_bytes}
 use Rattle.std.specs.List.{AllByRecursion, concat, flat_map}
 use Rattle.std.specs.Option.{option_map}
-use Rattle.std.specs.Str.{IsUtf8, is_utf8}
+use Rattle.std.specs.Str.{is_utf8}
 use Rattle.std.proofs.lemmas.Bool.Decides.{nat_tests}
 use Rattle.std.proofs.lemmas.List.{length-take-le, take-append-drop, take-take}
 use Rattle.std.proofs.lemmas.Str.{IsUtf8-from_is_utf8}
@@ -13,7 +12,7 @@ use Rattle.document_model.specs.Faults.{before_zero}
 use Rattle.document_model.specs.Grammar.{HasNoZero}
 use Rattle.frame_model.specs.Messages.{int32, number_at}
 use Rattle.frame_model.specs.Sections.{Section, body_section, sequence_section, sequence_bytes, section_bytes, IsStated, IsSection, bodies}
-use Rattle.frame_model.specs.Outline.{FrameFault, Next, no_section, unknown_kind, bad_size, next_body, next_sequence, next_section, has_stated, are_documents, is_named, is_sequence, ended_fault, behind_fault, sections_fault, bad_kind, bad_section, no_body, two_bodies}
+use Rattle.frame_model.specs.Outline.{Next, no_section, unknown_kind, bad_size, next_body, next_sequence, next_section, has_stated, are_documents, is_named, is_sequence, ended_fault, behind_fault, sections_fault, bad_kind, bad_section, no_body, two_bodies}
 use Rattle.opmsg_frames.proofs.Bytes.{IsBytes, front_part, back_part, number_front}
 use Rattle.opmsg_frames.proofs.SectionFronts.{behind_zero}
 use Rattle.opmsg_frames.proofs.StatedDocuments.{within}

@@ -1,12 +1,12 @@
 -- A document that begins the bytes whose number it states is all of them.
-use Rattle.std.proofs.Common.{◌≡◌, ◌≢◌, ℕ, ◌+◌, ◌<◌, ◌≤◌, ◌^◌, List, [], ◌∷◌, ◌++◌, length, take, drop, refl, sym, ap, subst, ◌∙◌, arith, length-append}
-use Rattle.std.specs.Int.{w32, to_le_bytes, from_le_bytes}
-use Rattle.std.proofs.lemmas.List.{take-append-le, length-take-le, take-take, take_at}
+use Rattle.std.proofs.Common.{◌≡◌, ℕ, ◌+◌, ◌<◌, ◌≤◌, ◌^◌, List, [], ◌∷◌, length, take, sym, ap, ◌∙◌, arith, length-append}
+use Rattle.std.specs.Int.{w32, from_le_bytes}
+use Rattle.std.proofs.lemmas.List.{length-take-le, take-take}
 use Rattle.std.proofs.Math.Seq.{take-length}
 use Rattle.std.proofs.lemmas.Nat.{from_le_bytes-to_le_bytes_4}
 use Rattle.document_model.specs.Tree.{Members}
 use Rattle.document_model.specs.Spelling.{framed}
-use Rattle.document_model.specs.Grammar.{ReadsAs, ReadsMembers, IsWithinLevels}
+use Rattle.document_model.specs.Grammar.{ReadsAs, IsWithinLevels}
 use Rattle.frame_model.specs.Messages.{number_at}
 use Rattle.frame_model.specs.Sections.{IsStated}
 use Rattle.frame_model.specs.Requests.{IsKept}

@@ -1,5 +1,5 @@
 -- What a call for the next request answers.
-use Rattle.std.specs.Prelude.{◌≡◌, ◌⊎◌, ℕ, ◌+◌, List, length, Option, Some, None, Result, Ok, Err}
+use Rattle.std.specs.Prelude.{◌≡◌, ◌⊎◌, ℕ, ◌+◌, length, Option, Some, None, Result, Ok, Err}
 use Rattle.frame_model.specs.Frames.{IsFirst}
 use Rattle.frame_model.specs.Outline as wire
 use Rattle.frame_model.specs.Requests as requests

@@ -1,4 +1,4 @@
-use Rattle.std.proofs.Common.{◌≡◌, ◌++◌, ℕ, List, length}
+use Rattle.std.proofs.Common.{◌≡◌, ℕ, List, length}
 use Rattle.std.specs.List.{AllByRecursion, concat}
 use Rattle.frame_model.specs.Sections.{IsStated}
 use Rattle.opmsg_frames.proofs.DocumentReads.{Left}

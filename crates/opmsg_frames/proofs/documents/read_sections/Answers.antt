@@ -1,6 +1,6 @@
-use Rattle.std.proofs.Common.{◌∙◌, refl}
+use Rattle.std.proofs.Common.{◌∙◌}
 use Rattle.std.proofs.lemmas.Result.{err_from_is_err_and}
-use Rattle.opmsg_frames.proofs.SectionReads.{none_read, next_left, at_body, at_sequence, at_end, no_other_kind, no_bad_size}
+use Rattle.opmsg_frames.proofs.SectionReads.{next_left, at_body, at_sequence, at_end, no_other_kind, no_bad_size}
 use Rattle.opmsg_frames.proofs.documents.read_sections.Goals as goal
 
 pub returns-in-Nothing : goal.returns-in-Nothing

@@ -1,4 +1,4 @@
-use Rattle.std.proofs.Common.{◌≡◌, ◌<◌, ◌^◌, ℕ, List, length}
+use Rattle.std.proofs.Common.{◌≡◌, ◌<◌, ◌^◌, List, length}
 use Rattle.std.specs.List.{AllByRecursion, flat_map}
 use Rattle.frame_model.specs.Sections.{Section, IsSection, bodies, section_bytes}
 use Rattle.opmsg_frames.proofs.SectionReads.{Left}

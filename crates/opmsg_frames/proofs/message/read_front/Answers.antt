@@ -1,5 +1,4 @@
-use Rattle.std.proofs.Common.{sym}
-use Rattle.opmsg_frames.proofs.WholeMessages.{is_whole, front_stated, front_code, is_first}
+use Rattle.opmsg_frames.proofs.WholeMessages.{is_whole, front_stated, front_code}
 use Rattle.opmsg_frames.proofs.message.read_front.Goals as goal
 
 pub read_message-requires-clause-stated : goal.read_message-requires-clause-stated

@@ -1,5 +1,4 @@
-use Rattle.std.proofs.Common.{arith, refl, sym, ap, ◌∙◌, length-drop}
-use Rattle.std.specs.Int.{w32}
+use Rattle.std.proofs.Common.{arith, refl, sym, ◌∙◌}
 use Rattle.document_model.specs.Faults.{short_fault}
 use Rattle.frame_model.specs.Requests.{faulty_body}
 use Rattle.frame_model.specs.Messages.{number_at}

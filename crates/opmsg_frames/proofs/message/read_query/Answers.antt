@@ -1,4 +1,4 @@
-use Rattle.std.proofs.Common.{arith, refl, sym, ap, ◌∙◌}
+use Rattle.std.proofs.Common.{arith, refl}
 use Rattle.document_model.specs.Faults.{short_fault}
 use Rattle.frame_model.specs.Messages.{number_at}
 use Rattle.frame_model.specs.Requests.{faulty_body}

@@ -1,4 +1,4 @@
-use Rattle.std.proofs.Common.{length, ◌-◌, refl, sym, ◌∙◌, arith}
+use Rattle.std.proofs.Common.{◌-◌, refl, sym, ◌∙◌, arith}
 use Rattle.std.proofs.lemmas.Bool.Decides.{nat_tests}
 use Rattle.opmsg_frames.proofs.StatedDocuments.{goes_on, stops, ends}
 use Rattle.opmsg_frames.proofs.sections.are_documents.Goals as goal

@@ -1,4 +1,4 @@
-use Rattle.std.proofs.Common.{◌-◌, refl, sym, ◌∙◌, arith}
+use Rattle.std.proofs.Common.{◌-◌, refl, ◌∙◌, arith}
 use Rattle.opmsg_frames.proofs.SectionWalk.{behind_body, behind_sequence, all_seen, kind_unknown, size_bad}
 use Rattle.opmsg_frames.proofs.sections.sections_fault.Goals as goal
 
