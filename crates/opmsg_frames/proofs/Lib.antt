@@ -1,0 +1,14 @@
+pub mod Names
+pub mod StatedDocuments
+pub mod SectionWalk
+pub mod Pairs
+pub mod Wholes
+pub mod DocumentReads
+pub mod SectionFronts
+pub mod SectionReads
+pub mod Bytes
+pub mod Spellings
+pub mod Msgs
+pub mod Bodies
+pub mod Queries
+pub mod WholeMessages

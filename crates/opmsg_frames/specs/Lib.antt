@@ -1,0 +1,5 @@
+pub mod Outlines
+pub mod Lists
+pub mod Requests
+pub mod FramerViews
+pub mod Framers

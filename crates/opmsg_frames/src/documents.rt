@@ -1,0 +1,93 @@
+//! Reading the documents of a message whose outline is right.
+
+ghost use Rattle.std.specs.Prelude.{◌≡◌, ◌<◌, ◌^◌, ◌++◌, ◌∷◌, [], ℕ, List, length};
+ghost use Rattle.std.specs.List.{AllByRecursion, concat, flat_map};
+ghost use Rattle.document_model.specs.Faults.{HasFirstFault};
+ghost use Rattle.document_model.specs.Tree.{Members};
+ghost use Rattle.frame_model.specs.Requests.{AreKept, FirstFaulty, Hold, IsKept};
+ghost use Rattle.frame_model.specs.Sections.{IsSection, IsStated, Section, bodies, documents_in, section_bytes, sequence_bytes, sequence_section};
+ghost use Rattle.opmsg_frames.specs.Requests.{Outcome};
+
+use crate::lists::{DocList, Sequence, SequenceList};
+use crate::sections::{Next, has_stated, next_section, number_at, split_sequence};
+use bson_values::{BsonFault, Document, Text, read};
+use std::alloc::Global;
+
+/// Reads the document that the bytes are, all of them.
+pub(crate) fn read_whole(alloc: Global, bytes: &[u8]) -> Result<Document, BsonFault>
+    ensures { IsStated bytes.now →
+        Outcome (λ doc. IsKept bytes.now doc) (λ fault place. HasFirstFault bytes.now fault place) result }
+{
+    let (doc, _) = read(alloc, bytes)?;
+    Ok(doc)
+}
+
+/// Reads documents, one behind the other.
+fn read_documents(alloc: Global, bytes: &[u8]) -> Result<DocList, BsonFault>
+    ensures { (documents : List (List ℕ)) → bytes.now ≡ concat documents → AllByRecursion IsStated documents →
+        Outcome (λ list. AreKept documents list) (λ fault place. FirstFaulty documents fault place) result }
+{
+    let mut list = DocList::new(alloc);
+    let mut rest = bytes;
+    while has_stated(rest) {
+        let (document, behind) = rest.split_at(number_at(rest, 0) as usize);
+        list.push(read_whole(alloc, document)?)?;
+        rest = behind;
+    }
+    Ok(list)
+}
+
+/// Reads a document sequence and puts it behind the others.
+fn take_sequence(
+    alloc: Global,
+    content: &[u8],
+    sequences: &mut SequenceList,
+) -> Result<(), BsonFault>
+    ensures { (identifier : List ℕ) (documents : List (List ℕ)) → content.now ≡ sequence_bytes identifier documents →
+        IsSection (sequence_section identifier documents) →
+        Outcome (λ done. (mss : List Members) × AreKept documents mss × (sequences.new ≡ sequences.old ++ (identifier, mss) ∷ []))
+        (λ fault place. FirstFaulty documents fault place) result }
+{
+    match split_sequence(content) {
+        Some((identifier, documents)) => {
+            let identifier = Text::of(alloc, identifier)?;
+            let documents = read_documents(alloc, documents)?;
+            sequences.push(Sequence {
+                identifier,
+                documents,
+            })?;
+            Ok(())
+        }
+        None => Ok(()),
+    }
+}
+
+/// Reads the documents of sections, one of which is of kind 0.
+pub(crate) fn read_sections(
+    alloc: Global,
+    bytes: &[u8],
+) -> Result<(Document, SequenceList), BsonFault>
+    ensures { (sections : List Section) → bytes.now ≡ flat_map section_bytes sections → length bytes.now < 2 ^ 32 →
+        AllByRecursion IsSection sections → bodies sections ≡ 1 →
+        Outcome (λ x. Hold sections (x.0 ∷ []) x.1) (λ fault place. FirstFaulty (documents_in sections) fault place) result }
+{
+    let mut doc = Document::new(alloc);
+    let mut sequences = SequenceList::new(alloc);
+    let mut rest = bytes;
+    'sections: loop {
+        match next_section(rest) {
+            Next::Nothing => return Ok((doc, sequences)),
+            // The outline is right, so neither comes.
+            Next::UnknownKind => return Ok((doc, sequences)),
+            Next::BadSize => return Ok((doc, sequences)),
+            Next::Body { document, behind } => {
+                doc = read_whole(alloc, document)?;
+                rest = behind;
+            }
+            Next::Sequence { content, behind } => {
+                take_sequence(alloc, content, &mut sequences)?;
+                rest = behind;
+            }
+        }
+    }
+}

@@ -1,0 +1,109 @@
+//! Requests from bytes that come in any pieces.
+
+ghost use Rattle.std.specs.Prelude.{◌≡◌, ◌++◌, [], None, OnErr, OnOk};
+ghost use Rattle.frame_model.specs.Outline.{message_outline, outline};
+ghost use Rattle.opmsg_frames.specs.Framers.{IsNext};
+
+use crate::fault::{FrameFault, Malformed};
+use crate::message::read_front;
+use crate::outline::{Outline, outline_of};
+use crate::request::Request;
+use bson_values::Memory;
+use bytes::BytesMut;
+use std::alloc::Global;
+use std::marker::Model;
+
+/// The bytes of a connection that are not yet given out as requests, and the place of the first of them.
+#[derive(Drop)]
+pub struct Framer {
+    alloc: Global,
+    bytes: BytesMut,
+    place: u64,
+    // The fault that was told.
+    fault: Option<Malformed>,
+}
+
+impl Model for Framer {
+    ghost use Rattle.opmsg_frames.specs.FramerViews.{FramerView, framer_code};
+
+    ghost Value = { FramerView };
+
+    ghost coded = { framer_code };
+
+    ghost use Rattle.std.specs.Prelude.{◌+◌, ◌<◌, ◌^◌, length};
+    ghost use Rattle.std.specs.Option.{option_map};
+    ghost use Rattle.opmsg_frames.specs.Outlines.{fault_meant};
+
+    ghost view = { λ f. record { bytes = f.bytes.items; place = f.place; fault = option_map (λ fault. fault_meant fault) f.fault } };
+
+    ghost invariant = { λ f. f.place + length f.bytes.items < 2 ^ 64 };
+}
+
+impl Framer {
+    /// No bytes so far.
+    pub fn new(alloc: Global) -> Framer
+        ensures bytes { result.bytes ≡ [] }
+        ensures place { result.place ≡ 0 }
+        ensures fault { result.fault ≡ None }
+    {
+        Framer {
+            alloc,
+            bytes: BytesMut::new(alloc),
+            place: 0,
+            fault: None,
+        }
+    }
+
+    /// Takes the next bytes. Fails for want of memory, and then changes nothing.
+    pub fn feed(&mut self, piece: &[u8]) -> Result<(), Memory>
+        ensures bytes { OnOk result (self.new.bytes ≡ self.old.bytes ++ piece.now) }
+        ensures place { self.new.place ≡ self.old.place }
+        ensures fault { self.new.fault ≡ self.old.fault }
+        ensures err { OnErr result (self.new.bytes ≡ self.old.bytes) }
+    {
+        let end = self.place + self.bytes.len() as u64;
+        if piece.len() as u64 >= u64::MAX - end {
+            return Err(Memory);
+        }
+        self.bytes.extend_from_slice(piece)?;
+        Ok(())
+    }
+
+    /// Gives the next request, if all its bytes came.
+    ///
+    /// # Errors
+    /// - `FrameFault::Malformed` exactly if the bytes begin with no message; each later call gives it again.
+    /// - `FrameFault::Memory` for want of memory; nothing changed.
+    pub fn next(&mut self) -> Result<Option<Request>, FrameFault>
+        ensures { IsNext self.old self.new result }
+    {
+        let place = self.place;
+        if let Some(fault) = self.fault {
+            return Err(FrameFault::Malformed { fault, place });
+        }
+        match outline_of(self.bytes.as_slice()) {
+            Outline::Partial => Ok(None),
+            Outline::Faulty(fault) => {
+                self.fault = Some(fault);
+                Err(FrameFault::Malformed { fault, place })
+            }
+            Outline::Message(count) => self.take_message(count),
+        }
+    }
+
+    /// Gives the request that the first `count` bytes are, and drops them.
+    fn take_message(&mut self, count: usize) -> Result<Option<Request>, FrameFault>
+        requires whole { outline self.old.bytes ≡ message_outline count }
+        requires fault { self.old.fault ≡ None }
+        ensures { IsNext self.old self.new result }
+    {
+        match read_front(self.alloc, self.bytes.as_slice(), count) {
+            Ok(request) => {
+                self.bytes.advance(count);
+                self.place += count as u64;
+                Ok(Some(request))
+            }
+            Err(Memory) => Err(FrameFault::Memory),
+        }
+    }
+}

@@ -1,0 +1,110 @@
+//! The documents of document sequences.
+
+ghost use Rattle.std.specs.Prelude.{◌≡◌, ◌++◌, ◌∷◌, [], OnErr, OnOk};
+ghost use Rattle.opmsg_frames.specs.Lists.{pairs_of};
+
+use bson_values::{Document, Memory, Text};
+use std::alloc::Global;
+use std::marker::Model;
+
+/// A row of documents, in order.
+#[derive(Drop)]
+pub struct DocList {
+    documents: Vec<Document>,
+}
+
+impl Model for DocList {
+    ghost use Rattle.std.specs.Prelude.{List};
+    ghost use Rattle.std.specs.Coded.{coded_list};
+    ghost use Rattle.document_model.specs.Tree.{Members};
+    ghost use Rattle.bson_values.specs.Code.{members_code};
+
+    ghost Value = { List Members };
+
+    ghost coded = { coded_list members_code };
+
+    ghost view = { λ l. l.documents.items };
+}
+
+impl DocList {
+    /// No document.
+    pub fn new(alloc: Global) -> DocList
+        ensures { result ≡ [] }
+    {
+        DocList {
+            documents: Vec::new(alloc),
+        }
+    }
+
+    /// Puts a document behind the others. Fails for want of memory, and then changes nothing.
+    pub fn push(&mut self, document: Document) -> Result<(), Memory>
+        ensures ok { OnOk result (self.new ≡ self.old ++ document ∷ []) }
+        ensures err { OnErr result (self.new ≡ self.old) }
+    {
+        self.documents.push(document)?;
+        Ok(())
+    }
+
+    /// The documents, in order.
+    pub fn as_slice(&self) -> &[Document]
+        ensures { result.now ≡ self.now }
+    {
+        self.documents.as_slice()
+    }
+}
+
+/// A document sequence: its identifier and its documents (MongoDB Wire Protocol, "OP_MSG", Kind 1).
+#[derive(Drop)]
+pub struct Sequence {
+    pub identifier: Text,
+    pub documents: DocList,
+}
+
+/// A row of document sequences, in order.
+#[derive(Drop)]
+pub struct SequenceList {
+    sequences: Vec<Sequence>,
+}
+
+impl Model for SequenceList {
+    ghost use Rattle.std.specs.Prelude.{List, ℕ};
+    ghost use Rattle.std.specs.Coded.{coded_list, coded×, coded_ℕ};
+    ghost use Rattle.document_model.specs.Tree.{Members};
+    ghost use Rattle.bson_values.specs.Code.{members_code};
+
+    ghost Value = { List (List ℕ × List Members) };
+
+    ghost coded = { coded_list (coded× (coded_list coded_ℕ) (coded_list members_code)) };
+
+    ghost use Rattle.opmsg_frames.specs.Lists.{pairs_of};
+
+    ghost view = { λ l. pairs_of l.sequences.items };
+}
+
+impl SequenceList {
+    /// No sequence.
+    pub fn new(alloc: Global) -> SequenceList
+        ensures { result ≡ [] }
+    {
+        SequenceList {
+            sequences: Vec::new(alloc),
+        }
+    }
+
+    /// Puts a sequence behind the others. Fails for want of memory, and then changes nothing.
+    #[tactic(auto, using(crate::proofs::Pairs::pairs_push))]
+    pub fn push(&mut self, sequence: Sequence) -> Result<(), Memory>
+        ensures ok { OnOk result (self.new ≡ self.old ++ (sequence.identifier, sequence.documents) ∷ []) }
+        ensures err { OnErr result (self.new ≡ self.old) }
+    {
+        self.sequences.push(sequence)?;
+        Ok(())
+    }
+
+    /// The sequences, in order.
+    pub fn as_slice(&self) -> &[Sequence]
+        ensures { pairs_of result.now ≡ self.now }
+    {
+        self.sequences.as_slice()
+    }
+}

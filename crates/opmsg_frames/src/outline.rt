@@ -1,0 +1,129 @@
+//! What stands at the front of the bytes of a connection.
+
+ghost use Rattle.std.specs.Prelude.{◌≡◌, ◌+◌, ◌<◌, ◌≤◌, length};
+ghost use Rattle.std.specs.Option.{option_map};
+ghost use Rattle.frame_model.specs.Outline.{greets, header_fault, is_query, message_fault, msg_fault, outline};
+ghost use Rattle.opmsg_frames.specs.Outlines.{fault_meant, outline_meant};
+
+use crate::fault::Malformed;
+use crate::sections::{before_zero, number_at, sections_fault};
+
+// Header, flags, collection, two counts and the least document.
+const LEAST_QUERY: usize = 44;
+
+const HEADER: usize = 16;
+
+const MOST_BYTES: u32 = 48_000_000;
+
+const OP_MSG: u32 = 2013;
+
+const OP_QUERY: u32 = 2004;
+
+/// What the bytes of a connection begin with (MongoDB Wire Protocol, "Standard Message Header").
+#[derive(Clone, Copy, Debug, PartialEq, Eq)]
+pub enum Outline {
+    /// Less than a whole message.
+    Partial,
+    /// A whole message of that many bytes.
+    Message(usize),
+    /// No message, however the bytes go on.
+    Faulty(Malformed),
+}
+
+/// What is wrong with a header.
+fn header_fault(bytes: &[u8]) -> Option<Malformed>
+    requires { 16 ≤ length bytes.now }
+    ensures { option_map (λ f. fault_meant f) result ≡ header_fault bytes.now }
+{
+    let stated = number_at(bytes, 0);
+    if stated < 16 || stated >= 0x8000_0000 {
+        return Some(Malformed::BadLength);
+    }
+    if stated > MOST_BYTES {
+        return Some(Malformed::TooLong);
+    }
+    let opcode = number_at(bytes, 12);
+    if opcode == OP_MSG || opcode == OP_QUERY {
+        return None;
+    }
+    Some(Malformed::BadOpcode)
+}
+
+/// Whether this is the first name of a greeting.
+fn greets(name: Option<&[u8]>) -> bool
+    ensures { result ≡ greets (option_map (λ n. n.now) name.entry) }
+{
+    match name {
+        Some(name) => name == b"isMaster".as_slice()
+            || name == b"ismaster".as_slice()
+            || name == b"hello".as_slice(),
+        None => false,
+    }
+}
+
+/// Whether a whole message of OP_QUERY is a greeting.
+fn is_query(bytes: &[u8]) -> bool
+    ensures { result ≡ is_query bytes.now }
+{
+    if bytes.len() < LEAST_QUERY {
+        return false;
+    }
+    let (_, behind_flags) = bytes.split_at(20);
+    let (collection, _) = behind_flags.split_at(11);
+    let (_, name) = bytes.split_at(44);
+    collection == b"admin.$cmd\0".as_slice()
+        && number_at(bytes, 39) as usize == bytes.len() - 39
+        && bytes[43] > 0
+        && greets(before_zero(name))
+}
+
+/// What is wrong with a whole message of OP_MSG.
+fn msg_fault(bytes: &[u8]) -> Option<Malformed>
+    ensures { option_map (λ f. fault_meant f) result ≡ msg_fault bytes.now }
+{
+    if bytes.len() < 20 {
+        return Some(Malformed::BadFlags);
+    }
+    let low = number_at(bytes, 16) % 0x1_0000;
+    if low != 0 && low != 2 {
+        return Some(Malformed::BadFlags);
+    }
+    let (_, sections) = bytes.split_at(20);
+    sections_fault(sections)
+}
+
+/// What is wrong with a whole message that has one of the two opcodes.
+fn message_fault(bytes: &[u8]) -> Option<Malformed>
+    requires { 16 ≤ length bytes.now }
+    ensures { option_map (λ f. fault_meant f) result ≡ message_fault bytes.now }
+{
+    if number_at(bytes, 12) == OP_MSG {
+        return msg_fault(bytes);
+    }
+    if is_query(bytes) {
+        return None;
+    }
+    Some(Malformed::BadQuery)
+}
+
+/// What stands at the front of the bytes: less than a whole message, a whole one, or a fault. It is a fault as soon as its
+/// header's 16 bytes tell one, or else once the message is whole.
+pub fn outline_of(bytes: &[u8]) -> Outline
+    ensures { outline_meant result ≡ outline bytes.now }
+{
+    if bytes.len() < HEADER {
+        return Outline::Partial;
+    }
+    if let Some(fault) = header_fault(bytes) {
+        return Outline::Faulty(fault);
+    }
+    let stated = number_at(bytes, 0) as usize;
+    if bytes.len() < stated {
+        return Outline::Partial;
+    }
+    let (message, _) = bytes.split_at(stated);
+    match message_fault(message) {
+        Some(fault) => Outline::Faulty(fault),
+        None => Outline::Message(stated),
+    }
+}

@@ -1,0 +1,145 @@
+//! Replies.
+
+ghost use Rattle.std.specs.Prelude.{◌≡◌, ◌≤◌, ◌++◌, length, take, OnErr, OnOk};
+ghost use Rattle.std.specs.Int.{w32, cast_unsigned};
+ghost use Rattle.document_model.specs.Spelling.{written};
+ghost use Rattle.document_model.specs.Tree.{document_levels};
+ghost use Rattle.frame_model.specs.Messages.{header, int32};
+ghost use Rattle.frame_model.specs.Replies.{reply_bytes, reply_head};
+ghost use Rattle.frame_model.specs.Requests.{msg_form, query_form};
+ghost use Rattle.opmsg_frames.specs.Requests.{form_meant};
+
+use crate::request::{Form, Request};
+use bson_values::{Document, Memory, write};
+use byteorder::{ByteOrder, LittleEndian};
+
+const OP_MSG: u32 = 2013;
+
+const OP_REPLY: u32 = 1;
+
+/// The bytes of a reply to OP_MSG before its document: header, flags and the section's kind.
+const MSG_HEAD: u32 = 21;
+
+/// The bytes of an OP_REPLY before its document: header, flags, cursor, start and count.
+const REPLY_HEAD: u32 = 36;
+
+/// Flags 8, cursor 0, starting from 0, and one document.
+const ONE_DOCUMENT: [u8; 20] = [8, 0, 0, 0, 0, 0, 0, 0, 0, 0, 0, 0, 0, 0, 0, 0, 1, 0, 0, 0];
+
+/// Puts a number. An `Err` changes nothing.
+fn put_number(number: u32, out: &mut Vec<u8>) -> Result<(), Memory>
+    ensures ok { OnOk result (out.new.items ≡ out.old.items ++ int32 number) }
+    ensures err { OnErr result (out.new.items ≡ out.old.items) }
+{
+    let mut buffer = [0; 4];
+    LittleEndian::write_u32(&mut buffer, number);
+    out.extend_from_slice(&buffer)?;
+    Ok(())
+}
+
+/// Puts a length and an id. An `Err` may leave a part of it.
+fn put_length(size: u32, id: i32, out: &mut Vec<u8>) -> Result<(), Memory>
+    ensures ok { OnOk result (out.new.items ≡ out.old.items ++ (int32 size ++ int32 (cast_unsigned w32 id))) }
+    ensures kept { take (length out.old.items) out.new.items ≡ out.old.items }
+{
+    put_number(size, out)?;
+    put_number(id.cast_unsigned(), out)?;
+    Ok(())
+}
+
+/// Puts an answered id and an opcode. An `Err` may leave a part of it.
+fn put_opcode(answers: i32, code: u32, out: &mut Vec<u8>) -> Result<(), Memory>
+    ensures ok { OnOk result (out.new.items ≡ out.old.items ++ (int32 (cast_unsigned w32 answers) ++ int32 code)) }
+    ensures kept { take (length out.old.items) out.new.items ≡ out.old.items }
+{
+    put_number(answers.cast_unsigned(), out)?;
+    put_number(code, out)?;
+    Ok(())
+}
+
+/// Puts a header. An `Err` may leave a part of it.
+fn put_header(size: u32, id: i32, answers: i32, code: u32, out: &mut Vec<u8>) -> Result<(), Memory>
+    ensures ok { OnOk result (out.new.items
+        ≡ out.old.items ++ header size (cast_unsigned w32 id) (cast_unsigned w32 answers) code) }
+    ensures kept { take (length out.old.items) out.new.items ≡ out.old.items }
+{
+    put_length(size, id, out)?;
+    put_opcode(answers, code, out)?;
+    Ok(())
+}
+
+/// Puts what stands before the document of a reply to OP_MSG. An `Err` may leave a part of it.
+fn put_msg_head(id: i32, number: i32, size: u32, out: &mut Vec<u8>) -> Result<(), Memory>
+    requires { size ≤ 200000000 }
+    ensures ok { OnOk result (out.new.items ≡ out.old.items ++ reply_head msg_form id number size) }
+    ensures kept { take (length out.old.items) out.new.items ≡ out.old.items }
+{
+    put_header(size + MSG_HEAD, number, id, OP_MSG, out)?;
+    put_number(0, out)?;
+    out.push(0)?;
+    Ok(())
+}
+
+/// Puts what stands before the document of an OP_REPLY. An `Err` may leave a part of it.
+fn put_query_head(id: i32, number: i32, size: u32, out: &mut Vec<u8>) -> Result<(), Memory>
+    requires { size ≤ 200000000 }
+    ensures ok { OnOk result (out.new.items ≡ out.old.items ++ reply_head query_form id number size) }
+    ensures kept { take (length out.old.items) out.new.items ≡ out.old.items }
+{
+    put_header(size + REPLY_HEAD, number, id, OP_REPLY, out)?;
+    out.extend_from_slice(&ONE_DOCUMENT)?;
+    Ok(())
+}
+
+/// Puts what stands before the document of a reply. An `Err` may leave a part of it.
+fn put_head(form: Form, id: i32, number: i32, size: u32, out: &mut Vec<u8>) -> Result<(), Memory>
+    requires { size ≤ 200000000 }
+    ensures ok { OnOk result (out.new.items ≡ out.old.items ++ reply_head (form_meant form) id number size) }
+    ensures kept { take (length out.old.items) out.new.items ≡ out.old.items }
+{
+    match form {
+        Form::Msg => put_msg_head(id, number, size, out),
+        Form::Query => put_query_head(id, number, size, out),
+    }
+}
+
+/// Puts a reply. An `Err` may leave a part of it.
+fn put_reply(
+    request: &Request,
+    number: i32,
+    doc: &Document,
+    out: &mut Vec<u8>,
+) -> Result<(), Memory>
+    requires levels { document_levels doc.now ≤ 104 }
+    requires size { length (written doc.now) ≤ 200000000 }
+    ensures ok { OnOk result (out.new.items
+        ≡ out.old.items ++ reply_bytes (form_meant request.now.form) request.now.id number doc.now) }
+    ensures kept { take (length out.old.items) out.new.items ≡ out.old.items }
+{
+    let size = doc.size() as u32;
+    put_head(request.form, request.id, number, size, out)?;
+    write(doc, out)
+}
+
+/// Puts the reply of this number to a request behind the bytes: to OP_MSG an OP_MSG, to OP_QUERY an OP_REPLY (MongoDB
+/// Wire Protocol). The document has at most 104 levels and its spelling at most 200,000,000 bytes. Fails for want of
+/// memory, and then leaves the bytes as they were.
+pub fn write_reply(
+    request: &Request,
+    number: i32,
+    doc: &Document,
+    out: &mut Vec<u8>,
+) -> Result<(), Memory>
+    requires levels { document_levels doc.now ≤ 104 }
+    requires size { length (written doc.now) ≤ 200000000 }
+    ensures ok { OnOk result (out.new.items
+        ≡ out.old.items ++ reply_bytes (form_meant request.now.form) request.now.id number doc.now) }
+    ensures err { OnErr result (out.new.items ≡ out.old.items) }
+{
+    let len = out.len();
+    let done = put_reply(request, number, doc, out);
+    if done.is_err() {
+        out.truncate(len);
+    }
+    done
+}
