@@ -3,7 +3,13 @@
 
 mod answer;
 mod answering;
+mod checks;
+mod command;
 mod parts;
+mod reading;
+mod rules;
 
 pub use answer::{Answer, StatementIndex, WriteError};
 pub use answering::write_answer;
+pub use command::{Command, CommandFault, Sequence};
+pub use reading::read_command;
