@@ -8,6 +8,8 @@ mod command;
 mod parts;
 mod reading;
 mod rules;
+#[cfg(test)]
+mod tests;
 
 pub use answer::{Answer, StatementIndex, WriteError};
 pub use answering::write_answer;
