@@ -3,7 +3,8 @@ use Rattle.std.proofs.Common.{◌≡◌, ℕ, List, refl, sym, ap, subst, ◌∙
 use Rattle.std.specs.Prelude.{map, Some}
 use Rattle.wire_model.specs.Messages.{Message}
 use Rattle.history_model.specs.Command.{Command, Asks}
-use Rattle.history_model.specs.Exchange.{Exchange}
+use Rattle.history_model.specs.Exchange.{Exchange, number_for}
+use Rattle.history_model.specs.History.{StatementNumber}
 use Rattle.history_model.specs.Machine.{Store, reply_to, store_after, Runs, nothing_more, serves}
 use Rattle.history_model.proofs.Asked.{asks_one}
 

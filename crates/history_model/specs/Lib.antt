@@ -3,6 +3,7 @@ pub mod Times
 pub mod Errors
 pub mod Command
 pub mod History
+pub mod Catalogue
 pub mod Reply
 pub mod Exchange
 pub mod Machine

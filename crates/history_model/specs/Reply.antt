@@ -1,6 +1,6 @@
--- Reply documents (MongoDB manual, "insert", "Command Response"; the members' order is fixed here).
-use Rattle.std.specs.Prelude.{ℕ, codes, Option, Some, None, pos}
-use Rattle.document_model.specs.Tree.{Datum, Members, no_members, member, no_items, item, text_value, document_value, array_value, int32_value, timestamp_value, joined, get}
+-- Reply documents (MongoDB manual, "insert" and "find", "Command Response"; the members' order is fixed here).
+use Rattle.std.specs.Prelude.{ℕ, List, codes, Option, Some, None, pos}
+use Rattle.document_model.specs.Tree.{Datum, Members, no_members, member, Items, no_items, item, text_value, document_value, array_value, int32_value, int64_value, timestamp_value, joined, get}
 use Rattle.history_model.specs.Errors.{ErrorCode}
 use Rattle.history_model.specs.Command.{Refusal}
 use Rattle.history_model.specs.History.{Outcome}
@@ -23,6 +23,23 @@ write_reply outcome time =
     (joined (write_errors outcome.error)
     (member (codes "ok") (int32_value (pos 1))
     (member (codes "operationTime") (timestamp_value time) no_members)))
+
+-- a document, if one was found
+abbrev pub batch_of : Option Members → Items
+batch_of None = no_items
+batch_of (Some document) = item (document_value document) no_items
+
+-- the reply to a find that is answered whole: cursor {id 0, ns, firstBatch, atClusterTime}, ok 1, operationTime
+abbrev pub find_reply : List ℕ → Option Members → ℕ → Members
+find_reply namespace found time =
+    member (codes "cursor")
+    (document_value
+    (member (codes "id") (int64_value (pos 0))
+    (member (codes "ns") (text_value namespace)
+    (member (codes "firstBatch") (array_value (batch_of found))
+    (member (codes "atClusterTime") (timestamp_value time) no_members)))))
+    (member (codes "ok") (int32_value (pos 1))
+    (member (codes "operationTime") (timestamp_value time) no_members))
 
 abbrev pub evidence_shown : Option Members → Members
 evidence_shown None = no_members

@@ -4,14 +4,15 @@ ghost use Rattle.std.specs.Prelude.{◌≡◌, ◌≢◌, ◌<◌, ◌++◌, ◌
 ghost use Rattle.std.specs.List.{AllByRecursion};
 ghost use Rattle.document_model.specs.Grammar.{ReadsAs};
 ghost use Rattle.document_model.specs.Tree.{Datum, Members};
-ghost use Rattle.history_model.specs.Command.{Asks, Command};
+ghost use Rattle.history_model.specs.Catalogue.{Creation, IsPlaced};
+ghost use Rattle.history_model.specs.Command.{Asks, Command, find_command, insert_command};
 ghost use Rattle.history_model.specs.Errors.{ErrorCode, duplicate_key};
-ghost use Rattle.history_model.specs.Exchange.{Exchange, InTurn, IsEntryOf, OneHistory};
+ghost use Rattle.history_model.specs.Exchange.{Exchange, InTurn, IsEntryOf, OneHistory, number_for};
 ghost use Rattle.value_order.specs.Keys.{key_of};
-ghost use Rattle.history_model.specs.History.{Entry, IsBefore, IsIn, IsSameStatement, Legal, Operation, Outcome, document_after, effect, fails_with, insert_operation, writes_to};
+ghost use Rattle.history_model.specs.History.{Entry, IsBefore, IsIn, IsSameStatement, Legal, Operation, Outcome, document_after, effect, fails_with, insert_operation, same_key, writes_to};
 ghost use Rattle.history_model.specs.Laws.{Stands};
-ghost use Rattle.history_model.specs.Machine.{Runs, Store, empty_store};
-ghost use Rattle.history_model.specs.Reply.{write_reply};
+ghost use Rattle.history_model.specs.Machine.{Leaves, Runs, Store, empty_store};
+ghost use Rattle.history_model.specs.Reply.{find_reply, write_reply};
 
 /// Bytes spell one document at most (BSON 1.1, "Specification").
 pub fn one_document()
@@ -23,14 +24,17 @@ pub fn one_command()
     ensures { (bytes : List ℕ) (c d : Command) → Asks bytes c → Asks bytes d → c ≡ d }
 {}
 
-/// The plain store leaves no choice: the same requests at the same moments get the same replies, and leave the same store.
+/// The plain store leaves no choice: the same statements in the same requests at the same moments get the same replies,
+/// and leave the same store.
 pub fn one_run()
-    ensures { (start end last : Store) (moments : List ℕ) (said others : List Exchange) → Runs start moments said end → Runs start moments others last → map (λ x. x.request) said ≡ map (λ x. x.request) others → (map (λ x. x.reply) said ≡ map (λ x. x.reply) others) × (end ≡ last) }
+    ensures { (start end last : Store) (moments : List ℕ) (said others : List Exchange) → Runs start moments said end → Runs start moments others last → map (λ x. (x.request, number_for x 0)) said ≡ map (λ x. (x.request, number_for x 0)) others → (map (λ x. x.reply) said ≡ map (λ x. x.reply) others) × (end ≡ last) }
 {}
 
-/// What the plain store tells, from nothing and whatever clients send, is one history of an unsharded collection.
+/// What the plain store writes and tells, from nothing and whatever clients send, is one history of an unsharded collection,
+/// also with a part of what it did for one more request; and each entry is of a collection that began before it.
 pub fn machine_makes_one_history()
-    ensures { (moments : List ℕ) (said : List Exchange) (end : Store) → Runs empty_store moments said end → InTurn 0 1 said → (history : List Entry) × OneHistory history said }
+    ensures history { (gives : ℕ → Type 0) (moments : List ℕ) (said under_way : List Exchange) (end : Store) (creations : List Creation) (entries : List Entry) → Runs empty_store moments said end → Leaves gives end under_way creations entries → InTurn 0 1 (said ++ under_way) → OneHistory entries (said ++ under_way) }
+    ensures placed { (gives : ℕ → Type 0) (moments : List ℕ) (said under_way : List Exchange) (end : Store) (creations : List Creation) (entries : List Entry) → Runs empty_store moments said end → Leaves gives end under_way creations entries → AllByRecursion (IsPlaced creations) entries }
 {}
 
 /// A write that was told of stands in the history, with the count, the error and the time that were told. So where
@@ -43,6 +47,13 @@ pub fn told_writes_stand()
 /// A write whose request came after another's reply is told a later time.
 pub fn later_writes_tell_later()
     ensures { (history : List Entry) (said : List Exchange) (x y : Exchange) (before after : Outcome) (s t : ℕ) → OneHistory history said → IsIn x said → IsIn y said → x.step < y.came → x.reply ≡ Some (write_reply before s) → y.reply ≡ Some (write_reply after t) → s < t }
+{}
+
+/// A find that shows no document is of a time before every write under its key. So a find that names no time, and whose request
+/// came after a write was told of, shows a document under the key that was written.
+pub fn reads_miss_nothing()
+    ensures later { (history : List Entry) (said : List Exchange) (y : Exchange) (e : Entry) (namespace : List ℕ) (key : Datum) (at : Option ℕ) (time : ℕ) → OneHistory history said → IsIn y said → IsIn e history → Asks y.request.body (find_command namespace key at) → y.reply ≡ Some (find_reply namespace None time) → writes_to namespace (Some key) e ≡ true → time < e.time }
+    ensures acknowledged { (history : List Entry) (said : List Exchange) (x y : Exchange) (namespace : List ℕ) (document : Members) (key : Datum) (outcome : Outcome) (s t : ℕ) → OneHistory history said → IsIn x said → IsIn y said → x.step < y.came → Asks x.request.body (insert_command namespace document) → x.reply ≡ Some (write_reply outcome s) → Asks y.request.body (find_command namespace key None) → same_key (key_of document) (Some key) ≡ true → y.reply ≢ Some (find_reply namespace None t) }
 {}
 
 /// No two entries of a legal history stand at one time of one shard, and none is the statement of another.

@@ -7,6 +7,6 @@ mod laws;
 
 pub use laws::{
     later_writes_tell_later, machine_makes_one_history, no_entry_twice, one_command, one_document,
-    one_run, others_untouched, own_entry, refused_leaves, second_insert_is_refused,
-    told_writes_stand,
+    one_run, others_untouched, own_entry, reads_miss_nothing, refused_leaves,
+    second_insert_is_refused, told_writes_stand,
 };

@@ -11,7 +11,8 @@ use Rattle.document_model.specs.Spelling.{framed, written, written_members, bool
 use Rattle.document_model.specs.Grammar.{ReadsAs}
 use Rattle.history_model.proofs.Documents.{one_document}
 use Rattle.history_model.specs.History.{Session, client_session, router_session, StatementNumber}
-use Rattle.record_model.specs.Records.{OperationWords, insert_words, update_words, delete_words, OutcomeWords, EntryWords, Creation, Record, entry_record, create_record}
+use Rattle.history_model.specs.Catalogue.{Creation}
+use Rattle.record_model.specs.Records.{OperationWords, insert_words, update_words, delete_words, OutcomeWords, EntryWords, Record, entry_record, create_record}
 use Rattle.record_model.specs.Spelled.{four, eight, spelled_text, key_document, spelled_key, spelled_session, spelled_number, spelled_words, spelled_outcome, spelled_entry, spelled_creation, spelled, IsSpellable, IsSoundKey, IsSoundSession, IsSoundNumber, AreSoundWords, IsSoundOutcome, IsSoundEntry, IsSoundCreation, IsSound}
 
 first_byte : (b c : ℕ) (xs ys : List ℕ) → b ∷ xs ≡ c ∷ ys → b ≡ c

@@ -4,7 +4,8 @@ use Rattle.history_model.specs.Times.{timestamp}
 use Rattle.history_model.specs.History.{Entry}
 use Rattle.history_model.specs.Command.{id_document}
 use Rattle.history_model.specs.Examples as history
-use Rattle.record_model.specs.Records.{update_words, EntryWords, Creation, Record, create_record, record_of}
+use Rattle.history_model.specs.Catalogue.{Creation}
+use Rattle.record_model.specs.Records.{update_words, EntryWords, Record, create_record, record_of}
 
 -- the collection d.c begins at Timestamp(1000, 1), as the first of that name; its 25 bytes
 abbrev pub creation : Creation

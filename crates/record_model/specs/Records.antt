@@ -4,6 +4,7 @@ use Rattle.std.specs.Prelude.{ℕ, ℤ, pos, List, Bool, Option, Some, None}
 use Rattle.document_model.specs.Tree.{Datum, Members}
 use Rattle.history_model.specs.Errors.{ErrorCode}
 use Rattle.history_model.specs.History.{StatementNumber, Operation, insert_operation, Outcome, Entry}
+use Rattle.history_model.specs.Catalogue.{Creation}
 
 -- what a statement does
 pub data OperationWords : Type 0 where
@@ -27,12 +28,6 @@ pub record EntryWords : Type 0 where
   pub number : StatementNumber
   pub words : OperationWords
   pub outcome : OutcomeWords
-
--- a collection begins: its name, which of the collections of that name it is, and when
-pub record Creation : Type 0 where
-  pub namespace : List ℕ
-  pub epoch : ℕ
-  pub at : ℕ
 
 pub data Record : Type 0 where
   entry_record : EntryWords → Record

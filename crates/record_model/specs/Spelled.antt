@@ -7,7 +7,8 @@ use Rattle.document_model.specs.Tree.{Datum, Members, no_members, member}
 use Rattle.document_model.specs.Spelling.{written, boolean_byte}
 use Rattle.document_model.specs.Grammar.{ReadsAs}
 use Rattle.history_model.specs.History.{Session, client_session, router_session, StatementNumber}
-use Rattle.record_model.specs.Records.{OperationWords, insert_words, update_words, delete_words, OutcomeWords, EntryWords, Creation, Record, entry_record, create_record}
+use Rattle.history_model.specs.Catalogue.{Creation}
+use Rattle.record_model.specs.Records.{OperationWords, insert_words, update_words, delete_words, OutcomeWords, EntryWords, Record, entry_record, create_record}
 
 -- a number of four bytes, and one of eight
 abbrev pub four : ℕ → List ℕ
