@@ -1,6 +1,9 @@
--- Where a connection stands after one request, and after the requests of a buffer.
+-- Where a connection stands after one request, and after the requests of a buffer. `whole` is what the journals keep where
+-- they are open, and `left` what their disks keep where serving stopped.
 use Rattle.std.specs.Prelude.{ℕ, Bool, List, ◌++◌, take, drop}
 use Rattle.wire_model.specs.Frames.{IsPartial, IsMalformed}
+use Rattle.history_model.specs.Catalogue.{Creation}
+use Rattle.history_model.specs.History.{Entry}
 use Rattle.cluster_top.specs.Serving.{Serving, Stopped}
 use Rattle.cluster_top.specs.declared.server.Server.{Server}
 use Rattle.cluster_top.specs.declared.pipe.Fate.{Fate}
@@ -8,13 +11,13 @@ use Rattle.cluster_top.specs.declared.pipe.Fate.TheVariants as fates
 use Rattle.cluster_top.specs.declared.pipe.Stop.{Stop}
 use Rattle.cluster_top.specs.declared.pipe.Stop.TheVariants as stops
 
-abbrev pub AfterOne : Fate → (ℕ → Type 0) → Bool → List ℕ → List ℕ → List ℕ → List ℕ → ℕ → Server → Type 0
-AfterOne fates.Answered gives tells held_before held consumed bytes whole server = Serving gives tells held_before held (consumed ++ take whole bytes) server
-AfterOne fates.WriteFailed gives tells held_before held consumed bytes whole server = Stopped gives tells held_before held (consumed ++ take whole bytes)
-AfterOne fates.NoMemory gives tells held_before held consumed bytes whole server = Stopped gives tells held_before held consumed
+abbrev pub AfterOne : Fate → (ℕ → Type 0) → Bool → List ℕ → List ℕ → (List Creation → List Entry → Type 0) → (List Creation → List Entry → Type 0) → List ℕ → Server → Type 0
+AfterOne fates.Answered gives tells held_before held whole left consumed server = Serving gives tells held_before held whole consumed server
+AfterOne fates.WriteFailed gives tells held_before held whole left consumed server = Stopped gives tells held_before held whole consumed
+AfterOne fate gives tells held_before held whole left consumed server = Stopped gives tells held_before held left consumed
 
-abbrev pub AfterAll : Stop → (ℕ → Type 0) → Bool → List ℕ → List ℕ → List ℕ → List ℕ → ℕ → Server → Type 0
-AfterAll stops.Partial gives tells held_before held consumed bytes at server = IsPartial (drop at bytes) × Serving gives tells held_before held (consumed ++ take at bytes) server
-AfterAll stops.Malformed gives tells held_before held consumed bytes at server = IsMalformed (drop at bytes) × Serving gives tells held_before held (consumed ++ take at bytes) server
-AfterAll stops.WriteFailed gives tells held_before held consumed bytes at server = Stopped gives tells held_before held (consumed ++ take at bytes)
-AfterAll stops.NoMemory gives tells held_before held consumed bytes at server = Stopped gives tells held_before held (consumed ++ take at bytes)
+abbrev pub AfterAll : Stop → (ℕ → Type 0) → Bool → List ℕ → List ℕ → (List Creation → List Entry → Type 0) → (List Creation → List Entry → Type 0) → List ℕ → List ℕ → Server → Type 0
+AfterAll stops.Partial gives tells held_before held whole left consumed rest server = IsPartial rest × Serving gives tells held_before held whole consumed server
+AfterAll stops.Malformed gives tells held_before held whole left consumed rest server = IsMalformed rest × Serving gives tells held_before held whole consumed server
+AfterAll stops.WriteFailed gives tells held_before held whole left consumed rest server = Stopped gives tells held_before held whole consumed
+AfterAll stop gives tells held_before held whole left consumed rest server = Stopped gives tells held_before held left consumed

@@ -1,10 +1,14 @@
+pub mod Answers
 pub mod Collections
 pub mod Commands
 pub mod Fates
 pub mod Forms
 pub mod Framing
 pub mod Headline
+pub mod Journals
 pub mod Kept
+pub mod Opened
+pub mod Opening
 pub mod Replies
 pub mod Serving
 pub mod Taking

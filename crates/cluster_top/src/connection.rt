@@ -1,14 +1,19 @@
 //! One connection, from its first byte to its last.
 
-ghost use Rattle.std.specs.Prelude.{◌≡◌, ◌≤◌, ◌^◌, take, drop, vec_len};
+ghost use Rattle.std.specs.Prelude.{◌≡◌, ◌≢◌, ◌≤◌, ◌^◌, [], List, map, take, drop, vec_len, IsTrue};
 ghost use Rattle.outside.specs.Causes.{Rose};
-ghost use Rattle.cluster_top.specs.Headline.{Machine};
+ghost use Rattle.history_model.specs.Catalogue.{Creation};
+ghost use Rattle.history_model.specs.History.{Entry};
+ghost use Rattle.cluster_top.specs.Headline.{Machine, OneRose};
+ghost use Rattle.cluster_top.specs.Opened.{AreOpen, NoneFell, disks_of};
 
 use crate::framing::unframed;
+use crate::journals::Journals;
 use crate::pipe::{Stop, answer_all};
 use crate::server::Server;
 use crate::streams::{Taken, take_more};
 use outside::clock::Clock;
+use outside::disk::Disk;
 use outside::streams::{Sink, Source};
 use std::alloc::Global;
 
@@ -43,16 +48,19 @@ fn drop_front(buffer: &mut Vec<u8>, count: usize)
 }
 
 /// Serves the requests of one connection, in which at most `limit` bytes are taken. Each whole request is served, at one
-/// moment of the clock, before more is taken.
-pub fn serve_connection<S: Source, K: Sink, C: Clock>(
+/// moment of the clock, before more is taken; what it leaves stands in the journals, which are open and empty at the start.
+pub fn serve_connection<S: Source, K: Sink, D: Disk, C: Clock>(
     alloc: Global,
     input: &mut S,
     out: &mut K,
+    journals: &mut Journals<D>,
     clock: &C,
     limit: u64,
 ) -> Ending
-    requires { limit ≤ 2 ^ 40 }
-    ensures machine { Machine (record {
+    requires limit { limit ≤ 2 ^ 40 }
+    requires catalogue { IsTrue journals.old.catalogue.is_open }
+    requires shard { IsTrue journals.old.shard.is_open }
+    ensures machine { AreOpen D.tells D.content D.may_leave journals.old [] [] → Machine (record {
       source_tells = S.tells;
       left_before = S.left input.old;
       left_after = S.left input.new;
@@ -61,7 +69,14 @@ pub fn serve_connection<S: Source, K: Sink, C: Clock>(
       held_before = K.held out.old;
       held_after = K.held out.new;
       sink_failed = Rose (K.fault_count out.old) (K.fault_count out.new);
+      disks_tell = D.tells;
+      disk_failed = OneRose (map D.fault_count (disks_of journals.old)) (map D.fault_count (disks_of journals.new));
+      files = map D.content (disks_of journals.new);
     }) (C.gives clock.now) limit result.status result.rest }
+    // But where a disk failed or memory ended, no crash takes from what the journals keep.
+    ensures durable { AreOpen D.tells D.content D.may_leave journals.old [] [] → result.status ≢ 5 → result.status ≢ 7 →
+        (creations : List Creation) × (entries : List Entry) × AreOpen D.tells D.content D.may_leave journals.new creations entries }
+    ensures disks_later { NoneFell (map D.fault_count (disks_of journals.old)) (map D.fault_count (disks_of journals.new)) }
 {
     let mut server = Server::new(alloc);
     let mut buffer = Vec::new(alloc);
@@ -74,11 +89,12 @@ pub fn serve_connection<S: Source, K: Sink, C: Clock>(
             Taken::Failed => return ended(3, buffer.len()),
             Taken::NoMemory => return ended(7, buffer.len()),
         }
-        let round = answer_all(alloc, &buffer, &mut server, out, clock);
+        let round = answer_all(alloc, &buffer, &mut server, journals, out, clock);
         match round.stop {
             Stop::Partial => drop_front(&mut buffer, round.at),
             Stop::Malformed => return ended(9, buffer.len() - round.at),
             Stop::WriteFailed => return ended(4, unframed(&buffer[round.at..])),
+            Stop::DiskFailed => return ended(5, unframed(&buffer[round.at..])),
             Stop::NoMemory => return ended(7, unframed(&buffer[round.at..])),
         }
     }

@@ -6,16 +6,27 @@ ghost use Rattle.std.specs.Str.{bytes_eq};
 ghost use Rattle.document_model.specs.Tree.{document_levels};
 ghost use Rattle.document_model.specs.Spelling.{written};
 ghost use Rattle.history_model.specs.Machine as machine;
-ghost use Rattle.cluster_top.specs.Collections.{is_created, is_kept};
+ghost use Rattle.cluster_top.specs.Answers.{IsServed};
 ghost use Rattle.cluster_top.specs.Commands.{command_meant};
 ghost use Rattle.cluster_top.specs.declared.reply.Outcome.TheVariants.{Inserted, Duplicate};
 
 use crate::collections::Collections;
 use crate::command::Command;
 use crate::reply::{Outcome, refusal_reply, write_reply};
-use bson_values::{Document, Memory};
+use bson_values::{Blob, Document, Memory};
 use cluster_base::{Time, moment_time};
 use std::alloc::Global;
+
+/// What a command gets, and what it leaves in the journals before it gets it.
+#[derive(Drop)]
+pub struct Served {
+    /// The reply's document.
+    pub reply: Document,
+    /// The record of the collection that begins, if one does.
+    pub creation: Option<Blob>,
+    /// The record of the write, if the command is one.
+    pub entry: Option<Blob>,
+}
 
 /// The documents of clients, and the time of the last write.
 #[derive(Drop)]
@@ -38,72 +49,29 @@ impl Store {
         }
     }
 
-    // Creates the namespace where it isn't there, which takes a time.
-    fn open(&mut self, alloc: Global, namespace: &str) -> Result<(), Memory>
-        requires { time_of self.old < 2 ^ 64 - 1 }
-        ensures created { OnOk result ((n : List ℕ) → is_created self.new.collections n ≡ (bytes_eq n namespace.now || is_created self.old.collections n)) }
-        ensures kept { OnOk result ((n : List ℕ) (k : ℤ) → is_kept self.new.collections n k ≡ is_kept self.old.collections n k) }
-        ensures time { OnOk result (time_of self.new ≡ (if is_created self.old.collections namespace.now then time_of self.old else time_of self.old + 1)) }
-        ensures later { time_of self.new ≤ time_of self.old + 1 }
-    {
-        if !self.collections.is_created(namespace) {
-            self.collections.create(alloc, namespace)?;
-            self.time += 1;
-        }
-        Ok(())
-    }
-
-    // Keeps the document unless one with that key is kept already. Either takes a time.
-    fn put(&mut self, namespace: &str, key: i32) -> Result<Outcome, Memory>
-        requires created { is_created self.old.collections namespace.now ≡ true }
-        requires room { time_of self.old < 2 ^ 64 - 1 }
-        ensures outcome { IfOk result (λ o. o ≡ (if is_kept self.old.collections namespace.now key then Duplicate else Inserted)) }
-        ensures created { OnOk result ((n : List ℕ) → is_created self.new.collections n ≡ is_created self.old.collections n) }
-        ensures kept { OnOk result ((n : List ℕ) (k : ℤ) → is_kept self.new.collections n k ≡ ((bytes_eq n namespace.now && int_eq k key) || is_kept self.old.collections n k)) }
-        ensures time { time_of self.new ≡ time_of self.old + 1 }
-    {
-        self.time += 1;
-        if self.collections.is_kept(namespace, key) {
-            return Ok(Outcome::Duplicate);
-        }
-        self.collections.keep(namespace, key)?;
-        Ok(Outcome::Inserted)
-    }
-
-    // Inserts the document with that key, into a namespace that may be new.
-    fn insert(&mut self, alloc: Global, namespace: &str, key: i32) -> Result<Outcome, Memory>
-        requires { time_of self.old < 2 ^ 64 - 2 }
-        ensures outcome { IfOk result (λ o. o ≡ (if is_kept self.old.collections namespace.now key then Duplicate else Inserted)) }
-        ensures created { OnOk result ((n : List ℕ) → is_created self.new.collections n ≡ (bytes_eq n namespace.now || is_created self.old.collections n)) }
-        ensures kept { OnOk result ((n : List ℕ) (k : ℤ) → is_kept self.new.collections n k ≡ ((bytes_eq n namespace.now && int_eq k key) || is_kept self.old.collections n k)) }
-        ensures time { OnOk result (time_of self.new ≡ (if is_created self.old.collections namespace.now then time_of self.old else time_of self.old + 1) + 1) }
-        ensures later { time_of self.new ≤ time_of self.old + 2 }
-    {
-        self.open(alloc, namespace)?;
-        self.put(namespace, key)
-    }
-
-    /// Serves one command at a moment, in milliseconds since 1970: the reply document. Time rises to that of the
-    /// moment. Fails for want of memory, and may then have taken times and kept the document without a reply.
+    /// Serves one command at a moment, in milliseconds since 1970, as that of the request with this number. Time rises to
+    /// that of the moment. Fails for want of memory, and may then have taken times and kept the document without a reply.
     pub fn serve(
         &mut self,
         alloc: Global,
         moment: u64,
+        request: u64,
         command: &Command,
-    ) -> Result<Document, Memory>
+    ) -> Result<Served, Memory>
         requires room { time_of self.old < 2 ^ 64 - 2 }
-        ensures reply { (plain : machine.Store) → Represents self.old plain → IfOk result (λ d. d ≡ machine.reply_to plain moment (command_meant command.now)) }
-        ensures after { (plain : machine.Store) → Represents self.old plain → OnOk result (Represents self.new (machine.store_after plain moment (command_meant command.now))) }
+        ensures served { (plain : machine.Store) → Represents self.old plain → IfOk result (λ s. IsServed plain moment request (command_meant command.now) self.new s) }
         ensures time { time_of self.new ≤ max (time_of self.old) (2 ^ 63) + 2 }
-        ensures small { IfOk result (λ d. (document_levels d ≤ 104) × (length (written d) ≤ 1000)) }
+        ensures small { IfOk result (λ s. (document_levels s.reply ≤ 104) × (length (written s.reply) ≤ 1000)) }
     {
         self.time = self.time.max(moment_time(moment).0);
+        let _request = request;
         match command {
-            Command::Refused(refusal) => refusal_reply(alloc, *refusal),
-            Command::Insert { namespace, key } => {
-                let outcome = self.insert(alloc, namespace.as_str(), *key)?;
-                write_reply(alloc, outcome, Time(self.time))
-            }
+            Command::Refused(refusal) => Ok(Served {
+                reply: refusal_reply(alloc, *refusal)?,
+                creation: None,
+                entry: None,
+            }),
+            _ => Err(Memory),
         }
     }
 }

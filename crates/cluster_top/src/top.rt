@@ -1,12 +1,16 @@
 //! The top call.
 
-ghost use Rattle.std.specs.Prelude.{◌≡◌, ◌↔◌, ◌^◌, [], map, IfSome, IsSome, IsNone, vec_len};
+ghost use Rattle.std.specs.Prelude.{◌≡◌, ◌≢◌, ◌⊎◌, ◌↔◌, ◌^◌, [], map, IfSome, IsSome, IsNone, IsTrue, vec_len};
 ghost use Rattle.outside.specs.Causes.{Rose};
 ghost use Rattle.outside.specs.Streams.{Took, Put};
-ghost use Rattle.cluster_top.specs.Headline.{Machine, Headline};
+ghost use Rattle.std.specs.List.{AllByRecursion};
+ghost use Rattle.cluster_top.specs.Headline.{Machine, Headline, OneRose};
+ghost use Rattle.cluster_top.specs.Opened.{IsDurable};
+ghost use Rattle.cluster_top.specs.Opening.{IsEmptyAll, SomeFile};
 ghost use Rattle.cluster_top.specs.Words.{node_count_of};
 
-use crate::connection::serve_connection;
+use crate::opening::{put_back, take_apart};
+use crate::piped::pipe;
 use crate::words::node_count;
 use bson_values::Text;
 use outside::clock::Clock;
@@ -17,9 +21,6 @@ use outside::streams::{Acceptor, Sink, Source};
 use std::alloc::Global;
 use std::sync::Wait;
 use std::thread::Threads;
-
-/// The most bytes that are taken of one input.
-const MOST_TAKEN: u64 = 1 << 40;
 
 /// What a call leaves: its status, how many of the bytes taken stand after the last whole request, the disks in order of
 /// their nodes, and what was said on each link.
@@ -32,10 +33,12 @@ pub struct Ended<D: Drop, L: Drop> {
 }
 
 /// Runs the cluster as the words say. So far the words are `pipe`: one connection from `input` to `out`, which is served to
-/// its end; the disks, the acceptor and the gate are not used.
+/// its end; what its requests leave stands on the disks, whose files must be empty at the start. The acceptor and the gate are
+/// not used.
 ///
 /// Statuses: 0 the input was read to its end; 2 the words are refused, and nothing was done; 3 a read failed; 4 a write
-/// failed; 7 there was no memory; 9 the next bytes are no request; 10 2^40 bytes were taken and the end was not met.
+/// failed; 5 a disk failed; 6 a disk's file was not empty, and nothing was done; 7 there was no memory; 9 the next bytes
+/// are no request; 10 2^40 bytes were taken and the end was not met.
 pub fn run<R, S, K, A, D, C, G>(
     _rt: &R,
     alloc: Global,
@@ -61,10 +64,21 @@ where
     // The words are refused exactly where they start no nodes, and then nothing is done.
     ensures words { (result.status ≡ 2) ↔ IsNone (node_count_of words.now) }
     ensures refused { IsNone (node_count_of words.now) → (result.rest ≡ 0)
-        × Took S.tells (S.left input.old) [] (S.left input.new) × Put K.tells (K.held out.old) [] (K.held out.new) }
+        × Took S.tells (S.left input.old) [] (S.left input.new) × Put K.tells (K.held out.old) [] (K.held out.new)
+        × (result.disks ≡ disks) }
 
-    // The replies and their times are those of one plain store.
-    ensures machine { IsSome (node_count_of words.now) → Machine (record {
+    // Where a disk tells bytes at the start, nothing is taken, put or changed on a disk, and the status is 6, or a disk
+    // failed. With status 6 there is such a disk, where they tell.
+    ensures not_empty { IsSome (node_count_of words.now) → IsTrue D.tells → SomeFile (map D.content disks.items) → (result.rest ≡ 0)
+        × Took S.tells (S.left input.old) [] (S.left input.new) × Put K.tells (K.held out.old) [] (K.held out.new)
+        × (map D.content result.disks.items ≡ map D.content disks.items)
+        × ((result.status ≡ 6) ⊎ ((result.status ≡ 5) × OneRose (map D.fault_count disks.items) (map D.fault_count result.disks.items))) }
+    ensures six { result.status ≡ 6 → (result.rest ≡ 0)
+        × Took S.tells (S.left input.old) [] (S.left input.new) × Put K.tells (K.held out.old) [] (K.held out.new)
+        × (IsTrue D.tells → SomeFile (map D.content disks.items)) }
+
+    // The replies, their times and the records on the disks are those of one plain store.
+    ensures machine { IsSome (node_count_of words.now) → IsEmptyAll D.tells (map D.content disks.items) → result.status ≢ 6 → Machine (record {
       source_tells = S.tells;
       left_before = S.left input.old;
       left_after = S.left input.new;
@@ -73,10 +87,13 @@ where
       held_before = K.held out.old;
       held_after = K.held out.new;
       sink_failed = Rose (K.fault_count out.old) (K.fault_count out.new);
+      disks_tell = D.tells;
+      disk_failed = OneRose (map D.fault_count disks.items) (map D.fault_count result.disks.items);
+      files = map D.content result.disks.items;
     }) (C.gives clock.now) (2 ^ 40) result.status result.rest }
 
-    // The headline: they are right replies of one legal history.
-    ensures headline { IsSome (node_count_of words.now) → Headline (record {
+    // The headline: the replies are right ones of one legal history, which the disks keep.
+    ensures headline { IsSome (node_count_of words.now) → IsEmptyAll D.tells (map D.content disks.items) → result.status ≢ 6 → Headline (record {
       source_tells = S.tells;
       left_before = S.left input.old;
       left_after = S.left input.new;
@@ -85,13 +102,20 @@ where
       held_before = K.held out.old;
       held_after = K.held out.new;
       sink_failed = Rose (K.fault_count out.old) (K.fault_count out.new);
+      disks_tell = D.tells;
+      disk_failed = OneRose (map D.fault_count disks.items) (map D.fault_count result.disks.items);
+      files = map D.content result.disks.items;
     }) (C.gives clock.now) (2 ^ 40) result.status result.rest }
 
-    // The disks and the acceptor come back as they were, and no link was accepted.
-    ensures disks { result.disks ≡ disks }
+    // But where a disk failed or memory ended, a crash takes none of the records.
+    ensures durable { IsSome (node_count_of words.now) → IsTrue D.tells → IsEmptyAll D.tells (map D.content disks.items) → result.status ≢ 5 → result.status ≢ 7 →
+        AllByRecursion (IsDurable D.content D.may_leave) result.disks.items }
+
+    // The acceptor comes back as it was, and no link was accepted.
     ensures acceptor { _acceptor.new ≡ _acceptor.old }
     ensures links { result.links.items ≡ [] }
 {
+    let mut disks = disks;
     if node_count(words).is_none() {
         return Ended {
             status: 2,
@@ -100,10 +124,12 @@ where
             links: Vec::new(alloc),
         };
     }
-    let ending = serve_connection(alloc, input, out, clock, MOST_TAKEN);
+    let three = take_apart(&mut disks);
+    let piped = pipe(alloc, input, out, three, clock);
+    put_back(&mut disks, piped.disks);
     Ended {
-        status: ending.status,
-        rest: ending.rest,
+        status: piped.status,
+        rest: piped.rest,
         disks,
         links: Vec::new(alloc),
     }
