@@ -7,3 +7,6 @@ pub mod Requests
 pub mod Serving
 pub mod SmallReplies
 pub mod Endings
+pub mod Histories
+pub mod Opened
+pub mod ReplyBytes

@@ -1,6 +1,7 @@
 pub mod Answers
 pub mod Collections
 pub mod Commands
+pub mod Examples
 pub mod Fates
 pub mod Forms
 pub mod Framing

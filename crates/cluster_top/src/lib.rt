@@ -8,6 +8,7 @@ pub mod examples;
 mod form;
 mod framing;
 mod journals;
+pub mod laws;
 mod opening;
 mod pipe;
 mod piped;

@@ -65,15 +65,15 @@ pub fn take_apart<D: Drop>(disks: &mut Vec<D>) -> Disks<D>
 }
 
 /// Puts the three disks into a vector that has room for them.
-pub fn put_back<D: Drop>(disks: &mut Vec<D>, three: Disks<D>)
+pub fn put_back<D: Drop>(disks: &mut Vec<D>, taken: Disks<D>)
     requires len { vec_len disks.old ≡ 0 }
     requires items { disks.old.items ≡ [] }
     requires room { 3 ≤ vec_capacity disks.old }
-    ensures { disks.new.items ≡ three three }
+    ensures { disks.new.items ≡ three taken }
 {
-    disks.push_reserved(three.catalogue);
-    disks.push_reserved(three.shard);
-    disks.push_reserved(three.router);
+    disks.push_reserved(taken.catalogue);
+    disks.push_reserved(taken.shard);
+    disks.push_reserved(taken.router);
 }
 
 /// Whether the disk's file has length 0.
