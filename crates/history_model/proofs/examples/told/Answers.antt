@@ -4,10 +4,10 @@ use Rattle.std.specs.Prelude.{Option, Some, None, pos}
 use Rattle.document_model.specs.Tree.{int32_value}
 use Rattle.document_model.specs.Spelling.{written}
 use Rattle.history_model.specs.Times.{timestamp}
-use Rattle.history_model.specs.Command.{find_command, refused_command, Asks}
+use Rattle.history_model.specs.Command.{id_document, find_command, refused_command, Asks}
 use Rattle.history_model.specs.Errors.{duplicate_key}
 use Rattle.history_model.specs.History.{StatementNumber, Entry, IsIn, done, fails_with}
-use Rattle.history_model.specs.Reply.{write_reply}
+use Rattle.history_model.specs.Reply.{batch_of, write_reply, find_reply}
 use Rattle.history_model.specs.Exchange.{Exchange, IsEntryOf, IsRight, right_write, right_find, right_ahead, right_refusal, right_silence, number_for}
 use Rattle.history_model.specs.Machine.{serves, nothing_more, empty_store, store_after}
 use Rattle.history_model.specs.Examples.{ahead_reply, asking, command, done_reply, duplicate_reply, entry_at, find, find_at, first, nothing_reply, first_entry, second, second_entry}
@@ -15,6 +15,7 @@ use Rattle.history_model.proofs.Lists.{in_first, in_later, in_cons, in_none}
 use Rattle.history_model.proofs.Standing.{nothing_told}
 use Rattle.history_model.proofs.Asked.{asks_one}
 use Rattle.history_model.proofs.Sample.{request_asks}
+use Rattle.history_model.proofs.Found.{shown_right}
 use Rattle.history_model.proofs.SampleFind.{asking_asks}
 use Rattle.history_model.proofs.SampleHistory.{is_first, is_second, both_fresh}
 use Rattle.history_model.proofs.examples.told.Goals as goal
@@ -120,3 +121,16 @@ returns-clause-stale_read c fresh =
 
 pub returns-clause-silent : goal.returns-clause-silent
 returns-clause-silent c = right_silence refl
+
+-- a key that was written by then does not show nothing
+not_nothing : (at : Option ℕ) → at ≡ None → IsRight (first_entry ∷ []) (asking at (find_reply (codes "d.c") None (timestamp 1000 2))) → ⊥
+not_nothing at same right =
+    let asks : Asks (asking at (find_reply (codes "d.c") None (timestamp 1000 2))).request.body (find None) = subst (λ (o : Option ℕ). Asks (written (find_at o)) (find None)) (sym same) (asking_asks None tt) in
+    let shown : batch_of (Some (id_document (pos 1))) ≡ batch_of None = shown_right (first_entry ∷ []) (asking at (find_reply (codes "d.c") None (timestamp 1000 2))) (codes "d.c") (int32_value (pos 1)) None None (timestamp 1000 2) asks refl right in
+    cc
+
+pub returns-clause-read : goal.returns-clause-read
+returns-clause-read c = (
+  right_find (codes "d.c") (int32_value (pos 1)) None (timestamp 1000 2) (asking_asks None tt) tt refl,
+  not_nothing None refl,
+)
