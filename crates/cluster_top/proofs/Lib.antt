@@ -1,8 +1,6 @@
 pub mod Buffers
 pub mod Forms
 pub mod Frames
-pub mod Inserted
-pub mod KeyAdded
 pub mod Requests
 pub mod Serving
 pub mod SmallReplies
@@ -10,3 +8,6 @@ pub mod Endings
 pub mod Histories
 pub mod Opened
 pub mod ReplyBytes
+pub mod OneReading
+pub mod Rising
+pub mod Piping

@@ -13,7 +13,7 @@ use Rattle.cluster_top.specs.declared.journals.Journals.{Journals}
 -- The journal is open with these records: they stand in its file, and in each that a crash may leave.
 pub record IsOpen {D : Type 0} (tells : Bool) (content : D → List ℕ) (may_leave : D → List ℕ → Type 0) (records : List Record) (journal : JournalView D) : Type 0 where
   pub ready : IsTrue journal.is_open
-  pub list : journal.records ≡ map (λ r. spelled 1 r) records
+  pub list : IsTrue tells → journal.records ≡ map (λ r. spelled 1 r) records
   pub sound : AllByRecursion IsSound records
   pub file : IsTrue tells → Stands (content journal.disk) journal.records
   pub durable : IsTrue tells → (file : List ℕ) → may_leave journal.disk file → Stands file journal.records

@@ -76,6 +76,7 @@ pub fn serve_connection<S: Source, K: Sink, D: Disk, C: Clock>(
     // But where a disk failed or memory ended, no crash takes from what the journals keep.
     ensures durable { AreOpen D.tells D.content D.may_leave journals.old [] [] → result.status ≢ 5 → result.status ≢ 7 →
         (creations : List Creation) × (entries : List Entry) × AreOpen D.tells D.content D.may_leave journals.new creations entries }
+    ensures other { (result.status ≢ 2) × (result.status ≢ 6) }
     ensures disks_later { NoneFell (map D.fault_count (disks_of journals.old)) (map D.fault_count (disks_of journals.new)) }
 {
     let mut server = Server::new(alloc);

@@ -34,6 +34,7 @@ fn append_some<D: Disk>(journal: &mut Journal<D>, record: &Option<Blob>) -> Resu
     ensures appended { (records more : List Record) → IsSpelled more record.now →
         IsOpen D.tells D.content D.may_leave records journal.old →
         OnOk result (IsOpen D.tells D.content D.may_leave (records ++ more) journal.new) }
+    ensures open { OnOk result (IsTrue journal.new.is_open) }
     ensures failed { (records more : List Record) → IsSpelled more record.now →
         IsOpen D.tells D.content D.may_leave records journal.old →
         IfErr result (λ e. ByFault e

@@ -2,6 +2,7 @@
 
 ghost use Rattle.std.specs.Prelude.{◌≡◌, ℕ, ◌+◌, ◌-◌, ◌*◌, ◌<◌, ◌≤◌, ◌++◌, ◌^◌, List, max, map, length, take, drop, IsTrue};
 ghost use Rattle.outside.specs.Causes.{Rose};
+ghost use Rattle.wire_model.specs.Frames.{IsPartial};
 ghost use Rattle.wire_model.specs.Outline.{HasRequest};
 ghost use Rattle.cluster_top.specs.Kept.{time_of};
 ghost use Rattle.cluster_top.specs.Serving.{Serving};
@@ -114,6 +115,7 @@ pub fn answer_all<K: Sink, D: Disk, C: Clock>(
     requires catalogue { IsTrue journals.old.catalogue.is_open }
     requires shard { IsTrue journals.old.shard.is_open }
     ensures within { result.at ≤ length bytes.now }
+    ensures partial { result.stop ≡ stops.Partial → IsPartial (drop result.at bytes.now) }
     ensures served { (held_before consumed : List ℕ) → Serving (C.gives clock.now) K.tells held_before (K.held out.old) (AreOpen D.tells D.content D.may_leave journals.old) consumed server.old
         → AfterAll result.stop (C.gives clock.now) K.tells held_before (K.held out.new) (AreOpen D.tells D.content D.may_leave journals.new) (AreLeft D.tells D.content (disks_of journals.new)) (consumed ++ take result.at bytes.now) (drop result.at bytes.now) server.new }
     ensures answered { result.stop ≡ stops.Partial → server.new.answered ≤ server.old.answered + result.at }

@@ -1,7 +1,8 @@
-use Rattle.std.proofs.Common.{◌≡◌, ℕ, List, ◌+◌, ◌-◌, ◌*◌, ◌^◌, ◌≤◌, ◌++◌, length}
+use Rattle.std.proofs.Common.{◌≡◌, ℕ, List, [], ◌+◌, ◌-◌, ◌*◌, ◌^◌, ◌≤◌, ◌++◌, length, map, IsTrue}
 use Rattle.outside.specs.Streams.{Took}
 use Rattle.wire_model.specs.Frames.{IsPartial}
 use Rattle.cluster_top.specs.Kept.{time_of}
+use Rattle.cluster_top.specs.Opened.{AreOpen, NoneFell, disks_of}
 use Rattle.cluster_top.specs.Serving.{Serving}
 use Rattle.cluster_top.proofs.connection.serve_connection.Given as goal
 
@@ -17,5 +18,8 @@ invariant-loop-taken g l = record {
   time : time_of l.server.store ≤ 2 ^ 63 + 2 * l.server.answered;
   source_later : g.S.Source.fault_count l.fn.input ≤ g.S.Source.fault_count l.input;
   sink_later : g.K.Sink.fault_count l.fn.out ≤ g.K.Sink.fault_count l.out;
-  went : (consumed : List ℕ) × (length consumed + length l.buffer.items ≡ l.taken) × Took g.S.Source.tells (g.S.Source.left l.fn.input) (consumed ++ l.buffer.items) (g.S.Source.left l.input) × Serving (g.C.Clock.gives l.clock) g.K.Sink.tells (g.K.Sink.held l.fn.out) (g.K.Sink.held l.out) consumed l.server;
+  catalogue : IsTrue l.journals.catalogue.is_open;
+  shard : IsTrue l.journals.shard.is_open;
+  disks_later : NoneFell (map g.D.Disk.fault_count (disks_of {D = g.row.D.Denot} l.fn.journals)) (map g.D.Disk.fault_count (disks_of {D = g.row.D.Denot} l.journals));
+  went : AreOpen {D = g.row.D.Denot} g.D.Disk.tells g.D.Disk.content g.D.Disk.may_leave l.fn.journals [] [] → (consumed : List ℕ) × (length consumed + length l.buffer.items ≡ l.taken) × Took g.S.Source.tells (g.S.Source.left l.fn.input) (consumed ++ l.buffer.items) (g.S.Source.left l.input) × Serving (g.C.Clock.gives l.clock) g.K.Sink.tells (g.K.Sink.held l.fn.out) (g.K.Sink.held l.out) (AreOpen {D = g.row.D.Denot} g.D.Disk.tells g.D.Disk.content g.D.Disk.may_leave l.journals) consumed l.server;
 }

@@ -1,5 +1,6 @@
-use Rattle.std.proofs.Common.{ℕ, List, ◌+◌, ◌-◌, ◌*◌, ◌^◌, ◌≤◌, ◌++◌, length, take}
+use Rattle.std.proofs.Common.{ℕ, List, ◌+◌, ◌-◌, ◌*◌, ◌^◌, ◌≤◌, ◌++◌, length, take, map, IsTrue}
 use Rattle.cluster_top.specs.Kept.{time_of}
+use Rattle.cluster_top.specs.Opened.{AreOpen, NoneFell, disks_of}
 use Rattle.cluster_top.specs.Serving.{Serving}
 use Rattle.cluster_top.proofs.pipe.answer_all.Given as goal
 
@@ -13,5 +14,8 @@ invariant-requests g l = record {
   answered : l.server.answered ≤ l.fn.server.answered + l.at;
   time : time_of l.server.store ≤ 2 ^ 63 + 2 * l.server.answered;
   later : g.K.Sink.fault_count l.fn.out ≤ g.K.Sink.fault_count l.out;
-  served : (held_before consumed : List ℕ) → Serving (g.C.Clock.gives l.clock) g.K.Sink.tells held_before (g.K.Sink.held l.fn.out) consumed l.fn.server → Serving (g.C.Clock.gives l.clock) g.K.Sink.tells held_before (g.K.Sink.held l.out) (consumed ++ take l.at l.bytes) l.server;
+  catalogue : IsTrue l.journals.catalogue.is_open;
+  shard : IsTrue l.journals.shard.is_open;
+  disks_later : NoneFell (map g.D.Disk.fault_count (disks_of {D = g.row.D.Denot} l.fn.journals)) (map g.D.Disk.fault_count (disks_of {D = g.row.D.Denot} l.journals));
+  served : (held_before consumed : List ℕ) → Serving (g.C.Clock.gives l.clock) g.K.Sink.tells held_before (g.K.Sink.held l.fn.out) (AreOpen {D = g.row.D.Denot} g.D.Disk.tells g.D.Disk.content g.D.Disk.may_leave l.fn.journals) consumed l.fn.server → Serving (g.C.Clock.gives l.clock) g.K.Sink.tells held_before (g.K.Sink.held l.out) (AreOpen {D = g.row.D.Denot} g.D.Disk.tells g.D.Disk.content g.D.Disk.may_leave l.journals) (consumed ++ take l.at l.bytes) l.server;
 }

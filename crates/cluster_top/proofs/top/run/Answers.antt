@@ -1,17 +1,27 @@
-use Rattle.std.specs.Prelude.{◌≡◌, ◌≢◌, IsNone, is_some, Option, None, Some, true, not, ℕ}
-use Rattle.std.proofs.Common.{ap, sym, ◌∙◌}
-use Rattle.cluster_top.specs.Words.{node_count_of}
-use Rattle.cluster_top.proofs.Endings.{told_by, headline_of, not_refused}
+use Rattle.std.proofs.Common.{List, map, subst}
+use Rattle.cluster_top.specs.Headline.{OneRose}
+use Rattle.cluster_top.specs.Opening.{IsEmptyAll, three}
+use Rattle.cluster_top.proofs.Endings.{told_by}
+use Rattle.cluster_top.proofs.Histories.{headline_of}
 use Rattle.cluster_top.proofs.top.run.Goals as goal
 
-some_not_none : (o : Option ℕ) → is_some o ≡ true → ¬ IsNone o
-some_not_none None some none = cc
-some_not_none (Some n) some none = cc
+pub returns-clause-six : goal.returns-clause-six
+returns-clause-six g c = λ is. rw c.take_apart-three.ensures.disks (c.pipe-piped.ensures.six is)
 
-pub returns-clause-words : goal.returns-clause-words
-returns-clause-words g c =
-    let taken : c.serve_connection-ending.result.status ≢ 2 = not_refused (told_by g.S.Source.tells (g.S.Source.left c.args.input.now) (g.S.Source.left c.serve_connection-ending.new.input) (g.S.Source.fault_count c.args.input.now) (g.S.Source.fault_count c.serve_connection-ending.new.input) g.K.Sink.tells (g.K.Sink.held c.args.out.now) (g.K.Sink.held c.serve_connection-ending.new.out) (g.K.Sink.fault_count c.args.out.now) (g.K.Sink.fault_count c.serve_connection-ending.new.out)) _ _ _ _ c.serve_connection-ending.ensures.machine in
-    (λ two. absurd (taken two), λ refused. absurd (some_not_none (node_count_of c.args.words.now) (ap is_some (sym c.node_count.ensures) ∙ c.is_none.ensures ∙ ap not c.if-is_none.false) refused))
+pub returns-clause-machine : goal.returns-clause-machine
+returns-clause-machine g c = λ some empty other.
+    let still : IsEmptyAll g.D.Disk.tells (map g.D.Disk.content (three {D = g.row.D.Denot} c.take_apart-three.result)) = subst (λ (disks : List g.row.D.Denot). IsEmptyAll g.D.Disk.tells (map g.D.Disk.content disks)) c.take_apart-three.ensures.disks empty in
+    rw (c.take_apart-three.ensures.disks, c.put_back.ensures) (c.pipe-piped.ensures.machine still other)
 
 pub returns-clause-headline : goal.returns-clause-headline
-returns-clause-headline g c = λ taken. headline_of (told_by g.S.Source.tells (g.S.Source.left c.args.input.now) (g.S.Source.left c.serve_connection-ending.new.input) (g.S.Source.fault_count c.args.input.now) (g.S.Source.fault_count c.serve_connection-ending.new.input) g.K.Sink.tells (g.K.Sink.held c.args.out.now) (g.K.Sink.held c.serve_connection-ending.new.out) (g.K.Sink.fault_count c.args.out.now) (g.K.Sink.fault_count c.serve_connection-ending.new.out)) _ _ _ _ c.serve_connection-ending.ensures.machine
+returns-clause-headline g c = λ some empty other.
+    let still : IsEmptyAll g.D.Disk.tells (map g.D.Disk.content (three {D = g.row.D.Denot} c.take_apart-three.result)) = subst (λ (disks : List g.row.D.Denot). IsEmptyAll g.D.Disk.tells (map g.D.Disk.content disks)) c.take_apart-three.ensures.disks empty in
+    rw (c.take_apart-three.ensures.disks, c.put_back.ensures)
+    (headline_of (told_by g.S.Source.tells (g.S.Source.left c.args.input.now) (g.S.Source.left c.pipe-piped.new.input) (g.S.Source.fault_count c.args.input.now) (g.S.Source.fault_count c.pipe-piped.new.input) g.K.Sink.tells (g.K.Sink.held c.args.out.now) (g.K.Sink.held c.pipe-piped.new.out) (g.K.Sink.fault_count c.args.out.now) (g.K.Sink.fault_count c.pipe-piped.new.out) g.D.Disk.tells
+    (OneRose (map g.D.Disk.fault_count (three {D = g.row.D.Denot} c.take_apart-three.result)) (map g.D.Disk.fault_count (three {D = g.row.D.Denot} c.pipe-piped.result.disks))) (map g.D.Disk.content (three {D = g.row.D.Denot} c.pipe-piped.result.disks))) (g.C.Clock.gives c.args.clock.now) _ _ _
+    (c.pipe-piped.ensures.machine still other))
+
+pub returns-clause-durable : goal.returns-clause-durable
+returns-clause-durable g c = λ some told empty failed wanted.
+    let still : IsEmptyAll g.D.Disk.tells (map g.D.Disk.content (three {D = g.row.D.Denot} c.take_apart-three.result)) = subst (λ (disks : List g.row.D.Denot). IsEmptyAll g.D.Disk.tells (map g.D.Disk.content disks)) c.take_apart-three.ensures.disks empty in
+    rw c.put_back.ensures (c.pipe-piped.ensures.durable told still failed wanted)

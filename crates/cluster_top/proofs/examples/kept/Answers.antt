@@ -1,0 +1,29 @@
+use Rattle.std.proofs.Common.{◌≡◌, ℕ, List, [], ◌∷◌, refl, inl, rules, arith}
+use Rattle.history_model.specs.Examples.{creation, first_entry}
+use Rattle.history_model.proofs.Sample.{id_reads}
+use Rattle.record_model.specs.Records.{create_record, record_of}
+use Rattle.record_model.specs.Spelled.{IsSound}
+use Rattle.cluster_top.specs.Examples.{catalogue_file, shard_file}
+use Rattle.cluster_top.specs.Journals.{AreJournals, IsJournal}
+use Rattle.cluster_top.proofs.examples.kept.Goals as goal
+
+begun : IsJournal catalogue_file (create_record creation ∷ [])
+begun = record { stands = record { rest = 0 ∷ []; fits = search rules; split = refl; shut = inl tt }; sound = search rules }
+
+sound : IsSound (record_of first_entry)
+sound = record { time = omega arith; namespace = omega arith; number = search rules; words = id_reads; outcome = search rules }
+
+written : IsJournal shard_file (record_of first_entry ∷ [])
+written = record { stands = record { rest = 0 ∷ []; fits = search rules; split = refl; shut = inl tt }; sound = (sound, tt) }
+
+nothing : IsJournal (0 ∷ []) []
+nothing = record { stands = record { rest = 0 ∷ []; fits = tt; split = refl; shut = inl tt }; sound = tt }
+
+files : AreJournals (catalogue_file ∷ shard_file ∷ (0 ∷ []) ∷ []) (create_record creation ∷ []) (record_of first_entry ∷ [])
+files = record { catalogue_file = catalogue_file; shard_file = shard_file; router_file = 0 ∷ []; three = refl; begun = begun; written = written; nothing = nothing }
+
+pub returns-clause-files : goal.returns-clause-files
+returns-clause-files c = files
+
+pub returns-clause-told : goal.returns-clause-told
+returns-clause-told c = record { catalogue = create_record creation ∷ []; shard = record_of first_entry ∷ []; journals = files; collections = refl; entries = (first_entry, [], refl, record { own = refl; place = refl; error = refl }, refl) }
