@@ -42,10 +42,11 @@ fn append_some<D: Disk>(journal: &mut Journal<D>, record: &Option<Blob>) -> Resu
     ensures cause { IfErr result (λ e. ByFault e (λ faults. Rose (D.fault_count journal.old.disk) (D.fault_count journal.new.disk)) (Unit {0})) }
     ensures later { D.fault_count journal.old.disk ≤ D.fault_count journal.new.disk }
 {
-    match record {
-        Some(record) => journal.append(record.as_slice()),
-        None => Ok(()),
-    }
+    let Some(record) = record else {
+        return Ok(());
+    };
+    journal.append(record.as_slice())?;
+    Ok(())
 }
 
 impl<D: Disk> Journals<D> {
@@ -72,6 +73,7 @@ impl<D: Disk> Journals<D> {
         ensures later { NoneFell (map D.fault_count (disks_of self.old)) (map D.fault_count (disks_of self.new)) }
     {
         append_some(&mut self.catalogue, creation)?;
-        append_some(&mut self.shard, entry)
+        append_some(&mut self.shard, entry)?;
+        Ok(())
     }
 }
