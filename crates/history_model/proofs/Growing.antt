@@ -44,13 +44,13 @@ pub answered_push : (said : List Exchange) (x : Exchange) (d : Members) → x.re
 answered_push [] x d told = answered_one x [] d told
 answered_push (y ∷ said) x d told = answered_any y said (said ++ x ∷ []) ((x.request, d) ∷ []) y.reply (answered_push said x d told)
 
+answered_same : (y : Exchange) (front back : List Exchange) (reply : Option Members) → answered back ≡ answered front → ◌≡◌ {A = List (Message × Members)} (elim reply [ None ↦ answered back | Some r ↦ (y.request, r) ∷ answered back ]) (elim reply [ None ↦ answered front | Some r ↦ (y.request, r) ∷ answered front ])
+answered_same y front back None e = e
+answered_same y front back (Some r) e = ap (λ (l : List (Message × Members)). (y.request, r) ∷ l) e
+
 pub answered_silence : (said : List Exchange) (x : Exchange) → x.reply ≡ None → answered (said ++ x ∷ []) ≡ answered said
 answered_silence [] x none = answered_none x [] x.reply none
-answered_silence (y ∷ said) x none = by_reply y.reply (answered_silence said x none)
-  where
-    by_reply : (reply : Option Members) → answered (said ++ x ∷ []) ≡ answered said → (elim reply [ None ↦ answered (said ++ x ∷ []) | Some r ↦ (y.request, r) ∷ answered (said ++ x ∷ []) ]) ≡ (elim reply [ None ↦ answered said | Some r ↦ (y.request, r) ∷ answered said ])
-    by_reply None e = e
-    by_reply (Some r) e = ap (λ (l : List (Message × Members)). (y.request, r) ∷ l) e
+answered_silence (y ∷ said) x none = answered_same y said (said ++ x ∷ []) y.reply (answered_silence said x none)
 
 -- a request without a reply adds no bytes
 pub spoken_silence : (said : List Exchange) (x : Exchange) → x.reply ≡ None → spoken (said ++ x ∷ []) ≡ spoken said

@@ -1,5 +1,5 @@
 -- What holds of each item of a list, and what stands in one.
-use Rattle.std.proofs.Common.{◌≡◌, ◌⊎◌, inl, inr, List, [], ◌∷◌, ◌++◌, refl, sym, ap, subst}
+use Rattle.std.proofs.Common.{◌≡◌, ◌⊎◌, inl, inr, List, [], ◌∷◌, ◌++◌, refl, sym, ap, subst, ◌∙◌, append_assoc}
 use Rattle.std.specs.List.{AllByRecursion}
 use Rattle.history_model.specs.History.{IsIn}
 
@@ -39,3 +39,39 @@ all_at P x (y ∷ xs) all i = by_cases (in_cons x y xs i) (λ j. all_at P x xs a
     by_cases : (x ≡ y) ⊎ IsIn x xs → (IsIn x xs → P x) → P x
     by_cases (inl e) later = subst P (sym e) all.0
     by_cases (inr j) later = later j
+
+pub all_append : {X : Type 0} (P : X → Type 0) (xs ys : List X) → AllByRecursion P xs → AllByRecursion P ys → AllByRecursion P (xs ++ ys)
+all_append P [] ys all more = more
+all_append P (x ∷ xs) ys all more = (all.0, all_append P xs ys all.1 more)
+
+-- what stands in a list stands in a longer one
+pub in_front : {X : Type 0} (x : X) (xs ys : List X) → IsIn x xs → IsIn x (xs ++ ys)
+in_front x xs ys (front, back, e) = (front, back ++ ys, ap (λ l. l ++ ys) e ∙ append_assoc front (x ∷ back) ys)
+
+pub in_back : {X : Type 0} (x : X) (xs ys : List X) → IsIn x ys → IsIn x (xs ++ ys)
+in_back x xs ys (front, back, e) = (xs ++ front, back, ap (λ l. xs ++ l) e ∙ sym (append_assoc xs front (x ∷ back)))
+
+-- what stands in two lists joined stands in one of them
+pub in_append : {X : Type 0} (x : X) (xs ys : List X) → IsIn x (xs ++ ys) → IsIn x xs ⊎ IsIn x ys
+in_append x [] ys i = inr i
+in_append {X = X} x (y ∷ xs) ys i = by_cases (in_cons x y (xs ++ ys) i) (λ j. in_append x xs ys j)
+  where
+    by_cases : (x ≡ y) ⊎ IsIn x (xs ++ ys) → (IsIn x (xs ++ ys) → IsIn x xs ⊎ IsIn x ys) → IsIn x (y ∷ xs) ⊎ IsIn x ys
+    by_cases (inl e) later = inl ([], xs, ap (λ z. z ∷ xs) (sym e))
+    by_cases (inr j) later = by_part (later j)
+      where
+        by_part : IsIn x xs ⊎ IsIn x ys → IsIn x (y ∷ xs) ⊎ IsIn x ys
+        by_part (inl k) = inl (in_later x y xs k)
+        by_part (inr k) = inr k
+
+-- what stands in a list with one more stands in the list, or is that one
+pub in_push : {X : Type 0} (x : X) (xs : List X) (y : X) → IsIn x (xs ++ y ∷ []) → IsIn x xs ⊎ (x ≡ y)
+in_push {X = X} x xs y i = by_part (in_append x xs (y ∷ []) i)
+  where
+    by_one : (x ≡ y) ⊎ IsIn x [] → IsIn x xs ⊎ (x ≡ y)
+    by_one (inl e) = inr e
+    by_one (inr j) = absurd (in_none x j)
+
+    by_part : IsIn x xs ⊎ IsIn x (y ∷ []) → IsIn x xs ⊎ (x ≡ y)
+    by_part (inl j) = inl j
+    by_part (inr j) = by_one (in_cons x y [] j)

@@ -5,13 +5,14 @@ use Rattle.std.specs.List.{AllByRecursion}
 use Rattle.document_model.specs.Tree.{Datum, Members}
 use Rattle.history_model.specs.Errors.{ErrorCode, duplicate_key}
 use Rattle.value_order.specs.Keys.{key_of}
-use Rattle.history_model.specs.History.{router_session, StatementNumber, Operation, insert_operation, Outcome, fails_with, effect, Entry, key_written, writes_to, document_after, document_left, IsBefore, IsSameStatement, Follows, LegalAfter, Legal, IsIn}
-use Rattle.history_model.specs.Reply.{write_reply, refusal_reply, operation_time}
-use Rattle.history_model.specs.Exchange.{Exchange, IsEntryOf, IsRight, right_write, right_refusal, OneHistory}
+use Rattle.history_model.specs.History.{router_session, StatementNumber, Operation, insert_operation, Outcome, fails_with, effect, Entry, key_written, writes_to, document_after, document_left, document_at, IsBefore, IsSameStatement, Follows, LegalAfter, Legal, IsIn}
+use Rattle.history_model.specs.Command.{time_ahead}
+use Rattle.history_model.specs.Reply.{write_reply, find_reply, refusal_reply, operation_time}
+use Rattle.history_model.specs.Exchange.{Exchange, IsEntryOf, IsRight, right_write, right_find, right_ahead, right_refusal, right_silence, OneHistory}
 use Rattle.history_model.specs.Laws.{Stands}
 use Rattle.history_model.proofs.Lists.{in_none, all_at}
 use Rattle.history_model.proofs.Stores.{document_after_push}
-use Rattle.history_model.proofs.Runs.{time_of_write}
+use Rattle.history_model.proofs.Replies.{time_of_write}
 
 same_errors : (counts modifieds : ℕ) (upserts : Option Datum) (a b : Option ErrorCode) (count modified : ℕ) (upserted : Option Datum) (s t : ℕ) → write_reply (record { count = counts; modified = modifieds; upserted = upserts; error = a }) s ≡ write_reply (record { count = count; modified = modified; upserted = upserted; error = b }) t → a ≡ b
 same_errors counts modifieds upserts None None count modified upserted s t e = refl
@@ -33,6 +34,13 @@ stands history x outcome time told (right_write e i is says) =
     let both : Some (write_reply e.outcome e.time) ≡ Some (write_reply outcome time) = sym says ∙ told in
     let same = same_replies e.outcome outcome e.time time (cc) in
     record { entry = e; kept = i; own = is; count = same.0; error = same.1; at = same.2 }
+stands history x outcome time told (right_find namespace key at shown asks named says) =
+    let both : Some (find_reply namespace (document_at history namespace (Some key) shown) shown) ≡ Some (write_reply outcome time) = sym says ∙ told in
+    cc
+stands history x outcome time told (right_ahead namespace key named greatest asks ahead says) =
+    let both : Some (refusal_reply (time_ahead greatest)) ≡ Some (write_reply outcome time) = sym says ∙ told in
+    cc
+stands history x outcome time told (right_silence none) = cc
 stands history x outcome time told (right_refusal refusal asks says) =
     let both : Some (refusal_reply refusal) ≡ Some (write_reply outcome time) = sym says ∙ told in
     cc
@@ -118,5 +126,5 @@ own_entry x y e is are =
 pub later_writes_tell_later : (history : List Entry) (said : List Exchange) (x y : Exchange) (before after : Outcome) (s t : ℕ) → OneHistory history said → IsIn x said → IsIn y said → x.step < y.came → x.reply ≡ Some (write_reply before s) → y.reply ≡ Some (write_reply after t) → s < t
 later_writes_tell_later history said x y before after s t one i j earlier told shows =
     let w = told_writes_stand history said y after t one j shows in
-    let less : s < w.entry.time = one.fresh x y w.entry s i j earlier w.kept w.own (ap operation_time told ∙ time_of_write before s) in
+    let less : s < w.entry.time = one.fresh.writes x y w.entry s i j earlier w.kept w.own (ap operation_time told ∙ time_of_write before s) in
     omega (arith, w.at)

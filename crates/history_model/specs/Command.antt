@@ -1,6 +1,6 @@
 -- What a request asks for, or its refusal. So far a client may insert one document, `{_id: <int32>}`, into a
 -- collection of a database that is open to clients, and find the document under such a key.
-use Rattle.std.specs.Prelude.{◌≡◌, ◌≢◌, ◌⊎◌, ℕ, List, codes, Option, Some, None, false, ℤ, pos}
+use Rattle.std.specs.Prelude.{◌≡◌, ◌⊎◌, ℕ, List, codes, Option, Some, None, false, ℤ, pos}
 use Rattle.document_model.specs.Tree.{Datum, Members, no_members, member, joined, no_items, item, text_value, document_value, array_value, int32_value, int64_value, timestamp_value}
 use Rattle.document_model.specs.Grammar.{ReadsAs, IsWithinLevels}
 use Rattle.history_model.specs.Names.{MakeNamespace, full_name, is_reserved}

@@ -1,5 +1,5 @@
 -- Values to try the definitions on.
-use Rattle.std.specs.Prelude.{ℕ, zero, suc, List, [], ◌∷◌, codes, Option, Some, None, pos}
+use Rattle.std.specs.Prelude.{ℕ, zero, suc, List, [], ◌∷◌, codes, Option, Some, pos}
 use Rattle.document_model.specs.Tree.{Members, no_members, member, no_items, item, text_value, document_value, array_value, int32_value, int64_value, timestamp_value}
 use Rattle.document_model.specs.Spelling.{written}
 use Rattle.wire_model.specs.Messages.{Message}

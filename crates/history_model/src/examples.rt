@@ -92,7 +92,7 @@ pub fn told()
     ensures one { OneHistory (first_entry ∷ second_entry ∷ []) (first ∷ second ∷ []) }
     ensures lost { OneHistory [] (first ∷ second ∷ []) → ⊥ }
     ensures wrong { IsRight (first_entry ∷ second_entry ∷ []) (record first { reply = Some duplicate_reply }) → ⊥ }
-    ensures read { IsRight (first_entry ∷ []) (asking None found_reply) × (IsRight (first_entry ∷ []) (asking None nothing_reply) → ⊥) }
+    ensures read { IsRight (first_entry ∷ []) (asking None found_reply) × (IsRight (first_entry ∷ []) (asking None (find_reply (codes "d.c") None (timestamp 1000 2))) → ⊥) }
     ensures old { IsRight (first_entry ∷ []) (asking (Some (timestamp 1000 1)) nothing_reply) }
     ensures ahead { IsRight (first_entry ∷ []) (asking (Some (timestamp 1000 3)) ahead_reply) × (IsRight (first_entry ∷ []) (asking (Some (timestamp 1000 2)) ahead_reply) → ⊥) }
     ensures stale_read { IsFresh (first_entry ∷ []) (first ∷ asking None nothing_reply ∷ []) → ⊥ }

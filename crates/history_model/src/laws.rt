@@ -4,12 +4,13 @@ ghost use Rattle.std.specs.Prelude.{◌≡◌, ◌≢◌, ◌<◌, ◌++◌, ◌
 ghost use Rattle.std.specs.List.{AllByRecursion};
 ghost use Rattle.document_model.specs.Grammar.{ReadsAs};
 ghost use Rattle.document_model.specs.Tree.{Datum, Members};
+ghost use Rattle.value_order.specs.Keys.{key_of};
+ghost use Rattle.wire_model.specs.Messages.{Message};
 ghost use Rattle.history_model.specs.Catalogue.{Creation, IsPlaced};
 ghost use Rattle.history_model.specs.Command.{Asks, Command, find_command, insert_command};
 ghost use Rattle.history_model.specs.Errors.{ErrorCode, duplicate_key};
 ghost use Rattle.history_model.specs.Exchange.{Exchange, InTurn, IsEntryOf, OneHistory, number_for};
-ghost use Rattle.value_order.specs.Keys.{key_of};
-ghost use Rattle.history_model.specs.History.{Entry, IsBefore, IsIn, IsSameStatement, Legal, Operation, Outcome, document_after, effect, fails_with, insert_operation, same_key, writes_to};
+ghost use Rattle.history_model.specs.History.{Entry, IsBefore, IsIn, IsSameStatement, Legal, Operation, Outcome, StatementNumber, document_after, effect, fails_with, insert_operation, same_key, writes_to};
 ghost use Rattle.history_model.specs.Laws.{Stands};
 ghost use Rattle.history_model.specs.Machine.{Leaves, Runs, Store, empty_store};
 ghost use Rattle.history_model.specs.Reply.{find_reply, write_reply};
@@ -27,14 +28,14 @@ pub fn one_command()
 /// The plain store leaves no choice: the same statements in the same requests at the same moments get the same replies,
 /// and leave the same store.
 pub fn one_run()
-    ensures { (start end last : Store) (moments : List ℕ) (said others : List Exchange) → Runs start moments said end → Runs start moments others last → map (λ x. (x.request, number_for x 0)) said ≡ map (λ x. (x.request, number_for x 0)) others → (map (λ x. x.reply) said ≡ map (λ x. x.reply) others) × (end ≡ last) }
+    ensures { (start end last : Store) (moments : List ℕ) (said others : List Exchange) → Runs start moments said end → Runs start moments others last → map {B = Message × StatementNumber} (λ x. (x.request, number_for x 0)) said ≡ map {B = Message × StatementNumber} (λ x. (x.request, number_for x 0)) others → (map (λ x. x.reply) said ≡ map (λ x. x.reply) others) × (end ≡ last) }
 {}
 
 /// What the plain store writes and tells, from nothing and whatever clients send, is one history of an unsharded collection,
 /// also with a part of what it did for one more request; and each entry is of a collection that began before it.
 pub fn machine_makes_one_history()
-    ensures history { (gives : ℕ → Type 0) (moments : List ℕ) (said under_way : List Exchange) (end : Store) (creations : List Creation) (entries : List Entry) → Runs empty_store moments said end → Leaves gives end under_way creations entries → InTurn 0 1 (said ++ under_way) → OneHistory entries (said ++ under_way) }
-    ensures placed { (gives : ℕ → Type 0) (moments : List ℕ) (said under_way : List Exchange) (end : Store) (creations : List Creation) (entries : List Entry) → Runs empty_store moments said end → Leaves gives end under_way creations entries → AllByRecursion (IsPlaced creations) entries }
+    ensures history { (moments : List ℕ) (said under_way : List Exchange) (end : Store) (creations : List Creation) (entries : List Entry) → Runs empty_store moments said end → Leaves (λ moment. Unit {0}) end under_way creations entries → InTurn 0 1 (said ++ under_way) → OneHistory entries (said ++ under_way) }
+    ensures placed { (moments : List ℕ) (said under_way : List Exchange) (end : Store) (creations : List Creation) (entries : List Entry) → Runs empty_store moments said end → Leaves (λ moment. Unit {0}) end under_way creations entries → AllByRecursion (IsPlaced creations) entries }
 {}
 
 /// A write that was told of stands in the history, with the count, the error and the time that were told. So where
