@@ -1,9 +1,12 @@
+pub mod Begun
 pub mod Buffers
+pub mod Entered
 pub mod Forms
 pub mod Frames
-pub mod Inserted
 pub mod KeyAdded
+pub mod ReplyBytes
 pub mod Requests
 pub mod Serving
 pub mod SmallReplies
+pub mod Waited
 pub mod Endings

@@ -11,6 +11,7 @@ mod journals;
 mod opening;
 mod pipe;
 mod piped;
+mod records;
 mod reply;
 mod request;
 mod server;

@@ -1,12 +1,13 @@
 //! What the document of a request asks for.
 
-ghost use Rattle.std.specs.Prelude.{◌≡◌, ◌↔◌, length, take, codes, IfOk, IsTrue};
+ghost use Rattle.std.specs.Prelude.{◌≡◌, ◌↔◌, length, take, IfOk, IsTrue};
 ghost use Rattle.std.specs.Int.{w32, from_le_bytes};
-ghost use Rattle.history_model.specs.Command.{Asks, AsksFor, insert_body, id_document, first_name};
+ghost use Rattle.std.specs.Option.{option_map};
+ghost use Rattle.history_model.specs.Command.{Asks, AsksFor, IsNamed, insert_body, find_body, id_document};
 ghost use Rattle.cluster_top.specs.Commands.{command_meant};
 
 use crate::command::Command;
-use crate::form::{InsertForm, insert_form};
+use crate::form::{FindForm, InsertForm, find_form, insert_form};
 use crate::reply::Refusal;
 use bson_values::{BsonFault, Document, Memory, read};
 use cluster_base::{NameFault, Namespace, is_reserved_database};
@@ -29,13 +30,31 @@ fn insert_of(alloc: Global, form: InsertForm) -> Result<Command, Memory>
     }
 }
 
-/// Whether the first member of the document has the name of an insert.
-fn is_insert(body: &Document) -> bool
-    ensures { IsTrue result ↔ (first_name body.now ≡ Some (codes "insert")) }
+/// What a find of this form asks for; it is refused where its texts make no namespace, or one that is not for clients.
+fn find_of(alloc: Global, form: FindForm) -> Result<Command, Memory>
+    ensures { IfOk result (λ c. AsksFor (find_body form.entry.collection.now (id_document form.entry.key) (option_map (λ t. t.0) form.entry.at) form.entry.database.now) (command_meant c)) }
+{
+    if is_reserved_database(form.database) {
+        return Ok(Command::Refused(Refusal::NoDocument));
+    }
+    match Namespace::of_parts(alloc, form.database, form.collection) {
+        Ok(namespace) => Ok(Command::Find {
+            namespace,
+            key: form.key,
+            at: form.at,
+        }),
+        Err(NameFault::Form) => Ok(Command::Refused(Refusal::NoDocument)),
+        Err(NameFault::Memory) => Err(Memory),
+    }
+}
+
+/// Whether the first member of the document has the name of an insert or of a find.
+fn is_named(body: &Document) -> bool
+    ensures { IsTrue result ↔ IsNamed body.now }
 {
     match body.members() {
         [] => false,
-        [first, ..] => first.name.as_str() == "insert",
+        [first, ..] => first.name.as_str() == "insert" || first.name.as_str() == "find",
     }
 }
 
@@ -43,11 +62,14 @@ fn is_insert(body: &Document) -> bool
 fn asked_by(alloc: Global, body: &Document) -> Result<Command, Memory>
     ensures { IfOk result (λ c. AsksFor body.now (command_meant c)) }
 {
-    if !is_insert(body) {
+    if !is_named(body) {
         return Ok(Command::Refused(Refusal::NoCommand));
     }
-    match insert_form(body) {
-        Some(form) => insert_of(alloc, form),
+    if let Some(form) = insert_form(body) {
+        return insert_of(alloc, form);
+    }
+    match find_form(body) {
+        Some(form) => find_of(alloc, form),
         None => Ok(Command::Refused(Refusal::NoDocument)),
     }
 }

@@ -1,7 +1,7 @@
 use Rattle.std.proofs.Common.{ℕ, List, refl}
 use Rattle.wire_model.specs.Outline.{request_in}
 use Rattle.cluster_top.specs.Commands.{command_meant}
-use Rattle.cluster_top.proofs.Serving.{reply_bytes}
+use Rattle.cluster_top.proofs.ReplyBytes.{reply_bytes}
 use Rattle.cluster_top.proofs.server.Server.answer.Goals as goal
 
 pub returns-clause-reply : goal.returns-clause-reply
