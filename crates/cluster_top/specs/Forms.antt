@@ -50,9 +50,13 @@ abbrev pub snapshot_at : Option (List ℕ) → Option ℕ → Option ℕ
 snapshot_at None time = None
 snapshot_at (Some level) time = if bytes_eq level (codes "snapshot") then time else None
 
+-- the time, where the members are level: "snapshot" and atClusterTime: time
+abbrev pub snapshot_parts : List ℕ → Datum → List ℕ → Datum → Option ℕ
+snapshot_parts a x b y = if bytes_eq a (codes "level") && bytes_eq b (codes "atClusterTime") then snapshot_at (text_in x) (time_in y) else None
+
 -- the time of {level: "snapshot", atClusterTime: time}
 abbrev pub concern_in : Members → Option ℕ
-concern_in (member a x (member b y no_members)) = if bytes_eq a (codes "level") && bytes_eq b (codes "atClusterTime") then snapshot_at (text_in x) (time_in y) else None
+concern_in (member a x (member b y no_members)) = snapshot_parts a x b y
 concern_in ms = None
 
 abbrev pub concern_in_value : Datum → Option ℕ

@@ -1,7 +1,7 @@
 ghost use Rattle.std.specs.Prelude.{◌≡◌};
 ghost use Rattle.std.specs.Option.{option_map};
 ghost use Rattle.bson_values.specs.View.{datum_of};
-ghost use Rattle.cluster_top.specs.Forms.{text_in, id_in, id_of_value, key_in, insert_form, concern_in, concern_of, find_parts, find_form};
+ghost use Rattle.cluster_top.specs.Forms.{text_in, id_in, id_of_value, key_in, insert_form, time_in, snapshot_parts, concern_in, concern_of, find_parts, find_form};
 
 use bson_values::{Document, Member, Value};
 use cluster_base::Time;
@@ -88,6 +88,28 @@ pub fn insert_form(body: &Document) -> Option<InsertForm<'_>>
     })
 }
 
+fn time_in(value: &Value) -> Option<Time>
+    ensures { option_map (λ t. t.0) result ≡ time_in (datum_of value.now) }
+{
+    match value {
+        Value::Timestamp(time) => Some(Time(*time)),
+        _ => None,
+    }
+}
+
+/// The time, where the members are `level: "snapshot"` and `atClusterTime: time`.
+fn snapshot_parts(level: &Member, time: &Member) -> Option<Time>
+    ensures { option_map (λ t. t.0) result ≡ snapshot_parts level.now.name (datum_of level.now.value) time.now.name (datum_of time.now.value) }
+{
+    if level.name.as_str() != "level" || time.name.as_str() != "atClusterTime" {
+        return None;
+    }
+    if text_in(&level.value)? != "snapshot" {
+        return None;
+    }
+    time_in(&time.value)
+}
+
 /// The time of `{level: "snapshot", atClusterTime: time}`.
 fn concern_in(concern: &Document) -> Option<Time>
     ensures { option_map (λ t. t.0) result ≡ concern_in concern.now }
@@ -96,17 +118,7 @@ fn concern_in(concern: &Document) -> Option<Time>
     if members.len() != 2 {
         return None;
     }
-    let (level, time) = (&members[0], &members[1]);
-    if level.name.as_str() != "level" || time.name.as_str() != "atClusterTime" {
-        return None;
-    }
-    if text_in(&level.value)? != "snapshot" {
-        return None;
-    }
-    match &time.value {
-        Value::Timestamp(time) => Some(Time(*time)),
-        _ => None,
-    }
+    snapshot_parts(&members[0], &members[1])
 }
 
 /// The time that the member names, where it is `readConcern: {level: "snapshot", atClusterTime: time}`.
