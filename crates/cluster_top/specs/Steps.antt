@@ -24,14 +24,14 @@ entered store number namespace document = record {
   time = store.time + 1;
   creations = store.creations;
   entries =
-    store.entries
-    ++ record {
-      time = store.time + 1;
-      shard = 1;
-      number = number;
-      namespace = namespace;
-      operation = insert_operation document;
-      outcome = outcome_of store namespace document;
-    }
-    ∷ [];
+      store.entries
+      ++ record {
+        time = store.time + 1;
+        shard = 1;
+        number = number;
+        namespace = namespace;
+        operation = insert_operation document;
+        outcome = outcome_of store namespace document;
+      }
+      ∷ [];
 }

@@ -83,12 +83,12 @@ pub fn entry_bytes(
     time: Time,
 ) -> Result<Blob, Memory>
     ensures { IfOk result (λ b. IsSpelled (record_of (record {
-        time = time.0;
-        shard = 1;
-        number = own_number request;
-        namespace = namespace.now;
-        operation = insert_operation (id_document key);
-        outcome = outcome_meant outcome;
+      time = time.0;
+      shard = 1;
+      number = own_number request;
+      namespace = namespace.now;
+      operation = insert_operation (id_document key);
+      outcome = outcome_meant outcome;
     }) ∷ []) (Some b)) }
 {
     let session = Session::Router {

@@ -109,7 +109,12 @@ fn batch(alloc: Global, found: Option<i32>) -> Result<Array, Memory>
 }
 
 // The cursor of a find that is answered whole.
-fn cursor(alloc: Global, namespace: &str, found: Option<i32>, time: Time) -> Result<Document, Memory>
+fn cursor(
+    alloc: Global,
+    namespace: &str,
+    found: Option<i32>,
+    time: Time,
+) -> Result<Document, Memory>
     ensures { IfOk result (λ d. d ≡
         member (codes "id") (int64_value (pos 0))
         (member (codes "ns") (text_value namespace.now)
@@ -119,8 +124,18 @@ fn cursor(alloc: Global, namespace: &str, found: Option<i32>, time: Time) -> Res
     let mut cursor = Document::new(alloc);
     add(&mut cursor, alloc, "id", Value::Int64(0))?;
     add(&mut cursor, alloc, "ns", text_of(alloc, namespace)?)?;
-    add(&mut cursor, alloc, "firstBatch", Value::Array(batch(alloc, found)?))?;
-    add(&mut cursor, alloc, "atClusterTime", Value::Timestamp(time.0))?;
+    add(
+        &mut cursor,
+        alloc,
+        "firstBatch",
+        Value::Array(batch(alloc, found)?),
+    )?;
+    add(
+        &mut cursor,
+        alloc,
+        "atClusterTime",
+        Value::Timestamp(time.0),
+    )?;
     Ok(cursor)
 }
 
@@ -180,7 +195,12 @@ pub fn ahead_reply(alloc: Global, greatest: Time) -> Result<Document, Memory>
     ensures small { IfOk result (λ d. (document_levels d ≤ 104) × (length (written d) ≤ 1000)) }
 {
     let mut evidence = Document::new(alloc);
-    add(&mut evidence, alloc, "greatest", Value::Timestamp(greatest.0))?;
+    add(
+        &mut evidence,
+        alloc,
+        "greatest",
+        Value::Timestamp(greatest.0),
+    )?;
     let mut reply = refused(alloc, Code::InvalidOptions)?;
     add(&mut reply, alloc, "evidence", Value::Doc(evidence))?;
     Ok(reply)

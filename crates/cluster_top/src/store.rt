@@ -93,7 +93,12 @@ impl Store {
 
     // Begins the collection, if there is none of that name, and gives its record. The store's time is `now` then, or the
     // next one. An `Err` leaves the time as it was.
-    fn begin(&mut self, alloc: Global, now: Time, namespace: &Namespace) -> Result<Option<Blob>, Memory>
+    fn begin(
+        &mut self,
+        alloc: Global,
+        now: Time,
+        namespace: &Namespace,
+    ) -> Result<Option<Blob>, Memory>
         requires { now.0 < 2 ^ 64 - 2 }
         ensures begun { (plain : machine.Store) (moment : ℕ) → Represents self.old plain → now.0 ≡ machine.risen plain moment →
             OnOk result (Represents self.new (begun plain moment namespace.now)) }
