@@ -2,8 +2,6 @@
 use Rattle.std.proofs.Common.{◌≡◌, ◌+◌, ◌≤◌, ℕ, ℤ, List, [], ◌∷◌, ◌++◌, Bool, true, false, ◌||◌, Some, max, refl, sym, ap, ◌∙◌, append-nil, arith}
 use Rattle.std.specs.List.{list_any}
 use Rattle.std.specs.Str.{bytes_eq}
-use Rattle.std.proofs.lemmas.Bool.Decides.{Decides-like, same_from_decides}
-use Rattle.std.proofs.lemmas.Slice.Eq.{bytes_eq-Decides}
 use Rattle.history_model.specs.Catalogue.{Creation}
 use Rattle.history_model.specs.Machine as plain
 use Rattle.history_model.specs.Machine.{has_collection, risen}
@@ -11,9 +9,7 @@ use Rattle.cluster_top.specs.Collections.{is_created, since}
 use Rattle.cluster_top.specs.Kept.{Represents}
 use Rattle.cluster_top.specs.Steps.{begun, creations_for}
 use Rattle.cluster_top.specs.declared.store.Store.{Store}
-
-turned_bytes : (a b : List ℕ) → bytes_eq a b ≡ bytes_eq b a
-turned_bytes a b = same_from_decides (bytes_eq a b) (bytes_eq b a) (bytes_eq-Decides a b) (Decides-like (bytes_eq b a) sym sym (bytes_eq-Decides b a))
+use Rattle.cluster_top.proofs.Turned.{turned_bytes}
 
 or_true : (u : Bool) → true ≡ (u || true)
 or_true true = refl

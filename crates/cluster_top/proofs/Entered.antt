@@ -4,7 +4,7 @@ use Rattle.std.specs.Prelude.{filter, is_some}
 use Rattle.std.specs.Ordering.{int_eq}
 use Rattle.std.specs.Str.{bytes_eq}
 use Rattle.std.proofs.lemmas.Bool.{le-leb}
-use Rattle.std.proofs.lemmas.Bool.Decides.{Decides-int_eq, Decides-like, same_from_decides, leb_tells}
+use Rattle.std.proofs.lemmas.Bool.Decides.{Decides-int_eq, leb_tells}
 use Rattle.std.proofs.lemmas.List.Elements.{filter-append}
 use Rattle.std.proofs.lemmas.Slice.Eq.{bytes_eq-Decides}
 use Rattle.document_model.specs.Tree.{Datum, int32_value, Members}
@@ -19,12 +19,7 @@ use Rattle.cluster_top.specs.Collections.{is_created, since}
 use Rattle.cluster_top.specs.Kept.{Represents, whole, seen_at}
 use Rattle.cluster_top.specs.Steps.{entered}
 use Rattle.cluster_top.specs.declared.store.Store.{Store}
-
-turned_bytes : (a b : List ℕ) → bytes_eq a b ≡ bytes_eq b a
-turned_bytes a b = same_from_decides (bytes_eq a b) (bytes_eq b a) (bytes_eq-Decides a b) (Decides-like (bytes_eq b a) sym sym (bytes_eq-Decides b a))
-
-turned_keys : (a b : ℤ) → int_eq a b ≡ int_eq b a
-turned_keys a b = same_from_decides (int_eq a b) (int_eq b a) (Decides-int_eq a b) (Decides-like (int_eq b a) sym sym (Decides-int_eq b a))
+use Rattle.cluster_top.proofs.Turned.{turned_bytes, turned_keys}
 
 both : (a b : Bool) → (a && b) ≡ true → (a ≡ true) × (b ≡ true)
 both true b h = (refl, h)

@@ -1,12 +1,13 @@
 pub mod Begun
 pub mod Buffers
+pub mod Endings
 pub mod Entered
 pub mod Forms
 pub mod Frames
 pub mod KeyAdded
 pub mod ReplyBytes
 pub mod Requests
+pub mod Served
 pub mod Serving
 pub mod SmallReplies
-pub mod Waited
-pub mod Endings
+pub mod Turned

@@ -1,7 +1,8 @@
--- The forms of an insert and of a find, as tests on a document.
-use Rattle.std.specs.Prelude.{ℕ, ℤ, List, codes, Option, Some, None, ◌&&◌, if◌then◌else◌}
+-- The forms of an insert and of a find, as tests on a document, and the namespaces that their texts make.
+use Rattle.std.specs.Prelude.{◌≡◌, ℕ, ℤ, List, codes, Option, Some, None, false, ◌&&◌, if◌then◌else◌}
 use Rattle.std.specs.Str.{bytes_eq}
 use Rattle.document_model.specs.Tree.{Datum, text_value, document_value, array_value, int32_value, timestamp_value, Items, no_items, item, Members, no_members, member}
+use Rattle.history_model.specs.Names.{MakeNamespace, full_name, is_reserved}
 
 abbrev pub text_in : Datum → Option (List ℕ)
 text_in (text_value s) = Some s
@@ -88,3 +89,8 @@ abbrev pub find_form : Members → Option (List ℕ × ℤ × Option ℕ × List
 find_form (member a x (member b y (member c z no_members))) = find_parts a x b y None c z
 find_form (member a x (member b y (member r w (member c z no_members)))) = find_parts_at a x b y (concern_of r w) c z
 find_form ms = None
+
+-- the namespace of a database and a collection, where they make one, and one that is for clients
+abbrev pub IsOpenNamespace : List ℕ → List ℕ → Option (List ℕ) → Type 0
+IsOpenNamespace database collection None = ¬ (MakeNamespace database collection × (is_reserved database ≡ false))
+IsOpenNamespace database collection (Some name) = (name ≡ full_name database collection) × MakeNamespace database collection × (is_reserved database ≡ false)

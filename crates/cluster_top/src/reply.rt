@@ -150,12 +150,12 @@ pub fn find_reply(
     ensures reply { IfOk result (λ d. d ≡ replies.find_reply namespace.now (option_map (λ k. id_document k) found) time.0) }
     ensures small { IfOk result (λ d. (document_levels d ≤ 104) × (length (written d) ≤ 1000)) }
 {
-    let mut reply = Document::new(alloc);
+    let mut answer = Document::new(alloc);
     let cursor = cursor(alloc, namespace.as_str(), found, time)?;
-    add(&mut reply, alloc, "cursor", Value::Doc(cursor))?;
-    add(&mut reply, alloc, "ok", Value::Int32(1))?;
-    add(&mut reply, alloc, "operationTime", Value::Timestamp(time.0))?;
-    Ok(reply)
+    add(&mut answer, alloc, "cursor", Value::Doc(cursor))?;
+    add(&mut answer, alloc, "ok", Value::Int32(1))?;
+    add(&mut answer, alloc, "operationTime", Value::Timestamp(time.0))?;
+    Ok(answer)
 }
 
 // The reply to a request that is refused, without evidence.

@@ -5,6 +5,7 @@ ghost use Rattle.std.specs.Int.{w32, from_le_bytes};
 ghost use Rattle.std.specs.Option.{option_map};
 ghost use Rattle.history_model.specs.Command.{Asks, AsksFor, IsNamed, insert_body, find_body, id_document};
 ghost use Rattle.cluster_top.specs.Commands.{command_meant};
+ghost use Rattle.cluster_top.specs.Forms.{IsOpenNamespace};
 
 use crate::command::Command;
 use crate::form::{FindForm, InsertForm, find_form, insert_form};
@@ -13,20 +14,34 @@ use bson_values::{BsonFault, Document, Memory, read};
 use cluster_base::{NameFault, Namespace, is_reserved_database};
 use std::alloc::Global;
 
+/// The namespace of the two, where they make one, and one that is for clients.
+fn open_namespace(
+    alloc: Global,
+    database: &str,
+    collection: &str,
+) -> Result<Option<Namespace>, Memory>
+    ensures { IfOk result (λ found. IsOpenNamespace database.now collection.now found) }
+{
+    if is_reserved_database(database) {
+        return Ok(None);
+    }
+    match Namespace::of_parts(alloc, database, collection) {
+        Ok(namespace) => Ok(Some(namespace)),
+        Err(NameFault::Form) => Ok(None),
+        Err(NameFault::Memory) => Err(Memory),
+    }
+}
+
 /// What an insert of this form asks for; it is refused where its texts make no namespace, or one that is not for clients.
 fn insert_of(alloc: Global, form: InsertForm) -> Result<Command, Memory>
     ensures { IfOk result (λ c. AsksFor (insert_body form.entry.collection.now (id_document form.entry.key) form.entry.database.now) (command_meant c)) }
 {
-    if is_reserved_database(form.database) {
-        return Ok(Command::Refused(Refusal::NoDocument));
-    }
-    match Namespace::of_parts(alloc, form.database, form.collection) {
-        Ok(namespace) => Ok(Command::Insert {
+    match open_namespace(alloc, form.database, form.collection)? {
+        Some(namespace) => Ok(Command::Insert {
             namespace,
             key: form.key,
         }),
-        Err(NameFault::Form) => Ok(Command::Refused(Refusal::NoDocument)),
-        Err(NameFault::Memory) => Err(Memory),
+        None => Ok(Command::Refused(Refusal::NoDocument)),
     }
 }
 
@@ -34,17 +49,13 @@ fn insert_of(alloc: Global, form: InsertForm) -> Result<Command, Memory>
 fn find_of(alloc: Global, form: FindForm) -> Result<Command, Memory>
     ensures { IfOk result (λ c. AsksFor (find_body form.entry.collection.now (id_document form.entry.key) (option_map (λ t. t.0) form.entry.at) form.entry.database.now) (command_meant c)) }
 {
-    if is_reserved_database(form.database) {
-        return Ok(Command::Refused(Refusal::NoDocument));
-    }
-    match Namespace::of_parts(alloc, form.database, form.collection) {
-        Ok(namespace) => Ok(Command::Find {
+    match open_namespace(alloc, form.database, form.collection)? {
+        Some(namespace) => Ok(Command::Find {
             namespace,
             key: form.key,
             at: form.at,
         }),
-        Err(NameFault::Form) => Ok(Command::Refused(Refusal::NoDocument)),
-        Err(NameFault::Memory) => Err(Memory),
+        None => Ok(Command::Refused(Refusal::NoDocument)),
     }
 }
 

@@ -1,5 +1,5 @@
 use Rattle.std.proofs.Math.Facts.{to_z-of_z}
-use Rattle.cluster_top.proofs.Waited.{spelled_entry_as}
+use Rattle.cluster_top.proofs.Served.{spelled_entry_as}
 use Rattle.cluster_top.proofs.records.entry_bytes.Goals as goal
 
 pub returns : goal.returns

@@ -1,7 +1,7 @@
 use Rattle.std.proofs.Math.Facts.{to_z-of_z}
 use Rattle.cluster_top.specs.Answers.{own_number}
 use Rattle.cluster_top.specs.Steps.{begun}
-use Rattle.cluster_top.proofs.Waited.{insert_served}
+use Rattle.cluster_top.proofs.Served.{insert_served}
 use Rattle.cluster_top.proofs.store.Store.insert.Goals as goal
 
 pub returns-clause-served : goal.returns-clause-served

@@ -1,7 +1,7 @@
 use Rattle.std.proofs.Common.{◌≡◌, refl, to_z, of_z, w32, rules, ◌∙◌}
 use Rattle.std.specs.Option.{option_map}
 use Rattle.document_model.specs.Tree.{int32_value}
-use Rattle.cluster_top.proofs.Waited.{find_served}
+use Rattle.cluster_top.proofs.Served.{find_served}
 use Rattle.cluster_top.proofs.store.Store.serve.Goals as goal
 
 pub returns-in_ok-reply-in-Find-clause-served : goal.returns-in_ok-reply-in-Find-clause-served
