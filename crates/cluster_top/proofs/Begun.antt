@@ -1,5 +1,5 @@
 -- The kept store when a collection has begun, beside the plain one.
-use Rattle.std.proofs.Common.{◌≡◌, ◌+◌, ◌≤◌, ℕ, ℤ, List, [], ◌∷◌, ◌++◌, Bool, true, false, ◌||◌, Some, max, refl, sym, ap, ◌∙◌, append-nil, arith}
+use Rattle.std.proofs.Common.{◌≡◌, ◌+◌, ◌≤◌, ℕ, ℤ, List, [], ◌∷◌, ◌++◌, Bool, true, false, ◌||◌, refl, sym, ap, ◌∙◌, append-nil, arith}
 use Rattle.std.specs.List.{list_any}
 use Rattle.std.specs.Str.{bytes_eq}
 use Rattle.history_model.specs.Catalogue.{Creation}
@@ -7,7 +7,7 @@ use Rattle.history_model.specs.Machine as plain
 use Rattle.history_model.specs.Machine.{has_collection, risen}
 use Rattle.cluster_top.specs.Collections.{is_created, since}
 use Rattle.cluster_top.specs.Kept.{Represents}
-use Rattle.cluster_top.specs.Steps.{begun, creations_for}
+use Rattle.cluster_top.specs.Steps.{begun}
 use Rattle.cluster_top.specs.declared.store.Store.{Store}
 use Rattle.cluster_top.proofs.Turned.{turned_bytes}
 

@@ -11,7 +11,7 @@ use Rattle.document_model.specs.Tree.{Datum, int32_value, Members}
 use Rattle.value_order.proofs.Spans.{same_int32}
 use Rattle.history_model.specs.Command.{id_document}
 use Rattle.history_model.specs.Errors.{duplicate_key}
-use Rattle.history_model.specs.History.{StatementNumber, insert_operation, effect, Outcome, done, fails_with, Entry, same_key, writes_to, document_after, document_left, document_at}
+use Rattle.history_model.specs.History.{StatementNumber, insert_operation, effect, done, fails_with, Entry, same_key, writes_to, document_left, document_at}
 use Rattle.history_model.specs.Machine as plain
 use Rattle.history_model.specs.Machine.{outcome_of}
 use Rattle.history_model.proofs.Stores.{document_after_push}

@@ -9,7 +9,7 @@ use Rattle.history_model.specs.Command.{id_document, insert_body, find_body, con
 use Rattle.bson_values.specs.declared.value.Member.{Member}
 use Rattle.bson_values.specs.declared.value.Value.{Value}
 use Rattle.bson_values.specs.View.{members_of, items_of}
-use Rattle.cluster_top.specs.Forms.{insert_form, id_named, id_in, id_of_value, only_id, key_in, text_in, form_in, time_in, snapshot_at, snapshot_parts, concern_in, concern_in_value, concern_of, find_in, find_parts, find_parts_at, find_form}
+use Rattle.cluster_top.specs.Forms.{insert_form, id_named, id_in, id_of_value, only_id, key_in, text_in, form_in, time_in, snapshot_at, concern_in, concern_in_value, concern_of, find_in, find_parts, find_parts_at, find_form}
 
 -- an insert has three members
 pub insert_form-other : (ms : List Member) → length ms ≢ 3 → insert_form (members_of ms) ≡ None

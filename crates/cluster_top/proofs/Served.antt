@@ -1,10 +1,9 @@
 -- What a command of the store gives, from what its steps give.
-use Rattle.std.proofs.Common.{◌≡◌, ◌+◌, ◌≤◌, ℕ, ℤ, List, [], ◌∷◌, ◌++◌, Option, Some, None, Result, map, refl, sym, ap, subst, ◌∙◌, append-nil, arith}
+use Rattle.std.proofs.Common.{◌≡◌, ◌+◌, ℕ, ℤ, List, [], ◌∷◌, ◌++◌, Option, Some, None, Result, map, refl, ap, subst, ◌∙◌, append-nil, arith}
 use Rattle.std.specs.Prelude.{IfOk, Ok, Err}
 use Rattle.document_model.specs.Tree.{Datum, Members}
-use Rattle.history_model.specs.Catalogue.{Creation}
 use Rattle.history_model.specs.Command.{insert_command, find_command, id_document}
-use Rattle.history_model.specs.History.{Outcome, Entry, insert_operation}
+use Rattle.history_model.specs.History.{Outcome, insert_operation}
 use Rattle.history_model.specs.Reply.{write_reply}
 use Rattle.history_model.specs.Machine as plain
 use Rattle.history_model.specs.Machine.{risen, answer_find, outcome_of, time_before_write, has_collection}

@@ -154,7 +154,12 @@ pub fn find_reply(
     let cursor = cursor(alloc, namespace.as_str(), found, time)?;
     add(&mut answer, alloc, "cursor", Value::Doc(cursor))?;
     add(&mut answer, alloc, "ok", Value::Int32(1))?;
-    add(&mut answer, alloc, "operationTime", Value::Timestamp(time.0))?;
+    add(
+        &mut answer,
+        alloc,
+        "operationTime",
+        Value::Timestamp(time.0),
+    )?;
     Ok(answer)
 }
 

@@ -1,4 +1,4 @@
-use Rattle.std.proofs.Common.{ap, sym, ◌∙◌}
+use Rattle.std.proofs.Common.{ap, ◌∙◌}
 use Rattle.std.proofs.Math.Facts.{to_z-of_z}
 use Rattle.cluster_top.specs.Collections.{since_in}
 use Rattle.cluster_top.proofs.collections.Collections.since.Goals as goal
