@@ -12,5 +12,6 @@ pub mod Opened
 pub mod Opening
 pub mod Replies
 pub mod Serving
+pub mod Steps
 pub mod Taking
 pub mod Words

@@ -12,6 +12,7 @@ pub mod laws;
 mod opening;
 mod pipe;
 mod piped;
+mod records;
 mod reply;
 mod request;
 mod server;

@@ -1,9 +1,11 @@
-//! Reply documents (MongoDB manual, "insert", "Command Response"), and the messages that carry them.
+//! Reply documents (MongoDB manual, "insert" and "find", "Command Response"), and the messages that carry them.
 
-ghost use Rattle.std.specs.Prelude.{◌≡◌, ◌<◌, ◌≤◌, ◌^◌, ◌++◌, ◌+◌, [], ◌∷◌, codes, length, pos, take, IfOk, OnOk, OnErr, IsTrue, None};
-ghost use Rattle.document_model.specs.Tree.{int32_value, text_value, no_members, member, joined, document_levels, no_items, item, document_value};
+ghost use Rattle.std.specs.Prelude.{◌≡◌, ◌<◌, ◌≤◌, ◌^◌, ◌++◌, ◌+◌, [], ◌∷◌, codes, length, pos, take, IfOk, OnOk, OnErr, IsTrue, None, Some};
+ghost use Rattle.std.specs.Option.{option_map};
+ghost use Rattle.document_model.specs.Tree.{int32_value, int64_value, text_value, timestamp_value, array_value, no_members, member, joined, document_levels, no_items, item, document_value};
 ghost use Rattle.document_model.specs.Spelling.{written};
 ghost use Rattle.wire_model.specs.Messages.{int32, op_msg, message_bytes};
+ghost use Rattle.history_model.specs.Command.{id_document, time_ahead};
 ghost use Rattle.history_model.specs.Errors.{duplicate_key};
 ghost use Rattle.history_model.specs.Reply as replies;
 ghost use Rattle.bson_values.specs.Names.{has_no_zero};
@@ -12,7 +14,7 @@ ghost use Rattle.cluster_base.specs.Codes.{meaning_of};
 ghost use Rattle.cluster_top.specs.Replies.{outcome_meant, refusal_meant};
 
 use bson_values::{Array, Document, Memory, Name, Text, Value, write};
-use cluster_base::{Code, Time};
+use cluster_base::{Code, Namespace, Time};
 use std::alloc::Global;
 
 /// The opcode of a message (MongoDB Wire Protocol, "OP_MSG").
@@ -93,6 +95,74 @@ pub fn write_reply(alloc: Global, outcome: Outcome, time: Time) -> Result<Docume
     Ok(reply)
 }
 
+// The document with the key, if there is one, in an array.
+fn batch(alloc: Global, found: Option<i32>) -> Result<Array, Memory>
+    ensures { IfOk result (λ a. a ≡ replies.batch_of (option_map (λ k. id_document k) found)) }
+{
+    let mut batch = Array::new(alloc);
+    if let Some(key) = found {
+        let mut document = Document::new(alloc);
+        add(&mut document, alloc, "_id", Value::Int32(key))?;
+        batch.push(Value::Doc(document))?;
+    }
+    Ok(batch)
+}
+
+// The cursor of a find that is answered whole.
+fn cursor(
+    alloc: Global,
+    namespace: &str,
+    found: Option<i32>,
+    time: Time,
+) -> Result<Document, Memory>
+    ensures { IfOk result (λ d. d ≡
+        member (codes "id") (int64_value (pos 0))
+        (member (codes "ns") (text_value namespace.now)
+        (member (codes "firstBatch") (array_value (replies.batch_of (option_map (λ k. id_document k) found)))
+        (member (codes "atClusterTime") (timestamp_value time.0) no_members)))) }
+{
+    let mut cursor = Document::new(alloc);
+    add(&mut cursor, alloc, "id", Value::Int64(0))?;
+    add(&mut cursor, alloc, "ns", text_of(alloc, namespace)?)?;
+    add(
+        &mut cursor,
+        alloc,
+        "firstBatch",
+        Value::Array(batch(alloc, found)?),
+    )?;
+    add(
+        &mut cursor,
+        alloc,
+        "atClusterTime",
+        Value::Timestamp(time.0),
+    )?;
+    Ok(cursor)
+}
+
+/// The reply to a find of one key at `time`: cursor, with the document `{_id: found}` if one was found, ok 1, operationTime.
+/// Fails for want of memory.
+pub fn find_reply(
+    alloc: Global,
+    namespace: &Namespace,
+    found: Option<i32>,
+    time: Time,
+) -> Result<Document, Memory>
+    ensures reply { IfOk result (λ d. d ≡ replies.find_reply namespace.now (option_map (λ k. id_document k) found) time.0) }
+    ensures small { IfOk result (λ d. (document_levels d ≤ 104) × (length (written d) ≤ 1000)) }
+{
+    let mut answer = Document::new(alloc);
+    let cursor = cursor(alloc, namespace.as_str(), found, time)?;
+    add(&mut answer, alloc, "cursor", Value::Doc(cursor))?;
+    add(&mut answer, alloc, "ok", Value::Int32(1))?;
+    add(
+        &mut answer,
+        alloc,
+        "operationTime",
+        Value::Timestamp(time.0),
+    )?;
+    Ok(answer)
+}
+
 // The reply to a request that is refused, without evidence.
 fn refused(alloc: Global, code: Code) -> Result<Document, Memory>
     ensures { IfOk result (λ d. d ≡ replies.refusal_reply (record { error = meaning_of code; evidence = None })) }
@@ -121,6 +191,24 @@ pub fn refusal_reply(alloc: Global, refusal: Refusal) -> Result<Document, Memory
         }
         Refusal::NoCommand => refused(alloc, Code::CommandNotFound),
     }
+}
+
+/// The reply to a find at a time above the greatest that was met: the refusal, with that greatest time. Fails for want of
+/// memory.
+pub fn ahead_reply(alloc: Global, greatest: Time) -> Result<Document, Memory>
+    ensures reply { IfOk result (λ d. d ≡ replies.refusal_reply (time_ahead greatest.0)) }
+    ensures small { IfOk result (λ d. (document_levels d ≤ 104) × (length (written d) ≤ 1000)) }
+{
+    let mut evidence = Document::new(alloc);
+    add(
+        &mut evidence,
+        alloc,
+        "greatest",
+        Value::Timestamp(greatest.0),
+    )?;
+    let mut reply = refused(alloc, Code::InvalidOptions)?;
+    add(&mut reply, alloc, "evidence", Value::Doc(evidence))?;
+    Ok(reply)
 }
 
 // The header of a message (MongoDB Wire Protocol, "Standard Message Header"), the flags and the kind of its section.

@@ -1,41 +1,71 @@
 //! What the document of a request asks for.
 
-ghost use Rattle.std.specs.Prelude.{◌≡◌, ◌↔◌, length, take, codes, IfOk, IsTrue};
+ghost use Rattle.std.specs.Prelude.{◌≡◌, ◌↔◌, length, take, IfOk, IsTrue};
 ghost use Rattle.std.specs.Int.{w32, from_le_bytes};
-ghost use Rattle.history_model.specs.Command.{Asks, AsksFor, insert_body, id_document, first_name};
+ghost use Rattle.std.specs.Option.{option_map};
+ghost use Rattle.history_model.specs.Command.{Asks, AsksFor, IsNamed, insert_body, find_body, id_document};
 ghost use Rattle.cluster_top.specs.Commands.{command_meant};
+ghost use Rattle.cluster_top.specs.Forms.{IsOpenNamespace};
 
 use crate::command::Command;
-use crate::form::{InsertForm, insert_form};
+use crate::form::{FindForm, InsertForm, find_form, insert_form};
 use crate::reply::Refusal;
 use bson_values::{BsonFault, Document, Memory, read};
 use cluster_base::{NameFault, Namespace, is_reserved_database};
 use std::alloc::Global;
 
-/// What an insert of this form asks for; it is refused where its texts make no namespace, or one that is not for clients.
-fn insert_of(alloc: Global, form: InsertForm) -> Result<Command, Memory>
-    ensures { IfOk result (λ c. AsksFor (insert_body form.entry.collection.now (id_document form.entry.key) form.entry.database.now) (command_meant c)) }
+/// The namespace of the two, where they make one, and one that is for clients.
+fn open_namespace(
+    alloc: Global,
+    database: &str,
+    collection: &str,
+) -> Result<Option<Namespace>, Memory>
+    ensures { IfOk result (λ found. IsOpenNamespace database.now collection.now found) }
 {
-    if is_reserved_database(form.database) {
-        return Ok(Command::Refused(Refusal::NoDocument));
+    if is_reserved_database(database) {
+        return Ok(None);
     }
-    match Namespace::of_parts(alloc, form.database, form.collection) {
-        Ok(namespace) => Ok(Command::Insert {
-            namespace,
-            key: form.key,
-        }),
-        Err(NameFault::Form) => Ok(Command::Refused(Refusal::NoDocument)),
+    match Namespace::of_parts(alloc, database, collection) {
+        Ok(namespace) => Ok(Some(namespace)),
+        Err(NameFault::Form) => Ok(None),
         Err(NameFault::Memory) => Err(Memory),
     }
 }
 
-/// Whether the first member of the document has the name of an insert.
-fn is_insert(body: &Document) -> bool
-    ensures { IsTrue result ↔ (first_name body.now ≡ Some (codes "insert")) }
+/// What an insert of this form asks for; it is refused where its texts make no namespace, or one that is not for clients.
+fn insert_of(alloc: Global, form: InsertForm) -> Result<Command, Memory>
+    ensures { IfOk result (λ c. AsksFor (insert_body form.entry.collection.now (id_document form.entry.key) form.entry.database.now) (command_meant c)) }
+{
+    match open_namespace(alloc, form.database, form.collection)? {
+        Some(namespace) => Ok(Command::Insert {
+            namespace,
+            key: form.key,
+        }),
+        None => Ok(Command::Refused(Refusal::NoDocument)),
+    }
+}
+
+/// What a find of this form asks for; it is refused where its texts make no namespace, or one that is not for clients.
+fn find_of(alloc: Global, form: FindForm) -> Result<Command, Memory>
+    ensures { IfOk result (λ c. AsksFor (find_body form.entry.collection.now (id_document form.entry.key) (option_map (λ t. t.0) form.entry.at) form.entry.database.now) (command_meant c)) }
+{
+    match open_namespace(alloc, form.database, form.collection)? {
+        Some(namespace) => Ok(Command::Find {
+            namespace,
+            key: form.key,
+            at: form.at,
+        }),
+        None => Ok(Command::Refused(Refusal::NoDocument)),
+    }
+}
+
+/// Whether the first member of the document has the name of an insert or of a find.
+fn is_named(body: &Document) -> bool
+    ensures { IsTrue result ↔ IsNamed body.now }
 {
     match body.members() {
         [] => false,
-        [first, ..] => first.name.as_str() == "insert",
+        [first, ..] => first.name.as_str() == "insert" || first.name.as_str() == "find",
     }
 }
 
@@ -43,11 +73,14 @@ fn is_insert(body: &Document) -> bool
 fn asked_by(alloc: Global, body: &Document) -> Result<Command, Memory>
     ensures { IfOk result (λ c. AsksFor body.now (command_meant c)) }
 {
-    if !is_insert(body) {
+    if !is_named(body) {
         return Ok(Command::Refused(Refusal::NoCommand));
     }
-    match insert_form(body) {
-        Some(form) => insert_of(alloc, form),
+    if let Some(form) = insert_form(body) {
+        return insert_of(alloc, form);
+    }
+    match find_form(body) {
+        Some(form) => find_of(alloc, form),
         None => Ok(Command::Refused(Refusal::NoDocument)),
     }
 }
