@@ -1,12 +1,9 @@
 -- A conversation with a framer gives the requests of the bytes that were fed.
-use Rattle.std.proofs.Common.{◌≡◌, ℕ, ◌+◌, ◌⊎◌, inl, inr, Option, Some, None, Result, Ok, Err, List, [], ◌∷◌, ◌++◌, length, refl, sym, ap, subst, ◌∙◌, append_assoc, arith}
-use Rattle.std.specs.List.{flat_map, AllByRecursion}
+use Rattle.std.proofs.Common.{◌≡◌, ℕ, ◌+◌, ◌⊎◌, inl, inr, Option, Some, None, Ok, Err, List, [], ◌∷◌, ◌++◌, length, refl, sym, ap, subst, ◌∙◌, append_assoc}
 use Rattle.std.proofs.lemmas.List.{append-nil}
-use Rattle.std.proofs.lemmas.Grind.{flat_map-append}
 use Rattle.frame_model.specs.Frames.{IsFirst, FramesFrom, ends, fails, goes_on, Frames}
 use Rattle.frame_model.specs.Outline as wire
 use Rattle.frame_model.specs.Requests as requests
-use Rattle.opmsg_frames.specs.declared.fault.FrameFault.{FrameFault}
 use Rattle.opmsg_frames.specs.declared.fault.FrameFault.TheVariants.{Malformed, Memory}
 use Rattle.opmsg_frames.specs.declared.fault.Malformed as faults
 use Rattle.opmsg_frames.specs.declared.fault.Malformed.TheVariants.{BadLength, TooLong, BadOpcode, BadFlags, BadKind, BadSection, TwoBodies, NoBody, BadQuery}
@@ -14,7 +11,7 @@ use Rattle.opmsg_frames.specs.declared.request.Request.{Request}
 use Rattle.opmsg_frames.specs.Outlines.{fault_meant}
 use Rattle.opmsg_frames.specs.Requests.{IsMeant}
 use Rattle.opmsg_frames.specs.FramerViews.{FramerView}
-use Rattle.opmsg_frames.specs.Framers.{IsNext, Given, Told}
+use Rattle.opmsg_frames.specs.Framers.{Given, Told}
 use Rattle.opmsg_frames.specs.Conversations.{Step, took, refused, answered, IsStep, IsConversation, new_framer, piece_of, fed, request_of, given, AreMeant, IsToldAgain, OnlyTell}
 use Rattle.opmsg_frames.proofs.Bytes.{IsBytes}
 use Rattle.opmsg_frames.proofs.Stays.{whole_stays, fault_stays}

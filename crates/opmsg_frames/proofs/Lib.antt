@@ -19,3 +19,5 @@ pub mod OneRequest
 pub mod OneReading
 pub mod Cuttings
 pub mod SpelledOutlines
+pub mod WalkEnds
+pub mod SomeReading

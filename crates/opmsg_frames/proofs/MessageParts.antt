@@ -1,9 +1,8 @@
 -- What the bytes of a spelled message tell: numbers, and what stands behind them.
-use Rattle.std.proofs.Common.{◌≡◌, ℕ, ◌+◌, ◌<◌, ◌≤◌, ◌^◌, false, List, ◌++◌, length, drop, refl, sym, ap, ◌∙◌, arith, length-append}
+use Rattle.std.proofs.Common.{◌≡◌, ℕ, ◌+◌, ◌≤◌, false, List, length, drop, sym, ap, ◌∙◌, arith}
 use Rattle.std.specs.Int.{w32, cast_signed}
 use Rattle.std.specs.List.{flat_map}
 use Rattle.std.proofs.lemmas.Nat.{from_le_bytes-to_le_bytes_4}
-use Rattle.std.proofs.lemmas.List.{length-drop}
 use Rattle.frame_model.specs.Messages.{number_at, stated_length, opcode, op_msg, op_query, most_bytes}
 use Rattle.frame_model.specs.Sections.{Section, section_bytes}
 use Rattle.frame_model.specs.Requests.{Request, IsMsg, IsQuery, IsFlags, is_more, msg_bytes, query_bytes}

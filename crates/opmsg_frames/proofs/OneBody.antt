@@ -1,6 +1,5 @@
 -- Sections have one body.
-use Rattle.std.proofs.Common.{◌≡◌, ℕ, suc, ◌+◌, ◌<◌, ◌≤◌, ◌^◌, ◌⊎◌, inl, inr, List, [], ◌∷◌, ◌++◌, length, take, drop, Result, Ok, Err, refl, sym, ap, subst, ◌∙◌, arith, length-append}
-use Rattle.std.specs.Int.{w32}
+use Rattle.std.proofs.Common.{◌≡◌, ℕ, suc, ◌+◌, inl, inr, List, [], ◌∷◌, ◌++◌, length, take, Result, Ok, Err, refl, sym, ap, ◌∙◌, arith}
 use Rattle.std.specs.List.{AllByRecursion, concat, flat_map}
 use Rattle.std.proofs.lemmas.List.{take_at, drop_at}
 use Rattle.std.proofs.Math.Seq.{take-length}
@@ -28,7 +27,7 @@ are_kept_once (d ∷ documents) mss nss (m, others, e, k, ks) (n, rest, f, l, ls
     let behind : others ≡ rest = are_kept_once documents others rest ks ls in
     cc (e, f, same, behind)
 
-abbrev named : List ℕ → List Members → List ℕ × List Members
+abbrev pub named : List ℕ → List Members → List ℕ × List Members
 named identifier kept = (identifier, kept)
 
 hold_once : (sections : List Section) (mss nss : List Members) (s t : List (List ℕ × List Members)) → Hold sections mss s → Hold sections nss t → (mss ≡ nss) × (s ≡ t)
@@ -72,6 +71,14 @@ both : {X : Type 0} (P : X → Type 0) (xs ys : List X) → AllByRecursion P xs 
 both P [] ys a b = b
 both P (x ∷ xs) ys a b = (a.0, both P xs ys a.1 b)
 
+pub fronts : {X : Type 0} (P : X → Type 0) (xs ys : List X) → AllByRecursion P (xs ++ ys) → AllByRecursion P xs
+fronts P [] ys a = tt
+fronts P (x ∷ xs) ys a = (a.0, fronts P xs ys a.1)
+
+pub backs : {X : Type 0} (P : X → Type 0) (xs ys : List X) → AllByRecursion P (xs ++ ys) → AllByRecursion P ys
+backs P [] ys a = a
+backs P (x ∷ xs) ys a = backs P xs ys a.1
+
 are_readable : (documents : List (List ℕ)) (mss : List Members) → AreKept documents mss → AllByRecursion IsReadable documents
 are_readable [] mss kept = tt
 are_readable (d ∷ documents) mss (m, others, e, k, ks) = ((m, k), are_readable documents others ks)
@@ -98,7 +105,7 @@ concat_bytes (d ∷ documents) are = (front_bytes d (concat documents) are, conc
 sequence_documents : (i : List ℕ) (documents : List (List ℕ)) → IsBytes (sequence_bytes i documents) → AllByRecursion IsBytes documents
 sequence_documents i documents are = concat_bytes documents (tail_bytes 0 (concat documents) (back_bytes i (0 ∷ concat documents) are))
 
-section_documents : (sections : List Section) → IsBytes (flat_map section_bytes sections) → AllByRecursion IsBytes (documents_in sections)
+pub section_documents : (sections : List Section) → IsBytes (flat_map section_bytes sections) → AllByRecursion IsBytes (documents_in sections)
 section_documents [] are = tt
 section_documents (body_section d ∷ sections) are =
     let inner = tail_bytes 0 (d ++ flat_map section_bytes sections) are in

@@ -1,5 +1,5 @@
 -- Bytes have one reading.
-use Rattle.std.proofs.Common.{◌≡◌, ℕ, ◌+◌, Option, Some, None, List, [], ◌∷◌, ◌++◌, length, take, drop, refl, sym, ap, subst, ◌∙◌}
+use Rattle.std.proofs.Common.{◌≡◌, ℕ, ◌+◌, Option, Some, List, length, take, drop, refl, sym, ap, ◌∙◌}
 use Rattle.std.proofs.lemmas.List.{take_at, drop_at}
 use Rattle.frame_model.specs.Requests.{Request}
 use Rattle.frame_model.specs.Frames.{IsFirst, FramesFrom, ends, fails, goes_on}

@@ -1,13 +1,13 @@
 -- Bytes are one request at most.
-use Rattle.std.proofs.Common.{◌≡◌, ℕ, zero, suc, ◌+◌, ◌<◌, ◌≤◌, ◌^◌, Bool, Option, Some, List, [], ◌∷◌, ◌++◌, length, get_or, take, drop, refl, sym, ap, subst, ◌∙◌, arith, length-append, length-drop}
+use Rattle.std.proofs.Common.{◌≡◌, ℕ, zero, suc, ◌<◌, ◌^◌, Bool, Some, List, [], ◌∷◌, ◌++◌, length, get_or, take, drop, refl, sym, ap, subst, ◌∙◌, arith, length-append, length-drop}
 use Rattle.std.specs.Prelude.{ℤ}
 use Rattle.std.specs.Int.{w32, cast_signed}
 use Rattle.std.specs.List.{AllByRecursion, concat, flat_map}
 use Rattle.std.proofs.lemmas.List.{append-nil, take_at, drop_at}
-use Rattle.frame_model.specs.Messages.{number_at, opcode, op_msg, op_query}
+use Rattle.frame_model.specs.Messages.{number_at, opcode}
 use Rattle.frame_model.specs.Sections.{Section, body_section, sequence_section, sequence_bytes, section_bytes, IsStated, IsSection}
 use Rattle.frame_model.specs.Requests.{Request, Form, msg_form, query_form, Body, HasBody, IsForm, IsRequest, is_more}
-use Rattle.frame_model.specs.Outline.{Next, no_section, next_body, next_sequence, next_section}
+use Rattle.frame_model.specs.Outline.{no_section, next_body, next_sequence, next_section}
 use Rattle.opmsg_frames.specs.Outlines.{sequence_parts}
 use Rattle.opmsg_frames.proofs.Bytes.{IsBytes, back_part}
 use Rattle.opmsg_frames.proofs.DocumentReads.{first_number}
@@ -71,7 +71,7 @@ cons_bytes : (bytes : List ℕ) → IsBytes bytes → (i : ℕ) → get_or (0 �
 cons_bytes bytes are zero = omega arith
 cons_bytes bytes are (suc i) = are i
 
-lone_bytes : (document : List ℕ) → IsBytes document → IsBytes (flat_map section_bytes (body_section document ∷ []))
+pub lone_bytes : (document : List ℕ) → IsBytes document → IsBytes (flat_map section_bytes (body_section document ∷ []))
 lone_bytes document are = cons_bytes (document ++ []) (rw (append-nil document) are)
 
 -- what two requests have the same

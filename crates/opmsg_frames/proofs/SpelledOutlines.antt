@@ -1,25 +1,22 @@
 -- The bytes of a spelled request have the outline of their length.
-use Rattle.std.proofs.Common.{◌≡◌, ◌≢◌, ℕ, zero, suc, ◌+◌, ◌-◌, ◌<◌, ◌≤◌, ◌^◌, ◌⊎◌, inl, inr, Bool, true, false, eqb, Option, Some, None, List, [], ◌∷◌, ◌++◌, length, take, drop, refl, sym, ap, subst, ◌∙◌, arith, length-append, length-drop}
+use Rattle.std.proofs.Common.{◌≡◌, ℕ, zero, suc, ◌+◌, ◌-◌, ◌<◌, ◌≤◌, ◌^◌, ◌⊎◌, inl, inr, Bool, true, false, Option, Some, None, List, [], ◌∷◌, ◌++◌, length, take, drop, refl, sym, ap, ◌∙◌, arith, length-append, length-drop}
 use Rattle.std.specs.Prelude.{◌&&◌, ◌||◌, ◌==◌, not, nat_lt, nat_le, slice_index, if◌then◌else◌}
-use Rattle.std.specs.Int.{w32}
 use Rattle.std.specs.List.{AllByRecursion, concat, flat_map}
 use Rattle.std.specs.Str.{is_utf8, bytes_eq}
 use Rattle.std.proofs.lemmas.Bool.Decides.{nat_tests}
-use Rattle.std.proofs.lemmas.List.{take_at, drop_at}
-use Rattle.std.proofs.lemmas.Nat.{from_le_bytes-to_le_bytes_4}
+use Rattle.std.proofs.lemmas.List.{drop_at}
 use Rattle.std.proofs.lemmas.Str.{is_utf8-from_IsUtf8}
 use Rattle.std.proofs.Math.Seq.{take-length}
 use Rattle.document_model.specs.Faults.{before_zero}
-use Rattle.document_model.specs.Grammar.{HasNoZero}
 use Rattle.frame_model.specs.Messages.{int32, number_at, stated_length, opcode, op_msg, op_query, most_bytes}
 use Rattle.frame_model.specs.Sections.{Section, body_section, sequence_section, sequence_bytes, section_bytes, IsStated, IsSection, bodies}
-use Rattle.frame_model.specs.Requests.{Request, Form, msg_form, query_form, IsForm, IsRequest, IsFlags, IsMsg, IsQuery, IsGreeting, low_flags, admin_command, query_bytes}
-use Rattle.frame_model.specs.Outline.{Next, FrameFault, bad_length, too_long, bad_opcode, bad_flags, bad_query, Outline, partial_outline, message_outline, outline, headed_outline, whole_outline, header_fault, message_fault, msg_fault, is_query, greets, takes_flags, has_stated, are_documents, is_named, is_sequence, ended_fault, behind_fault, sections_fault, next_section}
+use Rattle.frame_model.specs.Requests.{Request, Form, msg_form, query_form, IsForm, IsRequest, IsMsg, IsQuery, IsGreeting, low_flags, admin_command}
+use Rattle.frame_model.specs.Outline.{Next, FrameFault, bad_length, too_long, bad_opcode, bad_flags, bad_query, message_outline, outline, headed_outline, whole_outline, header_fault, message_fault, msg_fault, is_query, greets, takes_flags, has_stated, are_documents, is_named, is_sequence, ended_fault, behind_fault, sections_fault}
 use Rattle.opmsg_frames.proofs.DocumentReads.{first_number, is_stated}
-use Rattle.opmsg_frames.proofs.SectionFronts.{next_of, next_is, name_ends, behind_zero}
+use Rattle.opmsg_frames.proofs.SectionFronts.{next_is, name_ends, behind_zero}
 use Rattle.opmsg_frames.proofs.StatedDocuments.{none_left, step}
 use Rattle.opmsg_frames.proofs.Stays.{cut_outline, outline_by, short_outline}
-use Rattle.opmsg_frames.proofs.MessageParts.{MsgParts, msg_parts, QueryParts, query_parts}
+use Rattle.opmsg_frames.proofs.MessageParts.{msg_parts, query_parts}
 
 -- ---- sections
 

@@ -1,7 +1,7 @@
 //! The laws of frames.
 
-ghost use Rattle.std.specs.Prelude.{◌≡◌, ◌<◌, ◌++◌, ◌∷◌, [], ℕ, List, Option, Some, None, Ok, Err, length, take};
-ghost use Rattle.frame_model.specs.Frames.{Frames};
+ghost use Rattle.std.specs.Prelude.{◌≡◌, ◌<◌, ◌++◌, ◌∷◌, [], ℕ, List, Option, Some, None, Ok, Err, drop, length, take};
+ghost use Rattle.frame_model.specs.Frames.{Frames, IsFirst};
 ghost use Rattle.frame_model.specs.Outline as wire;
 ghost use Rattle.frame_model.specs.Outline.{faulty_outline, message_outline, outline, partial_outline};
 ghost use Rattle.frame_model.specs.Requests.{IsRequest, Request};
@@ -36,6 +36,14 @@ pub fn one_reading()
         AreBytes bytes → Frames bytes requests rest fault → Frames bytes others more other → rest ≡ more }
     ensures fault { (bytes rest more : List ℕ) (requests others : List Request) (fault other : Option (wire.FrameFault × ℕ)) →
         AreBytes bytes → Frames bytes requests rest fault → Frames bytes others more other → fault ≡ other }
+{}
+
+/// Bytes whose outline is that of a message begin with a request of so many bytes, and all bytes are read in some way.
+pub fn some_reading()
+    ensures request { (bytes : List ℕ) (n : ℕ) → AreBytes bytes → outline bytes ≡ message_outline n →
+        (request : Request) × (n ≡ length request.bytes) × IsFirst bytes request (drop n bytes) }
+    ensures reading { (bytes : List ℕ) → AreBytes bytes →
+        (requests : List Request) × (rest : List ℕ) × (fault : Option (wire.FrameFault × ℕ)) × Frames bytes requests rest fault }
 {}
 
 /// Whatever pieces the bytes come in, and however often a framer is asked between them: the requests given are the first
