@@ -148,9 +148,9 @@ split old (step ∷ steps) last new (next, first, behind) =
     let s = split next steps last new behind in
     (s.0, (next, first, s.1), s.2)
 
-pub a_front : (steps : List Step) (end : FramerView) (all : List requests.Request) (rest : List ℕ) (fault : Option (wire.FrameFault × ℕ)) → IsBytes (fed steps) → IsConversation new_framer steps end → Frames (fed steps) all rest fault
+pub a_front : (steps : List Step) (end : FramerView) → IsBytes (fed steps) → IsConversation new_framer steps end → (all : List requests.Request) (rest : List ℕ) (fault : Option (wire.FrameFault × ℕ)) → Frames (fed steps) all rest fault
     → (first others : List requests.Request) × (all ≡ first ++ others) × AreMeant (given steps) first
-a_front steps end all rest fault are talk frames =
+a_front steps end are talk all rest fault frames =
     let s = spoken steps end talk in
     let f = front_is 0 (fed steps) s.meants end.place end.bytes all rest fault are s.front frames in
     (s.meants, f.0, f.1, s.meant)
