@@ -12,3 +12,12 @@ pub mod Msgs
 pub mod Bodies
 pub mod Queries
 pub mod WholeMessages
+pub mod Stays
+pub mod MessageParts
+pub mod OneBody
+pub mod OneRequest
+pub mod OneReading
+pub mod Cuttings
+pub mod SpelledOutlines
+pub mod WalkEnds
+pub mod SomeReading

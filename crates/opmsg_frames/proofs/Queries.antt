@@ -95,3 +95,13 @@ is_sound bytes are least most stated code sound body =
         number_front 39 bytes are (omega (arith, least)) ∙ ap (λ (m : ℕ). int32 m ++ drop 43 bytes) n ∙ ap (λ (l : List ℕ). int32 (length (drop 39 bytes)) ++ l) (drop-cons bytes 43 0 (omega (arith, least)) ∙ ap (λ (l : List ℕ). slice_index bytes 43 ∷ l) g.3),
       );
     }
+
+-- it has a first name
+first_of_five : (a b c d e : Bool) → ((((a && b) && c) && d) && e) ≡ true → a ≡ true
+first_of_five true b c d e p = refl
+first_of_five false b c d e p = absurd (let x : false ≡ true = p in cc)
+
+pub least_query : (bytes : List ℕ) → is_query bytes ≡ true → 44 ≤ length bytes
+least_query bytes sound =
+    let p = first_of_five (nat_le 44 (length bytes)) (bytes_eq (take 11 (drop 20 bytes)) admin_command) (number_at 39 bytes == length bytes - 39) (nat_lt 0 (slice_index bytes 43)) (greets (before_zero (drop 44 bytes))) sound in
+    grind (arith, nat_tests, p)

@@ -48,7 +48,7 @@ next_is (sequence_section identifier documents ∷ sections) each low =
     sequence_next content more (omega (arith, length-append identifier (0 ∷ concat documents))) (omega (arith, low, l))
 
 -- an identifier is read back
-name_ends : (name more : List ℕ) → HasNoZero name → before_zero (name ++ 0 ∷ more) ≡ Some name
+pub name_ends : (name more : List ℕ) → HasNoZero name → before_zero (name ++ 0 ∷ more) ≡ Some name
 name_ends [] more no_zero = refl
 name_ends (b ∷ name) more no_zero =
     let e : eqb b 0 ≡ false = grind (arith, nat_tests, no_zero.0) in

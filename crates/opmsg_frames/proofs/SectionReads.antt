@@ -77,12 +77,12 @@ held_sequence sections left identifier documents doc mss read kept (inl h) =
 held_sequence sections left identifier documents doc mss read kept (inr h) =
     inr (h.0, λ sequences hold. rw (append_assoc read ((identifier, mss) ∷ []) sequences) (h.1 ((identifier, mss) ∷ sequences) (mss, sequences, refl, kept, hold)))
 
-faulty_front : (documents more : List (List ℕ)) (fault : Fault) (place : ℕ) → FirstFaulty documents fault place → FirstFaulty (documents ++ more) fault place
+pub faulty_front : (documents more : List (List ℕ)) (fault : Fault) (place : ℕ) → FirstFaulty documents fault place → FirstFaulty (documents ++ more) fault place
 faulty_front [] more fault place found = absurd found
 faulty_front (d ∷ documents) more fault place (inl found) = inl found
 faulty_front (d ∷ documents) more fault place (inr found) = inr (found.0, faulty_front documents more fault place found.1)
 
-faulty_behind : (documents more : List (List ℕ)) (mss : List Members) (fault : Fault) (place : ℕ) → AreKept documents mss → FirstFaulty more fault place → FirstFaulty (documents ++ more) fault place
+pub faulty_behind : (documents more : List (List ℕ)) (mss : List Members) (fault : Fault) (place : ℕ) → AreKept documents mss → FirstFaulty more fault place → FirstFaulty (documents ++ more) fault place
 faulty_behind [] more mss fault place kept found = found
 faulty_behind (d ∷ documents) more mss fault place (ms, others, e, first, kept) found = inr ((ms, first), faulty_behind documents more others fault place kept found)
 

@@ -28,7 +28,7 @@ unfolding are_documents
 none_left zero = refl
 none_left (suc m) = refl
 
-step : (m : ℕ) (bytes : List ℕ) → 0 < length bytes → length bytes ≤ m → are_documents m bytes ≡ (if has_stated bytes then are_documents (m - 1) (drop (number_at 0 bytes) bytes) else false)
+pub step : (m : ℕ) (bytes : List ℕ) → 0 < length bytes → length bytes ≤ m → are_documents m bytes ≡ (if has_stated bytes then are_documents (m - 1) (drop (number_at 0 bytes) bytes) else false)
 unfolding are_documents
 step m [] some enough = absurd (omega arith)
 step zero (b ∷ bytes) some enough = absurd (omega arith)

@@ -3,3 +3,5 @@ pub mod Lists
 pub mod Requests
 pub mod FramerViews
 pub mod Framers
+pub mod Readings
+pub mod Conversations

@@ -5,6 +5,7 @@
 mod documents;
 mod fault;
 mod framer;
+pub mod laws;
 mod lists;
 mod message;
 mod outline;

@@ -1,0 +1,64 @@
+-- Conversations with a framer: pieces of the bytes of a connection are fed to it, in any cutting, and it is asked for the
+-- next request as often as one likes.
+use Rattle.std.specs.Prelude.{◌≡◌, ℕ, List, [], ◌∷◌, ◌++◌, Option, Some, None, Result, Ok, Err}
+use Rattle.std.specs.List.{flat_map, AllByRecursion}
+use Rattle.frame_model.specs.Requests as wire
+use Rattle.opmsg_frames.specs.declared.fault.FrameFault.{FrameFault}
+use Rattle.opmsg_frames.specs.declared.fault.FrameFault.TheVariants.{Malformed}
+use Rattle.opmsg_frames.specs.declared.fault.Malformed as faults
+use Rattle.opmsg_frames.specs.declared.request.Request.{Request}
+use Rattle.opmsg_frames.specs.Framers.{IsNext}
+use Rattle.opmsg_frames.specs.FramerViews.{FramerView}
+use Rattle.opmsg_frames.specs.Requests.{IsMeant}
+
+pub data Step : Type 0 where
+  -- this piece was taken
+  took : List ℕ → Step
+  -- a piece was not taken, for want of memory
+  refused : Step
+  -- what a call for the next request answered
+  answered : Result (Option Request) FrameFault → Step
+
+-- a step changes a framer so
+abbrev pub IsStep : FramerView → Step → FramerView → Type 0
+IsStep old (took piece) new = (new.bytes ≡ old.bytes ++ piece) × (new.place ≡ old.place) × (new.fault ≡ old.fault)
+IsStep old refused new = (new.bytes ≡ old.bytes) × (new.place ≡ old.place) × (new.fault ≡ old.fault)
+IsStep old (answered answer) new = IsNext old new answer
+
+abbrev pub IsConversation : FramerView → List Step → FramerView → Type 0
+IsConversation old [] new = new ≡ old
+IsConversation old (step ∷ steps) new = (between : FramerView) × IsStep old step between × IsConversation between steps new
+
+-- a framer to which no bytes were fed
+abbrev pub new_framer : FramerView
+new_framer = record { bytes = []; place = 0; fault = None }
+
+abbrev pub piece_of : Step → List ℕ
+piece_of (took piece) = piece
+piece_of step = []
+
+-- all bytes that were fed
+abbrev pub fed : List Step → List ℕ
+fed steps = flat_map piece_of steps
+
+abbrev pub request_of : Step → List Request
+request_of (answered (Ok (Some request))) = request ∷ []
+request_of step = []
+
+-- the requests that were given, in order
+abbrev pub given : List Step → List Request
+given steps = flat_map request_of steps
+
+-- these are those of the definitions, one by one
+abbrev pub AreMeant : List Request → List wire.Request → Type 0
+AreMeant [] meants = meants ≡ []
+AreMeant (request ∷ requests) meants =
+    (meant : wire.Request) × (others : List wire.Request) × (meants ≡ meant ∷ others) × IsMeant request meant × AreMeant requests others
+
+-- each answer among these steps tells this fault at this place
+abbrev pub IsToldAgain : faults.Malformed → ℕ → Step → Type 0
+IsToldAgain fault place (answered answer) = answer ≡ Err (Malformed fault place)
+IsToldAgain fault place step = Unit {0}
+
+abbrev pub OnlyTell : faults.Malformed → ℕ → List Step → Type 0
+OnlyTell fault place steps = AllByRecursion (λ step. IsToldAgain fault place step) steps

@@ -1,0 +1,77 @@
+//! The laws of frames.
+
+ghost use Rattle.std.specs.Prelude.{◌≡◌, ◌<◌, ◌++◌, ◌∷◌, [], ℕ, List, Option, Some, None, Ok, Err, drop, length, take};
+ghost use Rattle.frame_model.specs.Frames.{Frames, IsFirst};
+ghost use Rattle.frame_model.specs.Outline as wire;
+ghost use Rattle.frame_model.specs.Outline.{faulty_outline, message_outline, outline, partial_outline};
+ghost use Rattle.frame_model.specs.Requests.{IsRequest, Request};
+ghost use Rattle.opmsg_frames.specs.Conversations.{AreMeant, IsConversation, OnlyTell, Step, answered, fed, given, new_framer};
+ghost use Rattle.opmsg_frames.specs.FramerViews.{FramerView};
+ghost use Rattle.opmsg_frames.specs.Outlines.{fault_meant};
+ghost use Rattle.opmsg_frames.specs.Readings.{AreBytes, PlacedFault};
+
+use crate::fault::{FrameFault, Malformed};
+
+/// A message or a fault at the front of the bytes stands there however they go on, and no message is told of before its
+/// last byte.
+pub fn outline_stays()
+    ensures whole { (bytes more : List ℕ) (n : ℕ) →
+        outline bytes ≡ message_outline n → outline (bytes ++ more) ≡ message_outline n }
+    ensures faulty { (bytes more : List ℕ) (fault : wire.FrameFault) →
+        outline bytes ≡ faulty_outline fault → outline (bytes ++ more) ≡ faulty_outline fault }
+    ensures partial { (bytes : List ℕ) (n k : ℕ) →
+        outline bytes ≡ message_outline n → k < n → outline (take k bytes) ≡ partial_outline }
+{}
+
+/// The bytes of a request are a whole message, whatever stands behind them.
+pub fn request_is_whole()
+    ensures { (request : Request) (more : List ℕ) → IsRequest request →
+        outline (request.bytes ++ more) ≡ message_outline (length request.bytes) }
+{}
+
+/// Bytes are one request at most.
+pub fn one_request()
+    ensures { (request other : Request) → AreBytes request.bytes → request.bytes ≡ other.bytes →
+        IsRequest request → IsRequest other → request ≡ other }
+{}
+
+/// Bytes are read in one way at most: as these requests, that rest, and this fault at its place, or none.
+pub fn one_reading()
+    ensures requests { (bytes rest more : List ℕ) (requests others : List Request) →
+        (fault other : PlacedFault) → AreBytes bytes →
+        Frames bytes requests rest fault → Frames bytes others more other → requests ≡ others }
+    ensures rest { (bytes rest more : List ℕ) (requests others : List Request) →
+        (fault other : PlacedFault) → AreBytes bytes →
+        Frames bytes requests rest fault → Frames bytes others more other → rest ≡ more }
+    ensures fault { (bytes rest more : List ℕ) (requests others : List Request) →
+        (fault other : PlacedFault) → AreBytes bytes →
+        Frames bytes requests rest fault → Frames bytes others more other → fault ≡ other }
+{}
+
+/// A whole message is a request of as many bytes, and all bytes are read in some way.
+pub fn some_reading()
+    ensures request { (bytes : List ℕ) (n : ℕ) → AreBytes bytes → outline bytes ≡ message_outline n →
+        (request : Request) × (n ≡ length request.bytes) × IsFirst bytes request (drop n bytes) }
+    ensures reading { (bytes : List ℕ) → AreBytes bytes →
+        (requests : List Request) × (rest : List ℕ) × (fault : PlacedFault) × Frames bytes requests rest fault }
+{}
+
+/// Whatever pieces the bytes come in, and however often a framer is asked between them: the requests given are the first
+/// of the bytes fed, in order; all of them, if it answered last that there is none or that there is a fault; and that
+/// fault is the one of the bytes, at its place, which every later answer tells again.
+pub fn every_cutting()
+    ensures front { (steps : List Step) (end : FramerView) →
+        AreBytes (fed steps) → IsConversation new_framer steps end →
+        (requests : List Request) (rest : List ℕ) (fault : PlacedFault) → Frames (fed steps) requests rest fault →
+        (first others : List Request) × (requests ≡ first ++ others) × AreMeant (given steps) first }
+    ensures all { (steps : List Step) (end : FramerView) →
+        IsConversation new_framer (steps ++ answered (Ok None) ∷ []) end →
+        (requests : List Request) × AreMeant (given steps) requests × Frames (fed steps) requests end.bytes None }
+    ensures fault { (steps : List Step) (fault : Malformed) (place : ℕ) (end : FramerView) →
+        IsConversation new_framer (steps ++ answered (Err (FrameFault.Malformed fault place)) ∷ []) end →
+        (requests : List Request) × AreMeant (given steps) requests
+        × Frames (fed steps) requests end.bytes (Some (fault_meant fault, place)) }
+    ensures again { (before after : List Step) (fault : Malformed) (place : ℕ) (start end : FramerView) →
+        IsConversation start (before ++ answered (Err (FrameFault.Malformed fault place)) ∷ after) end →
+        OnlyTell fault place after }
+{}
