@@ -1,1 +1,2 @@
+pub mod Repeated
 mod Undone

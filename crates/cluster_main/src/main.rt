@@ -1,7 +1,9 @@
 //! The program `cluster`. Its words are `pipe`: it takes the bytes of one connection from standard input and answers on
-//! standard output. It ends with the status of the run, and where that is not 0 it writes one line to standard error.
+//! standard output; what requests leave stands in the files node00.journal, node01.journal and node02.journal in the working
+//! folder, which must be empty or absent at the start. It ends with the status of the run, and where that is not 0 it writes one line to standard error.
 #![tactic(auto)]
 
+mod journals;
 mod line;
 mod serving;
 mod words;

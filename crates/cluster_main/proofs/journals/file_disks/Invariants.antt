@@ -1,0 +1,6 @@
+use Rattle.std.proofs.Common.{◌≡◌, map, replicate, vec_len}
+use Rattle.cluster_main.proofs.journals.file_disks.Given as goal
+
+-- each disk so far is new
+abbrev pub invariant-loop-node : goal.invariant-loop-node
+invariant-loop-node g l = (vec_len l.disks ≡ l.node) × (map (λ d. d.faults) l.disks.items ≡ replicate l.node 0)

@@ -1,0 +1,6 @@
+-- The names of files.
+use Rattle.std.specs.Prelude.{ℕ, ◌+◌, ◌/◌, ◌%◌, List, ◌∷◌, ◌++◌, codes}
+
+-- the journal's file of a node: node, the number in two digits, .journal
+abbrev pub journal_name : ℕ → List ℕ
+journal_name node = codes "node" ++ (48 + node / 10 % 10) ∷ (48 + node % 10) ∷ codes ".journal"

@@ -1,0 +1,36 @@
+//! The files of the journals.
+
+ghost use Rattle.std.specs.Prelude.{◌≡◌, [], ◌∷◌, map, replicate, string_bytes, IfOk, vec_len};
+ghost use Rattle.cluster_main.specs.Names.{journal_name};
+
+use bson_values::Memory;
+use outside::standard::FileDisk;
+use std::alloc::Global;
+use std::fs::Files;
+
+/// The name of a node's journal in the working folder: `node`, the node's number in two digits, and `.journal`.
+fn name_of(alloc: Global, node: usize) -> Result<String, Memory>
+    ensures { IfOk result (λ name. string_bytes name ≡ journal_name node) }
+{
+    let mut name = String::from_str(alloc, "node")?;
+    name.push(char::from(b'0' + (node / 10 % 10) as u8))?;
+    name.push(char::from(b'0' + (node % 10) as u8))?;
+    name.push_str(".journal")?;
+    Ok(name)
+}
+
+/// The disks over the journals' files of so many nodes, in order.
+pub fn file_disks<R: Files + Copy + Drop>(
+    rt: R,
+    alloc: Global,
+    count: usize,
+) -> Result<Vec<FileDisk<R>>, Memory>
+    ensures len { IfOk result (λ disks. vec_len disks ≡ count) }
+    ensures calm { IfOk result (λ disks. map (λ d. d.faults) disks.items ≡ replicate count 0) }
+{
+    let mut disks = Vec::new(alloc);
+    for node in 0..count {
+        disks.push(FileDisk::new(rt, name_of(alloc, node)?))?;
+    }
+    Ok(disks)
+}
