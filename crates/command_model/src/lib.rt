@@ -43,6 +43,7 @@ pub fn later_refusals()
     ensures no_documents { command_of (message (insert_with database_d)) ≡ Err (without_evidence failed_to_parse) }
     ensures no_key { command_of (message (insert_of without_id)) ≡ Err (without_evidence shard_key_not_found) }
     ensures wrong_key { command_of (message (insert_of (id_only (document_value no_members)))) ≡ Err (without_evidence bad_value) }
+    ensures second_document { command_of (message (insert_two (id_only number_one) (id_only (array_value no_items)))) ≡ Err (without_evidence bad_value) }
 {}
 
 /// Requests that two checks refuse, of which the earlier decides: the name and `$db`, `$db` and the own member, the own member
@@ -56,7 +57,6 @@ pub fn earlier_refusals()
     ensures sequence_before_filter { command_of (with_sequence (member (codes "find") (text_value (codes "c")) database_d) (codes "documents") []) ≡ Err (without_evidence failed_to_parse) }
     ensures sequence_before_document { command_of (with_sequence (insert_of without_id) (codes "other") []) ≡ Err (without_evidence failed_to_parse) }
     ensures first_document { command_of (message (insert_two without_id (id_only (document_value no_members)))) ≡ Err (without_evidence shard_key_not_found) }
-    ensures second_document { command_of (message (insert_two (id_only number_one) (id_only (array_value no_items)))) ≡ Err (without_evidence bad_value) }
 {}
 
 /// Answers, as documents: a find's, the refusal of a command that is none, and one with evidence.

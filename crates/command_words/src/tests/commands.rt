@@ -1,12 +1,14 @@
 //! Requests that are commands.
 
-use super::outcome::Outcome;
+use super::outcome::{Outcome, outcome_of};
 use super::sample::{
-    BARE_FIND, DATABASE, FILTER, FIND, Given, ID_ONE, INSERT, Members, NUMBER, ONE, PING, Plain,
-    Plains, Sample, YES, document_beside, document_of, outcome_with, plain_document, plain_outcome,
+    BARE_FIND, BARE_INSERT, DATABASE, FILTER, FIND, Given, ID_ONE, INSERT, Members, NUMBER, ONE,
+    PING, Plain, Plains, Sample, YES, document_beside, document_of, outcome_with, plain_document,
+    plain_outcome,
 };
-use crate::{Command, Request, read_command};
-use bson_values::{Document, Value};
+use crate::{Command, Request, Sequence, read_command};
+use bson_values::{Document, Memory, Text, Value};
+use std::alloc::Global;
 use std::cmp::Ordering;
 use std::test::Fail;
 use value_compare::compare;
@@ -167,6 +169,35 @@ const TWO_GIVEN: Given = ("documents", &[ID_ONE, ID_ONE]);
 fn documents_by_sequence(rt: HostRuntime) -> Result<(), Fail> {
     let told = outcome_with(rt.alloc(), UNORDERED, TWO_GIVEN, false)?;
     assert_eq!(rt; told, TWO_UNORDERED);
+    Ok(())
+}
+
+// The sequences of these texts and documents, of which none is copied.
+fn sequences_of<'a>(
+    alloc: Global,
+    all: &'a [(Text, Vec<Document>)],
+) -> Result<Vec<Sequence<'a>>, Memory> {
+    let mut sequences = Vec::new(alloc);
+    for (identifier, documents) in all {
+        sequences.push(Sequence::new(identifier.as_str(), documents.as_slice()))?;
+    }
+    Ok(sequences)
+}
+
+#[test]
+fn borrowed_sequences(rt: HostRuntime) -> Result<(), Fail> {
+    let document = document_of(rt.alloc(), BARE_INSERT)?;
+    let mut documents = Vec::new(rt.alloc());
+    documents.push(plain_document(rt.alloc(), ID_ONE)?)?;
+    let mut all = Vec::new(rt.alloc());
+    all.push((Text::of(rt.alloc(), "documents")?, documents))?;
+    let sequences = sequences_of(rt.alloc(), all.as_slice())?;
+    let request = Request::Read {
+        is_query: false,
+        document: &document,
+        sequences: sequences.as_slice(),
+    };
+    assert_eq!(rt; outcome_of(rt.alloc(), &request), ONE_ORDERED);
     Ok(())
 }
 

@@ -21,7 +21,7 @@ pub(crate) enum Outcome {
     /// With this place as evidence, an int64.
     RefusedAt(Code, i64),
     /// With other evidence.
-    Proved(Code),
+    RefusedOtherwise(Code),
     Memory,
 }
 
@@ -43,7 +43,7 @@ fn refused(refusal: &Refusal) -> Outcome {
         None => Outcome::Refused(code),
         Some(evidence) => match place_in(evidence) {
             Some(place) => Outcome::RefusedAt(code, place),
-            None => Outcome::Proved(code),
+            None => Outcome::RefusedOtherwise(code),
         },
     }
 }
