@@ -351,7 +351,8 @@ fn read_documents(
     }
 }
 
-/// What a request asks for. Fails with its first refusal, and for want of memory.
+/// What a request asks for (MongoDB manual, "hello", "ping", "endSessions", "insert", "find"). Fails with its first refusal in
+/// the order of the definitions, which shows the place of the fault where a document is no BSON; and for want of memory.
 pub fn read_command(alloc: Global, request: &Request<'_>) -> Result<Command, CommandFault>
     ensures { Answers result (model.command_of (request_meant request.now)) }
 {

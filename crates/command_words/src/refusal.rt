@@ -1,8 +1,7 @@
 //! Why requests are refused.
 
-ghost use Rattle.std.specs.Prelude.{◌≡◌, IfOk, pos};
+ghost use Rattle.std.specs.Prelude.{◌≡◌, IfOk, codes, pos};
 ghost use Rattle.document_model.specs.Tree.{int64_value, member, no_members};
-ghost use Rattle.std.specs.Prelude.{codes};
 ghost use Rattle.history_model.specs.Command.{no_document_at};
 ghost use Rattle.command_words.specs.Refusals.{refusal_meant};
 ghost use Rattle.command_words.specs.declared.refusal.CheckFault.TheVariants.{Memory as out_of_memory};

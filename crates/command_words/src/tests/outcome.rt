@@ -48,7 +48,7 @@ fn refused(refusal: &Refusal) -> Outcome {
     }
 }
 
-// The command; of a collection, where its namespace is this one.
+// The command, but for its namespace, its documents and its key.
 fn asked(command: &Command) -> Outcome {
     match command {
         Command::Hello => Outcome::Hello,
