@@ -8,12 +8,20 @@ mod line;
 mod serving;
 mod words;
 
-use crate::serving::serve;
+use crate::journals::file_disks;
+use crate::line::told;
+use crate::serving::{NO_MEMORY, serve};
 use outside::standard::{StdSink, StdSource, WallClock};
 use std::process::ExitCode;
+
+/// The nodes of `pipe`: the catalogue, a shard and a router.
+const NODES: usize = 3;
 
 fn main(rt: HostRuntime) -> ExitCode {
     let mut input = StdSource::new(rt.stdin());
     let mut out = StdSink::new(rt.stdout());
-    serve(&rt, &mut input, &mut out, &WallClock::new(rt))
+    let Ok(disks) = file_disks(rt, rt.alloc(), NODES) else {
+        return told(&rt, NO_MEMORY);
+    };
+    serve(&rt, &mut input, &mut out, disks, &WallClock::new(rt))
 }

@@ -1,9 +1,10 @@
 -- The documents that answer commands (MongoDB manual, "hello", "ping", "endSessions", "insert", "find", "Command Response";
 -- the members' order is own).
-use Rattle.std.specs.Prelude.{ℕ, pos, List, [], ◌∷◌, ◌^◌, ◌-◌, Bool, true, false, Option, codes, if◌then◌else◌, nat_lt}
+use Rattle.std.specs.Prelude.{ℕ, pos, List, [], ◌∷◌, ◌^◌, ◌-◌, Bool, true, false, codes, if◌then◌else◌, nat_lt}
 use Rattle.document_model.specs.Tree.{Datum, text_value, document_value, array_value, boolean_value, date_value, int32_value, int64_value, timestamp_value, Items, no_items, item, Members, no_members, member}
 use Rattle.history_model.specs.Errors.{ErrorCode}
-use Rattle.history_model.specs.Reply.{evidence_shown, write_error}
+use Rattle.history_model.specs.Command.{Refusal}
+use Rattle.history_model.specs.Reply.{refusal_reply, write_error}
 
 -- a write error of the statement with this index
 pub record WriteError : Type 0 where
@@ -21,8 +22,8 @@ pub data Answer : Type 0 where
   insert_answer : ℕ → List WriteError → ℕ → Answer
   -- the namespace, the documents, and the time that they were read at
   find_answer : List ℕ → List Members → ℕ → Answer
-  -- the evidence, if any
-  refusal_answer : ErrorCode → Option Members → Answer
+  -- the error, and the evidence, if any
+  refusal_answer : Refusal → Answer
 
 abbrev pub number : ℕ → Datum
 number n = int32_value (pos n)
@@ -84,8 +85,4 @@ answer_document (legacy_answer moment shown) = member (codes "ismaster") (boolea
 answer_document done_answer = ok no_members
 answer_document (insert_answer n errors time) = member (codes "n") (count n) (write_errors_shown errors (ok (operation_time_at time)))
 answer_document (find_answer namespace documents time) = member (codes "cursor") (document_value (cursor namespace documents time)) (ok (operation_time_at time))
-answer_document (refusal_answer error evidence) =
-    member (codes "ok") (number 0)
-    (member (codes "errmsg") (text_value error.name)
-    (member (codes "code") (number error.number)
-    (member (codes "codeName") (text_value error.name) (evidence_shown evidence))))
+answer_document (refusal_answer refusal) = refusal_reply refusal

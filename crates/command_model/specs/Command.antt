@@ -1,19 +1,25 @@
--- What a request asks for, or its first refusal: the checks in their order (MongoDB manual, "hello", "ping",
--- "endSessions", "insert", "find"; the order is own).
+-- What a request asks for, or its first refusal with its evidence: the checks in their order (MongoDB manual, "hello",
+-- "ping", "endSessions", "insert", "find"; the order and the evidence are own).
 use Rattle.std.specs.Prelude.{ℕ, List, [], ◌∷◌, Bool, true, false, ◌&&◌, ◌||◌, not, Option, Some, None, Result, Ok, Err, ◌==◌, if◌then◌else◌, codes}
 use Rattle.std.specs.Str.{bytes_eq}
 use Rattle.document_model.specs.Tree.{Datum, text_value, document_value, array_value, boolean_value, timestamp_value, Members, no_members, member, get}
 use Rattle.value_order.specs.Keys.{is_key, key_of}
 use Rattle.history_model.specs.Errors.{ErrorCode, bad_value, command_not_found, failed_to_parse, invalid_namespace, shard_key_not_found, type_mismatch}
+use Rattle.history_model.specs.Command.{Refusal, no_document_at}
 use Rattle.history_model.specs.Names.{full_name}
 use Rattle.command_model.specs.Checks.{Verdict, first_of, is_one_of, is_open_namespace, unless_passes}
 use Rattle.command_model.specs.Members.{Rule, boolean_needed, check_documents, check_members, common_rules, document_needed, documents_in, documents_needed, text_needed}
 
--- a request whose body is documents: its form, the body's document, and the document sequences with their identifiers
+-- a request whose documents are all BSON: its form, the body's document, and the document sequences with their identifiers
 pub record Asked : Type 0 where
   pub is_query : Bool
   pub document : Members
   pub sequences : List (List ℕ × List Members)
+
+pub data Request : Type 0 where
+  read_request : Asked → Request
+  -- where the first of its documents that is no BSON has its first fault, from that document's first byte
+  faulty_request : (place : ℕ) → Request
 
 -- the commands
 pub data Verb : Type 0 where
@@ -226,6 +232,19 @@ abbrev pub by_first : Members → Asked → Result Command ErrorCode
 by_first no_members r = Err command_not_found
 by_first (member own value others) r = by_verb (verb_of own) own value others r
 
--- the command that a request asks for, or its first refusal
+-- the command that documents ask for, or the first error
 abbrev pub command_asked : Asked → Result Command ErrorCode
 command_asked r = by_first r.document r
+
+-- the error of a check has no evidence
+abbrev pub without_evidence : ErrorCode → Refusal
+without_evidence error = record { error = error; evidence = None }
+
+abbrev pub or_refusal : Result Command ErrorCode → Result Command Refusal
+or_refusal (Ok command) = Ok command
+or_refusal (Err error) = Err (without_evidence error)
+
+-- the command that a request asks for, or its first refusal; a document that is no BSON comes first
+abbrev pub command_of : Request → Result Command Refusal
+command_of (read_request r) = or_refusal (command_asked r)
+command_of (faulty_request place) = Err (no_document_at place)

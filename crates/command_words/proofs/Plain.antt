@@ -8,7 +8,7 @@ use Rattle.command_model.specs.Members.{check_members}
 use Rattle.command_model.specs.Command.{Asked, Verb, by_first, by_verb, by_verdict, check_command, check_database, check_sequences, command_asked, command_by, end_sessions_verb, handshake_rules, hello_verb, legacy_verb, names_of, only_named, ping_verb, verb_of}
 use Rattle.command_words.specs.Commands.{Tells}
 use Rattle.command_words.specs.declared.command.Command as program
-use Rattle.command_words.specs.declared.command.CommandFault.{CommandFault}
+use Rattle.command_words.specs.declared.refusal.CheckFault.{CheckFault}
 
 abbrev with_sequences : Members → Asked → Verdict → Verdict
 with_sequences others r v = first_of (check_database r.is_query (get (codes "$db") r.document) ∷ None ∷ check_members handshake_rules [] (only_named (codes "$db" ∷ codes "helloOk" ∷ []) others) ∷ v ∷ None ∷ None ∷ [])
@@ -44,7 +44,7 @@ asked_so verb r first rest plain whole named =
     ∙ ap (λ v. by_verb v first.name (datum_of first.value) (members_of rest) r) (sym named)
     ∙ ap (λ v. by_verdict v (command_by verb (datum_of first.value) r)) (plain first.name (datum_of first.value) (members_of rest) r)
 
-pub told_plain : (verb : Verb) (result : Result program.Command CommandFault) (r : Asked) (ms others : List Member) (first : Member) → IsPlain verb → 1 ≤ length ms → first ≡ get_or ms 0 first → members_of ms ≡ r.document → Some verb ≡ verb_of first.name → others ≡ drop 1 ms → Tells result (by_verdict (check_command ping_verb [] null_value (members_of others) r) (command_by verb (datum_of first.value) r)) → Tells result (command_asked r)
+pub told_plain : (verb : Verb) (result : Result program.Command CheckFault) (r : Asked) (ms others : List Member) (first : Member) → IsPlain verb → 1 ≤ length ms → first ≡ get_or ms 0 first → members_of ms ≡ r.document → Some verb ≡ verb_of first.name → others ≡ drop 1 ms → Tells result (by_verdict (check_command ping_verb [] null_value (members_of others) r) (command_by verb (datum_of first.value) r)) → Tells result (command_asked r)
 told_plain verb result r [] others first plain some is whole named others_are told = absurd (omega arith)
 told_plain verb result r (m ∷ rest) others first plain some is whole named others_are told =
     let so : command_asked r ≡ by_verdict (check_command ping_verb [] null_value (members_of rest) r) (command_by verb (datum_of first.value) r) =

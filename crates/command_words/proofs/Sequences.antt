@@ -9,7 +9,7 @@ use Rattle.command_model.specs.Checks.{Verdict, first_of, is_one_of}
 use Rattle.command_model.specs.Members.{check_documents}
 use Rattle.command_model.specs.Command.{check_sequences, find_verb, insert_verb, names_of, ping_verb}
 use Rattle.command_words.specs.Commands.{sequences_meant}
-use Rattle.command_words.specs.declared.command.Sequence.{Sequence}
+use Rattle.command_words.specs.declared.request.Sequence.{Sequence}
 
 given_step : (b x : Bool) (value : Datum) (rest : Option Datum) → x ≡ is_some rest → (b || x) ≡ is_some (if b then Some value else rest)
 given_step true x value rest e = refl
@@ -22,7 +22,7 @@ given_is name (member first value ms) = given_step (bytes_eq first name) (is_one
 
 -- what is told of a first sequence
 abbrev pub first_verdict : List (List ℕ) → Sequence → Verdict
-first_verdict given s = if is_one_of s.identifier given || not (bytes_eq s.identifier (codes "documents")) then Some failed_to_parse else check_documents (Some s.documents.items)
+first_verdict given s = if is_one_of s.identifier.now given || not (bytes_eq s.identifier.now (codes "documents")) then Some failed_to_parse else check_documents (Some s.documents.now)
 
 or_true : (x : Bool) → (x || true) ≡ true
 or_true true = refl
@@ -33,28 +33,28 @@ second_told : (b x : Bool) (v w : Verdict) → (b ≡ true → x ≡ true) → f
 second_told true x v w h = rw (h refl) refl
 second_told false x v w h = rw (or_true x) refl
 
-named_documents : (given : List (List ℕ)) (s : Sequence) → first_verdict given s ≡ None → bytes_eq s.identifier (codes "documents") ≡ true
-named_documents given s none = by_case (is_one_of s.identifier given) (bytes_eq s.identifier (codes "documents")) (check_documents (Some s.documents.items)) none
+named_documents : (given : List (List ℕ)) (s : Sequence) → first_verdict given s ≡ None → bytes_eq s.identifier.now (codes "documents") ≡ true
+named_documents given s none = by_case (is_one_of s.identifier.now given) (bytes_eq s.identifier.now (codes "documents")) (check_documents (Some s.documents.now)) none
   where
     by_case : (x b : Bool) (v : Verdict) → (if x || not b then Some failed_to_parse else v) ≡ None → b ≡ true
     by_case x true v e = refl
     by_case true false v e = cc
     by_case false false v e = cc
 
-second_fails : (given : List (List ℕ)) (s t : Sequence) (more : List Sequence) → bytes_eq s.identifier (codes "documents") ≡ true → check_sequences insert_verb (s.identifier ∷ given) (sequences_meant (t ∷ more)) ≡ Some failed_to_parse
+second_fails : (given : List (List ℕ)) (s t : Sequence) (more : List Sequence) → bytes_eq s.identifier.now (codes "documents") ≡ true → check_sequences insert_verb (s.identifier.now ∷ given) (sequences_meant (t ∷ more)) ≡ Some failed_to_parse
 second_fails given s t more named =
-    second_told (bytes_eq t.identifier (codes "documents")) (is_one_of t.identifier (s.identifier ∷ given)) (check_documents (Some t.documents.items)) (check_sequences insert_verb (t.identifier ∷ s.identifier ∷ given) (sequences_meant more))
+    second_told (bytes_eq t.identifier.now (codes "documents")) (is_one_of t.identifier.now (s.identifier.now ∷ given)) (check_documents (Some t.documents.now)) (check_sequences insert_verb (t.identifier.now ∷ s.identifier.now ∷ given) (sequences_meant more))
     (λ e.
-    let mine : s.identifier ≡ codes "documents" = (bytes_eq-Decides s.identifier (codes "documents")).0 named in
-    let theirs : t.identifier ≡ codes "documents" = (bytes_eq-Decides t.identifier (codes "documents")).0 e in
-    let same : bytes_eq s.identifier t.identifier ≡ true = (bytes_eq-Decides s.identifier t.identifier).1 (mine ∙ sym theirs) in
+    let mine : s.identifier.now ≡ codes "documents" = (bytes_eq-Decides s.identifier.now (codes "documents")).0 named in
+    let theirs : t.identifier.now ≡ codes "documents" = (bytes_eq-Decides t.identifier.now (codes "documents")).0 e in
+    let same : bytes_eq s.identifier.now t.identifier.now ≡ true = (bytes_eq-Decides s.identifier.now t.identifier.now).1 (mine ∙ sym theirs) in
     rw same refl)
 
 -- a second sequence is refused, where the first is not
 pub two_refused : (given : List (List ℕ)) (s t : Sequence) (more : List Sequence) → first_verdict given s ≡ None → check_sequences insert_verb given (sequences_meant (s ∷ t ∷ more)) ≡ Some failed_to_parse
 two_refused given s t more none =
-    let second : check_sequences insert_verb (s.identifier ∷ given) (sequences_meant (t ∷ more)) ≡ Some failed_to_parse = second_fails given s t more (named_documents given s none) in
-    ap (λ v. first_of (v ∷ check_sequences insert_verb (s.identifier ∷ given) (sequences_meant (t ∷ more)) ∷ [])) none ∙ ap (λ v. first_of (None ∷ v ∷ [])) second
+    let second : check_sequences insert_verb (s.identifier.now ∷ given) (sequences_meant (t ∷ more)) ≡ Some failed_to_parse = second_fails given s t more (named_documents given s none) in
+    ap (λ v. first_of (v ∷ check_sequences insert_verb (s.identifier.now ∷ given) (sequences_meant (t ∷ more)) ∷ [])) none ∙ ap (λ v. first_of (None ∷ v ∷ [])) second
 
 -- the same of a list that is known by its length and its first sequence
 pub two_known : (given : List (List ℕ)) (sequences : List Sequence) (s : Sequence) → 2 ≤ length sequences → s ≡ get_or sequences 0 s → None ≡ first_verdict given s → Some failed_to_parse ≡ check_sequences insert_verb given (sequences_meant sequences)

@@ -4,7 +4,8 @@ use Rattle.cluster_base.specs.Codes.{meaning_of}
 use Rattle.command_model.specs.Answers as model
 use Rattle.command_words.specs.declared.answer.WriteError.{WriteError}
 use Rattle.command_words.specs.declared.answer.Answer.{Answer}
-use Rattle.command_words.specs.declared.answer.Answer.TheVariants.{Hello, Legacy, Done, Insert, Find, Refusal}
+use Rattle.command_words.specs.declared.answer.Answer.TheVariants.{Hello, Legacy, Done, Insert, Find, Refused}
+use Rattle.command_words.specs.Refusals.{refusal_meant}
 
 abbrev pub error_meant : WriteError → model.WriteError
 error_meant e = record { index = e.index; error = meaning_of e.code }
@@ -19,4 +20,4 @@ answer_meant (Legacy moment shown) = model.legacy_answer moment shown
 answer_meant Done = model.done_answer
 answer_meant (Insert n errors time) = model.insert_answer n (errors_meant errors.items) time.0
 answer_meant (Find namespace documents time) = model.find_answer namespace documents.items time.0
-answer_meant (Refusal code evidence) = model.refusal_answer (meaning_of code) evidence
+answer_meant (Refused refusal) = model.refusal_answer (refusal_meant refusal)

@@ -2,6 +2,7 @@
 
 ghost use Rattle.std.specs.Prelude.{◌≡◌, ◌<◌, Some, None, nat_lt, if◌then◌else◌};
 
+use crate::refusal::Refusal;
 use bson_values::{Document, Text};
 use cluster_base::{Code, Time};
 use std::marker::Model;
@@ -79,9 +80,6 @@ pub enum Answer {
         documents: Vec<Document>,
         time: Time,
     },
-    /// To a request that is refused: the error, and the evidence, if any.
-    Refusal {
-        code: Code,
-        evidence: Option<Document>,
-    },
+    /// To a request that is refused.
+    Refused(Refusal),
 }

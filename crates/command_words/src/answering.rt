@@ -1,6 +1,6 @@
 //! The documents of answers (MongoDB manual, "hello", "ping", "endSessions", "insert", "find", "Command Response").
 
-ghost use Rattle.std.specs.Prelude.{◌≡◌, IfOk, IsTrue, None, OnOk, codes, true};
+ghost use Rattle.std.specs.Prelude.{◌≡◌, IfOk, IsTrue, OnOk, codes, true};
 ghost use Rattle.document_model.specs.Tree.{boolean_value, joined, no_members, member};
 ghost use Rattle.history_model.specs.Reply as replies;
 ghost use Rattle.bson_values.specs.Names.{has_no_zero};
@@ -8,10 +8,13 @@ ghost use Rattle.bson_values.specs.View.{datum_of};
 ghost use Rattle.cluster_base.specs.Codes.{meaning_of};
 ghost use Rattle.command_model.specs.Answers.{answer_document, cursor, document_items, done_answer, find_answer, handshake, hello_answer, hello_ok, insert_answer, legacy_answer, moment_shown, ok, operation_time_at, refusal_answer, write_error_items, write_errors_shown};
 ghost use Rattle.command_model.specs.Answers as answers;
+ghost use Rattle.command_model.specs.Command.{without_evidence};
 ghost use Rattle.command_words.specs.Answers.{answer_meant, errors_meant};
+ghost use Rattle.command_words.specs.Refusals.{refusal_meant};
 
 use crate::answer::{Answer, WriteError};
 use crate::parts::{add, add_boolean, add_number, add_text};
+use crate::refusal::Refusal;
 use bson_values::{Array, Document, Memory, Text, Value};
 use cluster_base::{Code, Time};
 use std::alloc::Global;
@@ -225,7 +228,7 @@ fn find(
 
 // A refusal, but for its evidence.
 fn refused(alloc: Global, code: Code) -> Result<Document, Memory>
-    ensures { IfOk result (λ d. d ≡ answer_document (refusal_answer (meaning_of code) None)) }
+    ensures { IfOk result (λ d. d ≡ answer_document (refusal_answer (without_evidence (meaning_of code)))) }
 {
     let mut answer = Document::new(alloc);
     add_number(&mut answer, alloc, "ok", 0)?;
@@ -235,11 +238,11 @@ fn refused(alloc: Global, code: Code) -> Result<Document, Memory>
     Ok(answer)
 }
 
-fn refusal(alloc: Global, code: Code, evidence: &Option<Document>) -> Result<Document, Memory>
-    ensures { IfOk result (λ d. d ≡ answer_document (refusal_answer (meaning_of code) evidence.now)) }
+fn refusal(alloc: Global, refusal: &Refusal) -> Result<Document, Memory>
+    ensures { IfOk result (λ d. d ≡ answer_document (refusal_answer (refusal_meant refusal.now))) }
 {
-    let mut answer = refused(alloc, code)?;
-    match evidence {
+    let mut answer = refused(alloc, refusal.code)?;
+    match &refusal.evidence {
         Some(evidence) => {
             let evidence = evidence.copy()?;
             add(&mut answer, alloc, "evidence", Value::Doc(evidence))?;
@@ -267,6 +270,6 @@ pub fn write_answer(alloc: Global, answer: &Answer) -> Result<Document, Memory>
             documents,
             time,
         } => find(alloc, namespace, documents, *time),
-        Answer::Refusal { code, evidence } => refusal(alloc, *code, evidence),
+        Answer::Refused(refused) => refusal(alloc, refused),
     }
 }

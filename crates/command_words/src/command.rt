@@ -1,20 +1,12 @@
-//! Commands, and why a request is refused.
+//! Commands.
 
 ghost use Rattle.std.specs.Prelude.{◌≡◌};
 ghost use Rattle.std.specs.Option.{option_map};
 ghost use Rattle.command_model.specs.Command as model;
 ghost use Rattle.command_words.specs.Commands.{verb_meant};
-ghost use Rattle.command_words.specs.declared.command.CommandFault.TheVariants.{Memory as out_of_memory};
 
-use bson_values::{Document, Memory, Text, Value};
-use cluster_base::{Code, Namespace, Time};
-
-/// A document sequence of a request (MongoDB Wire Protocol, "OP_MSG", "Sections").
-#[derive(Drop)]
-pub struct Sequence {
-    pub identifier: Text,
-    pub documents: Vec<Document>,
-}
+use bson_values::{Document, Value};
+use cluster_base::{Namespace, Time};
 
 /// What a request asks for.
 #[derive(Drop)]
@@ -38,23 +30,6 @@ pub enum Command {
         key: Value,
         at: Option<Time>,
     },
-}
-
-/// Why there is no command.
-#[derive(Clone, Copy, Debug, PartialEq, Eq)]
-pub enum CommandFault {
-    /// The request is refused with this error.
-    Refused(Code),
-    /// Want of memory.
-    Memory,
-}
-
-impl From<Memory> for CommandFault {
-    ghost from_gives = { λ _ e. e ≡ out_of_memory };
-
-    fn from(_e: Memory) -> CommandFault {
-        CommandFault::Memory
-    }
 }
 
 /// The commands by their names.

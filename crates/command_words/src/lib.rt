@@ -7,11 +7,15 @@ mod checks;
 mod command;
 mod parts;
 mod reading;
+mod refusal;
+mod request;
 mod rules;
 #[cfg(test)]
 mod tests;
 
 pub use answer::{Answer, StatementIndex, WriteError};
 pub use answering::write_answer;
-pub use command::{Command, CommandFault, Sequence};
+pub use command::Command;
 pub use reading::read_command;
+pub use refusal::{CommandFault, Refusal};
+pub use request::{Request, Sequence};

@@ -10,10 +10,12 @@ ghost use Rattle.bson_values.specs.View.{datum_of, items_of, members_of};
 ghost use Rattle.command_model.specs.Checks.{is_one_of, is_open_namespace, unless_passes};
 ghost use Rattle.command_model.specs.Members.{check_documents, documents_in};
 ghost use Rattle.command_model.specs.Command as model;
-ghost use Rattle.command_words.specs.Commands.{NamesBy, Tells, asked_meant, command_meant, sequences_meant, verdict_meant};
+ghost use Rattle.command_words.specs.Commands.{Answers, NamesBy, Tells, asked_meant, command_meant, request_meant, sequences_meant, verdict_meant};
 
 use crate::checks::{check_count, check_statements, text_needed, unless_passes};
-use crate::command::{Command, CommandFault, Sequence, Verb, verb_of};
+use crate::command::{Command, Verb, verb_of};
+use crate::refusal::{CheckFault, CommandFault, Refusal, no_document_at};
+use crate::request::{Request, Sequence};
 use crate::rules::{FindRules, InsertRules, check_behind_own, check_handshake};
 use bson_values::{Document, Member, Memory, Value};
 use cluster_base::{Code, NameFault, Namespace, Time, is_reserved_database};
@@ -53,26 +55,26 @@ fn database_of(is_query: bool, document: &Document) -> &str
 }
 
 // The namespace that these texts make, if clients may use it.
-fn namespace_of(alloc: Global, database: &str, collection: &str) -> Result<Namespace, CommandFault>
+fn namespace_of(alloc: Global, database: &str, collection: &str) -> Result<Namespace, CheckFault>
     ensures { NamesBy result (unless_passes (is_open_namespace database.now collection.now) invalid_namespace) (full_name database.now collection.now) }
 {
     if is_reserved_database(database) {
-        return Err(CommandFault::Refused(Code::InvalidNamespace));
+        return Err(CheckFault::Refused(Code::InvalidNamespace));
     }
     match Namespace::of_parts(alloc, database, collection) {
         Ok(namespace) => Ok(namespace),
-        Err(NameFault::Form) => Err(CommandFault::Refused(Code::InvalidNamespace)),
-        Err(NameFault::Memory) => Err(CommandFault::Memory),
+        Err(NameFault::Form) => Err(CheckFault::Refused(Code::InvalidNamespace)),
+        Err(NameFault::Memory) => Err(CheckFault::Memory),
     }
 }
 
 // The namespace of the collection that the command's own member names.
-fn collection_of(alloc: Global, database: &str, own: &Value) -> Result<Namespace, CommandFault>
+fn collection_of(alloc: Global, database: &str, own: &Value) -> Result<Namespace, CheckFault>
     ensures { NamesBy result (model.check_collection database.now (datum_of own.now)) (full_name database.now (model.text_or [] (Some (datum_of own.now)))) }
 {
     match own {
         Value::Text(collection) => namespace_of(alloc, database, collection.as_str()),
-        _ => Err(CommandFault::Refused(Code::TypeMismatch)),
+        _ => Err(CheckFault::Refused(Code::TypeMismatch)),
     }
 }
 
@@ -125,7 +127,7 @@ fn documents_asked(
         None => match sequences {
             [] => Ok(None),
             [first, ..] => {
-                let documents = copies_of(alloc, &first.documents)?;
+                let documents = copies_of(alloc, first.documents)?;
                 Ok(Some(documents))
             }
         },
@@ -134,16 +136,16 @@ fn documents_asked(
 
 // The first sequence of an insert: documents, where no member has its name.
 fn check_first_sequence(document: &Document, first: &Sequence) -> Option<Code>
-    ensures { verdict_meant result ≡ (if is_one_of first.now.identifier (model.names_of document.now) || not (bytes_eq first.now.identifier (codes "documents")) then Some failed_to_parse else check_documents (Some first.now.documents.items)) }
+    ensures { verdict_meant result ≡ (if is_one_of first.now.identifier.now (model.names_of document.now) || not (bytes_eq first.now.identifier.now (codes "documents")) then Some failed_to_parse else check_documents (Some first.now.documents.now)) }
 {
-    let name = first.identifier.as_str();
+    let name = first.identifier;
     if document.get(name).is_some() {
         return Some(Code::FailedToParse);
     }
     if name != "documents" {
         return Some(Code::FailedToParse);
     }
-    check_count(first.documents.as_slice().len())
+    check_count(first.documents.len())
 }
 
 // The sequences of an insert; a second one is none of documents, or of a name that is given.
@@ -191,24 +193,24 @@ fn read_insert(
     own: &Value,
     document: &Document,
     sequences: &[Sequence],
-) -> Result<Command, CommandFault>
+) -> Result<Command, CheckFault>
     ensures { (name : List ℕ) (others : Members) → document.now ≡ member name (datum_of own.now) others → Tells result (model.by_verb (Some model.insert_verb) name (datum_of own.now) others (asked_meant is_query document.now sequences.now)) }
 {
     if let Some(code) = check_database(is_query, document) {
-        return Err(CommandFault::Refused(code));
+        return Err(CheckFault::Refused(code));
     }
     let namespace = collection_of(alloc, database_of(is_query, document), own)?;
     if let Some(code) = check_behind_own(&InsertRules, document) {
-        return Err(CommandFault::Refused(code));
+        return Err(CheckFault::Refused(code));
     }
     if let Some(code) = check_insert_sequences(document, sequences) {
-        return Err(CommandFault::Refused(code));
+        return Err(CheckFault::Refused(code));
     }
     let Some(documents) = documents_asked(alloc, is_query, document, sequences)? else {
-        return Err(CommandFault::Refused(Code::FailedToParse));
+        return Err(CheckFault::Refused(Code::FailedToParse));
     };
     if let Some(code) = check_statements(&documents) {
-        return Err(CommandFault::Refused(code));
+        return Err(CheckFault::Refused(code));
     }
     Ok(Command::Insert {
         namespace,
@@ -263,21 +265,21 @@ fn read_find(
     own: &Value,
     document: &Document,
     sequences: &[Sequence],
-) -> Result<Command, CommandFault>
+) -> Result<Command, CheckFault>
     ensures { (name : List ℕ) (others : Members) → document.now ≡ member name (datum_of own.now) others → Tells result (model.by_verb (Some model.find_verb) name (datum_of own.now) others (asked_meant is_query document.now sequences.now)) }
 {
     if let Some(code) = check_database(is_query, document) {
-        return Err(CommandFault::Refused(code));
+        return Err(CheckFault::Refused(code));
     }
     let namespace = collection_of(alloc, database_of(is_query, document), own)?;
     if let Some(code) = check_behind_own(&FindRules, document) {
-        return Err(CommandFault::Refused(code));
+        return Err(CheckFault::Refused(code));
     }
     if let Some(code) = check_no_sequences(sequences) {
-        return Err(CommandFault::Refused(code));
+        return Err(CheckFault::Refused(code));
     }
     let Some(filter) = document.get("filter") else {
-        return Err(CommandFault::Refused(Code::BadValue));
+        return Err(CheckFault::Refused(Code::BadValue));
     };
     let key = key_in(own, filter)?;
     Ok(Command::Find {
@@ -294,36 +296,35 @@ fn read_plain(
     document: &Document,
     others: &[Member],
     sequences: &[Sequence],
-) -> Result<Command, CommandFault>
+) -> Result<Command, CheckFault>
     ensures { Tells result (model.by_verdict (model.check_command model.ping_verb [] null_value (members_of others.now) (asked_meant is_query document.now sequences.now)) (command_meant command)) }
 {
     if let Some(code) = check_database(is_query, document) {
-        return Err(CommandFault::Refused(code));
+        return Err(CheckFault::Refused(code));
     }
     if let Some(code) = check_handshake(others) {
-        return Err(CommandFault::Refused(code));
+        return Err(CheckFault::Refused(code));
     }
     if let Some(code) = check_no_sequences(sequences) {
-        return Err(CommandFault::Refused(code));
+        return Err(CheckFault::Refused(code));
     }
     Ok(command)
 }
 
-/// What a request asks for: its form, the document of its body and its document sequences. Fails with the first refusal,
-/// and for want of memory.
-pub fn read_command(
+// What the document of a body and document sequences ask for, by the form of their request.
+fn read_documents(
     alloc: Global,
     is_query: bool,
     document: &Document,
     sequences: &[Sequence],
-) -> Result<Command, CommandFault>
+) -> Result<Command, CheckFault>
     ensures { Tells result (model.command_asked (asked_meant is_query document.now sequences.now)) }
 {
     let [own, others @ ..] = document.members() else {
-        return Err(CommandFault::Refused(Code::CommandNotFound));
+        return Err(CheckFault::Refused(Code::CommandNotFound));
     };
     let Some(verb) = verb_of(own.name.as_str()) else {
-        return Err(CommandFault::Refused(Code::CommandNotFound));
+        return Err(CheckFault::Refused(Code::CommandNotFound));
     };
     match verb {
         Verb::Insert => read_insert(alloc, is_query, &own.value, document, sequences),
@@ -346,6 +347,31 @@ pub fn read_command(
                 others,
                 sequences,
             )
+        }
+    }
+}
+
+/// What a request asks for (MongoDB manual, "hello", "ping", "endSessions", "insert", "find"). Fails with its first refusal in
+/// the order of the definitions, which shows the place of the fault where a document is no BSON; and for want of memory.
+pub fn read_command(alloc: Global, request: &Request<'_>) -> Result<Command, CommandFault>
+    ensures { Answers result (model.command_of (request_meant request.now)) }
+{
+    match request {
+        Request::Read {
+            is_query,
+            document,
+            sequences,
+        } => match read_documents(alloc, *is_query, document, sequences) {
+            Ok(command) => Ok(command),
+            Err(CheckFault::Refused(code)) => Err(CommandFault::Refused(Refusal {
+                code,
+                evidence: None,
+            })),
+            Err(CheckFault::Memory) => Err(CommandFault::Memory),
+        },
+        Request::Faulty { place } => {
+            let refusal = no_document_at(alloc, *place)?;
+            Err(CommandFault::Refused(refusal))
         }
     }
 }

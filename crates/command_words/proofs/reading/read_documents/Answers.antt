@@ -3,7 +3,7 @@ use Rattle.std.proofs.lemmas.List.{take_rest}
 use Rattle.command_model.specs.Command.{verb_of, hello_verb, legacy_verb, end_sessions_verb}
 use Rattle.command_words.specs.Commands.{asked_meant}
 use Rattle.command_words.proofs.Plain.{end_plain, hello_plain, legacy_plain, told_plain}
-use Rattle.command_words.proofs.reading.read_command.Goals as goal
+use Rattle.command_words.proofs.reading.read_documents.Goals as goal
 
 pub returns-in-Hello : goal.returns-in-Hello
 returns-in-Hello c =
