@@ -33,7 +33,7 @@ pub struct Served {
     pub entry: Option<Blob>,
 }
 
-/// The documents of clients, and the time of the last write.
+/// The documents of clients, and the greatest time that was met.
 #[derive(Drop)]
 pub struct Store {
     time: u64,
