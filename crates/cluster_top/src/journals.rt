@@ -29,13 +29,13 @@ pub struct Journals<D: Disk> {
 /// # Errors
 /// - `LogFault::Disk` only if the disk met a fault: then the record stands or it doesn't.
 /// - `LogFault::Memory` for want of memory, and then nothing changed.
-fn append_some<D: Disk>(journal: &mut Journal<D>, record: &Option<Blob>) -> Result<(), LogFault>
+fn append_some<D: Disk>(journal: &mut Journal<D>, piece: &Option<Blob>) -> Result<(), LogFault>
     requires { IsTrue journal.old.is_open }
-    ensures appended { (records more : List Record) → IsSpelled more record.now →
+    ensures appended { (records more : List Record) → IsSpelled more piece.now →
         IsOpen D.tells D.content D.may_leave records journal.old →
         OnOk result (IsOpen D.tells D.content D.may_leave (records ++ more) journal.new) }
     ensures open { OnOk result (IsTrue journal.new.is_open) }
-    ensures failed { (records more : List Record) → IsSpelled more record.now →
+    ensures failed { (records more : List Record) → IsSpelled more piece.now →
         IsOpen D.tells D.content D.may_leave records journal.old →
         IfErr result (λ e. ByFault e
         (λ faults. IsTrue D.tells → IsJournal (D.content journal.new.disk) records ⊎ IsJournal (D.content journal.new.disk) (records ++ more))
@@ -43,10 +43,10 @@ fn append_some<D: Disk>(journal: &mut Journal<D>, record: &Option<Blob>) -> Resu
     ensures cause { IfErr result (λ e. ByFault e (λ faults. Rose (D.fault_count journal.old.disk) (D.fault_count journal.new.disk)) (Unit {0})) }
     ensures later { D.fault_count journal.old.disk ≤ D.fault_count journal.new.disk }
 {
-    let Some(record) = record else {
+    let Some(bytes) = piece else {
         return Ok(());
     };
-    journal.append(record.as_slice())?;
+    journal.append(bytes.as_slice())?;
     Ok(())
 }
 

@@ -10,10 +10,10 @@ pub loop-node-preserved : goal.loop-node-preserved
 loop-node-preserved g c = (
   omega (arith, c.in_ok-push.ensures.len, c.loop-node.invariant.0),
   ap (λ ds. map (λ d. d.faults) ds) c.in_ok-push.ensures.items
-  ∙ map-append (λ d. d.faults) c.loop-node.disks.items (c.new.result ∷ [])
-  ∙ ap (λ (ns : List ℕ). ns ++ c.new.result.faults ∷ []) c.loop-node.invariant.1
-  ∙ ap (λ (n : ℕ). replicate c.loop-node.node 0 ++ n ∷ []) c.new.ensures
-  ∙ sym (replicate_more c.loop-node.node (c.loop-node.node + 1) 0 (omega arith)),
+      ∙ map-append (λ d. d.faults) c.loop-node.disks.items (c.new.result ∷ [])
+      ∙ ap (λ (ns : List ℕ). ns ++ c.new.result.faults ∷ []) c.loop-node.invariant.1
+      ∙ ap (λ (n : ℕ). replicate c.loop-node.node 0 ++ n ∷ []) c.new.ensures
+      ∙ sym (replicate_more c.loop-node.node (c.loop-node.node + 1) 0 (omega arith)),
 )
 
 pub returns-clause-len : goal.returns-clause-len
