@@ -5,11 +5,13 @@
 
 mod journals;
 mod line;
+mod places;
 mod serving;
 mod words;
 
 use crate::journals::file_disks;
 use crate::line::told;
+use crate::places::hold_places;
 use crate::serving::{NO_MEMORY, serve};
 use outside::standard::{StdSink, StdSource, WallClock};
 use std::process::ExitCode;
@@ -18,6 +20,7 @@ use std::process::ExitCode;
 const NODES: usize = 3;
 
 fn main(rt: HostRuntime) -> ExitCode {
+    let _places = hold_places(&rt);
     let mut input = StdSource::new(rt.stdin());
     let mut out = StdSink::new(rt.stdout());
     let Ok(disks) = file_disks(rt, rt.alloc(), NODES) else {

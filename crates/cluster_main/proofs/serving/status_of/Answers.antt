@@ -12,5 +12,5 @@ returns-in-Err-Memory-clause-headline g c = λ empty two six. (
   map g.D.Disk.fault_count c.args.disks.items,
   map g.D.Disk.content c.args.disks.items,
   undone (told_by g.S.Source.tells (g.S.Source.left c.args.input.now) (g.S.Source.left c.args.input.now) (g.S.Source.fault_count c.args.input.now) (g.S.Source.fault_count c.args.input.now) g.K.Sink.tells (g.K.Sink.held c.args.out.now) (g.K.Sink.held c.args.out.now) (g.K.Sink.fault_count c.args.out.now) (g.K.Sink.fault_count c.args.out.now) g.D.Disk.tells (OneRose (map g.D.Disk.fault_count c.args.disks.items) (map g.D.Disk.fault_count c.args.disks.items)) (map g.D.Disk.content c.args.disks.items)) _ _ (λ told. refl) (λ told. sym (append-nil (g.K.Sink.held c.args.out.now)))
-  (λ told. empty_keep (map g.D.Disk.content c.args.disks.items) (empty told) (length-map c.args.disks.items g.D.Disk.content ∙ omega (arith, c.requires, c.args.disks.ok))),
+      (λ told. empty_keep (map g.D.Disk.content c.args.disks.items) (empty told) (length-map c.args.disks.items g.D.Disk.content ∙ omega (arith, c.requires, c.args.disks.ok))),
 )
