@@ -106,7 +106,8 @@ impl<D: Disk> Journal<D> {
     ///
     /// # Errors
     /// - `OpenFault::Disk` only if the disk met a fault.
-    /// - `OpenFault::Damaged` exactly if an open gate stands before bytes that are no whole record; the file is as before.
+    /// - `OpenFault::Damaged` if an open gate stands before bytes that are no whole record, unless the disk met a fault or memory
+    ///   was wanted before that was seen, and only if such a gate stands there; the file is as before.
     /// - `OpenFault::Memory` for want of memory.
     pub fn open(alloc: Global, disk: D) -> Result<Journal<D>, OpenFault<D>>
         ensures found { IfOk result (λ journal. IsTrue D.tells → Stands (D.content disk) journal.records) }
