@@ -197,6 +197,7 @@ fn call_fails<R: Threads + Wait + Sync + Abort>(
     node: Node,
     failing: u64,
 ) -> Result<(), Fail> {
+    assert!(rt; node.node < 3);
     let mut start = FRESH;
     start.failing[node.node] = failing;
     let mut source = MemSource::new(joined(alloc, &[INSERT, INSERT_E])?, vec![in alloc]?);
