@@ -113,7 +113,7 @@ fn are_untouched(rt: &impl Abort, disks: &[MemDisk], files: [&[u8]; 3]) {
 #[test]
 fn turned_away(rt: HostRuntime) -> Result<(), Fail> {
     let alloc = rt.alloc();
-    for turned in TURNED {
+    for (row, turned) in TURNED.iter().enumerate() {
         let start = Start {
             files: turned.files,
             failing: turned.failing,
@@ -121,9 +121,9 @@ fn turned_away(rt: HostRuntime) -> Result<(), Fail> {
         let mut source = MemSource::new(Vec::from_slice(alloc, INSERT)?, vec![in alloc]?);
         let mut sink = MemSink::new(vec![in alloc]?);
         let left = pipe_on(&rt, alloc, &mut source, &mut sink, &start, &CLOCK)?;
-        assert_eq!(rt; (left.status, left.rest), (turned.status, 0));
-        assert_eq!(rt; left.untaken, INSERT.len());
-        assert!(rt; sink.bytes().is_empty());
+        assert_eq!(rt; (left.status, left.rest), (turned.status, 0), "row {row}");
+        assert_eq!(rt; left.untaken, INSERT.len(), "row {row}");
+        assert!(rt; sink.bytes().is_empty(), "row {row}");
         are_untouched(&rt, &left.disks, turned.files);
     }
     Ok(())

@@ -1,6 +1,6 @@
 //! What stands on the disks after a run, also where a disk or the sink fails.
 
-use super::messages::{DONE, INSERT, INSERT_E, INSERT_KEY, SECOND_DONE_E, UNKNOWN};
+use super::messages::{DONE, HEADER, INSERT, INSERT_E, INSERT_KEY, SECOND_DONE_E, UNKNOWN};
 use super::narrow::NarrowSink;
 use super::records::{
     C_BEGAN, C_REFUSED, C_WRITTEN, CLOSED, E_BEGAN, E_WRITTEN, E_WRITTEN_THIRD, KEY_WRITTEN,
@@ -77,7 +77,7 @@ const KEPT: &[Kept] = &[
     },
     Kept {
         name: "a header behind an insert",
-        input: &[INSERT, b"\x54\0\0\0\x01\0\0\0\0\0\0\0\xdd\x07\0\0"],
+        input: &[INSERT, HEADER],
         failing_put: NEVER,
         status: 0,
         catalogue: &[C_BEGAN, CLOSED],
@@ -197,6 +197,7 @@ fn call_fails<R: Threads + Wait + Sync + Abort>(
     node: Node,
     failing: u64,
 ) -> Result<(), Fail> {
+    assert!(rt; node.node < 3);
     let mut start = FRESH;
     start.failing[node.node] = failing;
     let mut source = MemSource::new(joined(alloc, &[INSERT, INSERT_E])?, vec![in alloc]?);
