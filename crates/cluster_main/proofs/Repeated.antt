@@ -1,5 +1,5 @@
 -- One more of the same.
-use Rattle.std.proofs.Common.{◌≡◌, ℕ, zero, suc, List, [], ◌∷◌, ◌++◌, replicate, refl, ap}
+use Rattle.std.proofs.Common.{◌≡◌, ℕ, zero, suc, [], ◌∷◌, ◌++◌, replicate, refl, ap}
 
 pub replicate_more : {A : Type 0} (n m : ℕ) (x : A) → m ≡ suc n → replicate m x ≡ replicate n x ++ x ∷ []
 replicate_more zero m x e = rw e refl

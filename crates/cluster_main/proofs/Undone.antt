@@ -1,6 +1,6 @@
 -- A call that did nothing, for want of memory.
-use Rattle.std.specs.Prelude.{ℕ, [], Bool, IsTrue, false}
-use Rattle.std.proofs.Common.{refl, arith}
+use Rattle.std.specs.Prelude.{ℕ, [], IsTrue}
+use Rattle.std.proofs.Common.{refl}
 use Rattle.outside.specs.Streams.{Took, Put}
 use Rattle.cluster_top.specs.Headline.{Told, Headline, no_memory}
 use Rattle.cluster_top.specs.Journals.{Keep}

@@ -1,19 +1,15 @@
 -- The history that journals keep.
-use Rattle.std.specs.Prelude.{◌≡◌, ℕ, List, [], ◌∷◌, ◌++◌, IsTrue, map}
-use Rattle.std.proofs.Common.{refl, ap, sym, ◌∙◌, subst}
+use Rattle.std.specs.Prelude.{◌≡◌, ℕ, List, [], ◌∷◌, ◌++◌, map}
+use Rattle.std.proofs.Common.{refl, ap, sym, subst}
 use Rattle.std.specs.List.{AllByRecursion}
 use Rattle.history_model.specs.Catalogue.{Creation, IsPlaced}
 use Rattle.history_model.specs.Exchange.{Exchange, InTurn, OneHistory}
 use Rattle.history_model.specs.History.{Entry, LegalAfter, document_left, key_written}
 use Rattle.history_model.proofs.Runs.{machine_makes_one_history, machine_places}
-use Rattle.record_model.specs.Records.{create_record, record_of, Record}
-use Rattle.record_model.specs.Kept.{IsKnown, KeepEntries, creates_of}
-use Rattle.record_model.specs.Spelled.{spelled, IsSound}
-use Rattle.record_model.proofs.Entries.{own_entries, known_effect, one_list}
-use Rattle.record_model.proofs.Fronts.{one_record}
-use Rattle.journal_frames.specs.Files.{Stands}
+use Rattle.record_model.specs.Records.{create_record, record_of}
+use Rattle.record_model.specs.Kept.{IsKnown, creates_of}
+use Rattle.record_model.proofs.Entries.{own_entries, known_effect}
 use Rattle.cluster_top.specs.Headline.{Told, Machine, Headline}
-use Rattle.cluster_top.specs.Journals.{IsJournal, AreJournals, Keep, Tell}
 
 -- what a legal history tells is known
 known_all : (earlier entries : List Entry) → LegalAfter earlier entries → AllByRecursion (λ e. IsKnown e.outcome.error) entries

@@ -11,7 +11,7 @@ use Rattle.record_model.proofs.Entries.{one_list}
 use Rattle.record_model.proofs.Fronts.{one_record}
 use Rattle.journal_frames.specs.Files.{Stands}
 use Rattle.journal_frames.proofs.Unique as unique
-use Rattle.cluster_top.specs.Journals.{IsJournal, AreJournals, Tell}
+use Rattle.cluster_top.specs.Journals.{IsJournal, Tell}
 
 same_records : (a b : List Record) → AllByRecursion IsSound a → AllByRecursion IsSound b → map (λ r. spelled 1 r) a ≡ map (λ r. spelled 1 r) b → a ≡ b
 same_records [] [] sa sb e = refl

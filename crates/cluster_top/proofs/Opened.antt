@@ -1,5 +1,5 @@
 -- Journals that stay open, and what a disk that failed leaves.
-use Rattle.std.specs.Prelude.{Bool, IsTrue, Option, Some, None, Result, Ok, Err, OnOk, OnErr, map}
+use Rattle.std.specs.Prelude.{Bool, IsTrue, Some, None, Result, Ok, Err, OnErr, map}
 use Rattle.std.proofs.Common.{◌≡◌, ◌⊎◌, inl, inr, ℕ, List, [], ◌∷◌, ◌++◌, refl, ap, sym, ◌∙◌, subst, append-nil}
 use Rattle.std.specs.List.{AllByRecursion}
 use Rattle.std.proofs.lemmas.List.{map-append}
@@ -15,10 +15,10 @@ use Rattle.journal_frames.specs.declared.journal.OpenFault.{OpenFault}
 use Rattle.journal_frames.specs.declared.journal.OpenFault.TheVariants.{Damaged}
 use Rattle.journal_frames.specs.Views.{JournalView}
 use Rattle.cluster_top.specs.Answers.{IsSpelled}
-use Rattle.cluster_top.specs.Journals.{IsJournal, AreJournals}
-use Rattle.journal_frames.specs.Files.{HaveSameRecords, IsDamaged, Stands}
+use Rattle.cluster_top.specs.Journals.{IsJournal}
+use Rattle.journal_frames.specs.Files.{IsDamaged, Stands}
 use Rattle.journal_frames.proofs.Unique.{one_list, not_both}
-use Rattle.cluster_top.specs.Opening.{IsEmpty, AllEmpty}
+use Rattle.cluster_top.specs.Opening.{IsEmpty}
 use Rattle.cluster_top.specs.Opened.{IsDurable, IsOpen, AreOpen, AreLeft, AreLeftInPart, disks_of}
 use Rattle.cluster_top.specs.declared.journals.Journals.{Journals}
 use Rattle.cluster_top.proofs.Frames.{all_more}

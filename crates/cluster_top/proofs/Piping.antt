@@ -1,7 +1,6 @@
 -- How `pipe` ends.
-use Rattle.std.specs.Prelude.{◌≡◌, ◌≢◌, ◌⊎◌, ℕ, ◌<◌, ◌≤◌, Bool, IsTrue, List, [], ◌∷◌, ◌++◌, length, map}
-use Rattle.std.proofs.Common.{refl, ap, sym, ◌∙◌, subst, inl, inr, arith}
-use Rattle.std.specs.List.{AllByRecursion}
+use Rattle.std.specs.Prelude.{◌≡◌, ◌≢◌, ℕ, Bool, IsTrue, List, [], ◌∷◌, length}
+use Rattle.std.proofs.Common.{refl, sym, subst, inl, inr, arith}
 use Rattle.outside.specs.Streams.{Took, Put}
 use Rattle.wire_model.specs.Messages.{Message}
 use Rattle.wire_model.specs.Frames.{no_header}
@@ -9,7 +8,6 @@ use Rattle.history_model.specs.Exchange.{Exchange}
 use Rattle.history_model.specs.Machine.{empty_store, nothing_more, leaves_all}
 use Rattle.cluster_top.specs.Headline.{SomeAnswered, Cause, input_ended, read_failed, write_failed, disk_failed_call, no_memory, no_request, too_long, Told, Machine}
 use Rattle.cluster_top.specs.Journals.{Keep}
-use Rattle.cluster_top.specs.Opened.{AreOpen, IsDurable, disks_of}
 use Rattle.cluster_top.specs.Opening.{AllEmpty, IsEmptyAll, SomeFile}
 use Rattle.cluster_top.specs.declared.opening.Trouble.{Trouble}
 use Rattle.cluster_top.specs.declared.opening.Trouble.TheVariants as troubles

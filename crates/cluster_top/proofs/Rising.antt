@@ -1,5 +1,5 @@
 -- Counts of faults that rise.
-use Rattle.std.specs.Prelude.{ℕ, ◌≤◌, ◌⊎◌, List, [], ◌∷◌}
+use Rattle.std.specs.Prelude.{ℕ, List, [], ◌∷◌}
 use Rattle.std.proofs.Common.{inl, inr, arith}
 use Rattle.outside.proofs.Relations.{later_rose}
 use Rattle.cluster_top.specs.Headline.{OneRose}

@@ -1,6 +1,6 @@
 -- Where a connection stands after one request, and after the requests of a buffer. `whole` is what the journals keep where
 -- they are open, and `left` what their disks keep where serving stopped.
-use Rattle.std.specs.Prelude.{ℕ, Bool, List, ◌++◌, take, drop}
+use Rattle.std.specs.Prelude.{ℕ, Bool, List}
 use Rattle.wire_model.specs.Frames.{IsPartial, IsMalformed}
 use Rattle.history_model.specs.Catalogue.{Creation}
 use Rattle.history_model.specs.History.{Entry}

@@ -1,6 +1,6 @@
 -- How far a connection has come: its exchanges so far, beside the server that made them. `kept` says which collections and
 -- entries the journals keep.
-use Rattle.std.specs.Prelude.{◌≡◌, ℕ, ◌+◌, ◌*◌, Bool, List, [], ◌∷◌, ◌++◌, length, IsSome}
+use Rattle.std.specs.Prelude.{◌≡◌, ℕ, ◌+◌, ◌*◌, Bool, List, [], ◌∷◌, length, IsSome}
 use Rattle.std.specs.List.{flat_map, AllByRecursion}
 use Rattle.outside.specs.Streams.{Put}
 use Rattle.wire_model.specs.Messages.{message_bytes, IsRequest}

@@ -8,7 +8,7 @@ use Rattle.cluster_top.specs.Opened.{AreLeft, AreOpen, disks_of}
 use Rattle.cluster_top.specs.declared.pipe.Stop.TheVariants as stops
 use Rattle.cluster_top.proofs.Opened.{left_open}
 use Rattle.cluster_top.proofs.Rising.{one_rose_later}
-use Rattle.cluster_top.proofs.Serving.{stopped_between, stopped_weaker}
+use Rattle.cluster_top.proofs.Serving.{stopped_between}
 use Rattle.cluster_top.proofs.Endings.{ended, stopped, took_no_more, took_round, round_length, unframed_at, partial_left, told_by, stop_is, serving_new}
 use Rattle.cluster_top.proofs.connection.serve_connection.Goals as goal
 

@@ -1,4 +1,4 @@
-use Rattle.std.proofs.Common.{◌≡◌, ℕ, List, [], ◌∷◌, ◌++◌, ◌^◌, refl, sym, ap, subst, ◌∙◌, inl, arith, rules, drop, append-nil}
+use Rattle.std.proofs.Common.{◌≡◌, ℕ, List, [], ◌∷◌, ◌++◌, refl, sym, ap, subst, ◌∙◌, inl, arith, rules, drop, append-nil}
 use Rattle.wire_model.specs.Messages.{Message, message_bytes, IsRequest}
 use Rattle.wire_model.specs.Frames.{no_header}
 use Rattle.history_model.specs.Examples.{first, reply_bytes, request, request_bytes}

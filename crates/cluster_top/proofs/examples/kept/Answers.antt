@@ -1,4 +1,4 @@
-use Rattle.std.proofs.Common.{◌≡◌, ℕ, List, [], ◌∷◌, refl, inl, rules, arith}
+use Rattle.std.proofs.Common.{[], ◌∷◌, refl, inl, rules, arith}
 use Rattle.history_model.specs.Examples.{creation, first_entry}
 use Rattle.history_model.proofs.Sample.{id_reads}
 use Rattle.record_model.specs.Records.{create_record, record_of}

@@ -1,4 +1,4 @@
-use Rattle.std.proofs.Common.{ℕ, ◌++◌, List, take, map, arith, sym, subst}
+use Rattle.std.proofs.Common.{ℕ, ◌++◌, List, take, arith, sym, subst}
 use Rattle.std.proofs.lemmas.List.{take_rest}
 use Rattle.wire_model.specs.Frames.{IsPartial, IsMalformed}
 use Rattle.wire_model.specs.Outline.{IsBytes}

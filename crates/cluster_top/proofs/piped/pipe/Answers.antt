@@ -1,9 +1,8 @@
-use Rattle.std.proofs.Common.{◌≡◌, ◌∙◌, [], List, ℕ, refl, sym, map, append-nil, arith}
+use Rattle.std.proofs.Common.{◌∙◌, refl, sym, map, append-nil}
 use Rattle.cluster_top.specs.Headline.{OneRose, disk_failed_call}
 use Rattle.cluster_top.specs.Opened.{disks_of}
 use Rattle.cluster_top.specs.Opening.{IsEmptyAll, three}
 use Rattle.cluster_top.proofs.Endings.{told_by}
-use Rattle.cluster_top.proofs.Opened.{all_durable}
 use Rattle.cluster_top.proofs.Piping.{empty_keep, machine_of_more, still_empty, unopened_machine, untouched_machine}
 use Rattle.cluster_top.proofs.Rising.{none_fell_then, one_rose_later}
 use Rattle.cluster_top.proofs.piped.pipe.Goals as goal

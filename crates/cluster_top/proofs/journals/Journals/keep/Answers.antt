@@ -1,4 +1,3 @@
-use Rattle.std.proofs.Common.{rules}
 use Rattle.cluster_top.proofs.Opened.{by_fault, journal_of, on_any_err, part_of_catalogue, part_of_shard}
 use Rattle.cluster_top.proofs.journals.Journals.keep.Goals as goal
 
