@@ -6,6 +6,7 @@ work=$(mktemp -d) || exit 1
 trap 'rm -rf "$work"' EXIT
 xxd -r -p "$top/examples/insert.hex" > "$work/request" || exit 1
 : > "$work/nothing"
+printf '\001\154\334\002\0\0\0\0\0\0\0\0\335\007\0\0' > "$work/long"
 failed=0
 
 # fresh: goes to a new working folder
@@ -31,9 +32,12 @@ fresh; "$top/cluster" pope < "$work/nothing" > "$work/reply" 2> "$work/errors"; 
 fresh; "$top/cluster" pipe < "$work" > "$work/reply" 2> "$work/errors"; check "a source that can't be read" 3 "cluster: read failed" $?
 fresh; "$top/cluster" pipe < "$work/request" > /dev/full 2> "$work/errors"; check "a full device" 4 "cluster: write failed" $?
 fresh; "$top/cluster" pipe < "$work/request" 2> "$work/errors" >&-; check "a closed output" 4 "cluster: write failed" $?
+fresh; "$top/cluster" pipe <&- > "$work/reply" 2> "$work/errors"; check "a closed input" 3 "cluster: read failed" $?
+: > "$work/errors"
+fresh; "$top/cluster" pipe < "$work/long" > "$work/reply" 2>&-; check "a closed error stream" 9 "" $?
+[ "$(cat node00.journal node01.journal node02.journal | xxd -p)" = 000000 ] || { echo "wrong: bytes of a closed stream in a journal"; failed=1; }
 fresh; { sh -c '"$1" pipe < "$2" 2> "$3"; echo $? > "$4"' - "$top/cluster" "$work/request" "$work/errors" "$work/status"; } | :
 check "a pipe without a reader" 4 "cluster: write failed" "$(cat "$work/status")"
-printf '\001\154\334\002\0\0\0\0\0\0\0\0\335\007\0\0' > "$work/long"
 fresh; "$top/cluster" pipe < "$work/long" > "$work/reply" 2> "$work/errors"; check "a length of 48,000,001" 9 "cluster: bad input" $?
 fresh; printf '\0' > node02.journal
 "$top/cluster" pipe < "$work/request" > "$work/reply" 2> "$work/errors"; check "a journal with a byte" 6 "cluster: damaged journal" $?
