@@ -1,0 +1,148 @@
+-- What the store wrote and told is one history, and stays one as it serves one more request.
+use Rattle.std.proofs.Common.{◌≡◌, ℕ, ◌+◌, ◌<◌, ◌≤◌, ◌⊎◌, inl, inr, List, [], ◌∷◌, ◌++◌, length, sym, ap, subst, ◌∙◌, arith, append_assoc, append-nil, length-append}
+use Rattle.std.specs.Prelude.{Some, None, Bool, true, false, ◌&&◌}
+use Rattle.std.specs.List.{AllByRecursion}
+use Rattle.document_model.specs.Tree.{Members}
+use Rattle.history_model.specs.History.{Entry, document_at, Legal, IsIn}
+use Rattle.history_model.specs.Reply.{operation_time}
+use Rattle.history_model.proofs.Lists.{all_push, all_weaken, all_append, in_first, in_front, in_back, in_append, in_none, all_at}
+use Rattle.history_model.proofs.Stores.{document_at_later}
+use Rattle.command_model.specs.Answers.{find_answer, answer_document}
+use Rattle.service_model.specs.Exchange.{Exchange, number_for}
+use Rattle.service_model.specs.Machine.{found}
+use Rattle.service_model.specs.Right.{IsEntryOf, ByEnd, AreEntriesOf, IsRight, right_insert, right_find, right_ahead, right_hello, right_legacy, right_ping, right_end_sessions, right_refusal, right_silence, OneHistory}
+use Rattle.service_model.specs.Statements.{fails}
+use Rattle.service_model.proofs.Turns.{ComesAfter}
+use Rattle.service_model.proofs.Told.{time_of_find}
+use Rattle.service_model.proofs.Rising.{all_front, legal_front}
+use Rattle.service_model.proofs.Fresh.{ToldBy, CountedBelow, same_count, TellsFresh, fresh_push, nothing_fresh}
+
+-- Up to a time these entries are one history of what was said, which tells no later time.
+pub record Grown (time : ℕ) (entries : List Entry) (said : List Exchange) : Type 0 where
+  pub one : OneHistory entries said
+  pub times : AllByRecursion (λ e. e.time ≤ time) entries
+  pub counted : CountedBelow (length said + 1) entries
+  pub told : ToldBy time said
+
+-- One more exchange adds these entries, and rises time from the one to the other.
+pub record Adds (time risen : ℕ) (entries new : List Entry) (x : Exchange) : Type 0 where
+  pub legal : Legal (entries ++ new)
+  pub own : AllByRecursion (λ e. IsEntryOf x e × (time < e.time) × (e.time ≤ risen)) new
+  pub rises : time ≤ risen
+
+-- The exchange has a right reply, or none.
+pub record Tells (time risen : ℕ) (history : List Entry) (x : Exchange) : Type 0 where
+  pub right : IsRight history x
+  pub told : (t : ℕ) → operation_time x.reply ≡ Some t → t ≤ risen
+  pub fresh : TellsFresh time x
+
+by_end_later : (stop : Bool) (ended goes_on goes_later : Type 0) → (goes_on → goes_later) → ByEnd stop ended goes_on → ByEnd stop ended goes_later
+by_end_later true ended goes_on goes_later later by = by
+by_end_later false ended goes_on goes_later later by = later by
+
+-- a request's entries stay those of its statements
+pub entries_later : (history new : List Entry) (x : Exchange) (namespace : List ℕ) (ordered : Bool) (index : ℕ) (documents : List Members) (entries : List Entry) → AreEntriesOf history x namespace ordered index documents entries → AreEntriesOf (history ++ new) x namespace ordered index documents entries
+entries_later history new x namespace ordered index [] entries are = are
+entries_later history new x namespace ordered index (document ∷ documents) [] are = absurd are
+entries_later history new x namespace ordered index (document ∷ documents) (e ∷ entries) are = (
+  in_front e history new are.0,
+  are.1,
+  by_end_later (ordered && fails e) _ _ _ (λ more. entries_later history new x namespace ordered (index + 1) documents entries more) are.2,
+)
+
+-- a reply stays right behind entries that are later than what it told
+right_later : (time : ℕ) (entries new : List Entry) (y : Exchange) → ((t : ℕ) → operation_time y.reply ≡ Some t → t ≤ time) → AllByRecursion (λ e. time < e.time) new → IsRight entries y → IsRight (entries ++ new) y
+right_later time entries new y told above (right_insert namespace documents ordered own asks are says) =
+    right_insert namespace documents ordered own asks (entries_later entries new y namespace ordered 0 documents own are) says
+right_later time entries new y told above (right_find namespace key at shown asks named says) =
+    let most : shown ≤ time = told shown (ap operation_time says ∙ time_of_find namespace (found (document_at entries namespace (Some key) shown)) shown) in
+    let later : AllByRecursion (λ (e : Entry). shown < e.time) new = all_weaken (λ (e : Entry). time < e.time) (λ (e : Entry). shown < e.time) new (λ e h. omega arith) above in
+    right_find namespace key at shown asks named (says ∙ ap (λ d. Some (answer_document (find_answer namespace (found d) shown))) (sym (document_at_later entries new namespace (Some key) shown later)))
+right_later time entries new y told above (right_ahead namespace key named greatest asks ahead says) = right_ahead namespace key named greatest asks ahead says
+right_later time entries new y told above (right_hello moment asks says) = right_hello moment asks says
+right_later time entries new y told above (right_legacy moment shown asks says) = right_legacy moment shown asks says
+right_later time entries new y told above (right_ping asks says) = right_ping asks says
+right_later time entries new y told above (right_end_sessions asks says) = right_end_sessions asks says
+right_later time entries new y told above (right_refusal refusal asks says) = right_refusal refusal asks says
+right_later time entries new y told above (right_silence none) = right_silence none
+
+rights_later : (time : ℕ) (entries new : List Entry) (said : List Exchange) → ToldBy time said → AllByRecursion (λ e. time < e.time) new → AllByRecursion (IsRight entries) said → AllByRecursion (IsRight (entries ++ new)) said
+rights_later time entries new [] told above right = tt
+rights_later time entries new (y ∷ said) told above right = (right_later time entries new y told.0 above right.0, rights_later time entries new said told.1 above right.1)
+
+module _ (time risen : ℕ) (entries new : List Entry) (said : List Exchange) (x : Exchange) (grown : Grown time entries said) (after : ComesAfter said x) (adds : Adds time risen entries new x) where
+  above : AllByRecursion (λ e. time < e.time) new
+  above = all_weaken (λ (e : Entry). IsEntryOf x e × (time < e.time) × (e.time ≤ risen)) (λ (e : Entry). time < e.time) new (λ e h. h.1) adds.own
+
+  below : CountedBelow x.count entries
+  below = subst (λ (n : ℕ). CountedBelow n entries) (sym after.number) grown.counted
+
+  sent_push : (e : Entry) → IsIn e entries ⊎ IsIn e new → (y : Exchange) × IsIn y (said ++ x ∷ []) × IsEntryOf y e
+  sent_push e (inl i) = let s = grown.one.sent e i in (s.0, in_front s.0 said (x ∷ []) s.1, s.2)
+  sent_push e (inr i) =
+      (x, in_back x said (x ∷ []) (in_first x []), (all_at (λ (d : Entry). IsEntryOf x d × (time < d.time) × (d.time ≤ risen)) e new adds.own i).0)
+
+  counted_push : CountedBelow (length (said ++ x ∷ []) + 1) (entries ++ new)
+  counted_push =
+      all_append (λ (e : Entry). (y : Exchange) (index : ℕ) → e.number ≡ number_for y index → y.count < length (said ++ x ∷ []) + 1) entries new
+      (all_weaken (λ (e : Entry). (y : Exchange) (index : ℕ) → e.number ≡ number_for y index → y.count < length said + 1) (λ (e : Entry). (y : Exchange) (index : ℕ) → e.number ≡ number_for y index → y.count < length (said ++ x ∷ []) + 1) entries (λ e h y index same. omega (arith, h y index same, length-append said (x ∷ []))) grown.counted)
+      (all_weaken (λ (e : Entry). IsEntryOf x e × (time < e.time) × (e.time ≤ risen)) (λ (e : Entry). (y : Exchange) (index : ℕ) → e.number ≡ number_for y index → y.count < length (said ++ x ∷ []) + 1) new (λ e h y index same. omega (arith, same_count x y (length h.0.front) index (sym h.0.statement.number ∙ same), after.number, length-append said (x ∷ []))) adds.own)
+
+  pub grown_push : Tells time risen (entries ++ new) x → Grown risen (entries ++ new) (said ++ x ∷ [])
+  grown_push tells = record {
+    one = record {
+      legal = adds.legal;
+      sent = λ e i. sent_push e (in_append e entries new i);
+      right = all_push (IsRight (entries ++ new)) said x (rights_later time entries new said grown.told above grown.one.right) tells.right;
+      fresh = fresh_push time entries new said x after grown.told grown.one.fresh below above tells.fresh;
+    };
+    times =
+        all_append (λ (e : Entry). e.time ≤ risen) entries new
+        (all_weaken (λ (e : Entry). e.time ≤ time) (λ (e : Entry). e.time ≤ risen) entries (λ e h. omega (arith, adds.rises)) grown.times)
+        (all_weaken (λ (e : Entry). IsEntryOf x e × (time < e.time) × (e.time ≤ risen)) (λ (e : Entry). e.time ≤ risen) new (λ e h. h.2) adds.own);
+    counted = counted_push;
+    told =
+        all_push (λ (y : Exchange). (t : ℕ) → operation_time y.reply ≡ Some t → t ≤ risen) said x
+        (all_weaken (λ (y : Exchange). (t : ℕ) → operation_time y.reply ≡ Some t → t ≤ time) (λ (y : Exchange). (t : ℕ) → operation_time y.reply ≡ Some t → t ≤ risen) said (λ y h t shows. omega (arith, h t shows, adds.rises)) grown.told)
+        tells.told;
+  }
+
+pub adds_nothing : (time risen : ℕ) (entries : List Entry) (said : List Exchange) (x : Exchange) → Grown time entries said → time ≤ risen → Adds time risen entries [] x
+adds_nothing time risen entries said x grown rises = record {
+  legal = subst (λ (l : List Entry). Legal l) (sym (append-nil entries)) grown.one.legal;
+  own = tt;
+  rises = rises;
+}
+
+-- a front of what an exchange adds
+pub adds_front : (time risen : ℕ) (entries front back : List Entry) (x : Exchange) → Adds time risen entries (front ++ back) x → Adds time risen entries front x
+adds_front time risen entries front back x adds = record {
+  legal = legal_front [] (entries ++ front) back (subst (λ (l : List Entry). Legal l) (sym (append_assoc entries front back)) adds.legal);
+  own = all_front (λ (e : Entry). IsEntryOf x e × (time < e.time) × (e.time ≤ risen)) front back adds.own;
+  rises = adds.rises;
+}
+
+-- where nothing is written and nothing was said
+pub nothing_grown : Grown 0 [] []
+nothing_grown = record {
+  one = record { legal = tt; sent = λ e i. absurd (in_none e i); right = tt; fresh = nothing_fresh };
+  times = tt;
+  counted = tt;
+  told = tt;
+}
+
+-- a request without a reply tells nothing
+pub silent_tells : (time risen : ℕ) (history : List Entry) (x : Exchange) → x.reply ≡ None → Tells time risen history x
+silent_tells time risen history x none = record {
+  right = right_silence none;
+  told = λ t shows. absurd (never t shows);
+  fresh = record {
+    reads = λ namespace key s asks shows. absurd (never s shows);
+    greatest = λ s shows. absurd (cc);
+  };
+}
+  where
+    never : (t : ℕ) → operation_time x.reply ≡ Some t → ⊥
+    never t shows =
+        let quiet : operation_time x.reply ≡ None = ap operation_time none in
+        cc

@@ -1,0 +1,16 @@
+pub mod Turns
+pub mod Told
+pub mod Asked
+pub mod Rising
+pub mod Fresh
+pub mod Grown
+pub mod Written
+pub mod Served
+pub mod Placed
+pub mod Runs
+pub mod Whole
+pub mod Determined
+pub mod Standing
+pub mod Found
+pub mod Growing
+pub mod Sample

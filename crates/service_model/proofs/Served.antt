@@ -1,0 +1,201 @@
+-- What the plain store writes for a command, and what it tells.
+use Rattle.std.proofs.Common.{◌≡◌, ℕ, ◌+◌, ◌<◌, ◌≤◌, List, [], ◌∷◌, ◌++◌, length, refl, sym, ap, subst, ◌∙◌, arith, append-nil}
+use Rattle.std.specs.Prelude.{true, false, Option, Some, None, Bool, Result, Ok, Err, if◌then◌else◌, nat_le}
+use Rattle.std.specs.List.{AllByRecursion}
+use Rattle.std.proofs.lemmas.Bool.{leb-true, leb-false}
+use Rattle.document_model.specs.Tree.{Datum, Members}
+use Rattle.history_model.specs.Command.{Refusal, time_ahead}
+use Rattle.history_model.specs.History.{Entry, document_at}
+use Rattle.history_model.specs.Reply.{operation_time}
+use Rattle.history_model.proofs.Lists.{all_weaken, in_back}
+use Rattle.command_model.specs.Command.{Command, hello_command, legacy_command, ping_command, end_sessions_command, insert_command, find_command}
+use Rattle.command_model.specs.Answers.{find_answer, refusal_answer, answer_document}
+use Rattle.service_model.specs.Asking.{wanted_by, documents_of}
+use Rattle.service_model.specs.Exchange.{Exchange, number_for}
+use Rattle.service_model.specs.Machine.{Store, has_collection, risen, time_before_write, found, answer_find, answer_to, written_by, last_time, reply_if}
+use Rattle.service_model.specs.Right.{IsEntryOf, AreEntriesOf, IsRight, right_insert, right_find, right_ahead, right_hello, right_legacy, right_ping, right_end_sessions, right_refusal}
+use Rattle.service_model.specs.Statements.{answer_of, sum_of, errors_of, time_of}
+use Rattle.service_model.proofs.Turns.{ComesAfter}
+use Rattle.service_model.proofs.Told.{time_of_insert, time_of_find, time_of_hello, time_of_legacy, time_of_done, time_refused}
+use Rattle.service_model.proofs.Asked.{never_ahead}
+use Rattle.service_model.proofs.Rising.{all_both, rising_from, last_rises, last_most, greatest_most, legal_append}
+use Rattle.service_model.proofs.Grown.{Grown, Adds, adds_nothing, Tells, silent_tells}
+use Rattle.service_model.proofs.Written.{each_own, each_placed, each_rises, each_legal, each_is, AreBehind}
+
+-- what the store writes for this request, and the time after
+abbrev pub written : Store → ℕ → Exchange → Result Command Refusal → List Entry
+written store moment x wanted = written_by store moment (λ index. number_for x index) wanted
+
+abbrev pub time_then : Store → ℕ → Exchange → Result Command Refusal → ℕ
+time_then store moment x wanted = last_time (risen store moment) (written store moment x wanted)
+
+abbrev pub answered_by : Store → ℕ → Exchange → Result Command Refusal → Members
+answered_by store moment x wanted = answer_document (answer_to store moment (λ index. number_for x index) wanted)
+
+-- before an insert's first statement time is not below that of the moment
+pub write_rises : (store : Store) (moment : ℕ) (namespace : List ℕ) → risen store moment ≤ time_before_write store moment namespace
+write_rises store moment namespace = by_created (has_collection namespace store)
+  where
+    by_created : (created : Bool) → risen store moment ≤ (if created then risen store moment else risen store moment + 1)
+    by_created true = omega arith
+    by_created false = omega arith
+
+-- what stands there is behind the statements of the next request
+all_behind : (time : ℕ) (entries : List Entry) (said : List Exchange) (x : Exchange) (later : ℕ) → Grown time entries said → ComesAfter said x → time ≤ later → AreBehind later x 0 entries
+all_behind time entries said x later grown after most = by_entries entries grown.times grown.counted
+  where
+    by_entries : (es : List Entry) → AllByRecursion (λ e. e.time ≤ time) es → AllByRecursion (λ e. (y : Exchange) (index : ℕ) → e.number ≡ number_for y index → y.count < length said + 1) es → AreBehind later x 0 es
+    by_entries [] times counted = tt
+    by_entries (e ∷ es) times counted = (
+      (omega (arith, times.0), λ i least same. omega (arith, counted.0 x i same, after.number)),
+      by_entries es times.1 counted.1,
+    )
+
+module _ (store : Store) (moment : ℕ) (namespace : List ℕ) (documents : List Members) (ordered : Bool) (x : Exchange) where
+  abbrev pub before : ℕ
+  before = time_before_write store moment namespace
+
+  abbrev pub new : List Entry
+  new = written store moment x (Ok (insert_command namespace documents ordered))
+
+  above : AllByRecursion (λ e. store.time < e.time) new
+  above =
+      all_weaken (λ (e : Entry). (e.namespace ≡ namespace) × (e.shard ≡ 1) × (before < e.time)) (λ (e : Entry). store.time < e.time) new
+      (λ e h. omega (arith, h.2, write_rises store moment namespace))
+      (each_placed store.entries before ordered x 0 namespace documents)
+
+  most : AllByRecursion (λ e. e.time ≤ last_time (risen store moment) new) new
+  most = last_most (risen store moment) new (rising_from (risen store moment) before new (write_rises store moment namespace) (each_rises store.entries before ordered x 0 namespace documents))
+
+  own_between : wanted_by x.request ≡ Ok (insert_command namespace documents ordered) → AllByRecursion (λ e. IsEntryOf x e × (store.time < e.time) × (e.time ≤ last_time (risen store moment) new)) new
+  own_between asks =
+      all_weaken (λ (e : Entry). IsEntryOf x e × ((store.time < e.time) × (e.time ≤ last_time (risen store moment) new))) (λ (e : Entry). IsEntryOf x e × (store.time < e.time) × (e.time ≤ last_time (risen store moment) new)) new
+      (λ e h. (h.0, h.1.0, h.1.1))
+      (all_both (IsEntryOf x) (λ (e : Entry). (store.time < e.time) × (e.time ≤ last_time (risen store moment) new)) new
+      (each_own store.entries before ordered x namespace [] documents 0 refl asks)
+      (all_both (λ (e : Entry). store.time < e.time) (λ (e : Entry). e.time ≤ last_time (risen store moment) new) new above most))
+
+  rises_then : store.time ≤ last_time (risen store moment) new
+  rises_then = omega (arith, last_rises (risen store moment) new (rising_from (risen store moment) before new (write_rises store moment namespace) (each_rises store.entries before ordered x 0 namespace documents)))
+
+  pub adds_insert : (said : List Exchange) → Grown store.time store.entries said → ComesAfter said x → wanted_by x.request ≡ Ok (insert_command namespace documents ordered) → Adds store.time (last_time (risen store moment) new) store.entries new x
+  adds_insert said grown after asks = record {
+    legal =
+        legal_append [] store.entries new grown.one.legal
+        (each_legal store.entries before ordered x 0 namespace documents (all_behind store.time store.entries said x before grown after (omega (arith, write_rises store moment namespace))));
+    own = own_between asks;
+    rises = rises_then;
+  }
+
+  pub insert_told : (t : ℕ) → operation_time (Some (answer_document (answer_of new))) ≡ Some t → t ≤ last_time (risen store moment) new
+  insert_told t shows =
+      let both : Some (time_of new) ≡ Some t = sym (time_of_insert (sum_of new) (errors_of new) (time_of new)) ∙ shows in
+      let same : time_of new ≡ t = cc in
+      omega (arith, greatest_most (last_time (risen store moment) new) new most)
+
+  pub insert_each : AreEntriesOf (store.entries ++ new) x namespace ordered 0 documents new
+  insert_each = each_is (store.entries ++ new) store.entries before ordered x 0 namespace documents (λ e i. in_back e store.entries new i)
+
+  pub insert_right : wanted_by x.request ≡ Ok (insert_command namespace documents ordered) → x.reply ≡ Some (answer_document (answer_of new)) → IsRight (store.entries ++ new) x
+  insert_right asks says =
+      right_insert namespace documents ordered new asks insert_each says
+
+-- what the store writes for a command
+pub command_adds : (store : Store) (moment : ℕ) (wanted : Result Command Refusal) (said : List Exchange) (x : Exchange) → Grown store.time store.entries said → ComesAfter said x → wanted_by x.request ≡ wanted → Adds store.time (time_then store moment x wanted) store.entries (written store moment x wanted) x
+command_adds store moment (Err refusal) said x grown after asks = adds_nothing store.time (risen store moment) store.entries said x grown (omega arith)
+command_adds store moment (Ok hello_command) said x grown after asks = adds_nothing store.time (risen store moment) store.entries said x grown (omega arith)
+command_adds store moment (Ok (legacy_command shown)) said x grown after asks = adds_nothing store.time (risen store moment) store.entries said x grown (omega arith)
+command_adds store moment (Ok ping_command) said x grown after asks = adds_nothing store.time (risen store moment) store.entries said x grown (omega arith)
+command_adds store moment (Ok end_sessions_command) said x grown after asks = adds_nothing store.time (risen store moment) store.entries said x grown (omega arith)
+command_adds store moment (Ok (find_command namespace key at)) said x grown after asks = adds_nothing store.time (risen store moment) store.entries said x grown (omega arith)
+command_adds store moment (Ok (insert_command namespace documents ordered)) said x grown after asks = adds_insert store moment namespace documents ordered x said grown after asks
+
+-- the time that a find of the present tells
+find_tells : (store : Store) (moment : ℕ) (x : Exchange) (wanted : Result Command Refusal) (namespace : List ℕ) (key : Datum) → wanted ≡ Ok (find_command namespace key None) → operation_time (Some (answered_by store moment x wanted)) ≡ Some (risen store moment)
+find_tells store moment x wanted namespace key asks =
+    ap (λ (w : Result Command Refusal). operation_time (Some (answered_by store moment x w))) asks
+    ∙ time_of_find namespace (found (document_at store.entries namespace (Some key) (risen store moment))) (risen store moment)
+
+-- the greatest time that a find of a time ahead is told
+ahead_tells : (store : Store) (now : ℕ) (namespace : List ℕ) (key : Datum) (at : Option ℕ) (s : ℕ) → answer_document (answer_find store now namespace key at) ≡ answer_document (refusal_answer (time_ahead s)) → now ≡ s
+ahead_tells store now namespace key None s same = absurd (cc)
+ahead_tells store now namespace key (Some time) s same = by_test (nat_le time now) same
+  where
+    by_test : (test : Bool) → answer_document (if test then find_answer namespace (found (document_at store.entries namespace (Some key) time)) time else refusal_answer (time_ahead now)) ≡ answer_document (refusal_answer (time_ahead s)) → now ≡ s
+    by_test true e = absurd (cc)
+    by_test false e = cc
+
+greatest_told : (store : Store) (moment : ℕ) (x : Exchange) (wanted : Result Command Refusal) (s : ℕ) → wanted_by x.request ≡ wanted → answered_by store moment x wanted ≡ answer_document (refusal_answer (time_ahead s)) → store.time ≤ s
+greatest_told store moment x (Err refusal) s asks same = absurd (never_ahead (documents_of x.request.form x.request.body) refusal s asks same)
+greatest_told store moment x (Ok hello_command) s asks same = absurd (cc)
+greatest_told store moment x (Ok (legacy_command shown)) s asks same = absurd (cc)
+greatest_told store moment x (Ok ping_command) s asks same = absurd (cc)
+greatest_told store moment x (Ok end_sessions_command) s asks same = absurd (cc)
+greatest_told store moment x (Ok (insert_command namespace documents ordered)) s asks same = absurd (cc)
+greatest_told store moment x (Ok (find_command namespace key at)) s asks same = omega (arith, ahead_tells store (risen store moment) namespace key at s same)
+
+-- a reply tells no time above the store's
+find_told : (store : Store) (now : ℕ) (namespace : List ℕ) (key : Datum) (at : Option ℕ) (t : ℕ) → operation_time (Some (answer_document (answer_find store now namespace key at))) ≡ Some t → t ≤ now
+find_told store now namespace key None t shows =
+    let same : now ≡ t = cc in
+    omega arith
+find_told store now namespace key (Some time) t shows = by_test (nat_le time now) refl shows
+  where
+    by_test : (test : Bool) → nat_le time now ≡ test → operation_time (Some (answer_document (if test then find_answer namespace (found (document_at store.entries namespace (Some key) time)) time else refusal_answer (time_ahead now)))) ≡ Some t → t ≤ now
+    by_test true least e =
+        let same : time ≡ t = cc in
+        omega (arith, leb-true time now least)
+    by_test false least e = absurd (cc)
+
+untold : (shown : Option ℕ) (t most : ℕ) → shown ≡ None → shown ≡ Some t → t ≤ most
+untold shown t most none some =
+    let both : None ≡ Some t = sym none ∙ some in
+    absurd (cc)
+
+told_most : (store : Store) (moment : ℕ) (x : Exchange) (wanted : Result Command Refusal) (t : ℕ) → operation_time (Some (answered_by store moment x wanted)) ≡ Some t → t ≤ time_then store moment x wanted
+told_most store moment x (Err refusal) t shows = untold _ t _ (time_refused refusal) shows
+told_most store moment x (Ok hello_command) t shows = untold _ t _ (time_of_hello moment) shows
+told_most store moment x (Ok (legacy_command shown)) t shows = untold _ t _ (time_of_legacy moment shown) shows
+told_most store moment x (Ok ping_command) t shows = untold _ t _ time_of_done shows
+told_most store moment x (Ok end_sessions_command) t shows = untold _ t _ time_of_done shows
+told_most store moment x (Ok (insert_command namespace documents ordered)) t shows = insert_told store moment namespace documents ordered x t shows
+told_most store moment x (Ok (find_command namespace key at)) t shows = find_told store (risen store moment) namespace key at t shows
+
+-- a reply is right
+right_found : (store : Store) (now : ℕ) (namespace : List ℕ) (key : Datum) (at : Option ℕ) (x : Exchange) → wanted_by x.request ≡ Ok (find_command namespace key at) → x.reply ≡ Some (answer_document (answer_find store now namespace key at)) → IsRight store.entries x
+right_found store now namespace key None x asks says = right_find namespace key None now asks tt says
+right_found store now namespace key (Some time) x asks says = by_test (nat_le time now) refl says
+  where
+    by_test : (test : Bool) → nat_le time now ≡ test → x.reply ≡ Some (answer_document (if test then find_answer namespace (found (document_at store.entries namespace (Some key) time)) time else refusal_answer (time_ahead now))) → IsRight store.entries x
+    by_test true least told = right_find namespace key (Some time) time asks refl told
+    by_test false least told = right_ahead namespace key time now asks (leb-false time now least) told
+
+right_reply : (store : Store) (moment : ℕ) (x : Exchange) (wanted : Result Command Refusal) → wanted_by x.request ≡ wanted → x.reply ≡ Some (answered_by store moment x wanted) → IsRight (store.entries ++ written store moment x wanted) x
+right_reply store moment x (Err refusal) asks says = right_refusal refusal asks says
+right_reply store moment x (Ok hello_command) asks says = right_hello moment asks says
+right_reply store moment x (Ok (legacy_command shown)) asks says = right_legacy moment shown asks says
+right_reply store moment x (Ok ping_command) asks says = right_ping asks says
+right_reply store moment x (Ok end_sessions_command) asks says = right_end_sessions asks says
+right_reply store moment x (Ok (insert_command namespace documents ordered)) asks says = insert_right store moment namespace documents ordered x asks says
+right_reply store moment x (Ok (find_command namespace key at)) asks says =
+    subst (λ (l : List Entry). IsRight l x) (sym (append-nil store.entries)) (right_found store (risen store moment) namespace key at x asks says)
+
+reply_tells : (store : Store) (moment : ℕ) (x : Exchange) (wanted : Result Command Refusal) → wanted_by x.request ≡ wanted → x.reply ≡ Some (answered_by store moment x wanted) → Tells store.time (time_then store moment x wanted) (store.entries ++ written store moment x wanted) x
+reply_tells store moment x wanted asks says = record {
+  right = right_reply store moment x wanted asks says;
+  told = λ t shows. told_most store moment x wanted t (ap operation_time (sym says) ∙ shows);
+  fresh = record {
+    reads = λ namespace key s wants shows.
+        let same : Some (risen store moment) ≡ Some s = sym (find_tells store moment x wanted namespace key (sym asks ∙ wants)) ∙ ap operation_time (sym says) ∙ shows in
+        let equal : risen store moment ≡ s = cc in
+        omega arith;
+    greatest = λ s shows.
+        let both : Some (answered_by store moment x wanted) ≡ Some (answer_document (refusal_answer (time_ahead s))) = sym says ∙ shows in
+        greatest_told store moment x wanted s asks (cc);
+  };
+}
+
+-- what the store tells for a command, if a reply is wanted
+pub command_tells : (store : Store) (moment : ℕ) (x : Exchange) (wanted : Result Command Refusal) (more : Bool) → wanted_by x.request ≡ wanted → x.reply ≡ reply_if more (answered_by store moment x wanted) → Tells store.time (time_then store moment x wanted) (store.entries ++ written store moment x wanted) x
+command_tells store moment x wanted true asks says = silent_tells store.time (time_then store moment x wanted) (store.entries ++ written store moment x wanted) x says
+command_tells store moment x wanted false asks says = reply_tells store moment x wanted asks says

@@ -1,0 +1,28 @@
+-- The times that answers tell.
+use Rattle.std.proofs.Common.{◌≡◌, ℕ, List, [], ◌∷◌, refl}
+use Rattle.std.specs.Prelude.{Some, None, Bool, true, false}
+use Rattle.document_model.specs.Tree.{Members}
+use Rattle.history_model.specs.Command.{Refusal}
+use Rattle.history_model.specs.Reply.{operation_time}
+use Rattle.history_model.proofs.Replies.{time_of_refusal}
+use Rattle.command_model.specs.Answers.{hello_answer, legacy_answer, done_answer, insert_answer, find_answer, refusal_answer, answer_document, WriteError}
+
+pub time_of_insert : (count : ℕ) (errors : List WriteError) (time : ℕ) → operation_time (Some (answer_document (insert_answer count errors time))) ≡ Some time
+time_of_insert count [] time = refl
+time_of_insert count (e ∷ errors) time = refl
+
+pub time_of_find : (namespace : List ℕ) (documents : List Members) (time : ℕ) → operation_time (Some (answer_document (find_answer namespace documents time))) ≡ Some time
+time_of_find namespace documents time = refl
+
+pub time_of_hello : (moment : ℕ) → operation_time (Some (answer_document (hello_answer moment))) ≡ None
+time_of_hello moment = refl
+
+pub time_of_legacy : (moment : ℕ) (shown : Bool) → operation_time (Some (answer_document (legacy_answer moment shown))) ≡ None
+time_of_legacy moment true = refl
+time_of_legacy moment false = refl
+
+pub time_of_done : operation_time (Some (answer_document done_answer)) ≡ None
+time_of_done = refl
+
+pub time_refused : (refusal : Refusal) → operation_time (Some (answer_document (refusal_answer refusal))) ≡ None
+time_refused refusal = time_of_refusal refusal

@@ -1,0 +1,81 @@
+-- The two inserts, one after the other.
+use Rattle.std.proofs.Common.{◌≡◌, ◌⊎◌, inl, inr, ◌<◌, List, [], ◌∷◌, refl, sym, ap, ◌∙◌, codes, arith}
+use Rattle.std.specs.Prelude.{Bool, true, false, ◌&&◌, Some}
+use Rattle.history_model.specs.Errors.{duplicate_key}
+use Rattle.history_model.specs.Examples.{done_reply, duplicate_reply}
+use Rattle.history_model.specs.History.{StatementNumber, Entry, IsIn, fails_with}
+use Rattle.history_model.specs.Times.{timestamp}
+use Rattle.history_model.proofs.Lists.{in_first, in_later, in_cons, in_none}
+use Rattle.command_model.specs.Answers.{answer_document}
+use Rattle.service_model.specs.Exchange.{Exchange, InTurn, number_for}
+use Rattle.service_model.specs.Machine.{Runs, serves, nothing_more, empty_store, leaves_all}
+use Rattle.service_model.specs.Right.{ByEnd, AreEntriesOf}
+use Rattle.service_model.specs.Statements.{answer_of, fails}
+use Rattle.service_model.specs.Examples.{entry_at, first, first_entry, first_store, five, long_five, second, second_entry, second_store, with_id}
+use Rattle.service_model.proofs.Runs.{machine_makes_one_history}
+use Rattle.service_model.proofs.Standing.{told_stands, told_inserts_stand}
+use Rattle.service_model.proofs.Sample.{is_second}
+use Rattle.service_model.proofs.examples.one_history.Goals as goal
+
+run : Runs empty_store (1000000 ∷ 1000000 ∷ []) (first ∷ second ∷ []) second_store
+run = serves empty_store second_store 1000000 (1000000 ∷ []) first (second ∷ []) refl (serves first_store second_store 1000000 [] second [] refl (nothing_more second_store))
+
+pub returns-clause-runs : goal.returns-clause-runs
+returns-clause-runs c = run
+
+turns : InTurn 0 1 (first ∷ second ∷ [])
+turns = (refl, refl, refl, omega arith, omega arith, (refl, refl, refl, omega arith, omega arith, tt))
+
+pub returns-clause-one : goal.returns-clause-one
+returns-clause-one c =
+    machine_makes_one_history (λ moment. Unit {0}) (1000000 ∷ 1000000 ∷ []) (first ∷ second ∷ []) [] second_store second_store.creations second_store.entries run leaves_all turns
+
+-- of a statement there is an entry
+some_entry : (entries : List Entry) → AreEntriesOf [] first (codes "d.c") true 0 (with_id five ∷ []) entries → ⊥
+some_entry [] are = are
+some_entry (e ∷ entries) are = in_none e are.0
+
+pub returns-clause-lost : goal.returns-clause-lost
+returns-clause-lost c one =
+    let stands = told_inserts_stand [] (first ∷ second ∷ []) first (codes "d.c") (with_id five ∷ []) true done_reply one (in_first first (second ∷ [])) refl refl in
+    some_entry stands.0 stands.1
+
+-- the first request with the second's reply
+abbrev mixed : Exchange
+mixed = record first { reply = Some duplicate_reply }
+
+by_either : (test : Bool) (A : Type 0) → ByEnd test A A → A
+by_either true A by = by
+by_either false A by = by
+
+not_told : (entries : List Entry) → AreEntriesOf (first_entry ∷ second_entry ∷ []) mixed (codes "d.c") true 0 (with_id five ∷ []) entries → duplicate_reply ≡ answer_document (answer_of entries) → ⊥
+not_told [] are told = are
+not_told (e ∷ entries) are told = by_place (in_cons e first_entry (second_entry ∷ []) are.0)
+  where
+    alone : entries ≡ []
+    alone = by_either (true && fails e) (entries ≡ []) are.2
+
+    by_second : (e ≡ second_entry) ⊎ IsIn e [] → ⊥
+    by_second (inl same) =
+        let number : (number_for mixed 0).session ≡ second_entry.number.session = ap (λ (n : StatementNumber). n.session) (sym are.1.number ∙ ap (λ (d : Entry). d.number) same) in
+        cc
+    by_second (inr j) = in_none e j
+
+    by_place : (e ≡ first_entry) ⊎ IsIn e (second_entry ∷ []) → ⊥
+    by_place (inl same) =
+        let reply : duplicate_reply ≡ done_reply = told ∙ ap (λ (l : List Entry). answer_document (answer_of (e ∷ l))) alone ∙ ap (λ (d : Entry). answer_document (answer_of (d ∷ []))) same in
+        cc
+    by_place (inr i) = by_second (in_cons e second_entry [] i)
+
+pub returns-clause-wrong : goal.returns-clause-wrong
+returns-clause-wrong c right =
+    let stands = told_stands (first_entry ∷ second_entry ∷ []) mixed (codes "d.c") (with_id five ∷ []) true duplicate_reply refl refl right in
+    not_told stands.0 stands.1 stands.2
+
+abbrev stale_entry : Entry
+stale_entry = entry_at 2 2 0 long_five (fails_with duplicate_key)
+
+pub returns-clause-stale : goal.returns-clause-stale
+returns-clause-stale c fresh =
+    let less : timestamp 1000 2 < timestamp 1000 2 = fresh.writes first second stale_entry (timestamp 1000 2) (in_first first (second ∷ [])) (in_later second first (second ∷ []) (in_first second [])) (omega arith) (in_later stale_entry first_entry (stale_entry ∷ []) (in_first stale_entry [])) (is_second 2 (fails_with duplicate_key)) refl in
+    omega arith
