@@ -2,9 +2,10 @@
 """Kills the built program while it serves inserts, and looks whether its journals hold every entry that was acknowledged.
 
 The program is `cluster` at the top of the repository, run in a temporary folder; it is killed by its process id. Each round
-sends inserts of rising keys, one after another, reads each reply, and kills the program behind a number of replies or in
-the middle of a request. The shard's journal must then hold the keys that were acknowledged, in order, with at most one more,
-and the catalogue's the one collection.
+sends ordered inserts of three documents by document sequence, one after another, under keys of several kinds. It reads each
+reply, and kills the program behind a number of replies, in the middle of a request or while one is served. The shard's
+journal must then hold the documents that were acknowledged, in order, with at most the first ones of one request more, and
+the catalogue's the one collection.
 
     bench/kills.py [ROUNDS]
 """
@@ -15,8 +16,12 @@ import struct
 import subprocess
 import sys
 import tempfile
+import time
 
 TOP = pathlib.Path(__file__).resolve().parent.parent
+
+# The documents of a request.
+EACH = 3
 
 
 def element(kind, name, value):
@@ -32,15 +37,36 @@ def text(value):
     return struct.pack("<i", len(value) + 1) + value.encode() + b"\0"
 
 
-def insert(request, key):
-    """The bytes of a request that inserts {_id: key} into d.c."""
-    kept = document(element(0x10, "_id", struct.pack("<i", key)))
-    body = document(
-        element(0x02, "insert", text("c")),
-        element(0x04, "documents", document(element(0x03, "0", kept))),
-        element(0x02, "$db", text("d")),
-    )
-    rest = struct.pack("<iii", request, 0, 2013) + struct.pack("<i", 0) + b"\0" + body
+def key(number):
+    """The member `_id`, of one of four kinds."""
+    kinds = [
+        (0x10, struct.pack("<i", number)),
+        (0x12, struct.pack("<q", number << 32)),
+        (0x02, text(f"key {number}")),
+        (0x07, struct.pack(">III", 7, 7, number)),
+    ]
+    kind, value = kinds[number % 4]
+    return element(kind, "_id", value)
+
+
+def kept(number):
+    """The document of that number."""
+    inner = document(element(0x0A, "nothing", b""), element(0x02, "text", text("x" * (number % 50))))
+    return document(key(number), element(0x03, "inner", inner))
+
+
+def numbers_of(request):
+    """The numbers of a request's documents."""
+    return range(request * EACH, request * EACH + EACH)
+
+
+def insert(request):
+    """The bytes of a request that inserts its documents into d.c."""
+    body = document(element(0x02, "insert", text("c")), element(0x08, "ordered", b"\1"), element(0x02, "$db", text("d")))
+    documents = b"".join(kept(number) for number in numbers_of(request))
+    sequence = b"documents\0" + documents
+    rest = struct.pack("<iii", request, 0, 2013) + struct.pack("<i", 0)
+    rest += b"\0" + body + b"\1" + struct.pack("<i", len(sequence) + 4) + sequence
     return struct.pack("<i", len(rest) + 4) + rest
 
 
@@ -55,55 +81,57 @@ def records(path):
     return found
 
 
-def key_of(record):
-    """The key that an insert's entry record has."""
-    place = record.index(b"\x10_id\0") + 5
-    return struct.unpack_from("<i", record, place)[0]
-
-
-def read_reply(pipe):
+def is_acknowledged(pipe):
+    """Whether the next reply says that all documents of its request were inserted."""
     head = pipe.read(4)
     if len(head) < 4:
         return False
-    return len(pipe.read(struct.unpack("<i", head)[0] - 4)) == struct.unpack("<i", head)[0] - 4
+    length = struct.unpack("<i", head)[0] - 4
+    reply = pipe.read(length)
+    start = element(0x10, "n", struct.pack("<i", EACH)) + element(0x10, "ok", struct.pack("<i", 1))
+    return len(reply) == length and reply[21:].startswith(start)
 
 
 def one_round(folder, replies, cut):
-    """Kills the program behind so many replies, and after so many bytes of the next request. Gives the keys that were
-    acknowledged and those that the journal holds."""
+    """Kills the program behind so many replies, and after so many bytes of the next request. Gives the records that the
+    shard's journal holds."""
     program = subprocess.Popen([TOP / "cluster", "pipe"], cwd=folder, stdin=subprocess.PIPE, stdout=subprocess.PIPE)
-    acknowledged = []
-    for key in range(1, replies + 1):
-        program.stdin.write(insert(key, key))
+    for request in range(replies):
+        program.stdin.write(insert(request))
         program.stdin.flush()
-        if not read_reply(program.stdout):
+        if not is_acknowledged(program.stdout):
             sys.exit("kills: a reply is missing")
-        acknowledged.append(key)
-    program.stdin.write(insert(replies + 1, replies + 1)[:cut])
+    program.stdin.write(insert(replies)[:cut])
     program.stdin.flush()
+    time.sleep(random.uniform(0, 0.002))
     program.send_signal(signal.SIGKILL)
     program.wait()
-    held = [key_of(r) for r in records(pathlib.Path(folder) / "node01.journal")]
+    held = records(pathlib.Path(folder) / "node01.journal")
     begun = records(pathlib.Path(folder) / "node00.journal")
     if len(begun) > 1 or (held and len(begun) != 1):
         sys.exit(f"kills: the catalogue holds {len(begun)} collections")
-    return acknowledged, held
+    return held
 
 
 def main():
     rounds = int(sys.argv[1]) if len(sys.argv) > 1 else 20
     if subprocess.run([TOP / "cluster", "none"], stderr=subprocess.DEVNULL).returncode != 2:
         sys.exit("kills: the program is not built")
-    more = 0
     total = 0
+    more = [0] * (EACH + 1)
     for number in range(rounds):
         with tempfile.TemporaryDirectory() as folder:
-            acknowledged, held = one_round(folder, random.randint(1, 200), random.choice([0, 20, 10_000]))
-            if held[: len(acknowledged)] != acknowledged or len(held) > len(acknowledged) + 1:
-                sys.exit(f"kills: round {number}: acknowledged {acknowledged}, held {held}")
-            total += len(acknowledged)
-            more += len(held) - len(acknowledged)
-    print(f"kills: {rounds} rounds, {total} acknowledged entries, all held; {more} rounds held one more")
+            replies = random.randint(1, 100)
+            held = one_round(folder, replies, random.choice([0, 20, 150, 10_000, 10_000]))
+        over = len(held) - replies * EACH
+        if not 0 <= over <= EACH:
+            sys.exit(f"kills: round {number}: {replies * EACH} acknowledged, {len(held)} held")
+        if any(kept(place) not in record for place, record in enumerate(held)):
+            sys.exit(f"kills: round {number}: other documents are held")
+        total += replies * EACH
+        more[over] += 1
+    told = ", ".join(f"{count} rounds held {over} more" for over, count in enumerate(more) if over > 0)
+    print(f"kills: {rounds} rounds, {total} acknowledged entries, all held; {told}")
 
 
 main()

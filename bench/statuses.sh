@@ -5,6 +5,16 @@ top=$(cd "$(dirname "$0")/.." && pwd) || exit 1
 work=$(mktemp -d) || exit 1
 trap 'rm -rf "$work"' EXIT
 xxd -r -p "$top/examples/insert.hex" > "$work/request" || exit 1
+# {insert: "c", $db: "d"} with the sequence documents: {_id: 1}, {_id: "a"}, {_id: true}
+body='\0\036\0\0\0\002insert\0\002\0\0\0c\0\002$db\0\002\0\0\0d\0\0'
+sequence='\001\067\0\0\0documents\0\016\0\0\0\020_id\0\001\0\0\0\0\020\0\0\0\002_id\0\002\0\0\0a\0\0\013\0\0\0\010_id\0\001\0'
+printf '\153\0\0\0\001\0\0\0\0\0\0\0\335\007\0\0\0\0\0\0'"$body$sequence" > "$work/three"
+# the same with moreToCome
+printf '\153\0\0\0\001\0\0\0\0\0\0\0\335\007\0\0\002\0\0\0'"$body$sequence" > "$work/silent"
+# {isMaster: 1} to admin.$cmd by OP_QUERY
+printf '\072\0\0\0\001\0\0\0\0\0\0\0\324\007\0\0\0\0\0\0admin.$cmd\0\0\0\0\0\377\377\377\377\023\0\0\0\020isMaster\0\001\0\0\0\0' > "$work/greeting"
+# a message of which bit 0 of the flags, the checksum's, is set
+printf '\024\0\0\0\001\0\0\0\0\0\0\0\335\007\0\0\001\0\0\0' > "$work/flags"
 : > "$work/nothing"
 printf '\001\154\334\002\0\0\0\0\0\0\0\0\335\007\0\0' > "$work/long"
 failed=0
@@ -26,8 +36,28 @@ check() {
     fi
 }
 
+# tells NAME FILE HEX: the file has these bytes
+tells() {
+    if xxd -p "$2" | tr -d '\n' | grep -q "$3"; then
+        echo "ok: $1"
+    else
+        echo "wrong: $1: no $3 in $2"
+        failed=1
+    fi
+}
+
 fresh; "$top/cluster" pipe < "$work/nothing" > "$work/reply" 2> "$work/errors"; check "empty input" 0 "" $?
 fresh; "$top/cluster" pipe < "$work/request" > "$work/reply" 2> "$work/errors"; check "one insert" 0 "" $?
+fresh; "$top/cluster" pipe < "$work/three" > "$work/reply" 2> "$work/errors"; check "an insert of three documents" 0 "" $?
+tells "the reply to three documents" "$work/reply" 106e000300000010
+fresh; "$top/cluster" pipe < "$work/silent" > "$work/reply" 2> "$work/errors"; check "an insert without a reply" 0 "" $?
+[ ! -s "$work/reply" ] && [ -s node00.journal ] || { echo "wrong: a reply that is not wanted, or no record"; failed=1; }
+tells "the shard's journal of an insert without a reply" node01.journal 025f69640002000000610000
+fresh; "$top/cluster" pipe < "$work/silent" > /dev/full 2> "$work/errors"; check "no reply to a full device" 0 "" $?
+fresh; "$top/cluster" pipe < "$work/greeting" > "$work/reply" 2> "$work/errors"; check "a greeting" 0 "" $?
+tells "the reply to a greeting" "$work/reply" 0869736d617374657200
+fresh; cat "$work/request" "$work/flags" | "$top/cluster" pipe > "$work/reply" 2> "$work/errors"; check "an insert and flags that are refused" 9 "cluster: bad input" $?
+tells "the reply before flags that are refused" "$work/reply" 106e0001000000
 fresh; "$top/cluster" pope < "$work/nothing" > "$work/reply" 2> "$work/errors"; check "bad words" 2 "cluster: bad words" $?
 fresh; "$top/cluster" pipe < "$work" > "$work/reply" 2> "$work/errors"; check "a source that can't be read" 3 "cluster: read failed" $?
 fresh; "$top/cluster" pipe < "$work/request" > /dev/full 2> "$work/errors"; check "a full device" 4 "cluster: write failed" $?

@@ -7,7 +7,7 @@ use Rattle.std.proofs.Math.Seq.{take-append_seam}
 pub record Puts (all old out rest : List ℕ) : Type 0 where
   pub text : out ++ rest ≡ old ++ all
   pub kept : take (length old) out ≡ old
-  pub room : length rest ≤ 200000000
+  pub room : length rest ≤ 300000000
 
 -- what was kept is kept again
 pub kept_on : (old out new : List ℕ) → take (length old) out ≡ old → take (length out) new ≡ out → take (length old) new ≡ old

@@ -57,6 +57,6 @@ mutual
       let whole : length (written_members (member name d ms)) ≡ length (element (kind_of d) name (written_value d)) + length (written_members ms) = length-append (element (kind_of d) name (written_value d)) (written_members ms) in
       (written_value d, written_members ms, refl, sound.0, sound.1, value_spelled d sound.2 (omega (arith, first, whole, short)), members_spelled ms sound.3 (omega (arith, first, whole, short)))
 
-pub written_spelled : (ms : Members) → AreMembers ms → length (written ms) ≤ 200000000 → ReadsAs (written ms) ms
+pub written_spelled : (ms : Members) → AreMembers ms → length (written ms) ≤ 300000000 → ReadsAs (written ms) ms
 written_spelled ms sound short =
     (written_members ms, refl, omega (arith, length-framed (written_members ms)), members_spelled ms sound (omega (arith, length-framed (written_members ms))))

@@ -16,11 +16,11 @@ use itoa::Buffer;
 mod tests;
 
 /// Puts the document's one spelling behind the bytes (BSON 1.1, `document`). The document has at most 104 levels and
-/// its spelling at most 200,000,000 bytes. Fails for want of memory, and then leaves the bytes as they were.
+/// its spelling at most 300,000,000 bytes. Fails for want of memory, and then leaves the bytes as they were.
 #[tactic(auto, using(crate::proofs::Spelled::written_spelled))]
 pub fn write(doc: &Document, out: &mut Vec<u8>) -> Result<(), Memory>
     requires levels { document_levels doc.now ≤ 104 }
-    requires size { length (written doc.now) ≤ 200000000 }
+    requires size { length (written doc.now) ≤ 300000000 }
     ensures ok { OnOk result (out.new.items ≡ out.old.items ++ written doc.now) }
     // What was written is read again.
     ensures spells { OnOk result (ReadsAs (written doc.now) doc.now) }
@@ -142,7 +142,7 @@ fn end_document(start: usize, out: &mut Vec<u8>) -> Result<(), Memory>
 /// Puts a value's bytes.
 #[cycle(writing)]
 fn put_value(value: &Value, out: &mut Vec<u8>) -> Result<(), Memory>
-    requires { length (written_value (datum_of value.now)) ≤ 200000000 }
+    requires { length (written_value (datum_of value.now)) ≤ 300000000 }
     ensures ok { OnOk result (out.new.items ≡ out.old.items ++ written_value (datum_of value.now)) }
     ensures kept { take (length out.old.items) out.new.items ≡ out.old.items }
 {
@@ -164,7 +164,7 @@ fn put_value(value: &Value, out: &mut Vec<u8>) -> Result<(), Memory>
 /// Puts a document. An `Err` may leave a part of it.
 #[cycle(writing)]
 fn put_document(document: &Document, out: &mut Vec<u8>) -> Result<(), Memory>
-    requires { length (written document.now) ≤ 200000000 }
+    requires { length (written document.now) ≤ 300000000 }
     ensures ok { OnOk result (out.new.items ≡ out.old.items ++ written document.now) }
     ensures kept { take (length out.old.items) out.new.items ≡ out.old.items }
 {
@@ -177,7 +177,7 @@ fn put_document(document: &Document, out: &mut Vec<u8>) -> Result<(), Memory>
 /// Puts an array. An `Err` may leave a part of it.
 #[cycle(writing)]
 fn put_array(array: &Array, out: &mut Vec<u8>) -> Result<(), Memory>
-    requires { length (framed (written_items 0 array.now)) ≤ 200000000 }
+    requires { length (framed (written_items 0 array.now)) ≤ 300000000 }
     ensures ok { OnOk result (out.new.items ≡ out.old.items ++ framed (written_items 0 array.now)) }
     ensures kept { take (length out.old.items) out.new.items ≡ out.old.items }
 {
@@ -190,7 +190,7 @@ fn put_array(array: &Array, out: &mut Vec<u8>) -> Result<(), Memory>
 /// Puts the members of a document.
 #[cycle(writing)]
 fn put_members(document: &Document, out: &mut Vec<u8>) -> Result<(), Memory>
-    requires { length (written_members document.now) ≤ 200000000 }
+    requires { length (written_members document.now) ≤ 300000000 }
     ensures ok { OnOk result (out.new.items ≡ out.old.items ++ written_members document.now) }
     ensures kept { take (length out.old.items) out.new.items ≡ out.old.items }
 {
@@ -204,7 +204,7 @@ fn put_members(document: &Document, out: &mut Vec<u8>) -> Result<(), Memory>
 /// Puts the values of an array under their places as names: `0`, `1` and so on.
 #[cycle(writing)]
 fn put_items(array: &Array, out: &mut Vec<u8>) -> Result<(), Memory>
-    requires { length (written_items 0 array.now) ≤ 200000000 }
+    requires { length (written_items 0 array.now) ≤ 300000000 }
     ensures ok { OnOk result (out.new.items ≡ out.old.items ++ written_items 0 array.now) }
     ensures kept { take (length out.old.items) out.new.items ≡ out.old.items }
 {

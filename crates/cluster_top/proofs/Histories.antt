@@ -3,9 +3,11 @@ use Rattle.std.specs.Prelude.{◌≡◌, ℕ, List, [], ◌∷◌, ◌++◌, map
 use Rattle.std.proofs.Common.{refl, ap, sym, subst}
 use Rattle.std.specs.List.{AllByRecursion}
 use Rattle.history_model.specs.Catalogue.{Creation, IsPlaced}
-use Rattle.history_model.specs.Exchange.{Exchange, InTurn, OneHistory}
 use Rattle.history_model.specs.History.{Entry, LegalAfter, document_left, key_written}
-use Rattle.history_model.proofs.Runs.{machine_makes_one_history, machine_places}
+use Rattle.service_model.specs.Exchange.{Exchange, InTurn}
+use Rattle.service_model.specs.Right.{OneHistory}
+use Rattle.service_model.proofs.Runs.{machine_makes_one_history, machine_serves_rightly}
+use Rattle.service_model.proofs.Placed.{machine_places}
 use Rattle.record_model.specs.Records.{create_record, record_of}
 use Rattle.record_model.specs.Kept.{IsKnown, creates_of}
 use Rattle.record_model.proofs.Entries.{own_entries, known_effect}
@@ -49,5 +51,6 @@ headline_of told gives limit status rest m =
         entries = own_entries 1 entries (placed_and_known creations entries placed (known_all [] entries one.legal));
       },
       one,
+      machine_serves_rightly gives served.moments served.replied served.under_way served.end creations entries served.runs served.leaves (subst (λ (said : List Exchange). InTurn 0 1 said) served.all m.3.conversation.turns),
       placed,
     )

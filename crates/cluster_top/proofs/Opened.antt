@@ -1,9 +1,10 @@
 -- Journals that stay open, and what a disk that failed leaves.
-use Rattle.std.specs.Prelude.{Bool, IsTrue, Some, None, Result, Ok, Err, OnErr, map}
-use Rattle.std.proofs.Common.{◌≡◌, ◌⊎◌, inl, inr, ℕ, List, [], ◌∷◌, ◌++◌, refl, ap, sym, ◌∙◌, subst, append-nil}
+use Rattle.std.specs.Prelude.{Bool, IsTrue, Result, Ok, Err, OnErr, map}
+use Rattle.std.proofs.Common.{◌≡◌, ◌⊎◌, inl, inr, ℕ, zero, suc, ◌+◌, ◌<◌, ◌≤◌, List, [], ◌∷◌, ◌++◌, length, take, drop, get_or, refl, ap, sym, ◌∙◌, subst, arith, append_assoc}
+use Rattle.std.proofs.ByRecursion.{All-append}
 use Rattle.std.specs.List.{AllByRecursion}
-use Rattle.std.proofs.lemmas.List.{map-append}
-use Rattle.outside.specs.Logs.{ByFault}
+use Rattle.std.proofs.lemmas.List.{length-map, map-append, take-append-drop, take_all}
+use Rattle.outside.specs.Logs.{ByFault, WithOrWithout}
 use Rattle.outside.specs.declared.log.LogFault.{LogFault}
 use Rattle.outside.specs.declared.log.LogFault.TheVariants.{Disk, Memory}
 use Rattle.history_model.specs.Catalogue.{Creation}
@@ -14,53 +15,76 @@ use Rattle.journal_frames.specs.Openings.{disk_left, IfDamaged}
 use Rattle.journal_frames.specs.declared.journal.OpenFault.{OpenFault}
 use Rattle.journal_frames.specs.declared.journal.OpenFault.TheVariants.{Damaged}
 use Rattle.journal_frames.specs.Views.{JournalView}
-use Rattle.cluster_top.specs.Answers.{IsSpelled}
+use Rattle.command_store.specs.Served.{AreSpelled}
 use Rattle.cluster_top.specs.Journals.{IsJournal}
 use Rattle.journal_frames.specs.Files.{IsDamaged, Stands}
 use Rattle.journal_frames.proofs.Unique.{one_list, not_both}
 use Rattle.cluster_top.specs.Opening.{IsEmpty}
-use Rattle.cluster_top.specs.Opened.{IsDurable, IsOpen, AreOpen, AreLeft, AreLeftInPart, disks_of}
+use Rattle.cluster_top.specs.Opened.{IsDurable, IsOpen, AreOpen, AreLeft, AreLeftInPart, HasInPart, disks_of}
 use Rattle.cluster_top.specs.declared.journals.Journals.{Journals}
-use Rattle.cluster_top.proofs.Frames.{all_more}
 
-spell : Record → List ℕ
-spell r = spelled 1 r
+-- the record behind the first ones, which these bytes spell
+record IsNext (more : List Record) (count : ℕ) (bytes : List ℕ) (next : Record) : Type 0 where
+  piece : bytes ≡ spelled 1 next
+  sound : IsSound next
+  taken : take (count + 1) more ≡ take count more ++ next ∷ []
 
-spelled_more : (records : List Record) (r : Record) → map (λ q. spelled 1 q) (records ++ r ∷ []) ≡ map (λ q. spelled 1 q) records ++ spelled 1 r ∷ []
-spelled_more records r = map-append (λ (q : Record). spelled 1 q) records (r ∷ [])
+next_record : (more : List Record) (pieces : List (List ℕ)) (count : ℕ) (bytes other : List ℕ) → pieces ≡ map (λ r. spelled 1 r) more → AllByRecursion IsSound more → count < length pieces → bytes ≡ get_or pieces count other → (next : Record) × IsNext more count bytes next
+next_record [] pieces count bytes other each sound fits at = let none : length pieces ≡ 0 = ap (λ (ps : List (List ℕ)). length ps) each in absurd (omega (arith, none, fits))
+next_record (r ∷ more) [] count bytes other each sound fits at = absurd (omega (arith, fits))
+next_record (r ∷ more) (piece ∷ pieces) zero bytes other each sound fits at = (r, record { piece = let first : piece ≡ spelled 1 r = cc in at ∙ first; sound = sound.0; taken = refl })
+next_record (r ∷ more) (piece ∷ pieces) (suc count) bytes other each sound fits at =
+    let others : pieces ≡ map (λ q. spelled 1 q) more = cc in
+    let up : suc count + 1 ≡ suc (count + 1) = omega arith in
+    let later = next_record more pieces count bytes other others sound.1 (omega (arith, fits)) at in
+    (later.0, record { piece = later.1.piece; sound = later.1.sound; taken = ap (λ (n : ℕ). take n (r ∷ more)) up ∙ ap (λ (rs : List Record). r ∷ rs) later.1.taken })
+
+-- one more record is spelled behind the others
+list_more : (records : List Record) (r : Record) (before : List (List ℕ)) (bytes : List ℕ) → before ≡ map (λ q. spelled 1 q) records → bytes ≡ spelled 1 r → before ++ bytes ∷ [] ≡ map (λ q. spelled 1 q) (records ++ r ∷ [])
+list_more records r before bytes list same = rw (list, same) (sym (map-append (λ (q : Record). spelled 1 q) records (r ∷ [])))
+
+sound_more : (records : List Record) (r : Record) → AllByRecursion IsSound records → IsSound r → AllByRecursion IsSound (records ++ r ∷ [])
+sound_more records r sound one = All-append IsSound records (r ∷ []) sound (one, tt)
+
+one_more : (records more : List Record) (count : ℕ) (bytes : List ℕ) (next : Record) → IsNext more count bytes next → (records ++ take count more) ++ next ∷ [] ≡ records ++ take (count + 1) more
+one_more records more count bytes next is = append_assoc records (take count more) (next ∷ []) ∙ ap (λ (rs : List Record). records ++ rs) (sym is.taken)
+
+-- where all records are appended, they stand in the journal
+pub all_open : {D : Type 0} (tells : Bool) (content : D → List ℕ) (may_leave : D → List ℕ → Type 0) (records more : List Record) (pieces : List (List ℕ)) (count : ℕ) (journal : JournalView D) → AreSpelled more pieces → length pieces ≤ count → IsOpen tells content may_leave (records ++ take count more) journal → IsOpen tells content may_leave (records ++ more) journal
+all_open tells content may_leave records more pieces count journal spells enough was =
+    let size : length pieces ≡ length more = ap (λ (ps : List (List ℕ)). length ps) spells.each ∙ length-map more (λ r. spelled 1 r) in
+    subst (λ (rs : List Record). IsOpen tells content may_leave (records ++ rs) journal) (take_all count more (omega (arith, enough, size))) was
 
 -- a record more stands in an open journal
-pub open_more : {D : Type 0} (tells : Bool) (content : D → List ℕ) (may_leave : D → List ℕ → Type 0) (records more : List Record) (bytes : List ℕ) (old new : JournalView D) → IsSpelled more (Some bytes) → IsOpen tells content may_leave records old → new.records ≡ old.records ++ bytes ∷ [] → IsTrue new.is_open → (IsTrue tells → Stands (content new.disk) new.records) → (IsTrue tells → (file : List ℕ) → may_leave new.disk file → Stands file new.records) → IsOpen tells content may_leave (records ++ more) new
-open_more tells content may_leave records [] bytes old new spells was appended ready file durable = cc
-open_more tells content may_leave records (r ∷ []) bytes old new spells was appended ready file durable =
-    let both : Some bytes ≡ Some (spelled 1 r) = spells.0 in
-    let same : bytes ≡ spelled 1 r = cc in
-    record {
+pub open_more : {D : Type 0} (tells : Bool) (content : D → List ℕ) (may_leave : D → List ℕ → Type 0) (records more : List Record) (pieces : List (List ℕ)) (count : ℕ) (bytes other : List ℕ) (old new : JournalView D) → AreSpelled more pieces → count < length pieces → bytes ≡ get_or pieces count other → IsOpen tells content may_leave (records ++ take count more) old → new.records ≡ old.records ++ bytes ∷ [] → IsTrue new.is_open → (IsTrue tells → Stands (content new.disk) new.records) → (IsTrue tells → (file : List ℕ) → may_leave new.disk file → Stands file new.records) → IsOpen tells content may_leave (records ++ take (count + 1) more) new
+open_more tells content may_leave records more pieces count bytes other old new spells fits at was appended ready file durable =
+    let next = next_record more pieces count bytes other spells.each spells.sound fits at in
+    subst (λ (rs : List Record). IsOpen tells content may_leave rs new) (one_more records more count bytes next.0 next.1) (record {
       ready = ready;
-      list = λ told. appended ∙ ap (λ (rs : List (List ℕ)). rs ++ bytes ∷ []) (was.list told) ∙ ap (λ (b : List ℕ). map (λ q. spelled 1 q) records ++ b ∷ []) same ∙ sym (spelled_more records r);
-      sound = all_more IsSound records r was.sound spells.1;
+      list = λ told. appended ∙ list_more _ next.0 old.records bytes (was.list told) next.1.piece;
+      sound = sound_more _ next.0 was.sound next.1.sound;
       file = file;
       durable = durable;
-    }
-open_more tells content may_leave records (r ∷ q ∷ more) bytes old new spells was appended ready file durable = absurd spells
+    })
 
--- where there is no record to append, nothing changes
-pub open_same : {D : Type 0} (tells : Bool) (content : D → List ℕ) (may_leave : D → List ℕ → Type 0) (records more : List Record) (journal : JournalView D) → IsSpelled more None → IsOpen tells content may_leave records journal → IsOpen tells content may_leave (records ++ more) journal
-open_same tells content may_leave records [] journal spells was = subst (λ (rs : List Record). IsOpen tells content may_leave rs journal) (sym (append-nil records)) was
-open_same tells content may_leave records (r ∷ []) journal spells was = let clash : None ≡ Some (spelled 1 r) = spells.0 in cc
-open_same tells content may_leave records (r ∷ q ∷ more) journal spells was = absurd spells
+-- a front of the records that were to be added
+front_of : (file : List ℕ) (records more : List Record) (count : ℕ) → IsJournal file (records ++ take count more) → (front : List Record) × (back : List Record) × (more ≡ front ++ back) × IsJournal file (records ++ front)
+front_of file records more count is = (take count more, drop count more, sym (take-append-drop count more), is)
 
--- with or without the record, where the disk failed
-pub left_with_or_without : (tells : Bool) (file : List ℕ) (records more : List Record) (bytes : List ℕ) (before : List (List ℕ)) → IsSpelled more (Some bytes) → AllByRecursion IsSound records → (IsTrue tells → before ≡ map (λ r. spelled 1 r) records) → IsTrue tells → (IsTrue tells → Stands file before) ⊎ (IsTrue tells → Stands file (before ++ bytes ∷ [])) → IsJournal file records ⊎ IsJournal file (records ++ more)
-left_with_or_without tells file records [] bytes before spells sound list told left = cc
-left_with_or_without tells file records (r ∷ []) bytes before spells sound list told (inl without) =
-    inl (record { stands = subst (λ (rs : List (List ℕ)). Stands file rs) (list told) (without told); sound = sound })
-left_with_or_without tells file records (r ∷ []) bytes before spells sound list told (inr with_it) =
-    let both : Some bytes ≡ Some (spelled 1 r) = spells.0 in
-    let same : bytes ≡ spelled 1 r = cc in
-    let grown : before ++ bytes ∷ [] ≡ map (λ q. spelled 1 q) (records ++ r ∷ []) = ap (λ (rs : List (List ℕ)). rs ++ bytes ∷ []) (list told) ∙ ap (λ (b : List ℕ). map (λ q. spelled 1 q) records ++ b ∷ []) same ∙ sym (spelled_more records r) in
-    inr (record { stands = subst (λ (rs : List (List ℕ)). Stands file rs) grown (with_it told); sound = all_more IsSound records r sound spells.1 })
-left_with_or_without tells file records (r ∷ q ∷ more) bytes before spells sound list told left = absurd spells
+-- The disk failed at an append: its file has the records before it, with or without the one.
+left_at : (file : List ℕ) (records more : List Record) (pieces : List (List ℕ)) (count : ℕ) (bytes other : List ℕ) (before : List (List ℕ)) → AreSpelled more pieces → count < length pieces → bytes ≡ get_or pieces count other → before ≡ map (λ r. spelled 1 r) (records ++ take count more) → AllByRecursion IsSound (records ++ take count more) → Stands file before ⊎ Stands file (before ++ bytes ∷ []) → (front : List Record) × (back : List Record) × (more ≡ front ++ back) × IsJournal file (records ++ front)
+left_at file records more pieces count bytes other before spells fits at list sound (inl without) =
+    front_of file records more count (record { stands = subst (λ (rs : List (List ℕ)). Stands file rs) list without; sound = sound })
+left_at file records more pieces count bytes other before spells fits at list sound (inr with_it) =
+    let next = next_record more pieces count bytes other spells.each spells.sound fits at in
+    front_of file records more (count + 1) (subst (λ (rs : List Record). IsJournal file rs) (one_more records more count bytes next.0 next.1) (record {
+      stands = subst (λ (rs : List (List ℕ)). Stands file rs) (list_more _ next.0 before bytes list next.1.piece) with_it;
+      sound = sound_more _ next.0 sound next.1.sound;
+    }))
+
+told_of : {A B : Type 0} (told : Bool) → IsTrue told → (IsTrue told → A) ⊎ (IsTrue told → B) → A ⊎ B
+told_of told is (inl a) = inl (a is)
+told_of told is (inr b) = inr (b is)
 
 -- the file of an open journal is one
 pub journal_of : {D : Type 0} (tells : Bool) (content : D → List ℕ) (may_leave : D → List ℕ → Type 0) (records : List Record) (journal : JournalView D) → IsOpen tells content may_leave records journal → IsTrue tells → IsJournal (content journal.disk) records
@@ -84,7 +108,7 @@ creations_more creations begun = map-append (λ (c : Creation). create_record c)
 entries_more : (entries written : List Entry) → map record_of (entries ++ written) ≡ map record_of entries ++ map record_of written
 entries_more entries written = map-append record_of entries written
 
--- both records stand
+-- the records of both stand
 pub open_both : {D : Type 0} (tells : Bool) (content : D → List ℕ) (may_leave : D → List ℕ → Type 0) (journals : Journals D) (creations begun : List Creation) (entries written : List Entry) → IsOpen tells content may_leave (map (λ c. create_record c) creations ++ map (λ c. create_record c) begun) journals.catalogue → IsOpen tells content may_leave (map record_of entries ++ map record_of written) journals.shard → IsOpen tells content may_leave [] journals.router → AreOpen tells content may_leave journals (creations ++ begun) (entries ++ written)
 open_both tells content may_leave journals creations begun entries written catalogue shard router = record {
   catalogue = subst (λ (rs : List Record). IsOpen tells content may_leave rs journals.catalogue) (sym (creations_more creations begun)) catalogue;
@@ -96,35 +120,45 @@ open_both tells content may_leave journals creations begun entries written catal
 three_files : {D : Type 0} (tells : Bool) (content : D → List ℕ) (journals : Journals D) (creations : List Creation) (entries : List Entry) → IsJournal (content journals.catalogue.disk) (map (λ c. create_record c) creations) → IsJournal (content journals.shard.disk) (map record_of entries) → IsJournal (content journals.router.disk) [] → AreLeft tells content (disks_of journals) creations entries
 three_files tells content journals creations entries catalogue shard router told = record { catalogue_file = _; shard_file = _; router_file = _; three = refl; begun = catalogue; written = shard; nothing = router }
 
--- The catalogue's disk failed: its file has the collection that begins, or hasn't.
-pub part_of_catalogue : {D : Type 0} (tells : Bool) (content : D → List ℕ) (journals : Journals D) (creations begun : List Creation) (entries written : List Entry) → (IsTrue tells → IsJournal (content journals.catalogue.disk) (map (λ c. create_record c) creations) ⊎ IsJournal (content journals.catalogue.disk) (map (λ c. create_record c) creations ++ map (λ c. create_record c) begun)) → (IsTrue tells → IsJournal (content journals.shard.disk) (map record_of entries)) → (IsTrue tells → IsJournal (content journals.router.disk) []) → AreLeftInPart tells content (disks_of journals) creations begun entries written
-part_of_catalogue Bool.true content journals creations begun entries written catalogue shard router = by_file (catalogue refl)
-  where
-    by_file : IsJournal (content journals.catalogue.disk) (map (λ c. create_record c) creations) ⊎ IsJournal (content journals.catalogue.disk) (map (λ c. create_record c) creations ++ map (λ c. create_record c) begun) → AreLeftInPart Bool.true content (disks_of journals) creations begun entries written
-    by_file (inl without) = inl (three_files Bool.true content journals creations entries without (shard refl) (router refl))
-    by_file (inr with_it) = inr (inl (three_files Bool.true content journals (creations ++ begun) entries (subst (λ (rs : List Record). IsJournal (content journals.catalogue.disk) rs) (sym (creations_more creations begun)) with_it) (shard refl) (router refl)))
-part_of_catalogue Bool.false content journals creations begun entries written catalogue shard router = inl (λ told. cc)
+-- a front of what was mapped is that of a front
+front_mapped : {X : Type 0} (f : X → Record) (xs : List X) (front back : List Record) → map f xs ≡ front ++ back → (first : List X) × (others : List X) × (xs ≡ first ++ others) × (front ≡ map f first)
+front_mapped f xs [] back split = ([], xs, refl, refl)
+front_mapped f [] (r ∷ front) back split = cc
+front_mapped f (x ∷ xs) (r ∷ front) back split =
+    let first : f x ≡ r = cc in
+    let rest : map f xs ≡ front ++ back = cc in
+    let others = front_mapped f xs front back rest in
+    (x ∷ others.0, others.1, ap (λ (ys : List _). x ∷ ys) others.2, ap (λ (q : Record). q ∷ front) (sym first) ∙ ap (λ (rs : List Record). f x ∷ rs) others.3)
 
--- The shard's disk failed: the collection that begins stands, and its file has the entry, or hasn't.
-pub part_of_shard : {D : Type 0} (tells : Bool) (content : D → List ℕ) (journals : Journals D) (creations begun : List Creation) (entries written : List Entry) → (IsTrue tells → IsJournal (content journals.catalogue.disk) (map (λ c. create_record c) creations ++ map (λ c. create_record c) begun)) → (IsTrue tells → IsJournal (content journals.shard.disk) (map record_of entries) ⊎ IsJournal (content journals.shard.disk) (map record_of entries ++ map record_of written)) → (IsTrue tells → IsJournal (content journals.router.disk) []) → AreLeftInPart tells content (disks_of journals) creations begun entries written
-part_of_shard Bool.true content journals creations begun entries written catalogue shard router = by_file (shard refl)
-  where
-    begins : IsJournal (content journals.catalogue.disk) (map (λ c. create_record c) (creations ++ begun))
-    begins = subst (λ (rs : List Record). IsJournal (content journals.catalogue.disk) rs) (sym (creations_more creations begun)) (catalogue refl)
+-- The catalogue's disk failed: its file has a front of the collections that begin.
+pub part_of_catalogue : {D : Type 0} (tells : Bool) (content : D → List ℕ) (journals : Journals D) (creations begun : List Creation) (entries written : List Entry) → HasInPart tells (content journals.catalogue.disk) (map (λ c. create_record c) creations) (map (λ c. create_record c) begun) → (IsTrue tells → IsJournal (content journals.shard.disk) (map record_of entries)) → (IsTrue tells → IsJournal (content journals.router.disk) []) → AreLeftInPart tells content (disks_of journals) creations begun entries written
+part_of_catalogue Bool.true content journals creations begun entries written catalogue shard router =
+    let part = catalogue refl in
+    let first = front_mapped (λ (c : Creation). create_record c) begun part.0 part.1 part.2 in
+    let same : map (λ c. create_record c) creations ++ part.0 ≡ map (λ c. create_record c) (creations ++ first.0) = ap (λ (rs : List Record). map (λ c. create_record c) creations ++ rs) first.3 ∙ sym (creations_more creations first.0) in
+    inl (first.0, first.1, first.2, three_files Bool.true content journals (creations ++ first.0) entries (subst (λ (rs : List Record). IsJournal (content journals.catalogue.disk) rs) same part.3) (shard refl) (router refl))
+part_of_catalogue Bool.false content journals creations begun entries written catalogue shard router = inl ([], begun, refl, λ told. cc)
 
-    by_file : IsJournal (content journals.shard.disk) (map record_of entries) ⊎ IsJournal (content journals.shard.disk) (map record_of entries ++ map record_of written) → AreLeftInPart Bool.true content (disks_of journals) creations begun entries written
-    by_file (inl without) = inr (inl (three_files Bool.true content journals (creations ++ begun) entries begins without (router refl)))
-    by_file (inr with_it) = inr (inr (three_files Bool.true content journals (creations ++ begun) (entries ++ written) begins (subst (λ (rs : List Record). IsJournal (content journals.shard.disk) rs) (sym (entries_more entries written)) with_it) (router refl)))
-part_of_shard Bool.false content journals creations begun entries written catalogue shard router = inl (λ told. cc)
+-- The shard's disk failed: the collections that begin stand, and its file has a front of the entries.
+pub part_of_shard : {D : Type 0} (tells : Bool) (content : D → List ℕ) (journals : Journals D) (creations begun : List Creation) (entries written : List Entry) → (IsTrue tells → IsJournal (content journals.catalogue.disk) (map (λ c. create_record c) creations ++ map (λ c. create_record c) begun)) → HasInPart tells (content journals.shard.disk) (map record_of entries) (map record_of written) → (IsTrue tells → IsJournal (content journals.router.disk) []) → AreLeftInPart tells content (disks_of journals) creations begun entries written
+part_of_shard Bool.true content journals creations begun entries written catalogue shard router =
+    let part = shard refl in
+    let first = front_mapped record_of written part.0 part.1 part.2 in
+    let same : map record_of entries ++ part.0 ≡ map record_of (entries ++ first.0) = ap (λ (rs : List Record). map record_of entries ++ rs) first.3 ∙ sym (entries_more entries first.0) in
+    let begins = subst (λ (rs : List Record). IsJournal (content journals.catalogue.disk) rs) (sym (creations_more creations begun)) (catalogue refl) in
+    inr (first.0, first.1, first.2, three_files Bool.true content journals (creations ++ begun) (entries ++ first.0) begins (subst (λ (rs : List Record). IsJournal (content journals.shard.disk) rs) same part.3) (router refl))
+part_of_shard Bool.false content journals creations begun entries written catalogue shard router = inr ([], written, refl, λ told. cc)
 
 pub on_any_err : {T E : Type 0} {P : Type 0} (r : Result T E) → P → OnErr r P
 on_any_err (Ok x) p = tt
 on_any_err (Err e) p = p
 
--- what an append that failed left
-pub by_fault : {D : Type 0} (tells : Bool) (content : D → List ℕ) (may_leave : D → List ℕ → Type 0) (e : LogFault) (records more : List Record) (old new : JournalView D) → IsOpen tells content may_leave records old → ByFault e (λ faults. IsTrue tells → IsJournal (content new.disk) records ⊎ IsJournal (content new.disk) (records ++ more)) (new ≡ old) → IsTrue tells → IsJournal (content new.disk) records ⊎ IsJournal (content new.disk) (records ++ more)
-by_fault tells content may_leave (Disk faults) records more old new is failed told = failed told
-by_fault {D = D} tells content may_leave Memory records more old new is same told = inl (subst (λ (j : JournalView D). IsJournal (content j.disk) records) (sym same) (journal_of tells content may_leave records old is told))
+-- What an append that failed left: a front of the records.
+pub left_in_part : {D : Type 0} (tells : Bool) (content : D → List ℕ) (may_leave : D → List ℕ → Type 0) (e : LogFault) (records more : List Record) (pieces : List (List ℕ)) (count : ℕ) (bytes other : List ℕ) (old new : JournalView D) → AreSpelled more pieces → count < length pieces → bytes ≡ get_or pieces count other → IsOpen tells content may_leave (records ++ take count more) old → ByFault e (λ faults. WithOrWithout (λ rs. IsTrue tells → Stands (content new.disk) rs) old.records bytes) (new ≡ old) → HasInPart tells (content new.disk) records more
+left_in_part tells content may_leave (Disk faults) records more pieces count bytes other old new spells fits at is failed told =
+    left_at (content new.disk) records more pieces count bytes other old.records spells fits at (is.list told) is.sound (told_of tells told failed)
+left_in_part {D = D} tells content may_leave Memory records more pieces count bytes other old new spells fits at is same told =
+    front_of (content new.disk) records more count (subst (λ (j : JournalView D). IsJournal (content j.disk) (records ++ take count more)) (sym same) (journal_of tells content may_leave (records ++ take count more) old is told))
 
 -- an empty file has no records
 pub nothing : (file : List ℕ) → file ≡ [] → Stands file []

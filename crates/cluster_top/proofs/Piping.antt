@@ -1,11 +1,12 @@
 -- How `pipe` ends.
-use Rattle.std.specs.Prelude.{◌≡◌, ◌≢◌, ℕ, Bool, IsTrue, List, [], ◌∷◌, length}
+use Rattle.std.specs.Prelude.{◌≡◌, ◌≢◌, ℕ, Option, None, Bool, IsTrue, List, [], ◌∷◌, length}
 use Rattle.std.proofs.Common.{refl, sym, subst, inl, inr, arith}
 use Rattle.outside.specs.Streams.{Took, Put}
-use Rattle.wire_model.specs.Messages.{Message}
-use Rattle.wire_model.specs.Frames.{no_header}
-use Rattle.history_model.specs.Exchange.{Exchange}
-use Rattle.history_model.specs.Machine.{empty_store, nothing_more, leaves_all}
+use Rattle.frame_model.specs.Requests.{Request}
+use Rattle.frame_model.specs.Outline.{FrameFault}
+use Rattle.frame_model.specs.Frames.{ends}
+use Rattle.service_model.specs.Exchange.{Exchange}
+use Rattle.service_model.specs.Machine.{empty_store, nothing_more, leaves_all}
 use Rattle.cluster_top.specs.Headline.{SomeAnswered, Cause, input_ended, read_failed, write_failed, disk_failed_call, no_memory, no_request, too_long, Told, Machine}
 use Rattle.cluster_top.specs.Journals.{Keep}
 use Rattle.cluster_top.specs.Opening.{AllEmpty, IsEmptyAll, SomeFile}
@@ -15,7 +16,7 @@ use Rattle.cluster_top.proofs.Endings.{told_by}
 use Rattle.cluster_top.proofs.Opened.{no_journal}
 
 -- nothing was served
-pub untouched_machine : (told : Told) (gives : ℕ → Type 0) (limit status rest known : ℕ) → status ≡ known → rest ≡ 0 → Took told.source_tells told.left_before [] told.left_after → Put told.sink_tells told.held_before [] told.held_after → (IsTrue told.disks_tell → Keep told.files [] []) → (SomeAnswered [] [] [] → Cause limit (IsTrue told.source_tells → told.left_after ≡ []) told.source_failed told.sink_failed told.disk_failed [] [] [] [] [] known) → Machine told gives limit status rest
+pub untouched_machine : (told : Told) (gives : ℕ → Type 0) (limit status rest known : ℕ) → status ≡ known → rest ≡ 0 → Took told.source_tells told.left_before [] told.left_after → Put told.sink_tells told.held_before [] told.held_after → (IsTrue told.disks_tell → Keep told.files [] []) → (SomeAnswered [] [] [] → Cause limit (IsTrue told.source_tells → told.left_after ≡ []) told.source_failed told.sink_failed told.disk_failed [] [] [] [] None known) → Machine told gives limit status rest
 untouched_machine told gives limit status rest known is none took put files cause = (
   [],
   [],
@@ -26,16 +27,17 @@ untouched_machine told gives limit status rest known is none took put files caus
     conversation = record {
       requests = [];
       left = [];
-      frames = record { whole = refl; each = tt; ends = inl (no_header (omega arith)) };
+      fault = None;
+      frames = ends 0 [] refl;
       rest_left = none;
       most = omega arith;
       turns = tt;
-      cause = subst (λ (n : ℕ). Cause limit (IsTrue told.source_tells → told.left_after ≡ []) told.source_failed told.sink_failed told.disk_failed [] [] [] [] [] n) (sym is) (cause (record { unanswered = []; asked = refl; replied = ([], refl) }));
+      cause = subst (λ (n : ℕ). Cause limit (IsTrue told.source_tells → told.left_after ≡ []) told.source_failed told.sink_failed told.disk_failed [] [] [] [] None n) (sym is) (cause (record { unanswered = []; asked = refl; replied = ([], refl) }));
     };
   },
   [],
   [],
-  record { replied = []; under_way = []; all = refl; moments = []; given = tt; end = empty_store; runs = nothing_more empty_store; leaves = leaves_all },
+  record { replied = []; under_way = []; all = refl; whole = inl refl; moments = []; given = tt; end = empty_store; runs = nothing_more empty_store; leaves = leaves_all },
   files,
 )
 
@@ -45,7 +47,7 @@ unopened_machine told gives limit status rest troubles.Disk disk damaged memory 
 unopened_machine told gives limit status rest troubles.Damaged disk damaged memory other none took put files failed = absurd (other (damaged refl))
 unopened_machine told gives limit status rest troubles.Memory disk damaged memory other none took put files failed = untouched_machine told gives limit status rest 7 (memory refl) none took put files (λ some. no_memory some)
 
-weaker_cause : (limit : ℕ) (at_end source_failed sink_failed disk_failed other : Type 0) (taken put : List ℕ) (said : List Exchange) (requests : List Message) (rest : List ℕ) (status : ℕ) → (disk_failed → other) → Cause limit at_end source_failed sink_failed disk_failed taken put said requests rest status → Cause limit at_end source_failed sink_failed other taken put said requests rest status
+weaker_cause : (limit : ℕ) (at_end source_failed sink_failed disk_failed other : Type 0) (taken put : List ℕ) (said : List Exchange) (requests : List Request) (fault : Option (FrameFault × ℕ)) (status : ℕ) → (disk_failed → other) → Cause limit at_end source_failed sink_failed disk_failed taken put said requests fault status → Cause limit at_end source_failed sink_failed other taken put said requests fault status
 weaker_cause l a f w d o t p s r b status weaker (input_ended x y z v) = input_ended x y z v
 weaker_cause l a f w d o t p s r b status weaker (read_failed x y z v) = read_failed x y z v
 weaker_cause l a f w d o t p s r b status weaker (write_failed x y) = write_failed x y
@@ -66,6 +68,7 @@ machine_of_more st l l' f f' sk h h' e e' dt d o files gives limit status rest w
     conversation = record {
       requests = m.3.conversation.requests;
       left = m.3.conversation.left;
+      fault = m.3.conversation.fault;
       frames = m.3.conversation.frames;
       rest_left = m.3.conversation.rest_left;
       most = m.3.conversation.most;

@@ -1,35 +1,54 @@
 -- How a connection goes on.
-use Rattle.std.specs.Prelude.{Option, Some, None, IsSome}
-use Rattle.std.proofs.Common.{◌≡◌, inl, inr, ℕ, ◌+◌, ◌*◌, Bool, List, [], ◌∷◌, ◌++◌, length, take, drop, refl, ap, sym, ◌∙◌, subst, arith, append_assoc, append-nil, length-append}
-use Rattle.std.specs.List.{flat_map, AllByRecursion}
-use Rattle.std.proofs.Math.Seq.{take-append_seam}
+use Rattle.std.specs.Prelude.{Bool, true, false, Option, Some, None, IsSome, pos, ◌%◌, ◌^◌, if◌then◌else◌}
+use Rattle.std.proofs.Common.{◌≡◌, ◌⊎◌, inl, inr, ℕ, ◌+◌, ◌*◌, List, [], ◌∷◌, ◌++◌, length, take, drop, refl, ap, sym, ◌∙◌, subst, arith, append_assoc, append-nil, length-append}
+use Rattle.std.specs.List.{AllByRecursion}
+use Rattle.std.specs.Prelude.{Result, Ok, Err}
 use Rattle.std.proofs.lemmas.List.{map-append, take-append-drop}
 use Rattle.std.proofs.lemmas.Grind.{flat_map-append}
 use Rattle.document_model.specs.Tree.{Members}
-use Rattle.wire_model.specs.Messages.{Message, message_bytes, IsRequest}
-use Rattle.wire_model.specs.Spoken.{reply_message}
-use Rattle.wire_model.specs.Outline.{request_in, HasRequest}
+use Rattle.frame_model.specs.Requests.{Request, IsRequest}
+use Rattle.frame_model.specs.Replies.{reply_bytes}
 use Rattle.history_model.specs.Catalogue.{Creation}
-use Rattle.history_model.specs.Command.{Command, Asks}
-use Rattle.history_model.specs.Exchange.{Exchange, answered, spoken, InTurn}
+use Rattle.history_model.specs.Command.{Refusal}
 use Rattle.history_model.specs.History.{Entry}
-use Rattle.history_model.specs.Machine.{Store, Runs, reply_to, store_after, begun_by, written_by, Leaves, leaves_all, leaves_nothing, leaves_begun, leaves_written}
-use Rattle.history_model.proofs.Growing.{runs_push, runs_answered, spoken_more, spoken_silence}
+use Rattle.command_model.specs.Command.{Command, hello_command, legacy_command, ping_command, end_sessions_command, insert_command, find_command}
+use Rattle.command_model.specs.Answers.{answer_document}
+use Rattle.service_model.specs.Asking.{wanted_by}
+use Rattle.service_model.specs.Exchange.{Exchange, answered, spoken, InTurn}
+use Rattle.service_model.specs.Machine.{Store, has_collection, risen, answer_to, reply_if, store_after, begun_by, written_by, Leaves, leaves_all, leaves_nothing, leaves_some}
+use Rattle.service_model.proofs.Growing.{runs_push, answered_push, answered_silence, spoken_more, spoken_silence}
 use Rattle.outside.specs.Streams.{Put}
 use Rattle.outside.proofs.Relations.{put_then}
-use Rattle.cluster_top.specs.Answers.{IsAnswered, own_number}
-use Rattle.cluster_top.specs.Headline.{requests_of}
+use Rattle.command_store.specs.Served.{own_number}
+use Rattle.cluster_top.specs.Answers.{IsAnswered, reply_for, replies_after}
+use Rattle.cluster_top.specs.Headline.{requests_of, IsReplied}
 use Rattle.cluster_top.specs.Opened.{AreLeft, AreLeftInPart}
 use Rattle.cluster_top.specs.Serving.{Counted, Asked, Went, Serving, Stopped}
 use Rattle.cluster_top.specs.declared.server.Answer.{Answer}
 use Rattle.cluster_top.specs.declared.server.Server.{Server}
-use Rattle.cluster_top.proofs.Frames.{all_more}
+use Rattle.cluster_top.proofs.Frames.{all_more, bytes_of}
 
 -- the exchange of the request that comes after so many
-abbrev pub exchange_of : ℕ → Message → Option Members → Exchange
+abbrev pub exchange_of : ℕ → Request → Option Members → Exchange
 exchange_of n m reply = record { router = 2; life = 1; count = n + 1; came = 2 * n; step = 2 * n + 1; request = m; reply = reply }
 
-counted_more : (k n : ℕ) (said : List Exchange) (m : Message) (reply : Option Members) → Counted k said → n ≡ k + length said → Counted k (said ++ exchange_of n m reply ∷ [])
+-- the document that answers it at a moment
+abbrev pub document_for : Store → ℕ → ℕ → Request → Members
+document_for plain moment n m = answer_document (answer_to plain moment (λ index. own_number (n + 1) index) (wanted_by m))
+
+-- the store after it
+abbrev pub after_for : Store → ℕ → ℕ → Request → Store
+after_for plain moment n m = store_after plain moment (λ index. own_number (n + 1) index) (wanted_by m)
+
+-- the entries that it writes
+abbrev pub entries_for : Store → ℕ → ℕ → Request → List Entry
+entries_for plain moment n m = written_by plain moment (λ index. own_number (n + 1) index) (wanted_by m)
+
+-- its exchange when it was served
+abbrev pub exchange_for : Store → ℕ → ℕ → Request → Exchange
+exchange_for plain moment n m = exchange_of n m (reply_if m.more (document_for plain moment n m))
+
+counted_more : (k n : ℕ) (said : List Exchange) (m : Request) (reply : Option Members) → Counted k said → n ≡ k + length said → Counted k (said ++ exchange_of n m reply ∷ [])
 counted_more k n [] m reply counted at = let same : n ≡ k = omega arith in (refl, refl, omega arith, omega arith, omega arith, tt)
 counted_more k n (x ∷ said) m reply counted at = (counted.0, counted.1, counted.2, counted.3, counted.4, counted_more (k + 1) n said m reply counted.5 (omega arith))
 
@@ -42,74 +61,133 @@ in_turn k (x ∷ said) counted =
     (counted.0, counted.1, counted.2, omega (arith, counted.3), omega (arith, counted.3, counted.4), subst (λ (n : ℕ). InTurn n (k + 1 + 1) said) same later)
 
 -- one request more was asked
-pub asked_more : (bytes part : List ℕ) (said : List Exchange) (n : ℕ) (m : Message) (reply : Option Members) → Asked bytes said → n ≡ length said → IsRequest m → part ≡ message_bytes m → Asked (bytes ++ part) (said ++ exchange_of n m reply ∷ [])
-asked_more bytes part said n m reply was count valid spelled =
+pub asked_more : (bytes : List ℕ) (said : List Exchange) (n : ℕ) (m : Request) (reply : Option Members) → Asked bytes said → n ≡ length said → IsRequest m → Asked (bytes ++ m.bytes) (said ++ exchange_of n m reply ∷ [])
+asked_more bytes said n m reply was count valid =
     let more : requests_of (said ++ exchange_of n m reply ∷ []) ≡ requests_of said ++ m ∷ [] = map-append (λ (y : Exchange). y.request) said (exchange_of n m reply ∷ []) in
     record {
       counted = counted_more 0 n said m reply was.counted (omega (arith, count));
-      requests = ap (λ (b : List ℕ). b ++ part) was.requests ∙ ap (λ (b : List ℕ). flat_map message_bytes (requests_of said) ++ b) (spelled ∙ sym (append-nil (message_bytes m))) ∙ sym (flat_map-append message_bytes (requests_of said) (m ∷ [])) ∙ ap (λ (ms : List Message). flat_map message_bytes ms) (sym more);
-      each = subst (λ (ms : List Message). AllByRecursion IsRequest ms) (sym more) (all_more IsRequest (requests_of said) m was.each valid);
+      requests = ap (λ (b : List ℕ). b ++ m.bytes) was.requests ∙ ap (λ (b : List ℕ). bytes_of (requests_of said) ++ b) (sym (append-nil m.bytes)) ∙ sym (flat_map-append (λ (r : Request). r.bytes) (requests_of said) (m ∷ [])) ∙ ap (λ (ms : List Request). bytes_of ms) (sym more);
+      each = subst (λ (ms : List Request). AllByRecursion IsRequest ms) (sym more) (all_more IsRequest (requests_of said) m was.each valid);
     }
 
+reply_wanted : (more : Bool) (d : Members) → more ≡ false → IsSome (reply_if more d)
+reply_wanted true d wanted = cc
+reply_wanted false d wanted = refl
+
 -- the plain store goes through one exchange more
-pub went_on : (gives : ℕ → Type 0) (bytes part : List ℕ) (said : List Exchange) (plain : Store) (n moment : ℕ) (m : Message) (command : Command) → Went gives bytes said plain → n ≡ length said → gives moment → Asks m.body command → IsRequest m → part ≡ message_bytes m → Went gives (bytes ++ part) (said ++ exchange_of n m (Some (reply_to plain moment command)) ∷ []) (store_after plain moment (own_number (n + 1)) command)
-went_on gives bytes part said plain n moment m command went count given asks valid spelled =
-    let x : Exchange = exchange_of n m (Some (reply_to plain moment command)) in
+pub went_on : (gives : ℕ → Type 0) (bytes : List ℕ) (said : List Exchange) (plain : Store) (n moment : ℕ) (m : Request) → Went gives bytes said plain → n ≡ length said → gives moment → IsRequest m → Went gives (bytes ++ m.bytes) (said ++ exchange_for plain moment n m ∷ []) (after_for plain moment n m)
+went_on gives bytes said plain n moment m went count given valid =
+    let x : Exchange = exchange_for plain moment n m in
     record {
       moments = went.moments ++ moment ∷ [];
       given = all_more gives went.moments moment went.given given;
-      runs = runs_push went.runs moment command x asks refl;
-      asked = asked_more bytes part said n m (Some (reply_to plain moment command)) went.asked count valid spelled;
-      replied = all_more (λ (y : Exchange). IsSome y.reply) said x went.replied refl;
+      runs = runs_push went.runs moment x refl;
+      asked = asked_more bytes said n m x.reply went.asked count valid;
+      replied = all_more IsReplied said x went.replied (reply_wanted m.more (document_for plain moment n m));
     }
 
--- a request at the front is those bytes
-pub request_part : (whole : ℕ) (bytes : List ℕ) → HasRequest whole bytes → take whole bytes ≡ message_bytes (request_in whole bytes)
-request_part whole bytes front =
-    let m : Message = request_in whole bytes in
-    let size : whole ≡ length (message_bytes m) = omega (arith, front.size) in
-    ap (λ (b : List ℕ). take whole b) front.whole ∙ ap (λ (n : ℕ). take n (message_bytes m ++ drop whole bytes)) size ∙ take-append_seam (message_bytes m) (drop whole bytes)
+-- what the bytes of a reply, or none, say
+told_by_more : (more : Bool) (whole bytes : List ℕ) → (if more then None else Some whole) ≡ Some bytes → (more ≡ false) × (bytes ≡ whole)
+told_by_more true whole bytes e = cc
+told_by_more false whole bytes e = let same : whole ≡ bytes = cc in (refl, sym same)
+
+silent_by_more : (more : Bool) (whole : List ℕ) → (if more then None else Some whole) ≡ None → more ≡ true
+silent_by_more true whole e = refl
+silent_by_more false whole e = cc
+
+reply_told : (more : Bool) (d : Members) → more ≡ false → reply_if more d ≡ Some d
+reply_told true d e = cc
+reply_told false d e = refl
+
+reply_silent : (more : Bool) (d : Members) → more ≡ true → reply_if more d ≡ None
+reply_silent true d e = refl
+reply_silent false d e = cc
+
+replies_told : (more : Bool) (k : ℕ) → more ≡ false → replies_after more k ≡ k + 1
+replies_told true k e = cc
+replies_told false k e = refl
+
+replies_silent : (more : Bool) (k : ℕ) → more ≡ true → replies_after more k ≡ k
+replies_silent true k e = refl
+replies_silent false k e = cc
 
 -- what is spoken after one answer more
-spoken_after : (said : List Exchange) (n : ℕ) (m : Message) (document : Members) (reply : List ℕ) {start end : Store} {moments : List ℕ} → Runs start moments said end → n ≡ length said → reply ≡ message_bytes (reply_message (n + 1) m document) → spoken (said ++ exchange_of n m (Some document) ∷ []) ≡ spoken said ++ reply
-spoken_after said n m document reply runs at spelled =
-    let count : 1 + length (answered said) ≡ n + 1 = omega (arith, runs_answered runs, at) in
-    spoken_more said (exchange_of n m (Some document)) document refl ∙ ap (λ (i : ℕ). spoken said ++ message_bytes (reply_message i m document)) count ∙ ap (λ (b : List ℕ). spoken said ++ b) (sym spelled)
+pub spoken_told : (said : List Exchange) (n replied : ℕ) (m : Request) (d : Members) (reply : List ℕ) → replied ≡ length (answered said) → reply_for m (replied + 1) d ≡ Some reply → spoken (said ++ exchange_of n m (reply_if m.more d) ∷ []) ≡ spoken said ++ reply
+spoken_told said n replied m d reply count told =
+    let parts = told_by_more m.more (reply_bytes m.form m.id (pos ((replied + 1) % 2 ^ 31)) d) reply told in
+    let number : 1 + length (answered said) ≡ replied + 1 = omega (arith, count) in
+    spoken_more said (exchange_of n m (reply_if m.more d)) d (reply_told m.more d parts.0)
+    ∙ ap (λ (i : ℕ). spoken said ++ reply_bytes m.form m.id (pos (i % 2 ^ 31)) d) number ∙ ap (λ (b : List ℕ). spoken said ++ b) (sym parts.1)
 
--- one request is answered
-pub served_one : (gives : ℕ → Type 0) (tells : Bool) (held_before held held' : List ℕ) (kept kept' : List Creation → List Entry → Type 0) (consumed part : List ℕ) (server server' : Server) (moment : ℕ) (m : Message) (answer : Answer) → (s : Serving gives tells held_before held kept consumed server) (a : IsAnswered s.plain moment m server server' answer) → gives moment → IsRequest m → part ≡ message_bytes m → server'.answered ≡ server.answered + 1 → Put tells held answer.reply held' → kept' (s.plain.creations ++ begun_by s.plain moment a.command) (s.plain.entries ++ written_by s.plain moment (own_number (server.answered + 1)) a.command) → Serving gives tells held_before held' kept' (consumed ++ part) server'
-served_one gives tells held_before held held' kept kept' consumed part server server' moment m answer s a given valid spelled counted put journals =
-    let x : Exchange = exchange_of server.answered m (Some (reply_to s.plain moment a.command)) in
-    let told : spoken (s.said ++ x ∷ []) ≡ spoken s.said ++ answer.reply = spoken_after s.said server.answered m (reply_to s.plain moment a.command) answer.reply s.went.runs s.answered a.reply in
+pub spoken_nothing : (said : List Exchange) (n replied : ℕ) (m : Request) (d : Members) → reply_for m (replied + 1) d ≡ None → spoken (said ++ exchange_of n m (reply_if m.more d) ∷ []) ≡ spoken said ++ []
+spoken_nothing said n replied m d none =
+    let more : m.more ≡ true = silent_by_more m.more _ none in
+    spoken_silence said (exchange_of n m (reply_if m.more d)) (reply_silent m.more d more) ∙ sym (append-nil (spoken said))
+
+-- how many replies there are then
+replied_told : (said : List Exchange) (n replied : ℕ) (m : Request) (d : Members) (reply : List ℕ) → replied ≡ length (answered said) → reply_for m (replied + 1) d ≡ Some reply → replies_after m.more replied ≡ length (answered (said ++ exchange_of n m (reply_if m.more d) ∷ []))
+replied_told said n replied m d reply count told =
+    let parts = told_by_more m.more (reply_bytes m.form m.id (pos ((replied + 1) % 2 ^ 31)) d) reply told in
+    let one : length (answered (said ++ exchange_of n m (reply_if m.more d) ∷ [])) ≡ length (answered said) + 1 = ap length (answered_push said (exchange_of n m (reply_if m.more d)) d (reply_told m.more d parts.0)) ∙ length-append (answered said) ((m, d) ∷ []) in
+    omega (arith, replies_told m.more replied parts.0, count, one)
+
+replied_silent : (said : List Exchange) (n replied : ℕ) (m : Request) (d : Members) → replied ≡ length (answered said) → reply_for m (replied + 1) d ≡ None → replies_after m.more replied ≡ length (answered (said ++ exchange_of n m (reply_if m.more d) ∷ []))
+replied_silent said n replied m d count none =
+    let more : m.more ≡ true = silent_by_more m.more _ none in
+    let same : length (answered (said ++ exchange_of n m (reply_if m.more d) ∷ [])) ≡ length (answered said) = ap length (answered_silence said (exchange_of n m (reply_if m.more d)) (reply_silent m.more d more)) in
+    omega (arith, replies_silent m.more replied more, count, same)
+
+-- no reply
+pub no_reply : (reply : Option (List ℕ)) → ((bytes : List ℕ) → reply ≡ Some bytes → ⊥) → reply ≡ None
+no_reply None never = refl
+no_reply (Some bytes) never = absurd (never bytes refl)
+
+-- one request is served, and these bytes were put
+served_with : (gives : ℕ → Type 0) (tells : Bool) (held_before held held' : List ℕ) (kept kept' : List Creation → List Entry → Type 0) (consumed : List ℕ) (server server' : Server) (moment : ℕ) (m : Request) (answer : Answer) (put : List ℕ) → (s : Serving gives tells held_before held kept consumed server) (a : IsAnswered s.plain moment m server server' answer) → gives moment → IsRequest m → server'.taken ≡ server.taken + 1 → server'.replied ≡ length (answered (s.said ++ exchange_for s.plain moment server.taken m ∷ [])) → spoken (s.said ++ exchange_for s.plain moment server.taken m ∷ []) ≡ spoken s.said ++ put → Put tells held put held' → kept' (s.plain.creations ++ begun_by s.plain moment (wanted_by m)) (s.plain.entries ++ entries_for s.plain moment server.taken m) → Serving gives tells held_before held' kept' (consumed ++ m.bytes) server'
+served_with gives tells held_before held held' kept kept' consumed server server' moment m answer put s a given valid counted replied told puts journals =
+    let x : Exchange = exchange_for s.plain moment server.taken m in
     record {
       said = s.said ++ x ∷ [];
-      plain = store_after s.plain moment (own_number (server.answered + 1)) a.command;
-      went = went_on gives consumed part s.said s.plain server.answered moment m a.command s.went s.answered given a.asked valid spelled;
-      put = subst (λ (b : List ℕ). Put tells held_before b held') (sym told) (put_then tells held_before (spoken s.said) held answer.reply held' s.put put);
+      plain = after_for s.plain moment server.taken m;
+      went = went_on gives consumed s.said s.plain server.taken moment m s.went s.taken given valid;
+      put = subst (λ (b : List ℕ). Put tells held_before b held') (sym told) (put_then tells held_before (spoken s.said) held put held' s.put puts);
       store = a.after;
-      answered = counted ∙ ap (λ (n : ℕ). n + 1) s.answered ∙ sym (length-append s.said (x ∷ []));
+      taken = counted ∙ ap (λ (n : ℕ). n + 1) s.taken ∙ sym (length-append s.said (x ∷ []));
+      replied = replied;
       journals = journals;
     }
 
+-- one request is answered
+pub served_one : (gives : ℕ → Type 0) (tells : Bool) (held_before held held' : List ℕ) (kept kept' : List Creation → List Entry → Type 0) (consumed : List ℕ) (server server' : Server) (moment : ℕ) (m : Request) (answer : Answer) (reply : List ℕ) → (s : Serving gives tells held_before held kept consumed server) (a : IsAnswered s.plain moment m server server' answer) → answer.reply ≡ Some reply → gives moment → IsRequest m → server'.taken ≡ server.taken + 1 → server'.replied ≡ replies_after m.more server.replied → Put tells held reply held' → kept' (s.plain.creations ++ begun_by s.plain moment (wanted_by m)) (s.plain.entries ++ entries_for s.plain moment server.taken m) → Serving gives tells held_before held' kept' (consumed ++ m.bytes) server'
+served_one gives tells held_before held held' kept kept' consumed server server' moment m answer reply s a some given valid counted replied puts journals =
+    let told = sym a.reply ∙ some in
+    served_with gives tells held_before held held' kept kept' consumed server server' moment m answer reply s a given valid counted (replied ∙ replied_told s.said server.taken server.replied m (document_for s.plain moment server.taken m) reply s.replied told) (spoken_told s.said server.taken server.replied m (document_for s.plain moment server.taken m) reply s.replied told) puts journals
+
+-- one request is served that wants no reply
+pub served_silent : (gives : ℕ → Type 0) (tells : Bool) (held_before held : List ℕ) (kept kept' : List Creation → List Entry → Type 0) (consumed : List ℕ) (server server' : Server) (moment : ℕ) (m : Request) (answer : Answer) → (s : Serving gives tells held_before held kept consumed server) (a : IsAnswered s.plain moment m server server' answer) → answer.reply ≡ None → gives moment → IsRequest m → server'.taken ≡ server.taken + 1 → server'.replied ≡ replies_after m.more server.replied → kept' (s.plain.creations ++ begun_by s.plain moment (wanted_by m)) (s.plain.entries ++ entries_for s.plain moment server.taken m) → Serving gives tells held_before held kept' (consumed ++ m.bytes) server'
+served_silent gives tells held_before held kept kept' consumed server server' moment m answer s a none given valid counted replied journals =
+    let told = sym a.reply ∙ none in
+    served_with gives tells held_before held held kept kept' consumed server server' moment m answer [] s a given valid counted (replied ∙ replied_silent s.said server.taken server.replied m (document_for s.plain moment server.taken m) s.replied told) (spoken_nothing s.said server.taken server.replied m (document_for s.plain moment server.taken m) told) (λ is. sym (append-nil held)) journals
+
 -- a front of its reply is put
-pub stopped_one : (gives : ℕ → Type 0) (tells : Bool) (held_before held held' : List ℕ) (kept kept' : List Creation → List Entry → Type 0) (consumed part : List ℕ) (server server' : Server) (moment : ℕ) (m : Message) (answer : Answer) (count : ℕ) → (s : Serving gives tells held_before held kept consumed server) (a : IsAnswered s.plain moment m server server' answer) → gives moment → IsRequest m → part ≡ message_bytes m → Put tells held (take count answer.reply) held' → kept' (s.plain.creations ++ begun_by s.plain moment a.command) (s.plain.entries ++ written_by s.plain moment (own_number (server.answered + 1)) a.command) → Stopped gives tells held_before held' kept' (consumed ++ part)
-stopped_one gives tells held_before held held' kept kept' consumed part server server' moment m answer count s a given valid spelled put journals =
-    let reply : List ℕ = answer.reply in
-    let x : Exchange = exchange_of server.answered m (Some (reply_to s.plain moment a.command)) in
-    let told : spoken (s.said ++ x ∷ []) ≡ spoken s.said ++ reply = spoken_after s.said server.answered m (reply_to s.plain moment a.command) reply s.went.runs s.answered a.reply in
-    let went = went_on gives consumed part s.said s.plain server.answered moment m a.command s.went s.answered given a.asked valid spelled in
+pub stopped_one : (status : ℕ) (gives : ℕ → Type 0) (tells : Bool) (held_before held held' : List ℕ) (kept kept' : List Creation → List Entry → Type 0) (consumed : List ℕ) (server server' : Server) (moment : ℕ) (m : Request) (answer : Answer) (reply : List ℕ) (count : ℕ) → (s : Serving gives tells held_before held kept consumed server) (a : IsAnswered s.plain moment m server server' answer) → answer.reply ≡ Some reply → gives moment → IsRequest m → Put tells held (take count reply) held' → kept' (s.plain.creations ++ begun_by s.plain moment (wanted_by m)) (s.plain.entries ++ entries_for s.plain moment server.taken m) → Stopped status gives tells held_before held' kept' (consumed ++ m.bytes)
+stopped_one status gives tells held_before held held' kept kept' consumed server server' moment m answer reply count s a some given valid put journals =
+    let x : Exchange = exchange_for s.plain moment server.taken m in
+    let told : spoken (s.said ++ x ∷ []) ≡ spoken s.said ++ reply = spoken_told s.said server.taken server.replied m (document_for s.plain moment server.taken m) reply s.replied (sym a.reply ∙ some) in
+    let went = went_on gives consumed s.said s.plain server.taken moment m s.went s.taken given valid in
     record {
       said = s.said ++ x ∷ [];
       asked = went.asked;
-      creations = s.plain.creations ++ begun_by s.plain moment a.command;
-      entries = s.plain.entries ++ written_by s.plain moment (own_number (server.answered + 1)) a.command;
+      creations = s.plain.creations ++ begun_by s.plain moment (wanted_by m);
+      entries = s.plain.entries ++ entries_for s.plain moment server.taken m;
       served = record {
         replied = s.said ++ x ∷ [];
         under_way = [];
         all = sym (append-nil (s.said ++ x ∷ []));
+        whole = inl refl;
         moments = went.moments;
         given = went.given;
-        end = store_after s.plain moment (own_number (server.answered + 1)) a.command;
+        end = after_for s.plain moment server.taken m;
         runs = went.runs;
         leaves = leaves_all;
       };
@@ -120,18 +198,19 @@ stopped_one gives tells held_before held held' kept kept' consumed part server s
     }
 
 -- a request was taken that gets no reply
-pub stopped_with : (gives : ℕ → Type 0) (tells : Bool) (held_before held : List ℕ) (kept left : List Creation → List Entry → Type 0) (consumed part : List ℕ) (server : Server) (m : Message) (creations : List Creation) (entries : List Entry) → (s : Serving gives tells held_before held kept consumed server) → IsRequest m → part ≡ message_bytes m → Leaves gives s.plain (exchange_of server.answered m None ∷ []) creations entries → left creations entries → Stopped gives tells held_before held left (consumed ++ part)
-stopped_with gives tells held_before held kept left consumed part server m creations entries s valid spelled leaves journals =
-    let x : Exchange = exchange_of server.answered m None in
+pub stopped_with : (status : ℕ) → (status ≡ 5) ⊎ (status ≡ 7) → (gives : ℕ → Type 0) (tells : Bool) (held_before held : List ℕ) (kept left : List Creation → List Entry → Type 0) (consumed : List ℕ) (server : Server) (m : Request) (creations : List Creation) (entries : List Entry) → (s : Serving gives tells held_before held kept consumed server) → IsRequest m → Leaves gives s.plain (exchange_of server.taken m None ∷ []) creations entries → left creations entries → Stopped status gives tells held_before held left (consumed ++ m.bytes)
+stopped_with status may gives tells held_before held kept left consumed server m creations entries s valid leaves journals =
+    let x : Exchange = exchange_of server.taken m None in
     record {
       said = s.said ++ x ∷ [];
-      asked = asked_more consumed part s.said server.answered m None s.went.asked s.answered valid spelled;
+      asked = asked_more consumed s.said server.taken m None s.went.asked s.taken valid;
       creations = creations;
       entries = entries;
       served = record {
         replied = s.said;
         under_way = x ∷ [];
         all = refl;
+        whole = inr may;
         moments = s.went.moments;
         given = s.went.given;
         end = s.plain;
@@ -144,18 +223,46 @@ stopped_with gives tells held_before held kept left consumed part server m creat
       journals = journals;
     }
 
+one_only : (c d : Creation) (front back : List Creation) → d ∷ [] ≡ c ∷ front ++ back → c ∷ front ≡ d ∷ []
+one_only c d [] back e = let same : d ≡ c = cc in ap (λ (x : Creation). x ∷ []) (sym same)
+one_only c d (b ∷ front) back e = cc
+
+by_collection : (c d : Creation) (front back : List Creation) (there : Bool) → (if there then [] else d ∷ []) ≡ c ∷ front ++ back → (c ∷ front ≡ []) ⊎ (c ∷ front ≡ (if there then [] else d ∷ []))
+by_collection c d front back true e = cc
+by_collection c d front back false e = inr (one_only c d front back e)
+
+-- a command begins one collection at most
+few_begun : (front back : List Creation) (plain : Store) (moment : ℕ) (wanted : Result Command Refusal) → begun_by plain moment wanted ≡ front ++ back → (front ≡ []) ⊎ (front ≡ begun_by plain moment wanted)
+few_begun [] back plain moment wanted both = inl refl
+few_begun (c ∷ front) back plain moment (Ok (insert_command namespace documents ordered)) both = by_collection c (record { namespace = namespace; epoch = 1; at = risen plain moment + 1 }) front back (has_collection namespace plain) both
+few_begun (c ∷ front) back plain moment (Ok hello_command) both = cc
+few_begun (c ∷ front) back plain moment (Ok (legacy_command shown)) both = cc
+few_begun (c ∷ front) back plain moment (Ok ping_command) both = cc
+few_begun (c ∷ front) back plain moment (Ok end_sessions_command) both = cc
+few_begun (c ∷ front) back plain moment (Ok (find_command namespace key at)) both = cc
+few_begun (c ∷ front) back plain moment (Err refusal) both = cc
+
 -- a disk failed, or memory ended, while the journals were written
-pub stopped_in_part : {D : Type 0} (gives : ℕ → Type 0) (tells : Bool) (held_before held : List ℕ) (kept : List Creation → List Entry → Type 0) (disks_tell : Bool) (content : D → List ℕ) (disks : List D) (consumed part : List ℕ) (server server' : Server) (moment : ℕ) (m : Message) (answer : Answer) → (s : Serving gives tells held_before held kept consumed server) (a : IsAnswered s.plain moment m server server' answer) → gives moment → IsRequest m → part ≡ message_bytes m → AreLeftInPart disks_tell content disks s.plain.creations (begun_by s.plain moment a.command) s.plain.entries (written_by s.plain moment (own_number (server.answered + 1)) a.command) → Stopped gives tells held_before held (AreLeft disks_tell content disks) (consumed ++ part)
-stopped_in_part gives tells held_before held kept disks_tell content disks consumed part server server' moment m answer s a given valid spelled (inl none) =
-    stopped_with gives tells held_before held kept (AreLeft disks_tell content disks) consumed part server m _ _ s valid spelled (leaves_nothing (exchange_of server.answered m None) refl) none
-stopped_in_part gives tells held_before held kept disks_tell content disks consumed part server server' moment m answer s a given valid spelled (inr (inl begun)) =
-    stopped_with gives tells held_before held kept (AreLeft disks_tell content disks) consumed part server m _ _ s valid spelled (leaves_begun (exchange_of server.answered m None) moment a.command refl given a.asked) begun
-stopped_in_part gives tells held_before held kept disks_tell content disks consumed part server server' moment m answer s a given valid spelled (inr (inr all)) =
-    stopped_with gives tells held_before held kept (AreLeft disks_tell content disks) consumed part server m _ _ s valid spelled (leaves_written (exchange_of server.answered m None) moment a.command refl given a.asked) all
+pub stopped_in_part : {D : Type 0} (status : ℕ) → (status ≡ 5) ⊎ (status ≡ 7) → (gives : ℕ → Type 0) (tells : Bool) (held_before held : List ℕ) (kept : List Creation → List Entry → Type 0) (disks_tell : Bool) (content : D → List ℕ) (disks : List D) (consumed : List ℕ) (server : Server) (moment : ℕ) (m : Request) → (s : Serving gives tells held_before held kept consumed server) → gives moment → IsRequest m → AreLeftInPart disks_tell content disks s.plain.creations (begun_by s.plain moment (wanted_by m)) s.plain.entries (entries_for s.plain moment server.taken m) → Stopped status gives tells held_before held (AreLeft disks_tell content disks) (consumed ++ m.bytes)
+stopped_in_part status may gives tells held_before held kept disks_tell content disks consumed server moment m s given valid (inl part) = by_front (few_begun part.0 part.1 s.plain moment (wanted_by m) part.2)
+  where
+    begun : List Creation
+    begun = begun_by s.plain moment (wanted_by m)
+
+    by_front : (part.0 ≡ []) ⊎ (part.0 ≡ begun) → Stopped status gives tells held_before held (AreLeft disks_tell content disks) (consumed ++ m.bytes)
+    by_front (inl none) =
+        stopped_with status may gives tells held_before held kept (AreLeft disks_tell content disks) consumed server m s.plain.creations s.plain.entries s valid (leaves_nothing (exchange_of server.taken m None) refl)
+        (subst (λ (cs : List Creation). AreLeft disks_tell content disks cs s.plain.entries) (ap (λ (cs : List Creation). s.plain.creations ++ cs) none ∙ append-nil s.plain.creations) part.3)
+    by_front (inr all) =
+        stopped_with status may gives tells held_before held kept (AreLeft disks_tell content disks) consumed server m (s.plain.creations ++ begun) (s.plain.entries ++ []) s valid (leaves_some (exchange_of server.taken m None) moment [] (entries_for s.plain moment server.taken m) refl given refl)
+        (subst (λ (es : List Entry). AreLeft disks_tell content disks (s.plain.creations ++ begun) es) (sym (append-nil s.plain.entries))
+        (subst (λ (cs : List Creation). AreLeft disks_tell content disks (s.plain.creations ++ cs) s.plain.entries) all part.3))
+stopped_in_part status may gives tells held_before held kept disks_tell content disks consumed server moment m s given valid (inr part) =
+    stopped_with status may gives tells held_before held kept (AreLeft disks_tell content disks) consumed server m _ _ s valid (leaves_some (exchange_of server.taken m None) moment part.0 part.1 refl given part.2) part.3
 
 -- all replies so far were put
-pub stopped_between : (gives : ℕ → Type 0) (tells : Bool) (held_before held : List ℕ) (kept left : List Creation → List Entry → Type 0) (consumed : List ℕ) (server : Server) → (s : Serving gives tells held_before held kept consumed server) → left s.plain.creations s.plain.entries → Stopped gives tells held_before held left consumed
-stopped_between gives tells held_before held kept left consumed server s journals = record {
+pub stopped_between : (status : ℕ) (gives : ℕ → Type 0) (tells : Bool) (held_before held : List ℕ) (kept left : List Creation → List Entry → Type 0) (consumed : List ℕ) (server : Server) → (s : Serving gives tells held_before held kept consumed server) → left s.plain.creations s.plain.entries → Stopped status gives tells held_before held left consumed
+stopped_between status gives tells held_before held kept left consumed server s journals = record {
   said = s.said;
   asked = s.went.asked;
   creations = s.plain.creations;
@@ -164,6 +271,7 @@ stopped_between gives tells held_before held kept left consumed server s journal
     replied = s.said;
     under_way = [];
     all = sym (append-nil s.said);
+    whole = inl refl;
     moments = s.went.moments;
     given = s.went.given;
     end = s.plain;
@@ -175,7 +283,3 @@ stopped_between gives tells held_before held kept left consumed server s journal
   put_all = s.put;
   journals = journals;
 }
-
--- what the journals keep may be said more weakly
-pub stopped_weaker : (gives : ℕ → Type 0) (tells : Bool) (held_before held : List ℕ) (kept left : List Creation → List Entry → Type 0) (consumed : List ℕ) → ((creations : List Creation) (entries : List Entry) → kept creations entries → left creations entries) → Stopped gives tells held_before held kept consumed → Stopped gives tells held_before held left consumed
-stopped_weaker gives tells held_before held kept left consumed weaker s = record { said = s.said; asked = s.asked; creations = s.creations; entries = s.entries; served = s.served; put = s.put; front = s.front; put_all = s.put_all; journals = weaker s.creations s.entries s.journals }

@@ -1,60 +1,71 @@
 -- What one call says of the bytes that it took and put, and of the disks that it hands back: the requests in the bytes,
 -- the replies to these, the status with its cause, and the two ways to say that the replies are right: by the plain
 -- store, and by the one history that the disks keep.
-use Rattle.std.specs.Prelude.{◌≡◌, ◌⊎◌, ℕ, ◌<◌, ◌≤◌, Bool, IsTrue, IsSome, List, [], ◌∷◌, ◌++◌, length, map}
+use Rattle.std.specs.Prelude.{◌≡◌, ◌⊎◌, ℕ, ◌<◌, ◌≤◌, Bool, false, IsTrue, Option, None, IsSome, List, [], ◌∷◌, ◌++◌, length, map}
 use Rattle.std.specs.List.{AllByRecursion}
 use Rattle.outside.specs.Streams.{Took, Put}
 use Rattle.outside.specs.Causes.{Rose}
-use Rattle.wire_model.specs.Messages.{Message}
-use Rattle.wire_model.specs.Frames.{Frames, IsPartial, IsMalformed}
-use Rattle.wire_model.specs.Spoken.{IsFront}
-use Rattle.history_model.specs.Exchange.{Exchange, spoken, InTurn, OneHistory}
+use Rattle.frame_model.specs.Requests.{Request}
+use Rattle.frame_model.specs.Outline.{FrameFault}
+use Rattle.frame_model.specs.Frames.{Frames}
 use Rattle.history_model.specs.History.{Entry}
 use Rattle.history_model.specs.Catalogue.{Creation, IsPlaced}
-use Rattle.history_model.specs.Machine.{Store, empty_store, Runs, Leaves}
+use Rattle.service_model.specs.Exchange.{Exchange, spoken, InTurn}
+use Rattle.service_model.specs.Right.{IsRight, OneHistory}
+use Rattle.service_model.specs.Machine.{Store, empty_store, Runs, Leaves}
 use Rattle.cluster_top.specs.Journals.{Keep, Tell}
 
-abbrev pub requests_of : List Exchange → List Message
+abbrev pub requests_of : List Exchange → List Request
 requests_of said = map (λ x. x.request) said
 
--- each request has its whole reply, and nothing else was put
-pub record AllAnswered (put : List ℕ) (said : List Exchange) (requests : List Message) : Type 0 where
+-- a front of the bytes
+abbrev pub IsFront : List ℕ → List ℕ → Type 0
+IsFront front whole = (others : List ℕ) × (whole ≡ front ++ others)
+
+-- a request has a reply, where one is wanted
+abbrev pub IsReplied : Exchange → Type 0
+IsReplied x = x.request.more ≡ false → IsSome x.reply
+
+-- each request has its whole reply, where one is wanted, and nothing else was put
+pub record AllAnswered (put : List ℕ) (said : List Exchange) (requests : List Request) : Type 0 where
   pub asked : requests ≡ requests_of said
-  pub each : AllByRecursion (λ x. IsSome x.reply) said
+  pub each : AllByRecursion IsReplied said
   pub replied : put ≡ spoken said
 
--- the first requests have replies, of which a front was put
-pub record SomeAnswered (put : List ℕ) (said : List Exchange) (requests : List Message) : Type 0 where
-  pub unanswered : List Message
+-- the first requests were served, and a front of their replies was put
+pub record SomeAnswered (put : List ℕ) (said : List Exchange) (requests : List Request) : Type 0 where
+  pub unanswered : List Request
   pub asked : requests ≡ requests_of said ++ unanswered
   pub replied : IsFront put (spoken said)
 
--- The causes of a status. `at_end`, `source_failed`, `sink_failed` and `disk_failed` are what the streams and disks tell.
-pub data Cause (limit : ℕ) (at_end source_failed sink_failed disk_failed : Type 0) (taken put : List ℕ) (said : List Exchange) (requests : List Message) (rest : List ℕ) : ℕ → Type 0 where
+-- The causes of a status. `fault` is that of the bytes behind the requests, if there is one, with its place. `at_end`, `source_failed`, `sink_failed` and `disk_failed` are what the streams and disks tell.
+pub data Cause (limit : ℕ) (at_end source_failed sink_failed disk_failed : Type 0) (taken put : List ℕ) (said : List Exchange) (requests : List Request) (fault : Option (FrameFault × ℕ)) : ℕ → Type 0 where
   -- the input was read to its end
-  input_ended : at_end → length taken < limit → IsPartial rest → AllAnswered put said requests → Cause limit at_end source_failed sink_failed disk_failed taken put said requests rest 0
+  input_ended : at_end → length taken < limit → fault ≡ None → AllAnswered put said requests → Cause limit at_end source_failed sink_failed disk_failed taken put said requests fault 0
   -- a read failed
-  read_failed : source_failed → length taken < limit → IsPartial rest → AllAnswered put said requests → Cause limit at_end source_failed sink_failed disk_failed taken put said requests rest 3
+  read_failed : source_failed → length taken < limit → fault ≡ None → AllAnswered put said requests → Cause limit at_end source_failed sink_failed disk_failed taken put said requests fault 3
   -- a write failed
-  write_failed : sink_failed → SomeAnswered put said requests → Cause limit at_end source_failed sink_failed disk_failed taken put said requests rest 4
+  write_failed : sink_failed → SomeAnswered put said requests → Cause limit at_end source_failed sink_failed disk_failed taken put said requests fault 4
   -- a disk failed
-  disk_failed_call : disk_failed → SomeAnswered put said requests → Cause limit at_end source_failed sink_failed disk_failed taken put said requests rest 5
+  disk_failed_call : disk_failed → SomeAnswered put said requests → Cause limit at_end source_failed sink_failed disk_failed taken put said requests fault 5
   -- there was no memory
-  no_memory : SomeAnswered put said requests → Cause limit at_end source_failed sink_failed disk_failed taken put said requests rest 7
+  no_memory : SomeAnswered put said requests → Cause limit at_end source_failed sink_failed disk_failed taken put said requests fault 7
   -- the next bytes are no request
-  no_request : IsMalformed rest → AllAnswered put said requests → Cause limit at_end source_failed sink_failed disk_failed taken put said requests rest 9
+  no_request : IsSome fault → AllAnswered put said requests → Cause limit at_end source_failed sink_failed disk_failed taken put said requests fault 9
   -- as many bytes were taken as may be
-  too_long : length taken ≡ limit → IsPartial rest → AllAnswered put said requests → Cause limit at_end source_failed sink_failed disk_failed taken put said requests rest 10
+  too_long : length taken ≡ limit → fault ≡ None → AllAnswered put said requests → Cause limit at_end source_failed sink_failed disk_failed taken put said requests fault 10
 
--- The bytes taken are requests and a rest, the bytes put are replies, and the status has its cause.
+-- The bytes taken are requests and a rest, which begins no request where there is a fault; the bytes put are replies, and
+-- the status has its cause.
 pub record Conversation (limit : ℕ) (at_end source_failed sink_failed disk_failed : Type 0) (taken put : List ℕ) (said : List Exchange) (status rest : ℕ) : Type 0 where
-  pub requests : List Message
+  pub requests : List Request
   pub left : List ℕ
-  pub frames : Frames taken requests left
+  pub fault : Option (FrameFault × ℕ)
+  pub frames : Frames taken requests left fault
   pub rest_left : rest ≡ length left
   pub most : length taken ≤ limit
   pub turns : InTurn 0 1 said
-  pub cause : Cause limit at_end source_failed sink_failed disk_failed taken put said requests left status
+  pub cause : Cause limit at_end source_failed sink_failed disk_failed taken put said requests fault status
 
 -- one of these counts of faults rose, before and after in one order
 abbrev pub OneRose : List ℕ → List ℕ → Type 0
@@ -83,12 +94,17 @@ pub record Spoke (told : Told) (limit status rest : ℕ) (taken put : List ℕ) 
   pub put_all : Put told.sink_tells told.held_before put told.held_after
   pub conversation : Conversation limit (IsTrue told.source_tells → told.left_after ≡ []) told.source_failed told.sink_failed told.disk_failed taken put said status rest
 
--- The plain store served these exchanges in order, each at one moment of the clock; the last may have no reply. It began
+-- only where a disk failed or memory ended may a request be under way
+abbrev pub MayBeUnderWay : ℕ → List Exchange → Type 0
+MayBeUnderWay status under_way = (under_way ≡ []) ⊎ ((status ≡ 5) ⊎ (status ≡ 7))
+
+-- The plain store served these exchanges in order, each at one moment of the clock; the last may be under way. It began
 -- these collections and wrote these entries.
-pub record Served (gives : ℕ → Type 0) (said : List Exchange) (creations : List Creation) (entries : List Entry) : Type 0 where
+pub record Served (gives : ℕ → Type 0) (status : ℕ) (said : List Exchange) (creations : List Creation) (entries : List Entry) : Type 0 where
   pub replied : List Exchange
   pub under_way : List Exchange
   pub all : said ≡ replied ++ under_way
+  pub whole : MayBeUnderWay status under_way
   pub moments : List ℕ
   pub given : AllByRecursion gives moments
   pub end : Store
@@ -99,15 +115,15 @@ pub record Served (gives : ℕ → Type 0) (said : List Exchange) (creations : L
 abbrev pub Machine : Told → (ℕ → Type 0) → (limit status rest : ℕ) → Type 0
 Machine told gives limit status rest =
     (taken : List ℕ) × (put : List ℕ) × (said : List Exchange) × Spoke told limit status rest taken put said
-    × (creations : List Creation) × (entries : List Entry) × Served gives said creations entries
+    × (creations : List Creation) × (entries : List Entry) × Served gives status said creations entries
     × (IsTrue told.disks_tell → Keep told.files creations entries)
 
 -- Whatever clients send, the entries on the shard's disk are one legal history of an unsharded collection with each
--- statement at most once, of which each reply is a right one, and each of them is of a collection that began before it, as
--- the catalogue's disk says. Their times are those of the plain store.
+-- statement at most once, of which each reply is a right one; each request that is not under way was served rightly, and each
+-- entry is of a collection that began before it, as the catalogue's disk says. Their times are those of the plain store.
 abbrev pub Headline : Told → (ℕ → Type 0) → (limit status rest : ℕ) → Type 0
 Headline told gives limit status rest =
     (taken : List ℕ) × (put : List ℕ) × (said : List Exchange) × Spoke told limit status rest taken put said
-    × (creations : List Creation) × (history : List Entry) × Served gives said creations history
+    × (creations : List Creation) × (history : List Entry) × (served : Served gives status said creations history)
     × (IsTrue told.disks_tell → Tell told.files creations history)
-    × OneHistory history said × AllByRecursion (IsPlaced creations) history
+    × OneHistory history said × AllByRecursion (IsRight history) served.replied × AllByRecursion (IsPlaced creations) history

@@ -1,17 +1,11 @@
 pub mod Answers
-pub mod Collections
-pub mod Commands
 pub mod Examples
 pub mod Fates
-pub mod Forms
 pub mod Framing
 pub mod Headline
 pub mod Journals
-pub mod Kept
 pub mod Opened
 pub mod Opening
-pub mod Replies
 pub mod Serving
-pub mod Steps
 pub mod Taking
 pub mod Words

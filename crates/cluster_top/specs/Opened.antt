@@ -7,7 +7,7 @@ use Rattle.record_model.specs.Records.{Record, create_record, record_of}
 use Rattle.record_model.specs.Spelled.{spelled, IsSound}
 use Rattle.journal_frames.specs.Files.{Stands, HaveSameRecords}
 use Rattle.journal_frames.specs.Views.{JournalView}
-use Rattle.cluster_top.specs.Journals.{Keep}
+use Rattle.cluster_top.specs.Journals.{IsJournal, Keep}
 use Rattle.cluster_top.specs.declared.journals.Journals.{Journals}
 
 -- The journal is open with these records: they stand in its file, and in each that a crash may leave.
@@ -24,6 +24,10 @@ pub record AreOpen {D : Type 0} (tells : Bool) (content : D → List ℕ) (may_l
   pub shard : IsOpen tells content may_leave (map record_of entries) journals.shard
   pub router : IsOpen tells content may_leave [] journals.router
 
+-- where it is told, the file is a journal with these records and a front of those that were to be added
+abbrev pub HasInPart : Bool → List ℕ → (records more : List Record) → Type 0
+HasInPart tells file records more = IsTrue tells → (front : List Record) × (back : List Record) × (more ≡ front ++ back) × IsJournal file (records ++ front)
+
 -- the disks of the three journals, in order of their nodes
 abbrev pub disks_of : {D : Type 0} → Journals D → List D
 disks_of journals = journals.catalogue.disk ∷ journals.shard.disk ∷ journals.router.disk ∷ []
@@ -32,11 +36,12 @@ disks_of journals = journals.catalogue.disk ∷ journals.shard.disk ∷ journals
 abbrev pub AreLeft : {D : Type 0} → Bool → (D → List ℕ) → List D → List Creation → List Entry → Type 0
 AreLeft tells content disks creations entries = IsTrue tells → Keep (map content disks) creations entries
 
--- they keep the collections and entries, with none of what was to be added, with the collection that was to begin, or with
--- that and its entry
+-- they keep the collections with a front of those that were to be added, or with these the entries and a front of those
+-- that were to be added
 abbrev pub AreLeftInPart : {D : Type 0} → Bool → (D → List ℕ) → List D → (creations begun : List Creation) → (entries written : List Entry) → Type 0
 AreLeftInPart tells content disks creations begun entries written =
-    AreLeft tells content disks creations entries ⊎ (AreLeft tells content disks (creations ++ begun) entries ⊎ AreLeft tells content disks (creations ++ begun) (entries ++ written))
+    ((front : List Creation) × (back : List Creation) × (begun ≡ front ++ back) × AreLeft tells content disks (creations ++ front) entries)
+    ⊎ ((front : List Entry) × (back : List Entry) × (written ≡ front ++ back) × AreLeft tells content disks (creations ++ begun) (entries ++ front))
 
 -- no count fell, before and after in one order
 abbrev pub NoneFell : List ℕ → List ℕ → Type 0

@@ -1,16 +1,15 @@
 -- How far a connection has come: its exchanges so far, beside the server that made them. `kept` says which collections and
 -- entries the journals keep.
-use Rattle.std.specs.Prelude.{◌≡◌, ℕ, ◌+◌, ◌*◌, Bool, List, [], ◌∷◌, length, IsSome}
+use Rattle.std.specs.Prelude.{◌≡◌, ℕ, ◌+◌, ◌*◌, Bool, List, [], ◌∷◌, length}
 use Rattle.std.specs.List.{flat_map, AllByRecursion}
 use Rattle.outside.specs.Streams.{Put}
-use Rattle.wire_model.specs.Messages.{message_bytes, IsRequest}
-use Rattle.wire_model.specs.Spoken.{IsFront}
-use Rattle.history_model.specs.Exchange.{Exchange, spoken}
+use Rattle.frame_model.specs.Requests.{Request, IsRequest}
 use Rattle.history_model.specs.History.{Entry}
 use Rattle.history_model.specs.Catalogue.{Creation}
-use Rattle.history_model.specs.Machine.{Store, empty_store, Runs}
-use Rattle.cluster_top.specs.Headline.{requests_of, Served}
-use Rattle.cluster_top.specs.Kept.{Represents}
+use Rattle.service_model.specs.Exchange.{Exchange, answered, spoken}
+use Rattle.service_model.specs.Machine.{Store, empty_store, Runs}
+use Rattle.command_store.specs.Kept.{Represents}
+use Rattle.cluster_top.specs.Headline.{requests_of, IsFront, IsReplied, Served}
 use Rattle.cluster_top.specs.declared.server.Server.{Server}
 
 -- The exchanges of one connection: the k-th, from 0, was taken in step 2k and answered in step 2k + 1.
@@ -21,7 +20,7 @@ Counted k (x ∷ said) = (x.router ≡ 2) × (x.life ≡ 1) × (x.count ≡ k + 
 -- the bytes are the requests of these exchanges, one after another
 pub record Asked (bytes : List ℕ) (said : List Exchange) : Type 0 where
   pub counted : Counted 0 said
-  pub requests : bytes ≡ flat_map message_bytes (requests_of said)
+  pub requests : bytes ≡ flat_map (λ (r : Request). r.bytes) (requests_of said)
   pub each : AllByRecursion IsRequest (requests_of said)
 
 -- the plain store went through these exchanges, whose requests are these bytes
@@ -30,7 +29,7 @@ pub record Went (gives : ℕ → Type 0) (bytes : List ℕ) (said : List Exchang
   pub given : AllByRecursion gives moments
   pub runs : Runs empty_store moments said plain
   pub asked : Asked bytes said
-  pub replied : AllByRecursion (λ x. IsSome x.reply) said
+  pub replied : AllByRecursion IsReplied said
 
 -- All replies were put, the journals keep what the plain store did, and the server is where the plain store is.
 pub record Serving (gives : ℕ → Type 0) (tells : Bool) (held_before held : List ℕ) (kept : List Creation → List Entry → Type 0) (bytes : List ℕ) (server : Server) : Type 0 where
@@ -39,17 +38,18 @@ pub record Serving (gives : ℕ → Type 0) (tells : Bool) (held_before held : L
   pub went : Went gives bytes said plain
   pub put : Put tells held_before (spoken said) held
   pub store : Represents server.store plain
-  pub answered : server.answered ≡ length said
+  pub taken : server.taken ≡ length said
+  pub replied : server.replied ≡ length (answered said)
   pub journals : kept plain.creations plain.entries
 
 -- A front of the replies was put, and the journals keep what the plain store did, with or without what it did for a request
--- without a reply.
-pub record Stopped (gives : ℕ → Type 0) (tells : Bool) (held_before held : List ℕ) (kept : List Creation → List Entry → Type 0) (bytes : List ℕ) : Type 0 where
+-- without a reply where the status lets one be under way.
+pub record Stopped (status : ℕ) (gives : ℕ → Type 0) (tells : Bool) (held_before held : List ℕ) (kept : List Creation → List Entry → Type 0) (bytes : List ℕ) : Type 0 where
   pub said : List Exchange
   pub asked : Asked bytes said
   pub creations : List Creation
   pub entries : List Entry
-  pub served : Served gives said creations entries
+  pub served : Served gives status said creations entries
   pub put : List ℕ
   pub front : IsFront put (spoken said)
   pub put_all : Put tells held_before put held

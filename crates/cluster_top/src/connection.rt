@@ -1,6 +1,6 @@
 //! One connection, from its first byte to its last.
 
-ghost use Rattle.std.specs.Prelude.{◌≡◌, ◌≢◌, ◌≤◌, ◌^◌, [], List, map, take, drop, vec_len, IsTrue};
+ghost use Rattle.std.specs.Prelude.{◌≡◌, ◌≢◌, ◌≤◌, ◌^◌, [], List, map, IsTrue};
 ghost use Rattle.outside.specs.Causes.{Rose};
 ghost use Rattle.history_model.specs.Catalogue.{Creation};
 ghost use Rattle.history_model.specs.History.{Entry};
@@ -12,6 +12,7 @@ use crate::journals::Journals;
 use crate::pipe::{Stop, answer_all};
 use crate::server::Server;
 use crate::streams::{Taken, take_more};
+use opmsg_frames::Framer;
 use outside::clock::Clock;
 use outside::disk::Disk;
 use outside::streams::{Sink, Source};
@@ -35,16 +36,6 @@ fn ended(status: u8, rest: usize) -> Ending
         status,
         rest: rest as u64,
     }
-}
-
-/// Drops the first `count` bytes.
-fn drop_front(buffer: &mut Vec<u8>, count: usize)
-    requires { count ≤ vec_len buffer.old }
-    ensures { buffer.new.items ≡ drop count buffer.old.items }
-{
-    let left = buffer.len() - count;
-    buffer.rotate_left(count);
-    buffer.truncate(left);
 }
 
 /// Serves the requests of one connection, in which at most `limit` bytes are taken. Each whole request is served, at one
@@ -80,24 +71,32 @@ pub fn serve_connection<S: Source, K: Sink, D: Disk, C: Clock>(
     ensures disks_later { NoneFell (map D.fault_count (disks_of journals.old)) (map D.fault_count (disks_of journals.new)) }
 {
     let mut server = Server::new(alloc);
-    let mut buffer = Vec::new(alloc);
+    let mut framer = Framer::new(alloc);
+    let mut piece = Vec::new(alloc);
     let mut taken = 0;
     while taken < limit {
         let room = (limit - taken).min(PIECE) as usize;
-        match take_more(input, &mut buffer, room) {
-            Taken::Bytes(count) => taken += count as u64,
-            Taken::End => return ended(0, buffer.len()),
-            Taken::Failed => return ended(3, buffer.len()),
-            Taken::NoMemory => return ended(7, buffer.len()),
+        // Room is made before anything is taken, so that all that was taken is fed.
+        if framer.reserve(room).is_err() {
+            return ended(7, framer.rest().len());
         }
-        let round = answer_all(alloc, &buffer, &mut server, journals, out, clock);
-        match round.stop {
-            Stop::Partial => drop_front(&mut buffer, round.at),
-            Stop::Malformed => return ended(9, buffer.len() - round.at),
-            Stop::WriteFailed => return ended(4, unframed(&buffer[round.at..])),
-            Stop::DiskFailed => return ended(5, unframed(&buffer[round.at..])),
-            Stop::NoMemory => return ended(7, unframed(&buffer[round.at..])),
+        piece.clear();
+        match take_more(input, &mut piece, room) {
+            Taken::Bytes(count) => taken += count as u64,
+            Taken::End => return ended(0, framer.rest().len()),
+            Taken::Failed => return ended(3, framer.rest().len()),
+            Taken::NoMemory => return ended(7, framer.rest().len()),
+        }
+        let Ok(()) = framer.feed(&piece) else {
+            return ended(7, framer.rest().len());
+        };
+        match answer_all(alloc, &mut framer, &mut server, journals, out, clock) {
+            Stop::Partial => {}
+            Stop::Malformed => return ended(9, framer.rest().len()),
+            Stop::WriteFailed => return ended(4, unframed(framer.rest())),
+            Stop::DiskFailed => return ended(5, unframed(framer.rest())),
+            Stop::NoMemory => return ended(7, unframed(framer.rest())),
         }
     }
-    ended(10, buffer.len())
+    ended(10, framer.rest().len())
 }

@@ -1,22 +1,16 @@
 //! The top call of the cluster: it takes the bytes of a connection and answers reply bytes.
 #![tactic(auto)]
 
-mod collections;
-mod command;
+mod asking;
 mod connection;
 pub mod examples;
-mod form;
 mod framing;
 mod journals;
 pub mod laws;
 mod opening;
 mod pipe;
 mod piped;
-mod records;
-mod reply;
-mod request;
 mod server;
-mod store;
 mod streams;
 #[cfg(test)]
 mod tests;

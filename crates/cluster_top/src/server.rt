@@ -1,81 +1,103 @@
 //! The server of one connection.
 
-ghost use Rattle.std.specs.Prelude.{◌≡◌, ◌+◌, ◌-◌, ◌<◌, ◌≤◌, ◌^◌, max, IfOk, OnOk};
-ghost use Rattle.wire_model.specs.Outline.{request_in, HasRequest};
+ghost use Rattle.std.specs.Prelude.{◌≡◌, ◌+◌, ◌-◌, ◌<◌, ◌≤◌, ◌^◌, length, max, IfOk, OnOk};
+ghost use Rattle.frame_model.specs.Requests as wire;
+ghost use Rattle.document_model.specs.Tree.{document_levels};
+ghost use Rattle.document_model.specs.Spelling.{written};
+ghost use Rattle.opmsg_frames.specs.Requests.{IsMeant};
+ghost use Rattle.service_model.specs.Machine.{empty_store};
+ghost use Rattle.command_store.specs.Kept.{Represents, time_of};
+ghost use Rattle.cluster_top.specs.Answers.{Answers, IsRead, replies_after, reply_for};
 
-use crate::framing::{BODY_AT, number_at};
-use crate::reply::put_message;
-use crate::request::command_of;
-use crate::store::Store;
-use bson_values::{Blob, Memory};
+use crate::asking::wanted_by;
+use bson_values::{Blob, Document, Memory};
+use command_store::Store;
+use opmsg_frames::{Request, write_reply};
 use std::alloc::Global;
 
-/// Where a request's id stands in it.
-const ID_AT: usize = 4;
-
-/// The store, and how many requests it has answered.
+/// The store, how many requests it has served, and how many of them had a reply.
 #[derive(Drop)]
 pub struct Server {
     pub store: Store,
-    pub answered: u64,
+    pub taken: u64,
+    pub replied: u64,
 }
 
 /// What a request gets, and what it leaves in the journals before it gets it.
 #[derive(Drop)]
 pub struct Answer {
-    /// The bytes of the reply's message.
-    pub reply: Blob,
+    /// The bytes of the reply's message, if one is wanted.
+    pub reply: Option<Blob>,
     /// The record of the collection that begins, if one does.
-    pub creation: Option<Blob>,
-    /// The record of the request's write, if it is one.
-    pub entry: Option<Blob>,
+    pub creations: Vec<Blob>,
+    /// The records of the request's writes, in order.
+    pub entries: Vec<Blob>,
+}
+
+// The bytes of the reply with that number, if one is wanted.
+fn reply_to(
+    alloc: Global,
+    request: &Request,
+    number: u64,
+    document: &Document,
+) -> Result<Option<Blob>, Memory>
+    requires levels { document_levels document.now ≤ 104 }
+    requires size { length (written document.now) ≤ 300000000 }
+    ensures { (meant : wire.Request) → IsMeant request.now meant → IfOk result (λ reply. reply ≡ reply_for meant number document.now) }
+{
+    if request.more {
+        return Ok(None);
+    }
+    let mut reply = Vec::new(alloc);
+    let number = (number % (1 << 31)) as i32;
+    write_reply(request, number, document, &mut reply)?;
+    Ok(Some(Blob::of(alloc, &reply)?))
 }
 
 impl Server {
-    ghost use Rattle.cluster_top.specs.Kept.{Represents, time_of};
-    ghost use Rattle.cluster_top.specs.Answers.{Answers};
-    ghost use Rattle.history_model.specs.Machine.{empty_store};
-
-    /// A server that has answered nothing.
+    /// A server that has served nothing.
     pub fn new(alloc: Global) -> Server
         ensures empty { Represents result.store empty_store }
         ensures time { time_of result.store ≡ 0 }
-        ensures answered { result.answered ≡ 0 }
+        ensures taken { result.taken ≡ 0 }
+        ensures replied { result.replied ≡ 0 }
     {
         Server {
             store: Store::new(alloc),
-            answered: 0,
+            taken: 0,
+            replied: 0,
         }
     }
 
-    /// Serves the request that stands in the first `whole` bytes, at a moment, in milliseconds since 1970. Fails for want
-    /// of memory, and may then have taken times and kept a document.
+    /// Serves a request at a moment, in milliseconds since 1970. Fails for want of memory, and may then have taken times and kept
+    /// documents.
     pub fn answer(
         &mut self,
         alloc: Global,
         moment: u64,
-        bytes: &[u8],
-        whole: usize,
+        request: &Request,
     ) -> Result<Answer, Memory>
-        requires request { HasRequest whole bytes.now }
-        requires room { time_of self.old.store < 2 ^ 64 - 2 }
-        requires count { self.old.answered < 2 ^ 63 }
-        ensures answer { IfOk result (λ answer. Answers moment (request_in whole bytes.now) self.old self.new answer) }
-        ensures answered { OnOk result (self.new.answered ≡ self.old.answered + 1) }
-        ensures time { OnOk result (time_of self.new.store ≤ max (time_of self.old.store) (2 ^ 63) + 2) }
+        requires request { IsRead request.now }
+        requires room { time_of self.old.store < 2 ^ 64 - 100002 }
+        requires count { self.old.taken < 2 ^ 63 }
+        requires replies { self.old.replied < 2 ^ 63 }
+        ensures answer { (meant : wire.Request) → IsMeant request.now meant → wire.IsRequest meant → IfOk result (λ answer. Answers moment meant self.old self.new answer) }
+        ensures taken { OnOk result (self.new.taken ≡ self.old.taken + 1) }
+        ensures replied { OnOk result (self.new.replied ≡ replies_after request.now.more self.old.replied) }
+        ensures time { OnOk result (time_of self.new.store ≤ max (time_of self.old.store) (2 ^ 63) + 100001) }
     {
-        let count = self.answered + 1;
-        let command = command_of(alloc, &bytes[BODY_AT..whole])?;
-        let served = self.store.serve(alloc, moment, count, &command)?;
-        let mut reply = Vec::new(alloc);
-        let number = (count % (1 << 31)) as u32;
-        put_message(number, number_at(bytes, ID_AT), &served.reply, &mut reply)?;
-        let reply = Blob::of(alloc, &reply)?;
-        self.answered = count;
+        let count = self.taken + 1;
+        let wanted = wanted_by(alloc, request)?;
+        let served = self.store.serve(alloc, moment, count, wanted)?;
+        let reply = reply_to(alloc, request, self.replied + 1, &served.reply)?;
+        self.taken = count;
+        if !request.more {
+            self.replied += 1;
+        }
         Ok(Answer {
             reply,
-            creation: served.creation,
-            entry: served.entry,
+            creations: served.creations,
+            entries: served.entries,
         })
     }
 }

@@ -2,12 +2,16 @@
 //! does nothing, whose contract says what the definitions make of it.
 #![tactic(auto)]
 
+mod laws;
+
 ghost use Rattle.std.specs.Prelude.{◌≡◌, ◌∷◌, [], codes, true, pos, Some, None, Ok, Err};
 ghost use Rattle.document_model.specs.Tree.{array_value, boolean_value, document_value, int32_value, int64_value, item, member, no_items, no_members, text_value, timestamp_value};
 ghost use Rattle.history_model.specs.Errors.{bad_value, command_not_found, failed_to_parse, invalid_bson, invalid_namespace, shard_key_not_found, type_mismatch};
 ghost use Rattle.command_model.specs.Command.{command_of, faulty_request, find_command, insert_command, legacy_command, ping_command, read_request, without_evidence};
 ghost use Rattle.command_model.specs.Worked.{database_d, id_only, insert_of, insert_two, insert_with, message, number_one, with_sequence, without_id};
 ghost use Rattle.command_model.specs.Answers.{answer_document, find_answer, refusal_answer};
+
+pub use laws::{answers_are_small, commands_are_small};
 
 /// Requests that are commands.
 pub fn commands()

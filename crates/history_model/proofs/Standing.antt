@@ -1,57 +1,19 @@
--- What stands in a history that is one.
-use Rattle.std.proofs.Common.{◌≡◌, ◌≢◌, ℕ, ◌<◌, inl, inr, List, [], ◌∷◌, ◌++◌, refl, sym, ap, subst, ◌∙◌, arith, append_assoc, append-nil}
-use Rattle.std.specs.Prelude.{true, false, Option, Some, None, if◌then◌else◌}
+-- What stands in a legal history: entries rise, each statement is there once, and documents stand until their keys are written.
+use Rattle.std.proofs.Common.{◌≡◌, ◌≢◌, inl, inr, ℕ, List, [], ◌∷◌, ◌++◌, length, ◌<◌, ◌≤◌, refl, sym, ap, subst, ◌∙◌, arith, append_assoc, append-nil}
+use Rattle.std.specs.Prelude.{Bool, true, false, ◌&&◌, Option, Some, None, if◌then◌else◌}
 use Rattle.std.specs.List.{AllByRecursion}
-use Rattle.document_model.specs.Tree.{Datum, Members}
-use Rattle.history_model.specs.Errors.{ErrorCode, duplicate_key}
+use Rattle.std.specs.Str.{bytes_eq}
+use Rattle.std.proofs.lemmas.Slice.Eq.{bytes_eq-Decides}
+use Rattle.std.proofs.lemmas.Bool.{lt-ltb, le-ltb}
+use Rattle.document_model.specs.Tree.{Datum, Members, document_levels}
+use Rattle.document_model.specs.Spelling.{written}
+use Rattle.value_order.specs.Order.{same_value}
 use Rattle.value_order.specs.Keys.{key_of}
-use Rattle.history_model.specs.History.{router_session, StatementNumber, Operation, insert_operation, Outcome, fails_with, effect, Entry, key_written, writes_to, document_after, document_left, document_at, IsBefore, IsSameStatement, Follows, LegalAfter, Legal, IsIn}
-use Rattle.history_model.specs.Command.{time_ahead}
-use Rattle.history_model.specs.Reply.{write_reply, find_reply, refusal_reply, operation_time}
-use Rattle.history_model.specs.Exchange.{Exchange, IsEntryOf, IsRight, right_write, right_find, right_ahead, right_refusal, right_silence, OneHistory}
-use Rattle.history_model.specs.Laws.{Stands}
-use Rattle.history_model.proofs.Lists.{in_none, all_at}
+use Rattle.value_order.proofs.Spans.{same_value_equivalence}
+use Rattle.history_model.specs.Errors.{ErrorCode, object_too_large, duplicate_key}
+use Rattle.history_model.specs.History.{Operation, insert_operation, Outcome, done, fails_with, is_too_large, effect, Entry, same_key, key_written, writes_to, document_after, document_left, IsBefore, IsSameStatement, Follows, LegalAfter, Legal}
+use Rattle.history_model.proofs.Lists.{all_at}
 use Rattle.history_model.proofs.Stores.{document_after_push}
-use Rattle.history_model.proofs.Replies.{time_of_write}
-
-same_errors : (counts modifieds : ℕ) (upserts : Option Datum) (a b : Option ErrorCode) (count modified : ℕ) (upserted : Option Datum) (s t : ℕ) → write_reply (record { count = counts; modified = modifieds; upserted = upserts; error = a }) s ≡ write_reply (record { count = count; modified = modified; upserted = upserted; error = b }) t → a ≡ b
-same_errors counts modifieds upserts None None count modified upserted s t e = refl
-same_errors counts modifieds upserts None (Some b) count modified upserted s t e = cc
-same_errors counts modifieds upserts (Some a) None count modified upserted s t e = cc
-same_errors counts modifieds upserts (Some a) (Some b) count modified upserted s t e =
-    let numbers : a.number ≡ b.number = cc in
-    let names : a.name ≡ b.name = cc in
-    λ i. Some (record { number = numbers i; name = names i })
-
--- equal write replies tell the same
-same_replies : (a b : Outcome) (s t : ℕ) → write_reply a s ≡ write_reply b t → (a.count ≡ b.count) × (a.error ≡ b.error) × (s ≡ t)
-same_replies a b s t e =
-    let times : Some s ≡ Some t = sym (time_of_write a s) ∙ ap (λ (r : Members). operation_time (Some r)) e ∙ time_of_write b t in
-    (cc, same_errors a.count a.modified a.upserted a.error b.error b.count b.modified b.upserted s t e, cc)
-
-stands : (history : List Entry) (x : Exchange) (outcome : Outcome) (time : ℕ) → x.reply ≡ Some (write_reply outcome time) → IsRight history x → Stands history x outcome time
-stands history x outcome time told (right_write e i is says) =
-    let both : Some (write_reply e.outcome e.time) ≡ Some (write_reply outcome time) = sym says ∙ told in
-    let same = same_replies e.outcome outcome e.time time (cc) in
-    record { entry = e; kept = i; own = is; count = same.0; error = same.1; at = same.2 }
-stands history x outcome time told (right_find namespace key at shown asks named says) =
-    let both : Some (find_reply namespace (document_at history namespace (Some key) shown) shown) ≡ Some (write_reply outcome time) = sym says ∙ told in
-    cc
-stands history x outcome time told (right_ahead namespace key named greatest asks ahead says) =
-    let both : Some (refusal_reply (time_ahead greatest)) ≡ Some (write_reply outcome time) = sym says ∙ told in
-    cc
-stands history x outcome time told (right_silence none) = cc
-stands history x outcome time told (right_refusal refusal asks says) =
-    let both : Some (refusal_reply refusal) ≡ Some (write_reply outcome time) = sym says ∙ told in
-    cc
-
--- a write that was told of stands in the history, as it was told
-pub told_writes_stand : (history : List Entry) (said : List Exchange) (x : Exchange) (outcome : Outcome) (time : ℕ) → OneHistory history said → IsIn x said → x.reply ≡ Some (write_reply outcome time) → Stands history x outcome time
-told_writes_stand history said x outcome time one i told = stands history x outcome time told (all_at (IsRight history) x said one.right i)
-
--- so no write was told where there is no entry
-pub nothing_told : (said : List Exchange) (x : Exchange) (outcome : Outcome) (time : ℕ) → OneHistory [] said → IsIn x said → x.reply ≢ Some (write_reply outcome time)
-nothing_told said x outcome time one i told = in_none _ (told_writes_stand [] said x outcome time one i told).kept
 
 -- what each entry owes those before it
 legal_at : (earlier front back : List Entry) (e : Entry) → LegalAfter earlier (front ++ e ∷ back) → Follows (earlier ++ front) e
@@ -87,44 +49,84 @@ pub all_untouched : (namespace : List ℕ) (key : Option Datum) (before : Option
 all_untouched namespace key before [] others = refl
 all_untouched namespace key before (e ∷ es) others = rw others.0 (all_untouched namespace key before es others.1)
 
-document_after_append : (namespace : List ℕ) (key : Option Datum) (before : Option Members) (es more : List Entry) → document_after namespace key before (es ++ more) ≡ document_after namespace key (document_after namespace key before es) more
+pub document_after_append : (namespace : List ℕ) (key : Option Datum) (before : Option Members) (es more : List Entry) → document_after namespace key before (es ++ more) ≡ document_after namespace key (document_after namespace key before es) more
 document_after_append namespace key before [] more = refl
 document_after_append namespace key before (e ∷ es) more = document_after_append namespace key (if writes_to namespace key e then (effect e.operation before).0 else before) es more
 
+-- equal keys are written by the same entries
+same_written : (written : Option Datum) (a b : Datum) → same_value a b ≡ true → same_key written (Some a) ≡ same_key written (Some b)
+same_written None a b same = refl
+same_written (Some c) a b same = same_value_equivalence.symm c a ∙ same_value_equivalence.congr a b c same ∙ same_value_equivalence.symm b c
+
+same_writes : (namespace : List ℕ) (a b : Option Datum) → same_key a b ≡ true → (e : Entry) → writes_to namespace a e ≡ writes_to namespace b e
+same_writes namespace None b same e = absurd cc
+same_writes namespace (Some a) None same e = absurd cc
+same_writes namespace (Some a) (Some b) same e = ap (λ (key : Bool). bytes_eq e.namespace namespace && key) (same_written (key_written e.operation) a b same)
+
+same_after : (namespace : List ℕ) (a b : Option Datum) → same_key a b ≡ true → (before : Option Members) (es : List Entry) → document_after namespace a before es ≡ document_after namespace b before es
+same_after namespace a b same before [] = refl
+same_after namespace a b same before (e ∷ es) = rw (same_writes namespace a b same e) (same_after namespace a b same (if writes_to namespace b e then (effect e.operation before).0 else before) es)
+
+pub both : (a b : Bool) → (a && b) ≡ true → (a ≡ true) × (b ≡ true)
+both true b h = (refl, h)
+both false b h = absurd cc
+
+-- an entry is told what its operation tells on the document under each key that it writes
+pub told_under : (front : List Entry) (e : Entry) (namespace : List ℕ) (key : Option Datum) → Follows front e → writes_to namespace key e ≡ true → e.outcome ≡ (effect e.operation (document_left namespace key front)).1
+told_under front e namespace key follows hits =
+    let p = both (bytes_eq e.namespace namespace) (same_key (key_written e.operation) key) hits in
+    let name : e.namespace ≡ namespace = (bytes_eq-Decides e.namespace namespace).0 p.0 in
+    follows.told
+    ∙ ap (λ (n : List ℕ). (effect e.operation (document_left n (key_written e.operation) front)).1) name
+    ∙ ap (λ (before : Option Members). (effect e.operation before).1) (same_after namespace (key_written e.operation) key p.1 None front)
+
+-- how many bytes and levels are too many
+pub not_large : (document : Members) → length (written document) ≤ 16777216 → document_levels document ≤ 100 → is_too_large document ≡ false
+not_large document short low = rw (le-ltb 16777216 (length (written document)) short, le-ltb 100 (document_levels document) low) refl
+
+pub too_long : (document : Members) → 16777216 < length (written document) → is_too_large document ≡ true
+too_long document long = rw (lt-ltb 16777216 (length (written document)) long) refl
+
+-- an insert where nothing stands, by whether its document is too large
+abbrev pub put_in : Members → Bool → Option Members × Outcome
+put_in document large = if large then (None, fails_with object_too_large) else (Some document, done)
+
 -- a statement that is refused leaves the document as it was
 pub refused_leaves : (operation : Operation) (before : Option Members) (error : ErrorCode) → (effect operation before).1.error ≡ Some error → (effect operation before).0 ≡ before
-refused_leaves (insert_operation document) None error e = cc
+refused_leaves (insert_operation document) None error e = by_size (is_too_large document) e
+  where
+    by_size : (large : Bool) → (put_in document large).1.error ≡ Some error → (put_in document large).0 ≡ None
+    by_size true e = refl
+    by_size false e = cc
 refused_leaves (insert_operation document) (Some before) error e = refl
 
--- an insert leaves a document
-insert_leaves : (document : Members) (before : Option Members) → (effect (insert_operation document) before).0 ≢ None
-insert_leaves document None e = cc
-insert_leaves document (Some before) e = cc
+-- an operation that is not told that its document is too large leaves a document
+pub effect_leaves : (operation : Operation) (before : Option Members) → (effect operation before).1.error ≢ Some object_too_large → (effect operation before).0 ≢ None
+effect_leaves (insert_operation document) None small e = by_size (is_too_large document) small e
+  where
+    by_size : (large : Bool) → (put_in document large).1.error ≢ Some object_too_large → (put_in document large).0 ≢ None
+    by_size true small e = absurd (small refl)
+    by_size false small e = cc
+effect_leaves (insert_operation document) (Some before) small e = cc
+
+-- and one that finds a document leaves one
+pub effect_keeps : (operation : Operation) (before : Option Members) → before ≢ None → (effect operation before).0 ≢ None
+effect_keeps (insert_operation document) None some e = absurd (some refl)
+effect_keeps (insert_operation document) (Some before) some e = cc
 
 insert_refused : (document : Members) (before : Option Members) → before ≢ None → (effect (insert_operation document) before).1 ≡ fails_with duplicate_key
 insert_refused document None some = absurd (some refl)
 insert_refused document (Some before) some = refl
 
 -- an insert after an insert of the same key
-pub second_insert_is_refused : (front middle back : List Entry) (d e : Entry) (first second : Members) → Legal (front ++ d ∷ (middle ++ e ∷ back)) → d.operation ≡ insert_operation first → e.operation ≡ insert_operation second → writes_to e.namespace (key_of second) d ≡ true → AllByRecursion (λ m. writes_to e.namespace (key_of second) m ≡ false) middle → e.outcome ≡ fails_with duplicate_key
-second_insert_is_refused front middle back d e first second legal inserts again hits others =
+pub second_insert_is_refused : (front middle back : List Entry) (d e : Entry) (first second : Members) → Legal (front ++ d ∷ (middle ++ e ∷ back)) → d.operation ≡ insert_operation first → d.outcome.error ≢ Some object_too_large → e.operation ≡ insert_operation second → writes_to e.namespace (key_of second) d ≡ true → AllByRecursion (λ m. writes_to e.namespace (key_of second) m ≡ false) middle → e.outcome ≡ fails_with duplicate_key
+second_insert_is_refused front middle back d e first second legal inserts small again hits others =
     let f = follows_front (front ++ d ∷ middle) back e (subst (λ (l : List Entry). Legal l) (sym (append_assoc front (d ∷ middle) (e ∷ back))) legal) in
     let before : Option Members = document_left e.namespace (key_of second) front in
-    let left : document_left e.namespace (key_of second) (front ++ d ∷ middle) ≡ (effect (insert_operation first) before).0 = document_after_append e.namespace (key_of second) None front (d ∷ middle)
-    ∙ rw hits (all_untouched e.namespace (key_of second) (effect d.operation before).0 middle others ∙ ap (λ (o : Operation). (effect o before).0) inserts) in
+    let left : document_left e.namespace (key_of second) (front ++ d ∷ middle) ≡ (effect d.operation before).0 = document_after_append e.namespace (key_of second) None front (d ∷ middle)
+    ∙ rw hits (all_untouched e.namespace (key_of second) (effect d.operation before).0 middle others) in
+    let told : d.outcome ≡ (effect d.operation before).1 = told_under front d e.namespace (key_of second) (follows_front front (middle ++ e ∷ back) d legal) hits in
+    let stands : (effect d.operation before).0 ≢ None = effect_leaves d.operation before (λ large. small (ap (λ (o : Outcome). o.error) told ∙ large)) in
     f.told
     ∙ ap (λ (o : Operation). (effect o (document_left e.namespace (key_written o) (front ++ d ∷ middle))).1) again
-    ∙ insert_refused second (document_left e.namespace (key_of second) (front ++ d ∷ middle)) (λ none. insert_leaves first before (sym left ∙ none))
-
--- an entry belongs to one exchange's request
-pub own_entry : (x y : Exchange) (e : Entry) → IsEntryOf x e → IsEntryOf y e → (x.router ≡ y.router) × (x.life ≡ y.life) × (x.count ≡ y.count)
-own_entry x y e is are =
-    let s : router_session x.router x.life x.count ≡ router_session y.router y.life y.count = ap (λ (n : StatementNumber). n.session) (sym is.number ∙ are.number) in
-    (cc, cc, cc)
-
--- a write that comes later is told a later time
-pub later_writes_tell_later : (history : List Entry) (said : List Exchange) (x y : Exchange) (before after : Outcome) (s t : ℕ) → OneHistory history said → IsIn x said → IsIn y said → x.step < y.came → x.reply ≡ Some (write_reply before s) → y.reply ≡ Some (write_reply after t) → s < t
-later_writes_tell_later history said x y before after s t one i j earlier told shows =
-    let w = told_writes_stand history said y after t one j shows in
-    let less : s < w.entry.time = one.fresh.writes x y w.entry s i j earlier w.kept w.own (ap operation_time told ∙ time_of_write before s) in
-    omega (arith, w.at)
+    ∙ insert_refused second (document_left e.namespace (key_of second) (front ++ d ∷ middle)) (λ none. stands (sym left ∙ none))

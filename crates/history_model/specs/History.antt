@@ -1,12 +1,13 @@
 -- The history of the clients' writes, and the unsharded collection that it stands for: one map a namespace from
 -- keys to documents.
-use Rattle.std.specs.Prelude.{◌≡◌, ◌<◌, ◌⊎◌, ℕ, ℤ, List, [], ◌∷◌, ◌++◌, Option, Some, None, Bool, false, IsTrue, ◌&&◌, if◌then◌else◌, filter, nat_le}
+use Rattle.std.specs.Prelude.{◌≡◌, ◌<◌, ◌⊎◌, ℕ, ℤ, List, [], ◌∷◌, ◌++◌, length, Option, Some, None, Bool, false, IsTrue, ◌&&◌, ◌||◌, if◌then◌else◌, filter, nat_le, nat_lt}
 use Rattle.std.specs.List.{AllByRecursion}
 use Rattle.std.specs.Str.{bytes_eq}
-use Rattle.document_model.specs.Tree.{Datum, Members}
+use Rattle.document_model.specs.Tree.{Datum, Members, document_levels}
+use Rattle.document_model.specs.Spelling.{written}
 use Rattle.value_order.specs.Order.{same_value}
 use Rattle.value_order.specs.Keys.{key_of}
-use Rattle.history_model.specs.Errors.{ErrorCode, duplicate_key}
+use Rattle.history_model.specs.Errors.{ErrorCode, object_too_large, duplicate_key}
 
 -- who numbers statements: a client by 16 bytes, or a router for one request of one of its lives
 pub data Session : Type 0 where
@@ -54,9 +55,14 @@ done = record { count = 1; modified = 0; upserted = None; error = None }
 abbrev pub fails_with : ErrorCode → Outcome
 fails_with error = record { count = 0; modified = 0; upserted = None; error = Some error }
 
+-- A document is kept where it has at most 16 mebibytes and 100 levels (MongoDB manual, "MongoDB Limits and Thresholds", BSON
+-- document size and nested depth).
+abbrev pub is_too_large : Members → Bool
+is_too_large document = nat_lt 16777216 (length (written document)) || nat_lt 100 (document_levels document)
+
 -- what an operation leaves of the document under its key, and what it is told
 abbrev pub effect : Operation → Option Members → Option Members × Outcome
-effect (insert_operation document) None = (Some document, done)
+effect (insert_operation document) None = if is_too_large document then (None, fails_with object_too_large) else (Some document, done)
 effect (insert_operation document) (Some before) = (Some before, fails_with duplicate_key)
 
 -- the entry writes this key of this namespace

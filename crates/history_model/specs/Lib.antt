@@ -5,7 +5,4 @@ pub mod Command
 pub mod History
 pub mod Catalogue
 pub mod Reply
-pub mod Exchange
-pub mod Machine
-pub mod Laws
 pub mod Examples

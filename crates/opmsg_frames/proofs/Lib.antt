@@ -21,3 +21,6 @@ pub mod Cuttings
 pub mod SpelledOutlines
 pub mod WalkEnds
 pub mod SomeReading
+pub mod SmallSpellings
+pub mod WalkPlaces
+pub mod SmallRequests

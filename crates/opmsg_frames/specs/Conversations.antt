@@ -31,7 +31,7 @@ IsConversation old (step ∷ steps) new = (between : FramerView) × IsStep old s
 
 -- a framer to which no bytes were fed
 abbrev pub new_framer : FramerView
-new_framer = record { bytes = []; place = 0; fault = None }
+new_framer = record { bytes = []; place = 0; fault = None; room = 0 }
 
 abbrev pub piece_of : Step → List ℕ
 piece_of (took piece) = piece

@@ -3,11 +3,13 @@ use Rattle.std.specs.Prelude.{◌≡◌, ℕ, List, Option, ◌==◌, if◌then�
 use Rattle.std.specs.Coded.{Coded, code_by, coded×, coded_list, coded_option, coded_ℕ}
 use Rattle.frame_model.specs.Outline.{FrameFault, bad_length, too_long, bad_opcode, bad_flags, bad_kind, bad_section, two_bodies, no_body, bad_query}
 
--- the bytes fed that were not given out, the place of the first of them, and the fault, if one was told
+-- the bytes fed that were not given out, the place of the first of them, the fault, if one was told, and for how many
+-- bytes there is memory
 pub record FramerView : Type 0 where
   pub bytes : List ℕ
   pub place : ℕ
   pub fault : Option FrameFault
+  pub room : ℕ
 
 abbrev pub fault_number : FrameFault → ℕ
 fault_number bad_length = 0
@@ -48,5 +50,5 @@ fault_code = code_by ℕ coded_ℕ fault_number fault_numbered fault_back
 
 abbrev pub framer_code : Coded FramerView
 framer_code =
-    code_by (List ℕ × (ℕ × Option FrameFault)) (coded× (coded_list coded_ℕ) (coded× coded_ℕ (coded_option fault_code)))
-    (λ f. (f.bytes, (f.place, f.fault))) (λ p. record { bytes = p.0; place = p.1.0; fault = p.1.1 }) (λ _. refl)
+    code_by (List ℕ × (ℕ × (Option FrameFault × ℕ))) (coded× (coded_list coded_ℕ) (coded× coded_ℕ (coded× (coded_option fault_code) coded_ℕ)))
+    (λ f. (f.bytes, (f.place, (f.fault, f.room)))) (λ p. record { bytes = p.0; place = p.1.0; fault = p.1.1.0; room = p.1.1.1 }) (λ _. refl)

@@ -5,3 +5,4 @@ pub mod FramerViews
 pub mod Framers
 pub mod Readings
 pub mod Conversations
+pub mod Sizes

@@ -1,7 +1,8 @@
 //! Requests from bytes that come in any pieces.
 
-ghost use Rattle.std.specs.Prelude.{◌≡◌, ◌++◌, [], None, OnErr, OnOk};
+ghost use Rattle.std.specs.Prelude.{◌≡◌, ◌+◌, ◌-◌, ◌<◌, ◌≤◌, ◌^◌, IsOk, None, OnErr, OnOk, length};
 ghost use Rattle.frame_model.specs.Outline.{message_outline, outline};
+ghost use Rattle.opmsg_frames.specs.Conversations.{IsStep, new_framer, refused, took};
 ghost use Rattle.opmsg_frames.specs.Framers.{IsNext};
 
 use crate::fault::{FrameFault, Malformed};
@@ -34,7 +35,7 @@ impl Model for Framer {
     ghost use Rattle.std.specs.Option.{option_map};
     ghost use Rattle.opmsg_frames.specs.Outlines.{fault_meant};
 
-    ghost view = { λ f. record { bytes = f.bytes.items; place = f.place; fault = option_map (λ fault. fault_meant fault) f.fault } };
+    ghost view = { λ f. record { bytes = f.bytes.items; place = f.place; fault = option_map (λ fault. fault_meant fault) f.fault; room = f.bytes.spare } };
 
     ghost invariant = { λ f. f.place + length f.bytes.items < 2 ^ 64 };
 }
@@ -42,9 +43,7 @@ impl Model for Framer {
 impl Framer {
     /// No bytes so far.
     pub fn new(alloc: Global) -> Framer
-        ensures bytes { result.bytes ≡ [] }
-        ensures place { result.place ≡ 0 }
-        ensures fault { result.fault ≡ None }
+        ensures { result ≡ new_framer }
     {
         Framer {
             alloc,
@@ -54,12 +53,23 @@ impl Framer {
         }
     }
 
-    /// Takes the next bytes. Fails for want of memory, and then changes nothing.
-    pub fn feed(&mut self, piece: &[u8]) -> Result<(), Memory>
-        ensures bytes { OnOk result (self.new.bytes ≡ self.old.bytes ++ piece.now) }
+    /// Makes room for so many bytes more. Fails for want of memory, and then changes nothing.
+    pub fn reserve(&mut self, count: usize) -> Result<(), Memory>
+        ensures room { OnOk result (count ≤ self.new.room) }
+        ensures bytes { self.new.bytes ≡ self.old.bytes }
         ensures place { self.new.place ≡ self.old.place }
         ensures fault { self.new.fault ≡ self.old.fault }
-        ensures err { OnErr result (self.new.bytes ≡ self.old.bytes) }
+    {
+        self.bytes.reserve(count)?;
+        Ok(())
+    }
+
+    /// Takes the next bytes. Fails for want of memory, and then changes nothing; where there is room it doesn't fail, below
+    /// 2^64 - 1 bytes in all.
+    pub fn feed(&mut self, piece: &[u8]) -> Result<(), Memory>
+        ensures taken { OnOk result (IsStep self.old (took piece.now) self.new) }
+        ensures refused { OnErr result (IsStep self.old refused self.new) }
+        ensures room { length piece.now ≤ self.old.room → self.old.place + length self.old.bytes + length piece.now < 2 ^ 64 - 1 → IsOk result }
     {
         let end = self.place + self.bytes.len() as u64;
         if piece.len() as u64 >= u64::MAX - end {
@@ -67,6 +77,13 @@ impl Framer {
         }
         self.bytes.extend_from_slice(piece)?;
         Ok(())
+    }
+
+    /// The bytes that are not yet given out as requests.
+    pub fn rest(&self) -> &[u8]
+        ensures { result.now ≡ self.now.bytes }
+    {
+        self.bytes.as_slice()
     }
 
     /// Gives the next request, if all its bytes came.

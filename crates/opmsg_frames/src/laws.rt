@@ -9,6 +9,7 @@ ghost use Rattle.opmsg_frames.specs.Conversations.{AreMeant, IsConversation, Onl
 ghost use Rattle.opmsg_frames.specs.FramerViews.{FramerView};
 ghost use Rattle.opmsg_frames.specs.Outlines.{fault_meant};
 ghost use Rattle.opmsg_frames.specs.Readings.{AreBytes, PlacedFault};
+ghost use Rattle.opmsg_frames.specs.Sizes.{IsSmallBody};
 
 use crate::fault::{FrameFault, Malformed};
 
@@ -27,6 +28,12 @@ pub fn outline_stays()
 pub fn request_is_whole()
     ensures { (request : Request) (more : List ℕ) → IsRequest request →
         outline (request.bytes ++ more) ≡ message_outline (length request.bytes) }
+{}
+
+/// The documents of a request are within 100 levels and spelled in at most 240,000,000 bytes, and a fault is told at a
+/// place within the longest message.
+pub fn request_is_small()
+    ensures { (request : Request) → IsRequest request → IsSmallBody request.body }
 {}
 
 /// Bytes are one request at most.

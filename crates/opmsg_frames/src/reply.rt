@@ -70,7 +70,7 @@ fn put_header(size: u32, id: i32, answers: i32, code: u32, out: &mut Vec<u8>) ->
 
 /// Puts what stands before the document of a reply to OP_MSG. An `Err` may leave a part of it.
 fn put_msg_head(id: i32, number: i32, size: u32, out: &mut Vec<u8>) -> Result<(), Memory>
-    requires { size ≤ 200000000 }
+    requires { size ≤ 300000000 }
     ensures ok { OnOk result (out.new.items ≡ out.old.items ++ reply_head msg_form id number size) }
     ensures kept { take (length out.old.items) out.new.items ≡ out.old.items }
 {
@@ -82,7 +82,7 @@ fn put_msg_head(id: i32, number: i32, size: u32, out: &mut Vec<u8>) -> Result<()
 
 /// Puts what stands before the document of an OP_REPLY. An `Err` may leave a part of it.
 fn put_query_head(id: i32, number: i32, size: u32, out: &mut Vec<u8>) -> Result<(), Memory>
-    requires { size ≤ 200000000 }
+    requires { size ≤ 300000000 }
     ensures ok { OnOk result (out.new.items ≡ out.old.items ++ reply_head query_form id number size) }
     ensures kept { take (length out.old.items) out.new.items ≡ out.old.items }
 {
@@ -93,7 +93,7 @@ fn put_query_head(id: i32, number: i32, size: u32, out: &mut Vec<u8>) -> Result<
 
 /// Puts what stands before the document of a reply. An `Err` may leave a part of it.
 fn put_head(form: Form, id: i32, number: i32, size: u32, out: &mut Vec<u8>) -> Result<(), Memory>
-    requires { size ≤ 200000000 }
+    requires { size ≤ 300000000 }
     ensures ok { OnOk result (out.new.items ≡ out.old.items ++ reply_head (form_meant form) id number size) }
     ensures kept { take (length out.old.items) out.new.items ≡ out.old.items }
 {
@@ -111,7 +111,7 @@ fn put_reply(
     out: &mut Vec<u8>,
 ) -> Result<(), Memory>
     requires levels { document_levels doc.now ≤ 104 }
-    requires size { length (written doc.now) ≤ 200000000 }
+    requires size { length (written doc.now) ≤ 300000000 }
     ensures ok { OnOk result (out.new.items
         ≡ out.old.items ++ reply_bytes (form_meant request.now.form) request.now.id number doc.now) }
     ensures kept { take (length out.old.items) out.new.items ≡ out.old.items }
@@ -122,7 +122,7 @@ fn put_reply(
 }
 
 /// Puts the reply of this number to a request behind the bytes: to OP_MSG an OP_MSG, to OP_QUERY an OP_REPLY (MongoDB
-/// Wire Protocol). The document has at most 104 levels and its spelling at most 200,000,000 bytes. Fails for want of
+/// Wire Protocol). The document has at most 104 levels and its spelling at most 300,000,000 bytes. Fails for want of
 /// memory, and then leaves the bytes as they were.
 pub fn write_reply(
     request: &Request,
@@ -131,7 +131,7 @@ pub fn write_reply(
     out: &mut Vec<u8>,
 ) -> Result<(), Memory>
     requires levels { document_levels doc.now ≤ 104 }
-    requires size { length (written doc.now) ≤ 200000000 }
+    requires size { length (written doc.now) ≤ 300000000 }
     ensures ok { OnOk result (out.new.items
         ≡ out.old.items ++ reply_bytes (form_meant request.now.form) request.now.id number doc.now) }
     ensures err { OnErr result (out.new.items ≡ out.old.items) }

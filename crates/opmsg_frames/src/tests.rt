@@ -159,6 +159,27 @@ fn byte_by_byte(rt: HostRuntime) -> Result<(), Fail> {
     Ok(())
 }
 
+/// What is left when the next request was asked for.
+fn rest_after(rt: &impl Abort, framer: &mut Framer, rest: &[u8]) -> Result<(), Fail> {
+    framer.next()?;
+    assert_eq!(rt; framer.rest(), rest);
+    Ok(())
+}
+
+#[test]
+fn rest_is_what_was_not_given(rt: HostRuntime) -> Result<(), Fail> {
+    let (front, back) = GREETING.split_at(20);
+    let mut framer = Framer::new(rt.alloc());
+    assert!(rt; framer.rest().is_empty());
+    framer.feed(LEAST)?;
+    framer.feed(front)?;
+    rest_after(&rt, &mut framer, front)?;
+    rest_after(&rt, &mut framer, front)?;
+    framer.feed(back)?;
+    assert_eq!(rt; framer.rest(), GREETING);
+    rest_after(&rt, &mut framer, b"")
+}
+
 /// A reply of number -3, with `{ok: 1}`, to the request that the bytes are.
 fn reply_to(rt: &impl Abort, alloc: Global, bytes: &[u8]) -> Result<Vec<u8>, Fail> {
     let mut out = Vec::new(alloc);

@@ -1,9 +1,10 @@
 -- Records keep one list of entries: a record has each field of its entry but the shard and the error's name.
 use Rattle.std.proofs.Common.{◌≡◌, ℕ, List, [], ◌∷◌, ◌++◌, map, refl, sym, ap, ◌∙◌}
-use Rattle.std.specs.Prelude.{Option, Some, None}
+use Rattle.std.specs.Prelude.{Bool, true, false, Option, Some, None}
 use Rattle.std.specs.List.{AllByRecursion}
 use Rattle.document_model.specs.Tree.{Members}
-use Rattle.history_model.specs.History.{Operation, insert_operation, effect, Entry}
+use Rattle.history_model.specs.History.{Operation, insert_operation, is_too_large, effect, Entry}
+use Rattle.history_model.proofs.Standing.{put_in}
 use Rattle.record_model.specs.Records.{EntryWords, Record, entry_record, create_record, words_of, record_of}
 use Rattle.record_model.specs.Kept.{IsKnown, Keeps, KeepEntries}
 
@@ -58,5 +59,9 @@ in_parts shard (entry_record w ∷ front) back entries later p q =
 
 -- what an operation tells
 pub known_effect : (operation : Operation) (before : Option Members) → IsKnown (effect operation before).1.error
-known_effect (insert_operation document) None = refl
+known_effect (insert_operation document) None = by_size (is_too_large document)
+  where
+    by_size : (large : Bool) → IsKnown (put_in document large).1.error
+    by_size true = refl
+    by_size false = refl
 known_effect (insert_operation document) (Some before) = refl

@@ -1,26 +1,26 @@
 -- What finds can't miss: a key that was written keeps a document.
-use Rattle.std.proofs.Common.{◌≡◌, ◌≢◌, ℕ, ◌+◌, ◌<◌, ◌≤◌, ◌⊎◌, inl, inr, List, [], ◌∷◌, refl, sym, ap, subst, ◌∙◌, arith}
+use Rattle.std.proofs.Common.{◌≡◌, ◌≢◌, ℕ, ◌+◌, ◌<◌, ◌≤◌, ◌⊎◌, inl, inr, List, [], ◌∷◌, ◌++◌, refl, sym, ap, subst, ◌∙◌, arith}
 use Rattle.std.specs.Prelude.{true, false, ◌&&◌, Option, Some, None, Bool, Result, Ok, if◌then◌else◌, filter, nat_le}
 use Rattle.std.specs.List.{AllByRecursion}
+use Rattle.std.proofs.lemmas.Bool.{le-leb}
 use Rattle.std.proofs.lemmas.Bool.Decides.{leb_tells}
+use Rattle.std.proofs.lemmas.List.Elements.{filter-append}
 use Rattle.document_model.specs.Tree.{Datum, Members}
 use Rattle.history_model.specs.Command.{Refusal, time_ahead}
-use Rattle.history_model.specs.History.{Operation, insert_operation, effect, Entry, writes_to, document_after, document_at, IsIn}
+use Rattle.history_model.specs.Errors.{object_too_large}
+use Rattle.history_model.specs.History.{Outcome, effect, Entry, writes_to, document_after, document_left, document_at, IsBefore, Follows, Legal, IsIn}
 use Rattle.history_model.specs.Reply.{operation_time}
 use Rattle.history_model.proofs.Lists.{all_at, all_weaken, in_cons, in_none}
+use Rattle.history_model.proofs.Standing.{document_after_append, effect_keeps, effect_leaves, follows_front, told_under}
 use Rattle.command_model.specs.Command.{Command, find_command}
 use Rattle.command_model.specs.Answers.{document_items, find_answer, refusal_answer, answer_document}
 use Rattle.service_model.specs.Asking.{wanted_by}
 use Rattle.service_model.specs.Exchange.{Exchange}
 use Rattle.service_model.specs.Machine.{found}
-use Rattle.service_model.specs.Right.{ByEnd, AreEntriesOf, IsRight, right_insert, right_find, right_ahead, right_hello, right_legacy, right_ping, right_end_sessions, right_refusal, right_silence, OneHistory}
+use Rattle.service_model.specs.Right.{ByEnd, AreEntriesOf, IsRight, right_insert, right_find, right_ahead, right_hello, right_legacy, right_ping, right_end_sessions, right_refusal, OneHistory}
 use Rattle.service_model.specs.Statements.{answer_of, errors_of, fails, sum_of, time_of}
-use Rattle.service_model.proofs.Told.{time_of_insert, time_of_find}
-
--- an operation leaves a document
-effect_leaves : (operation : Operation) (before : Option Members) → (effect operation before).0 ≢ None
-effect_leaves (insert_operation document) None e = cc
-effect_leaves (insert_operation document) (Some before) e = cc
+use Rattle.service_model.proofs.Standing.{told_is_right}
+use Rattle.service_model.proofs.Told.{time_of_insert, time_of_find, reply_told}
 
 -- once there, never gone
 never_gone : (namespace : List ℕ) (key : Option Datum) (before : Option Members) (es : List Entry) → before ≢ None → document_after namespace key before es ≢ None
@@ -28,33 +28,41 @@ never_gone namespace key before [] there = there
 never_gone namespace key before (e ∷ es) there = never_gone namespace key (if writes_to namespace key e then (effect e.operation before).0 else before) es (by_hit (writes_to namespace key e))
   where
     by_hit : (hit : Bool) → (if hit then (effect e.operation before).0 else before) ≢ None
-    by_hit true = effect_leaves e.operation before
+    by_hit true = effect_keeps e.operation before there
     by_hit false = there
 
--- an entry up to a time leaves a document under its key at that time
-there_after : (namespace : List ℕ) (key : Option Datum) (before : Option Members) (time : ℕ) (es : List Entry) (e : Entry) → IsIn e es → nat_le e.time time ≡ true → writes_to namespace key e ≡ true → document_after namespace key before (filter (λ (d : Entry). nat_le d.time time) es) ≢ None
-there_after namespace key before time [] e i early hits = absurd (in_none e i)
-there_after namespace key before time (d ∷ es) e i early hits = by_place (in_cons e d es i) (λ after j. there_after namespace key after time es e j early hits)
+-- all these entries are of a time
+filter_whole : (time : ℕ) (es : List Entry) → AllByRecursion (λ e. e.time ≤ time) es → filter (λ (e : Entry). nat_le e.time time) es ≡ es
+filter_whole time [] all = refl
+filter_whole time (e ∷ es) all = rw (le-leb e.time time all.0) (ap (λ l. e ∷ l) (filter_whole time es all.1))
+
+no_later : (d e : Entry) → IsBefore d e → d.time ≤ e.time
+no_later d e (inl less) = omega arith
+no_later d e (inr equal) = omega arith
+
+-- an entry up to a time that put a document in, or found one, leaves one under its key at that time
+there_after : (front back : List Entry) (e : Entry) (namespace : List ℕ) (key : Option Datum) (time : ℕ) → Legal (front ++ e ∷ back) → e.outcome.error ≢ Some object_too_large → e.time ≤ time → writes_to namespace key e ≡ true → document_at (front ++ e ∷ back) namespace key time ≢ None
+there_after front back e namespace key time legal small early hits none = never_gone namespace key (effect e.operation before).0 later stands (sym split ∙ none)
   where
-    hit_leaves : (hit : Bool) → hit ≡ true → document_after namespace key (if hit then (effect d.operation before).0 else before) (filter (λ (d : Entry). nat_le d.time time) es) ≢ None
-    hit_leaves true e = never_gone namespace key (effect d.operation before).0 (filter (λ (d : Entry). nat_le d.time time) es) (effect_leaves d.operation before)
-    hit_leaves false e = absurd (cc)
+    follows : Follows front e
+    follows = follows_front front back e legal
 
-    kept_leaves : (kept : Bool) → kept ≡ true → writes_to namespace key d ≡ true → document_after namespace key before (if kept then d ∷ filter (λ (d : Entry). nat_le d.time time) es else filter (λ (d : Entry). nat_le d.time time) es) ≢ None
-    kept_leaves true e hit = hit_leaves (writes_to namespace key d) hit
-    kept_leaves false e hit = absurd (cc)
+    before : Option Members
+    before = document_left namespace key front
 
-    first : e ≡ d → document_after namespace key before (if nat_le d.time time then d ∷ filter (λ (d : Entry). nat_le d.time time) es else filter (λ (d : Entry). nat_le d.time time) es) ≢ None
-    first same =
-        kept_leaves (nat_le d.time time) (ap (λ (c : Entry). nat_le c.time time) (sym same) ∙ early) (ap (λ (c : Entry). writes_to namespace key c) (sym same) ∙ hits)
+    later : List Entry
+    later = filter (λ (d : Entry). nat_le d.time time) back
 
-    by_test : (test : Bool) → ((after : Option Members) → document_after namespace key after (filter (λ (d : Entry). nat_le d.time time) es) ≢ None) → document_after namespace key before (if test then d ∷ filter (λ (d : Entry). nat_le d.time time) es else filter (λ (d : Entry). nat_le d.time time) es) ≢ None
-    by_test true later = later (if writes_to namespace key d then (effect d.operation before).0 else before)
-    by_test false later = later before
+    stands : (effect e.operation before).0 ≢ None
+    stands = effect_leaves e.operation before (λ large. small (ap (λ (o : Outcome). o.error) (told_under front e namespace key follows hits) ∙ large))
 
-    by_place : (e ≡ d) ⊎ IsIn e es → ((after : Option Members) → IsIn e es → document_after namespace key after (filter (λ (d : Entry). nat_le d.time time) es) ≢ None) → document_after namespace key before (if nat_le d.time time then d ∷ filter (λ (d : Entry). nat_le d.time time) es else filter (λ (d : Entry). nat_le d.time time) es) ≢ None
-    by_place (inl same) later = first same
-    by_place (inr j) later = by_test (nat_le d.time time) (λ after. later after j)
+    kept : filter (λ (d : Entry). nat_le d.time time) (front ++ e ∷ back) ≡ front ++ e ∷ later
+    kept =
+        filter-append (λ (d : Entry). nat_le d.time time) front (e ∷ back)
+        ∙ rw (le-leb e.time time early, filter_whole time front (all_weaken (λ (d : Entry). IsBefore d e) (λ (d : Entry). d.time ≤ time) front (λ d is. omega (arith, no_later d e is, early)) follows.rises)) refl
+
+    split : document_at (front ++ e ∷ back) namespace key time ≡ document_after namespace key (effect e.operation before).0 later
+    split = ap (λ (l : List Entry). document_left namespace key l) kept ∙ document_after_append namespace key None front (e ∷ later) ∙ ap (λ (hit : Bool). document_after namespace key (if hit then (effect e.operation before).0 else before) later) hits
 
 nothing_found : (shown : Option Members) → document_items (found shown) ≡ document_items [] → shown ≡ None
 nothing_found None same = refl
@@ -64,7 +72,7 @@ nothing_found (Some document) same = cc
 pub shown_right : (history : List Entry) (y : Exchange) (namespace : List ℕ) (key : Datum) (at : Option ℕ) (documents : List Members) (time : ℕ) → wanted_by y.request ≡ Ok (find_command namespace key at) → y.reply ≡ Some (answer_document (find_answer namespace documents time)) → IsRight history y → document_items (found (document_at history namespace (Some key) time)) ≡ document_items documents
 shown_right history y namespace key at documents time asks told (right_find space other when shown wants named says) =
     let commands : Path (Result Command Refusal) (Ok (find_command space other when)) (Ok (find_command namespace key at)) = sym wants ∙ asks in
-    let both : Some (answer_document (find_answer space (found (document_at history space (Some other) shown)) shown)) ≡ Some (answer_document (find_answer namespace documents time)) = sym says ∙ told in
+    let both : answer_document (find_answer space (found (document_at history space (Some other) shown)) shown) ≡ answer_document (find_answer namespace documents time) = reply_told y.request.more _ _ (sym says ∙ told) in
     let spaces : space ≡ namespace = cc in
     let keys : other ≡ key = cc in
     let times : shown ≡ time = cc in
@@ -74,25 +82,26 @@ shown_right history y namespace key at documents time asks told (right_find spac
     ∙ ap (λ (t : ℕ). document_items (found (document_at history space (Some other) t))) (sym times)
     ∙ batches
 shown_right history y namespace key at documents time asks told (right_ahead space other named greatest wants ahead says) =
-    let both : Some (answer_document (refusal_answer (time_ahead greatest))) ≡ Some (answer_document (find_answer namespace documents time)) = sym says ∙ told in
+    let both : answer_document (refusal_answer (time_ahead greatest)) ≡ answer_document (find_answer namespace documents time) = reply_told y.request.more _ _ (sym says ∙ told) in
     absurd (cc)
-shown_right history y namespace key at documents time asks told (right_insert space sent all entries wants are says) = absurd (let e = sym asks ∙ wants in cc)
+shown_right history y namespace key at documents time asks told (right_insert space sent all wants whole) = absurd (let e = sym asks ∙ wants in cc)
 shown_right history y namespace key at documents time asks told (right_hello moment wants says) = absurd (let e = sym asks ∙ wants in cc)
 shown_right history y namespace key at documents time asks told (right_legacy moment shown wants says) = absurd (let e = sym asks ∙ wants in cc)
 shown_right history y namespace key at documents time asks told (right_ping wants says) = absurd (let e = sym asks ∙ wants in cc)
 shown_right history y namespace key at documents time asks told (right_end_sessions wants says) = absurd (let e = sym asks ∙ wants in cc)
 shown_right history y namespace key at documents time asks told (right_refusal refusal wants says) = absurd (let e = sym asks ∙ wants in cc)
-shown_right history y namespace key at documents time asks told (right_silence none) = absurd (let e = sym told ∙ none in cc)
 
--- a find that shows no document is of a time before every write under its key
-pub none_before_writes : (history : List Entry) (said : List Exchange) (y : Exchange) (e : Entry) (namespace : List ℕ) (key : Datum) (at : Option ℕ) (time : ℕ) → OneHistory history said → IsIn y said → IsIn e history → wanted_by y.request ≡ Ok (find_command namespace key at) → y.reply ≡ Some (answer_document (find_answer namespace [] time)) → writes_to namespace (Some key) e ≡ true → time < e.time
-none_before_writes history said y e namespace key at time one i j asks told hits = by_time (leb_tells e.time time)
+-- a find that shows no document is of a time before every entry under its key that was not told that its document is too large
+pub none_before_writes : (history : List Entry) (said : List Exchange) (y : Exchange) (e : Entry) (namespace : List ℕ) (key : Datum) (at : Option ℕ) (time : ℕ) → OneHistory history said → IsIn y said → IsIn e history → e.outcome.error ≢ Some object_too_large → wanted_by y.request ≡ Ok (find_command namespace key at) → y.reply ≡ Some (answer_document (find_answer namespace [] time)) → writes_to namespace (Some key) e ≡ true → time < e.time
+none_before_writes history said y e namespace key at time one i j small asks told hits = by_time (leb_tells e.time time)
   where
     none : document_at history namespace (Some key) time ≡ None
-    none = nothing_found (document_at history namespace (Some key) time) (shown_right history y namespace key at [] time asks told (all_at (IsRight history) y said one.right i))
+    none = nothing_found (document_at history namespace (Some key) time) (shown_right history y namespace key at [] time asks told (told_is_right history said y _ one.right i told))
 
     by_time : ((nat_le e.time time ≡ true) × (e.time ≤ time)) ⊎ ((nat_le e.time time ≡ false) × (time < e.time)) → time < e.time
-    by_time (inl early) = absurd (there_after namespace (Some key) None time history e j early.0 hits none)
+    by_time (inl early) =
+        absurd (there_after j.0 j.1 e namespace (Some key) time (subst (λ (l : List Entry). Legal l) j.2 one.legal) small early.1 hits
+        (subst (λ (l : List Entry). document_at l namespace (Some key) time ≡ None) j.2 none))
     by_time (inr later) = later.1
 
 by_end_in : (history entries : List Entry) (stop : Bool) (goes_on : Type 0) (e : Entry) → (goes_on → IsIn e entries → IsIn e history) → ByEnd stop (entries ≡ []) goes_on → IsIn e entries → IsIn e history
@@ -115,10 +124,10 @@ entry_most : (entries : List Entry) → AllByRecursion (λ e. e.time ≤ time_of
 entry_most [] = tt
 entry_most (e ∷ entries) = (omega arith, all_weaken (λ (d : Entry). d.time ≤ time_of entries) (λ (d : Entry). d.time ≤ time_of (e ∷ entries)) entries (λ d h. omega (arith, h)) (entry_most entries))
 
--- a find behind an insert that was told of shows a document
-pub reads_see_inserts : (history : List Entry) (said : List Exchange) (x y : Exchange) (e : Entry) (entries : List Entry) (namespace : List ℕ) (documents : List Members) (ordered : Bool) (key : Datum) (time : ℕ) → OneHistory history said → IsIn x said → IsIn y said → x.step < y.came → AreEntriesOf history x namespace ordered 0 documents entries → x.reply ≡ Some (answer_document (answer_of entries)) → IsIn e entries → writes_to namespace (Some key) e ≡ true → wanted_by y.request ≡ Ok (find_command namespace key None) → y.reply ≢ Some (answer_document (find_answer namespace [] time))
-reads_see_inserts history said x y e entries namespace documents ordered key time one i j before are told there hits asks shows =
-    let later : time < e.time = none_before_writes history said y e namespace key None time one j (entries_in history x namespace ordered 0 documents entries e are there) asks shows hits in
+-- a find behind an insert that was told of shows a document, where there is one that is not too large
+pub reads_see_inserts : (history : List Entry) (said : List Exchange) (x y : Exchange) (e : Entry) (entries : List Entry) (namespace : List ℕ) (documents : List Members) (ordered : Bool) (key : Datum) (time : ℕ) → OneHistory history said → IsIn x said → IsIn y said → x.step < y.came → AreEntriesOf history x namespace ordered 0 documents entries → x.reply ≡ Some (answer_document (answer_of entries)) → IsIn e entries → e.outcome.error ≢ Some object_too_large → writes_to namespace (Some key) e ≡ true → wanted_by y.request ≡ Ok (find_command namespace key None) → y.reply ≢ Some (answer_document (find_answer namespace [] time))
+reads_see_inserts history said x y e entries namespace documents ordered key time one i j before are told there small hits asks shows =
+    let later : time < e.time = none_before_writes history said y e namespace key None time one j (entries_in history x namespace ordered 0 documents entries e are there) small asks shows hits in
     let least : time_of entries ≤ time = one.fresh.reads x y namespace key time (time_of entries) i j before asks (ap operation_time told ∙ time_of_insert (sum_of entries) (errors_of entries) (time_of entries)) (ap operation_time shows ∙ time_of_find namespace [] time) in
     let most : e.time ≤ time_of entries = all_at (λ (d : Entry). d.time ≤ time_of entries) e entries (entry_most entries) there in
     absurd (omega (arith, later, least, most))

@@ -22,10 +22,18 @@ ToldBy time said = AllByRecursion (λ y. (t : ℕ) → operation_time y.reply �
 abbrev pub CountedBelow : ℕ → List Entry → Type 0
 CountedBelow count entries = AllByRecursion (λ e. (y : Exchange) (index : ℕ) → e.number ≡ number_for y index → y.count < count) entries
 
-pub same_count : (x y : Exchange) (i j : ℕ) → number_for x i ≡ number_for y j → x.count ≡ y.count
-same_count x y i j e =
+-- statements of one number are of one request
+pub same_request : (x y : Exchange) (i j : ℕ) → number_for x i ≡ number_for y j → (x.count ≡ y.count) × (x.life ≡ y.life) × (x.router ≡ y.router)
+same_request x y i j e =
     let s : router_session x.router x.life x.count ≡ router_session y.router y.life y.count = ap (λ (n : StatementNumber). n.session) e in
-    cc
+    (cc, cc, cc)
+
+pub same_count : (x y : Exchange) (i j : ℕ) → number_for x i ≡ number_for y j → x.count ≡ y.count
+same_count x y i j e = (same_request x y i j e).0
+
+-- an entry belongs to one request
+pub own_entry : (x y : Exchange) (e : Entry) → IsEntryOf x e → IsEntryOf y e → (x.count ≡ y.count) × (x.life ≡ y.life) × (x.router ≡ y.router)
+own_entry x y e is are = same_request x y (length is.front) (length are.front) (sym is.statement.number ∙ are.statement.number)
 
 -- the reply of an exchange is not before that time, where it must be fresh
 pub record TellsFresh (time : ℕ) (x : Exchange) : Type 0 where

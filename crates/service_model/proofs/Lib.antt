@@ -8,9 +8,9 @@ pub mod Written
 pub mod Served
 pub mod Placed
 pub mod Runs
-pub mod Whole
 pub mod Determined
 pub mod Standing
+pub mod Whole
 pub mod Found
 pub mod Growing
 pub mod Sample

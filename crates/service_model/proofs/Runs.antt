@@ -1,42 +1,72 @@
 -- The plain store makes one history, its entries, by induction on the run with the exchanges before.
-use Rattle.std.proofs.Common.{◌≡◌, ℕ, List, [], ◌∷◌, ◌++◌, refl, sym, subst, arith, append_assoc, append-nil}
-use Rattle.std.specs.Prelude.{None}
+use Rattle.std.proofs.Common.{◌≡◌, ℕ, inr, List, [], ◌∷◌, ◌++◌, refl, sym, subst, append_assoc, append-nil}
+use Rattle.std.specs.Prelude.{Bool, None, Result, Ok}
+use Rattle.std.specs.List.{AllByRecursion}
+use Rattle.document_model.specs.Tree.{Members}
 use Rattle.history_model.specs.Catalogue.{Creation}
-use Rattle.history_model.specs.History.{Entry}
+use Rattle.history_model.specs.Command.{Refusal}
+use Rattle.history_model.specs.History.{Entry, IsIn}
+use Rattle.command_model.specs.Command.{Command, insert_command}
 use Rattle.service_model.specs.Asking.{wanted_by}
 use Rattle.service_model.specs.Exchange.{Exchange, InTurn}
 use Rattle.service_model.specs.Machine.{Store, empty_store, Runs, nothing_more, serves, Leaves, leaves_all, leaves_nothing, leaves_some}
-use Rattle.service_model.specs.Right.{OneHistory}
-use Rattle.service_model.proofs.Turns.{comes_after, turn_front}
-use Rattle.service_model.proofs.Grown.{Grown, Adds, adds_nothing, adds_front, grown_push, nothing_grown, silent_tells}
-use Rattle.service_model.proofs.Served.{written, time_then, command_adds, command_tells}
+use Rattle.service_model.specs.Right.{IsEntryOf, IsPart, IsRight, IsUnderWay, OneHistory}
+use Rattle.service_model.proofs.Turns.{ComesAfter, comes_after, turn_front}
+use Rattle.service_model.proofs.Grown.{Grown, Adds, adds_front, right_before, own_alone, one_push, grown_push, nothing_grown, silent_tells}
+use Rattle.service_model.proofs.Served.{written, time_then, command_adds, command_right, command_tells, insert_part}
 
 run_grows : {start end : Store} {moments : List ℕ} {said : List Exchange} → Runs start moments said end → (before : List Exchange) → Grown start.time start.entries before → InTurn 0 1 (before ++ said) → Grown end.time end.entries (before ++ said)
 run_grows (nothing_more store) before grown turn = subst (λ (l : List Exchange). Grown store.time store.entries l) (sym (append-nil before)) grown
 run_grows (serves store end moment moments x said told runs) before grown turn =
     let after = comes_after before x said turn in
     let adds = command_adds store moment (wanted_by x.request) before x grown after refl in
-    let next = grown_push store.time (time_then store moment x (wanted_by x.request)) store.entries (written store moment x (wanted_by x.request)) before x grown after adds (command_tells store moment x (wanted_by x.request) x.request.more refl told) in
+    let right = command_right store moment (wanted_by x.request) before x grown after refl told in
+    let tells = command_tells store moment x (wanted_by x.request) x.request.more refl told in
+    let next = grown_push store.time (time_then store moment x (wanted_by x.request)) store.entries (written store moment x (wanted_by x.request)) before x grown after adds tells right in
     subst (λ (l : List Exchange). Grown end.time end.entries l) (append_assoc before (x ∷ []) said)
     (run_grows runs (before ++ x ∷ []) next (subst (λ (l : List Exchange). InTurn 0 1 l) (sym (append_assoc before (x ∷ []) said)) turn))
 
--- one more request that is told nothing, and wrote nothing
-silent_history : (time : ℕ) (entries : List Entry) (said : List Exchange) (x : Exchange) → Grown time entries said → InTurn 0 1 (said ++ x ∷ []) → x.reply ≡ None → OneHistory entries (said ++ x ∷ [])
-silent_history time entries said x grown turn none =
-    let next = grown_push time time entries [] said x grown (comes_after said x [] turn) (adds_nothing time time entries said x grown (omega arith)) (silent_tells time time (entries ++ []) x none) in
-    subst (λ (l : List Entry). OneHistory l (said ++ x ∷ [])) (append-nil entries) next.one
+-- What stands in the end: one history with the request that is under way, if any, and all others were served rightly.
+record Left (entries : List Entry) (said under_way : List Exchange) : Type 0 where
+  one : OneHistory entries (said ++ under_way)
+  right : AllByRecursion (IsRight entries) said
 
-leaves_history : {gives : ℕ → Type 0} {end : Store} {under_way : List Exchange} {creations : List Creation} {entries : List Entry} → Leaves gives end under_way creations entries → (said : List Exchange) → Grown end.time end.entries said → InTurn 0 1 (said ++ under_way) → OneHistory entries (said ++ under_way)
-leaves_history {end = end} leaves_all said grown turn = subst (λ (l : List Exchange). OneHistory end.entries l) (sym (append-nil said)) grown.one
-leaves_history {end = end} (leaves_nothing x none) said grown turn = silent_history end.time end.entries said x grown turn none
-leaves_history {end = end} (leaves_some x moment front back none given both) said grown turn =
-    let after = comes_after said x [] turn in
-    let then_at : ℕ = time_then end moment x (wanted_by x.request) in
-    let adds = adds_front end.time then_at end.entries front back x (subst (λ (l : List Entry). Adds end.time then_at end.entries l x) both (command_adds end moment (wanted_by x.request) said x grown after refl)) in
-    let next = grown_push end.time then_at end.entries front said x grown after adds (silent_tells end.time then_at (end.entries ++ front) x none) in
-    next.one
+part_of : (store : Store) (moment : ℕ) (x : Exchange) (wanted : Result Command Refusal) (front back : List Entry) (namespace : List ℕ) (documents : List Members) (ordered : Bool) → written store moment x wanted ≡ front ++ back → ((e : Entry) → IsIn e (store.entries ++ front) → IsEntryOf x e → IsIn e front) → wanted ≡ Ok (insert_command namespace documents ordered) → IsPart (store.entries ++ front) x namespace documents ordered
+part_of store moment x wanted front back namespace documents ordered both alone asks =
+    insert_part store moment namespace documents ordered x front back (subst (λ (w : Result Command Refusal). written store moment x w ≡ front ++ back) asks both) alone
+
+-- one more request that is told nothing, and of whose entries a front stands
+left_with : (store : Store) (moment : ℕ) (front back : List Entry) (said : List Exchange) (x : Exchange) → Grown store.time store.entries said → ComesAfter said x → x.reply ≡ None → written store moment x (wanted_by x.request) ≡ front ++ back → Left (store.entries ++ front) said (x ∷ [])
+left_with store moment front back said x grown after none both =
+    let then_at : ℕ = time_then store moment x (wanted_by x.request) in
+    let adds = adds_front store.time then_at store.entries front back x (subst (λ (l : List Entry). Adds store.time then_at store.entries l x) both (command_adds store moment (wanted_by x.request) said x grown after refl)) in
+    let alone = own_alone store.time then_at store.entries front said x grown after adds in
+    let under_way : IsUnderWay (store.entries ++ front) x = record {
+      silent = none;
+      part = λ namespace documents ordered asks. part_of store moment x (wanted_by x.request) front back namespace documents ordered both alone asks;
+    } in
+    record {
+      one = one_push store.time then_at store.entries front said x grown after adds (silent_tells store.time then_at x none).fresh (inr under_way);
+      right = right_before store.time then_at store.entries front said x grown after adds;
+    }
+
+leaves_left : {gives : ℕ → Type 0} {end : Store} {under_way : List Exchange} {creations : List Creation} {entries : List Entry} → Leaves gives end under_way creations entries → (said : List Exchange) → Grown end.time end.entries said → InTurn 0 1 (said ++ under_way) → Left entries said under_way
+leaves_left {end = end} leaves_all said grown turn = record {
+  one = subst (λ (l : List Exchange). OneHistory end.entries l) (sym (append-nil said)) grown.one;
+  right = grown.right;
+}
+leaves_left {end = end} (leaves_nothing x none) said grown turn =
+    subst (λ (l : List Entry). Left l said (x ∷ [])) (append-nil end.entries) (left_with end 0 [] (written end 0 x (wanted_by x.request)) said x grown (comes_after said x [] turn) none refl)
+leaves_left {end = end} (leaves_some x moment front back none given both) said grown turn = left_with end moment front back said x grown (comes_after said x [] turn) none both
+
+machine_leaves : (gives : ℕ → Type 0) (moments : List ℕ) (said under_way : List Exchange) (end : Store) (creations : List Creation) (entries : List Entry) → Runs empty_store moments said end → Leaves gives end under_way creations entries → InTurn 0 1 (said ++ under_way) → Left entries said under_way
+machine_leaves gives moments said under_way end creations entries runs leaves turn =
+    leaves_left leaves said (run_grows runs [] nothing_grown (turn_front 0 1 said under_way turn)) turn
 
 -- what the plain store writes and tells, also with a part of what it did for one more request
 pub machine_makes_one_history : (gives : ℕ → Type 0) (moments : List ℕ) (said under_way : List Exchange) (end : Store) (creations : List Creation) (entries : List Entry) → Runs empty_store moments said end → Leaves gives end under_way creations entries → InTurn 0 1 (said ++ under_way) → OneHistory entries (said ++ under_way)
-machine_makes_one_history gives moments said under_way end creations entries runs leaves turn =
-    leaves_history leaves said (run_grows runs [] nothing_grown (turn_front 0 1 said under_way turn)) turn
+machine_makes_one_history gives moments said under_way end creations entries runs leaves turn = (machine_leaves gives moments said under_way end creations entries runs leaves turn).one
+
+-- each request that it served, also the last of them, was served rightly
+pub machine_serves_rightly : (gives : ℕ → Type 0) (moments : List ℕ) (said under_way : List Exchange) (end : Store) (creations : List Creation) (entries : List Entry) → Runs empty_store moments said end → Leaves gives end under_way creations entries → InTurn 0 1 (said ++ under_way) → AllByRecursion (IsRight entries) said
+machine_serves_rightly gives moments said under_way end creations entries runs leaves turn = (machine_leaves gives moments said under_way end creations entries runs leaves turn).right

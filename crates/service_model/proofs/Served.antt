@@ -5,7 +5,7 @@ use Rattle.std.specs.List.{AllByRecursion}
 use Rattle.std.proofs.lemmas.Bool.{leb-true, leb-false}
 use Rattle.document_model.specs.Tree.{Datum, Members}
 use Rattle.history_model.specs.Command.{Refusal, time_ahead}
-use Rattle.history_model.specs.History.{Entry, document_at}
+use Rattle.history_model.specs.History.{Entry, document_at, IsIn}
 use Rattle.history_model.specs.Reply.{operation_time}
 use Rattle.history_model.proofs.Lists.{all_weaken, in_back}
 use Rattle.command_model.specs.Command.{Command, hello_command, legacy_command, ping_command, end_sessions_command, insert_command, find_command}
@@ -13,14 +13,14 @@ use Rattle.command_model.specs.Answers.{find_answer, refusal_answer, answer_docu
 use Rattle.service_model.specs.Asking.{wanted_by, documents_of}
 use Rattle.service_model.specs.Exchange.{Exchange, number_for}
 use Rattle.service_model.specs.Machine.{Store, has_collection, risen, time_before_write, found, answer_find, answer_to, written_by, last_time, reply_if}
-use Rattle.service_model.specs.Right.{IsEntryOf, AreEntriesOf, IsRight, right_insert, right_find, right_ahead, right_hello, right_legacy, right_ping, right_end_sessions, right_refusal}
+use Rattle.service_model.specs.Right.{IsEntryOf, AreEntriesOf, IsPart, IsRight, right_insert, right_find, right_ahead, right_hello, right_legacy, right_ping, right_end_sessions, right_refusal}
 use Rattle.service_model.specs.Statements.{answer_of, sum_of, errors_of, time_of}
 use Rattle.service_model.proofs.Turns.{ComesAfter}
 use Rattle.service_model.proofs.Told.{time_of_insert, time_of_find, time_of_hello, time_of_legacy, time_of_done, time_refused}
 use Rattle.service_model.proofs.Asked.{never_ahead}
 use Rattle.service_model.proofs.Rising.{all_both, rising_from, last_rises, last_most, greatest_most, legal_append}
-use Rattle.service_model.proofs.Grown.{Grown, Adds, adds_nothing, Tells, silent_tells}
-use Rattle.service_model.proofs.Written.{each_own, each_placed, each_rises, each_legal, each_is, AreBehind}
+use Rattle.service_model.proofs.Grown.{Grown, Adds, own_alone, adds_nothing, Tells, silent_tells}
+use Rattle.service_model.proofs.Written.{each_own, each_placed, each_rises, each_legal, each_is, AreBehind, front_are}
 
 -- what the store writes for this request, and the time after
 abbrev pub written : Store → ℕ → Exchange → Result Command Refusal → List Entry
@@ -96,10 +96,6 @@ module _ (store : Store) (moment : ℕ) (namespace : List ℕ) (documents : List
   pub insert_each : AreEntriesOf (store.entries ++ new) x namespace ordered 0 documents new
   insert_each = each_is (store.entries ++ new) store.entries before ordered x 0 namespace documents (λ e i. in_back e store.entries new i)
 
-  pub insert_right : wanted_by x.request ≡ Ok (insert_command namespace documents ordered) → x.reply ≡ Some (answer_document (answer_of new)) → IsRight (store.entries ++ new) x
-  insert_right asks says =
-      right_insert namespace documents ordered new asks insert_each says
-
 -- what the store writes for a command
 pub command_adds : (store : Store) (moment : ℕ) (wanted : Result Command Refusal) (said : List Exchange) (x : Exchange) → Grown store.time store.entries said → ComesAfter said x → wanted_by x.request ≡ wanted → Adds store.time (time_then store moment x wanted) store.entries (written store moment x wanted) x
 command_adds store moment (Err refusal) said x grown after asks = adds_nothing store.time (risen store moment) store.entries said x grown (omega arith)
@@ -109,6 +105,12 @@ command_adds store moment (Ok ping_command) said x grown after asks = adds_nothi
 command_adds store moment (Ok end_sessions_command) said x grown after asks = adds_nothing store.time (risen store moment) store.entries said x grown (omega arith)
 command_adds store moment (Ok (find_command namespace key at)) said x grown after asks = adds_nothing store.time (risen store moment) store.entries said x grown (omega arith)
 command_adds store moment (Ok (insert_command namespace documents ordered)) said x grown after asks = adds_insert store moment namespace documents ordered x said grown after asks
+
+-- what stands of an insert where its first entries do
+pub insert_part : (store : Store) (moment : ℕ) (namespace : List ℕ) (documents : List Members) (ordered : Bool) (x : Exchange) (front back : List Entry) → written store moment x (Ok (insert_command namespace documents ordered)) ≡ front ++ back → ((e : Entry) → IsIn e (store.entries ++ front) → IsEntryOf x e → IsIn e front) → IsPart (store.entries ++ front) x namespace documents ordered
+insert_part store moment namespace documents ordered x front back both all =
+    let part = front_are (store.entries ++ front) store.entries (time_before_write store moment namespace) ordered x 0 namespace documents front back both (λ e i. in_back e store.entries front i) in
+    record { front = part.front; back = part.back; both = part.both; entries = front; each = part.each; all = all }
 
 -- the time that a find of the present tells
 find_tells : (store : Store) (moment : ℕ) (x : Exchange) (wanted : Result Command Refusal) (namespace : List ℕ) (key : Datum) → wanted ≡ Ok (find_command namespace key None) → operation_time (Some (answered_by store moment x wanted)) ≡ Some (risen store moment)
@@ -161,28 +163,38 @@ told_most store moment x (Ok end_sessions_command) t shows = untold _ t _ time_o
 told_most store moment x (Ok (insert_command namespace documents ordered)) t shows = insert_told store moment namespace documents ordered x t shows
 told_most store moment x (Ok (find_command namespace key at)) t shows = find_told store (risen store moment) namespace key at t shows
 
--- a reply is right
-right_found : (store : Store) (now : ℕ) (namespace : List ℕ) (key : Datum) (at : Option ℕ) (x : Exchange) → wanted_by x.request ≡ Ok (find_command namespace key at) → x.reply ≡ Some (answer_document (answer_find store now namespace key at)) → IsRight store.entries x
+-- a request is served rightly
+right_found : (store : Store) (now : ℕ) (namespace : List ℕ) (key : Datum) (at : Option ℕ) (x : Exchange) → wanted_by x.request ≡ Ok (find_command namespace key at) → x.reply ≡ reply_if x.request.more (answer_document (answer_find store now namespace key at)) → IsRight store.entries x
 right_found store now namespace key None x asks says = right_find namespace key None now asks tt says
 right_found store now namespace key (Some time) x asks says = by_test (nat_le time now) refl says
   where
-    by_test : (test : Bool) → nat_le time now ≡ test → x.reply ≡ Some (answer_document (if test then find_answer namespace (found (document_at store.entries namespace (Some key) time)) time else refusal_answer (time_ahead now))) → IsRight store.entries x
+    by_test : (test : Bool) → nat_le time now ≡ test → x.reply ≡ reply_if x.request.more (answer_document (if test then find_answer namespace (found (document_at store.entries namespace (Some key) time)) time else refusal_answer (time_ahead now))) → IsRight store.entries x
     by_test true least told = right_find namespace key (Some time) time asks refl told
     by_test false least told = right_ahead namespace key time now asks (leb-false time now least) told
 
-right_reply : (store : Store) (moment : ℕ) (x : Exchange) (wanted : Result Command Refusal) → wanted_by x.request ≡ wanted → x.reply ≡ Some (answered_by store moment x wanted) → IsRight (store.entries ++ written store moment x wanted) x
-right_reply store moment x (Err refusal) asks says = right_refusal refusal asks says
-right_reply store moment x (Ok hello_command) asks says = right_hello moment asks says
-right_reply store moment x (Ok (legacy_command shown)) asks says = right_legacy moment shown asks says
-right_reply store moment x (Ok ping_command) asks says = right_ping asks says
-right_reply store moment x (Ok end_sessions_command) asks says = right_end_sessions asks says
-right_reply store moment x (Ok (insert_command namespace documents ordered)) asks says = insert_right store moment namespace documents ordered x asks says
-right_reply store moment x (Ok (find_command namespace key at)) asks says =
+right_inserted : (store : Store) (moment : ℕ) (namespace : List ℕ) (documents : List Members) (ordered : Bool) (said : List Exchange) (x : Exchange) → Grown store.time store.entries said → ComesAfter said x → wanted_by x.request ≡ Ok (insert_command namespace documents ordered) → x.reply ≡ reply_if x.request.more (answered_by store moment x (Ok (insert_command namespace documents ordered))) → IsRight (store.entries ++ written store moment x (Ok (insert_command namespace documents ordered))) x
+right_inserted store moment namespace documents ordered said x grown after asks says =
+    let new : List Entry = written store moment x (Ok (insert_command namespace documents ordered)) in
+    let adds = adds_insert store moment namespace documents ordered x said grown after asks in
+    right_insert namespace documents ordered asks (record {
+      entries = new;
+      each = insert_each store moment namespace documents ordered x;
+      all = own_alone store.time (last_time (risen store moment) new) store.entries new said x grown after adds;
+      told = says;
+    })
+
+pub command_right : (store : Store) (moment : ℕ) (wanted : Result Command Refusal) (said : List Exchange) (x : Exchange) → Grown store.time store.entries said → ComesAfter said x → wanted_by x.request ≡ wanted → x.reply ≡ reply_if x.request.more (answered_by store moment x wanted) → IsRight (store.entries ++ written store moment x wanted) x
+command_right store moment (Err refusal) said x grown after asks says = right_refusal refusal asks says
+command_right store moment (Ok hello_command) said x grown after asks says = right_hello moment asks says
+command_right store moment (Ok (legacy_command shown)) said x grown after asks says = right_legacy moment shown asks says
+command_right store moment (Ok ping_command) said x grown after asks says = right_ping asks says
+command_right store moment (Ok end_sessions_command) said x grown after asks says = right_end_sessions asks says
+command_right store moment (Ok (insert_command namespace documents ordered)) said x grown after asks says = right_inserted store moment namespace documents ordered said x grown after asks says
+command_right store moment (Ok (find_command namespace key at)) said x grown after asks says =
     subst (λ (l : List Entry). IsRight l x) (sym (append-nil store.entries)) (right_found store (risen store moment) namespace key at x asks says)
 
-reply_tells : (store : Store) (moment : ℕ) (x : Exchange) (wanted : Result Command Refusal) → wanted_by x.request ≡ wanted → x.reply ≡ Some (answered_by store moment x wanted) → Tells store.time (time_then store moment x wanted) (store.entries ++ written store moment x wanted) x
+reply_tells : (store : Store) (moment : ℕ) (x : Exchange) (wanted : Result Command Refusal) → wanted_by x.request ≡ wanted → x.reply ≡ Some (answered_by store moment x wanted) → Tells store.time (time_then store moment x wanted) x
 reply_tells store moment x wanted asks says = record {
-  right = right_reply store moment x wanted asks says;
   told = λ t shows. told_most store moment x wanted t (ap operation_time (sym says) ∙ shows);
   fresh = record {
     reads = λ namespace key s wants shows.
@@ -196,6 +208,6 @@ reply_tells store moment x wanted asks says = record {
 }
 
 -- what the store tells for a command, if a reply is wanted
-pub command_tells : (store : Store) (moment : ℕ) (x : Exchange) (wanted : Result Command Refusal) (more : Bool) → wanted_by x.request ≡ wanted → x.reply ≡ reply_if more (answered_by store moment x wanted) → Tells store.time (time_then store moment x wanted) (store.entries ++ written store moment x wanted) x
-command_tells store moment x wanted true asks says = silent_tells store.time (time_then store moment x wanted) (store.entries ++ written store moment x wanted) x says
+pub command_tells : (store : Store) (moment : ℕ) (x : Exchange) (wanted : Result Command Refusal) (more : Bool) → wanted_by x.request ≡ wanted → x.reply ≡ reply_if more (answered_by store moment x wanted) → Tells store.time (time_then store moment x wanted) x
+command_tells store moment x wanted true asks says = silent_tells store.time (time_then store moment x wanted) x says
 command_tells store moment x wanted false asks says = reply_tells store moment x wanted asks says

@@ -1,4 +1,4 @@
--- The times that answers tell.
+-- What answers tell.
 use Rattle.std.proofs.Common.{◌≡◌, ℕ, List, [], ◌∷◌, refl}
 use Rattle.std.specs.Prelude.{Some, None, Bool, true, false}
 use Rattle.document_model.specs.Tree.{Members}
@@ -6,6 +6,7 @@ use Rattle.history_model.specs.Command.{Refusal}
 use Rattle.history_model.specs.Reply.{operation_time}
 use Rattle.history_model.proofs.Replies.{time_of_refusal}
 use Rattle.command_model.specs.Answers.{hello_answer, legacy_answer, done_answer, insert_answer, find_answer, refusal_answer, answer_document, WriteError}
+use Rattle.service_model.specs.Machine.{reply_if}
 
 pub time_of_insert : (count : ℕ) (errors : List WriteError) (time : ℕ) → operation_time (Some (answer_document (insert_answer count errors time))) ≡ Some time
 time_of_insert count [] time = refl
@@ -26,3 +27,8 @@ time_of_done = refl
 
 pub time_refused : (refusal : Refusal) → operation_time (Some (answer_document (refusal_answer refusal))) ≡ None
 time_refused refusal = time_of_refusal refusal
+
+-- a reply that was told was wanted
+pub reply_told : (more : Bool) (wanted told : Members) → reply_if more wanted ≡ Some told → wanted ≡ told
+reply_told true wanted told e = absurd (cc)
+reply_told false wanted told e = cc

@@ -8,7 +8,7 @@ use Rattle.history_model.proofs.Lists.{all_push, all_weaken, in_first, in_later}
 use Rattle.command_model.specs.Command.{insert_command}
 use Rattle.service_model.specs.Asking.{wanted_by}
 use Rattle.service_model.specs.Exchange.{Exchange, number_for}
-use Rattle.service_model.specs.Right.{IsEntryOf, ByEnd, AreEntriesOf}
+use Rattle.service_model.specs.Right.{IsStatementOf, IsEntryOf, ByEnd, AreEntriesOf}
 use Rattle.service_model.specs.Statements.{entry_of, entries_of, fails}
 use Rattle.service_model.proofs.Rising.{Rising}
 
@@ -111,3 +111,47 @@ each_is history before time ordered x index namespace (document ∷ documents) i
   rest_are history x namespace ordered (index + 1) documents (ordered && fails (first_of before time x index namespace document)) (first_of before time x index namespace document) _ inside
       (λ within. each_is history (before ++ first_of before time x index namespace document ∷ []) (time + 1) ordered x (index + 1) namespace documents within),
 )
+
+-- A front of the documents has these entries.
+pub record AreOfFront (history : List Entry) (x : Exchange) (namespace : List ℕ) (ordered : Bool) (index : ℕ) (documents : List Members) (entries : List Entry) : Type 0 where
+  pub front : List Members
+  pub back : List Members
+  pub both : documents ≡ front ++ back
+  pub each : AreEntriesOf history x namespace ordered index front entries
+
+-- the same where the command may have ended
+record AreOfRest (history : List Entry) (x : Exchange) (namespace : List ℕ) (ordered : Bool) (index : ℕ) (documents : List Members) (stop : Bool) (entries : List Entry) : Type 0 where
+  front : List Members
+  back : List Members
+  both : documents ≡ front ++ back
+  each : ByEnd stop (entries ≡ []) (AreEntriesOf history x namespace ordered index front entries)
+
+nothing_front : (front back : List Entry) → [] ≡ front ++ back → front ≡ []
+nothing_front [] back e = refl
+nothing_front (f ∷ front) back e = absurd (cc)
+
+rest_front : (history : List Entry) (x : Exchange) (namespace : List ℕ) (ordered : Bool) (index : ℕ) (documents : List Members) (stop : Bool) (rest front back : List Entry) → (if stop then [] else rest) ≡ front ++ back → (rest ≡ front ++ back → AreOfFront history x namespace ordered index documents front) → AreOfRest history x namespace ordered index documents stop front
+rest_front history x namespace ordered index documents true rest front back e are = record { front = []; back = documents; both = refl; each = nothing_front front back e }
+rest_front history x namespace ordered index documents false rest front back e are =
+    let part = are e in
+    record { front = part.front; back = part.back; both = part.both; each = part.each }
+
+front_with : (history : List Entry) (x : Exchange) (namespace : List ℕ) (ordered : Bool) (index : ℕ) (document : Members) (documents : List Members) (e : Entry) (front : List Entry) → IsIn e history → IsStatementOf x index namespace document e → AreOfRest history x namespace ordered (index + 1) documents (ordered && fails e) front → AreOfFront history x namespace ordered index (document ∷ documents) (e ∷ front)
+front_with history x namespace ordered index document documents e front there is rest = record {
+  front = document ∷ rest.front;
+  back = rest.back;
+  both = ap (λ (l : List Members). document ∷ l) rest.both;
+  each = (there, is, rest.each);
+}
+
+-- a front of the entries, in a history where it stands, is that of a front of the statements
+pub front_are : (history before : List Entry) (time : ℕ) (ordered : Bool) (x : Exchange) (index : ℕ) (namespace : List ℕ) (documents : List Members) (front back : List Entry) → statements_of before time ordered x index namespace documents ≡ front ++ back → ((e : Entry) → IsIn e front → IsIn e history) → AreOfFront history x namespace ordered index documents front
+front_are history before time ordered x index namespace documents [] back e inside = record { front = []; back = documents; both = refl; each = refl }
+front_are history before time ordered x index namespace [] (f ∷ front) back e inside = absurd (cc)
+front_are history before time ordered x index namespace (document ∷ documents) (f ∷ front) back e inside =
+    let first : Entry = first_of before time x index namespace document in
+    let same : f ≡ first = cc in
+    let rest : (if ordered && fails first then [] else statements_of (before ++ first ∷ []) (time + 1) ordered x (index + 1) namespace documents) ≡ front ++ back = cc in
+    subst (λ (d : Entry). AreOfFront history x namespace ordered index (document ∷ documents) (d ∷ front)) (sym same)
+    (front_with history x namespace ordered index document documents first front (subst (λ (d : Entry). IsIn d history) same (inside f (in_first f front))) (record { number = refl; name = refl; operation = refl })
+    (rest_front history x namespace ordered (index + 1) documents (ordered && fails first) _ front back rest (λ more. front_are history (before ++ first ∷ []) (time + 1) ordered x (index + 1) namespace documents front back more (λ d i. inside d (in_later d f front i)))))

@@ -7,8 +7,8 @@ use Rattle.frame_model.specs.Requests.{Request, msg_form, query_form, read_body,
 use Rattle.frame_model.specs.Sections.{body_section}
 use Rattle.history_model.specs.Times.{timestamp}
 use Rattle.history_model.specs.Command.{concern_named}
-use Rattle.history_model.specs.Errors.{duplicate_key}
-use Rattle.history_model.specs.Examples.{creation, done_reply, duplicate_reply}
+use Rattle.history_model.specs.Errors.{object_too_large, duplicate_key}
+use Rattle.history_model.specs.Examples.{nested, creation, done_reply, duplicate_reply}
 use Rattle.history_model.specs.History.{router_session, insert_operation, Outcome, done, fails_with, Entry}
 use Rattle.command_model.specs.Answers.{document_items, find_answer, answer_document}
 use Rattle.service_model.specs.Asking.{wanted_by}
@@ -118,6 +118,33 @@ second_fails count counter =
 abbrev pub three_asked : Bool → Option Members → Exchange
 three_asked ordered reply = first_asked (request 1 false (insert_body three ordered)) reply
 
+-- the same, ordered and with moreToCome
+abbrev pub three_silent : Exchange
+three_silent = first_asked (request 1 true (insert_body three true)) None
+
+-- a document of 101 levels
+abbrev pub deep : Members
+deep = member (codes "_id") five (member (codes "a") (document_value (nested 99)) no_members)
+
+-- {n: 0, writeErrors: [{index: 0, code: 10334, errmsg: "BSONObjectTooLarge"}], ok: 1, operationTime: Timestamp(1000, 2)}
+abbrev pub too_large_reply : Members
+too_large_reply =
+    member (codes "n") (int32_value (pos 0))
+    (member (codes "writeErrors")
+    (array_value
+    (item
+    (document_value
+    (member (codes "index") (int32_value (pos 0))
+    (member (codes "code") (int32_value (pos 10334))
+    (member (codes "errmsg") (text_value (codes "BSONObjectTooLarge")) no_members))))
+    no_items))
+    (member (codes "ok") (int32_value (pos 1))
+    (member (codes "operationTime") (timestamp_value (timestamp 1000 2)) no_members)))
+
+-- an ordered insert of it and of {_id: 6}
+abbrev pub deep_asked : Exchange
+deep_asked = first_asked (request 1 false (insert_body (deep ∷ with_id six ∷ []) true)) (Some too_large_reply)
+
 -- an entry at Timestamp(1000, ..) of the statement with this index, of the request with this count
 abbrev pub entry_at : ℕ → ℕ → ℕ → Datum → Outcome → Entry
 entry_at counter count index key outcome = record {
@@ -142,6 +169,9 @@ two_entries = first_entry ∷ entry_at 3 1 1 long_five (fails_with duplicate_key
 -- and of all three
 abbrev pub three_entries : List Entry
 three_entries = first_entry ∷ entry_at 3 1 1 long_five (fails_with duplicate_key) ∷ entry_at 4 1 2 six done ∷ []
+
+abbrev pub deep_entry : Entry
+deep_entry = record (entry_at 2 1 0 five (fails_with object_too_large)) { operation = insert_operation deep }
 
 -- the store after the first insert, and after both
 abbrev pub first_store : Store

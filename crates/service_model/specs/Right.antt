@@ -1,6 +1,5 @@
--- Which replies are right, and what it means that they are fresh.
-use Rattle.std.specs.Prelude.{◌≡◌, ℕ, ◌+◌, ◌<◌, ◌≤◌, List, [], ◌∷◌, ◌++◌, length, Option, Some, None, Ok, Err, Bool, true, false, ◌&&◌}
-use Rattle.std.specs.List.{AllByRecursion}
+-- Which requests were served rightly, and what it means that they are fresh.
+use Rattle.std.specs.Prelude.{◌≡◌, ℕ, ◌+◌, ◌<◌, ◌≤◌, ◌⊎◌, List, [], ◌∷◌, ◌++◌, length, Option, Some, None, Ok, Err, Bool, true, false, ◌&&◌}
 use Rattle.document_model.specs.Tree.{Datum, Members}
 use Rattle.history_model.specs.Command.{Refusal, time_ahead}
 use Rattle.history_model.specs.History.{insert_operation, Entry, document_at, Legal, IsIn}
@@ -54,18 +53,38 @@ pub record IsWhole (history : List Entry) (x : Exchange) (namespace : List ℕ) 
   pub all : (e : Entry) → IsIn e history → IsEntryOf x e → IsIn e entries
   pub told : x.reply ≡ reply_if x.request.more (answer_document (answer_of entries))
 
--- The reply is right: it tells the outcomes of the request's own entries, or what a find has to show of the history up to a
--- time, or what is told without a look at documents, or the refusal that the request has. A request may have no reply.
+-- What stands of an insert that did not come to its end: the entries of a front of its statements, and no other entry is of it.
+pub record IsPart (history : List Entry) (x : Exchange) (namespace : List ℕ) (documents : List Members) (ordered : Bool) : Type 0 where
+  pub front : List Members
+  pub back : List Members
+  pub both : documents ≡ front ++ back
+  pub entries : List Entry
+  pub each : AreEntriesOf history x namespace ordered 0 front entries
+  pub all : (e : Entry) → IsIn e history → IsEntryOf x e → IsIn e entries
+
+-- The request was served rightly. Its reply, where one is wanted, tells the outcomes of the entries of all its statements, or
+-- what a find has to show of the history up to a time, or what is told without a look at documents, or the refusal that the
+-- request has.
 pub data IsRight (history : List Entry) (x : Exchange) : Type 0 where
-  right_insert : (namespace : List ℕ) (documents : List Members) (ordered : Bool) (entries : List Entry) → wanted_by x.request ≡ Ok (insert_command namespace documents ordered) → AreEntriesOf history x namespace ordered 0 documents entries → x.reply ≡ Some (answer_document (answer_of entries)) → IsRight history x
-  right_find : (namespace : List ℕ) (key : Datum) (at : Option ℕ) (time : ℕ) → wanted_by x.request ≡ Ok (find_command namespace key at) → IsNamedTime at time → x.reply ≡ Some (answer_document (find_answer namespace (found (document_at history namespace (Some key) time)) time)) → IsRight history x
-  right_ahead : (namespace : List ℕ) (key : Datum) (named greatest : ℕ) → wanted_by x.request ≡ Ok (find_command namespace key (Some named)) → greatest < named → x.reply ≡ Some (answer_document (refusal_answer (time_ahead greatest))) → IsRight history x
-  right_hello : (moment : ℕ) → wanted_by x.request ≡ Ok hello_command → x.reply ≡ Some (answer_document (hello_answer moment)) → IsRight history x
-  right_legacy : (moment : ℕ) (shown : Bool) → wanted_by x.request ≡ Ok (legacy_command shown) → x.reply ≡ Some (answer_document (legacy_answer moment shown)) → IsRight history x
-  right_ping : wanted_by x.request ≡ Ok ping_command → x.reply ≡ Some (answer_document done_answer) → IsRight history x
-  right_end_sessions : wanted_by x.request ≡ Ok end_sessions_command → x.reply ≡ Some (answer_document done_answer) → IsRight history x
-  right_refusal : (refusal : Refusal) → wanted_by x.request ≡ Err refusal → x.reply ≡ Some (answer_document (refusal_answer refusal)) → IsRight history x
-  right_silence : x.reply ≡ None → IsRight history x
+  right_insert : (namespace : List ℕ) (documents : List Members) (ordered : Bool) → wanted_by x.request ≡ Ok (insert_command namespace documents ordered) → IsWhole history x namespace documents ordered → IsRight history x
+  right_find : (namespace : List ℕ) (key : Datum) (at : Option ℕ) (time : ℕ) → wanted_by x.request ≡ Ok (find_command namespace key at) → IsNamedTime at time → x.reply ≡ reply_if x.request.more (answer_document (find_answer namespace (found (document_at history namespace (Some key) time)) time)) → IsRight history x
+  right_ahead : (namespace : List ℕ) (key : Datum) (named greatest : ℕ) → wanted_by x.request ≡ Ok (find_command namespace key (Some named)) → greatest < named → x.reply ≡ reply_if x.request.more (answer_document (refusal_answer (time_ahead greatest))) → IsRight history x
+  right_hello : (moment : ℕ) → wanted_by x.request ≡ Ok hello_command → x.reply ≡ reply_if x.request.more (answer_document (hello_answer moment)) → IsRight history x
+  right_legacy : (moment : ℕ) (shown : Bool) → wanted_by x.request ≡ Ok (legacy_command shown) → x.reply ≡ reply_if x.request.more (answer_document (legacy_answer moment shown)) → IsRight history x
+  right_ping : wanted_by x.request ≡ Ok ping_command → x.reply ≡ reply_if x.request.more (answer_document done_answer) → IsRight history x
+  right_end_sessions : wanted_by x.request ≡ Ok end_sessions_command → x.reply ≡ reply_if x.request.more (answer_document done_answer) → IsRight history x
+  right_refusal : (refusal : Refusal) → wanted_by x.request ≡ Err refusal → x.reply ≡ reply_if x.request.more (answer_document (refusal_answer refusal)) → IsRight history x
+
+-- The request is under way: it has no reply, and of an insert a part stands.
+pub record IsUnderWay (history : List Entry) (x : Exchange) : Type 0 where
+  pub silent : x.reply ≡ None
+  pub part : (namespace : List ℕ) (documents : List Members) (ordered : Bool) → wanted_by x.request ≡ Ok (insert_command namespace documents ordered) → IsPart history x namespace documents ordered
+
+-- each request was served rightly, but the last may be under way
+abbrev pub AreRight : List Entry → List Exchange → Type 0
+AreRight history [] = Unit {0}
+AreRight history (x ∷ []) = IsRight history x ⊎ IsUnderWay history x
+AreRight history (x ∷ y ∷ said) = IsRight history x × AreRight history (y ∷ said)
 
 -- What a request is told is not older than what was told before it came.
 pub record IsFresh (history : List Entry) (said : List Exchange) : Type 0 where
@@ -77,9 +96,9 @@ pub record IsFresh (history : List Entry) (said : List Exchange) : Type 0 where
   pub greatest : (x y : Exchange) (s t : ℕ) → IsIn x said → IsIn y said → x.step < y.came → operation_time x.reply ≡ Some t → y.reply ≡ Some (answer_document (refusal_answer (time_ahead s))) → t ≤ s
 
 -- Whatever clients send: the entries are one legal history of an unsharded collection with each statement at most
--- once, each of them was sent by a client, each reply is right, and nothing that is told is stale.
+-- once, each of them was sent by a client, each request was served rightly, and nothing that is told is stale.
 pub record OneHistory (history : List Entry) (said : List Exchange) : Type 0 where
   pub legal : Legal history
   pub sent : (e : Entry) → IsIn e history → (x : Exchange) × IsIn x said × IsEntryOf x e
-  pub right : AllByRecursion (IsRight history) said
+  pub right : AreRight history said
   pub fresh : IsFresh history said

@@ -8,14 +8,14 @@ ghost use Rattle.history_model.specs.Catalogue.{IsPlaced};
 ghost use Rattle.history_model.specs.Command.{no_document_at};
 ghost use Rattle.history_model.specs.Errors.{duplicate_key};
 ghost use Rattle.history_model.specs.Examples.{ahead_reply, creation, done_reply, duplicate_reply};
-ghost use Rattle.history_model.specs.History.{Legal, fails_with};
+ghost use Rattle.history_model.specs.History.{Legal, done, fails_with};
 ghost use Rattle.history_model.specs.Times.{timestamp};
 ghost use Rattle.command_model.specs.Command.{find_command, insert_command, legacy_command};
 ghost use Rattle.service_model.specs.Asking.{wanted_by};
-ghost use Rattle.service_model.specs.Examples.{after, entries_written, entry_at, faulty, finding, first, first_entry, first_store, five, greeting, long_five, second, second_entry, second_fails, second_store, shown, silent, six, three, three_asked, three_entries, told, two_entries, with_id};
+ghost use Rattle.service_model.specs.Examples.{after, deep, deep_asked, deep_entry, entries_written, entry_at, faulty, finding, first, first_entry, first_store, five, greeting, long_five, second, second_entry, second_fails, second_store, shown, silent, six, three, three_asked, three_entries, three_silent, told, too_large_reply, two_entries, with_id};
 ghost use Rattle.service_model.specs.Exchange.{InTurn, spoken};
 ghost use Rattle.service_model.specs.Machine.{Leaves, Runs, Store, empty_store};
-ghost use Rattle.service_model.specs.Right.{AreEntriesOf, IsEntryOf, IsFresh, IsRight, IsWhole, OneHistory};
+ghost use Rattle.service_model.specs.Right.{AreEntriesOf, AreRight, IsEntryOf, IsFresh, IsPart, IsRight, IsUnderWay, IsWhole, OneHistory};
 
 /// What requests ask for: an insert, a find, the old handshake, and a refusal where a document has a fault.
 pub fn asked()
@@ -44,10 +44,35 @@ pub fn many_statements()
     ensures unordered { told empty_store (three_asked false None) ≡ second_fails 2 4 }
     ensures goes_on { entries_written empty_store (three_asked false None) ≡ three_entries }
     ensures right_end { IsRight two_entries (three_asked true (Some (second_fails 1 3))) }
+    ensures never_goes_on { AreRight three_entries (three_asked true (Some (second_fails 1 3)) ∷ []) → ⊥ }
     ensures whole { IsWhole two_entries (three_asked true (Some (second_fails 1 3))) (codes "d.c") three true }
     ensures one_more { IsWhole three_entries (three_asked true (Some (second_fails 1 3))) (codes "d.c") three true → ⊥ }
     ensures no_third { AreEntriesOf three_entries (three_asked true None) (codes "d.c") true 0 three three_entries → ⊥ }
     ensures a_third { AreEntriesOf three_entries (three_asked false None) (codes "d.c") false 0 three two_entries → ⊥ }
+{}
+
+/// An insert of a document that is too large is told so, and ends there where it is ordered; the document isn't found.
+pub fn too_large()
+    ensures told { told empty_store deep_asked ≡ too_large_reply }
+    ensures ends { entries_written empty_store deep_asked ≡ deep_entry ∷ [] }
+    ensures gone { told (after empty_store deep_asked) (finding five None (shown [] 2)) ≡ shown [] 2 }
+    ensures not_found { IsRight (deep_entry ∷ []) (finding five None (shown [] 2)) }
+    ensures not_shown { IsRight (deep_entry ∷ []) (finding five None (shown (deep ∷ []) 2)) → ⊥ }
+{}
+
+/// Of an insert that has no reply by now a front of its entries may stand, also none, but no entry behind one that is missing,
+/// and none behind the error that ends it.
+pub fn under_way()
+    ensures part { IsPart (first_entry ∷ []) (three_asked true None) (codes "d.c") three true }
+    ensures ended { IsPart two_entries (three_asked true None) (codes "d.c") three true }
+    ensures first_missing { IsPart (entry_at 2 1 1 long_five done ∷ []) (three_asked true None) (codes "d.c") three true → ⊥ }
+    ensures behind_error { IsUnderWay three_entries (three_asked true None) → ⊥ }
+    ensures nothing { IsUnderWay [] (three_asked true None) }
+    ensures begun { IsUnderWay (first_entry ∷ []) (three_asked true None) }
+    ensures has_reply { IsUnderWay two_entries (three_asked true (Some (second_fails 1 3))) → ⊥ }
+    ensures last { AreRight (first_entry ∷ []) (three_silent ∷ []) }
+    ensures whole_followed { AreRight two_entries (three_silent ∷ finding six None (shown [] 3) ∷ []) }
+    ensures part_followed { AreRight (first_entry ∷ []) (three_silent ∷ finding six None (shown [] 3) ∷ []) → ⊥ }
 {}
 
 /// After the first insert, at Timestamp(1000, 2), a find of either five shows the document, and one of six shows none. At
@@ -75,7 +100,8 @@ pub fn unanswered()
 {}
 
 /// The two inserts are one history. It is not one without their entries, nor with a second entry that is no later than the
-/// time that the first was told; and a reply is not right that tells of another request's entry.
+/// time that the first was told; and a reply is not right that tells of another request's entry. Nor is a silent insert served
+/// rightly whose entry is missing.
 pub fn one_history()
     ensures turns { InTurn 0 1 (first ∷ second ∷ []) }
     ensures runs { Runs empty_store (1000000 ∷ 1000000 ∷ []) (first ∷ second ∷ []) second_store }
@@ -84,7 +110,7 @@ pub fn one_history()
     ensures lost { OneHistory [] (first ∷ second ∷ []) → ⊥ }
     ensures wrong { IsRight (first_entry ∷ second_entry ∷ []) (record first { reply = Some duplicate_reply }) → ⊥ }
     ensures stale { IsFresh (first_entry ∷ entry_at 2 2 0 long_five (fails_with duplicate_key) ∷ []) (first ∷ second ∷ []) → ⊥ }
-    ensures silent { IsRight [] silent }
+    ensures silent { IsRight [] silent → ⊥ }
 {}
 
 /// An insert of three that did not come to its end leaves any front of its entries, but none where its collection did not begin.

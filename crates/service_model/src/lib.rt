@@ -6,5 +6,6 @@ pub mod examples;
 mod laws;
 
 pub use laws::{
-    inserts_are_whole, machine_makes_one_history, one_run, reads_miss_nothing, told_inserts_stand,
+    inserts_are_whole, later_writes_tell_later, machine_makes_one_history, one_run, own_entry,
+    reads_miss_nothing, told_inserts_stand,
 };

@@ -1,4 +1,4 @@
--- Which records are written: each document in them has at most 104 levels and 200,000,000 bytes.
+-- Which records are written: each document in them has at most 104 levels and 300,000,000 bytes.
 use Rattle.std.specs.Prelude.{◌≤◌, length, Option, Some, None}
 use Rattle.document_model.specs.Tree.{Datum, Members, document_levels}
 use Rattle.document_model.specs.Spelling.{written}
@@ -6,7 +6,7 @@ use Rattle.record_model.specs.Records.{OperationWords, insert_words, update_word
 use Rattle.record_model.specs.Spelled.{key_document}
 
 abbrev pub IsWritable : Members → Type 0
-IsWritable document = (document_levels document ≤ 104) × (length (written document) ≤ 200000000)
+IsWritable document = (document_levels document ≤ 104) × (length (written document) ≤ 300000000)
 
 abbrev pub AreWritable : OperationWords → Type 0
 AreWritable (insert_words document) = IsWritable document

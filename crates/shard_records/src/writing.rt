@@ -19,7 +19,7 @@ use value_compare::{Key, OpWords, Reply};
 const NEWEST_FORMAT: u8 = 0x01;
 
 /// Puts the record's one spelling in the newest format behind the bytes. Each document in the record has at most 104
-/// levels and 200,000,000 bytes.
+/// levels and 300,000,000 bytes.
 ///
 /// # Errors
 /// `Memory` for want of memory, and then the bytes are as they were.

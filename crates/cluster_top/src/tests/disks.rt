@@ -14,91 +14,24 @@ const WHOLE: &[u8] = b"\x01\x19\0\0\0\0\0\0\0\
     \x01\0\0\0\xe8\x03\0\0\
     \0";
 
-/// Disks at the start, the numbers of their calls that fail, and the status. They are asked for their lengths in order,
-/// each by its call 0.
-#[derive(Clone, Copy)]
-struct Turned {
-    files: [&'static [u8]; 3],
-    failing: [u64; 3],
-    status: u8,
-}
-
-const TURNED: &[Turned] = &[
-    Turned {
-        files: [b"\0", b"", b""],
-        failing: [NEVER, NEVER, NEVER],
-        status: 6,
-    },
-    Turned {
-        files: [b"", b"\0", b""],
-        failing: [NEVER, NEVER, NEVER],
-        status: 6,
-    },
-    Turned {
-        files: [b"", b"", b"\0"],
-        failing: [NEVER, NEVER, NEVER],
-        status: 6,
-    },
-    Turned {
-        files: [WHOLE, b"", b""],
-        failing: [NEVER, NEVER, NEVER],
-        status: 6,
-    },
-    Turned {
-        files: [b"", WHOLE, b""],
-        failing: [NEVER, NEVER, NEVER],
-        status: 6,
-    },
-    Turned {
-        files: [b"", b"", WHOLE],
-        failing: [NEVER, NEVER, NEVER],
-        status: 6,
-    },
-    Turned {
-        files: [b"\x07\x08", b"", b""],
-        failing: [NEVER, NEVER, NEVER],
-        status: 6,
-    },
-    Turned {
-        files: [b"", b"\x07\x08", b""],
-        failing: [NEVER, NEVER, NEVER],
-        status: 6,
-    },
-    Turned {
-        files: [b"", b"", b"\x07\x08"],
-        failing: [NEVER, NEVER, NEVER],
-        status: 6,
-    },
-    Turned {
-        files: [b"", WHOLE, b""],
-        failing: [0, NEVER, NEVER],
-        status: 5,
-    },
-    Turned {
-        files: [WHOLE, b"", b""],
-        failing: [NEVER, 0, NEVER],
-        status: 6,
-    },
-    Turned {
-        files: [b"", b"", WHOLE],
-        failing: [NEVER, 0, NEVER],
-        status: 5,
-    },
-    Turned {
-        files: [b"", WHOLE, b""],
-        failing: [NEVER, NEVER, 0],
-        status: 6,
-    },
-    Turned {
-        files: [b"", WHOLE, b""],
-        failing: [1, NEVER, NEVER],
-        status: 6,
-    },
-    Turned {
-        files: [WHOLE, b"", b""],
-        failing: [0, NEVER, NEVER],
-        status: 5,
-    },
+/// The files of the disks at the start, the numbers of their calls that fail, and the status. The disks are asked for their
+/// lengths in order, each by its call 0.
+const TURNED: &[([&[u8]; 3], [u64; 3], u8)] = &[
+    ([b"\0", b"", b""], [NEVER, NEVER, NEVER], 6),
+    ([b"", b"\0", b""], [NEVER, NEVER, NEVER], 6),
+    ([b"", b"", b"\0"], [NEVER, NEVER, NEVER], 6),
+    ([WHOLE, b"", b""], [NEVER, NEVER, NEVER], 6),
+    ([b"", WHOLE, b""], [NEVER, NEVER, NEVER], 6),
+    ([b"", b"", WHOLE], [NEVER, NEVER, NEVER], 6),
+    ([b"\x07\x08", b"", b""], [NEVER, NEVER, NEVER], 6),
+    ([b"", b"\x07\x08", b""], [NEVER, NEVER, NEVER], 6),
+    ([b"", b"", b"\x07\x08"], [NEVER, NEVER, NEVER], 6),
+    ([b"", WHOLE, b""], [0, NEVER, NEVER], 5),
+    ([WHOLE, b"", b""], [NEVER, 0, NEVER], 6),
+    ([b"", b"", WHOLE], [NEVER, 0, NEVER], 5),
+    ([b"", WHOLE, b""], [NEVER, NEVER, 0], 6),
+    ([b"", WHOLE, b""], [1, NEVER, NEVER], 6),
+    ([WHOLE, b"", b""], [0, NEVER, NEVER], 5),
 ];
 
 /// The disks hold these files, and no call changed one or made it stay.
@@ -113,18 +46,18 @@ fn are_untouched(rt: &impl Abort, disks: &[MemDisk], files: [&[u8]; 3]) {
 #[test]
 fn turned_away(rt: HostRuntime) -> Result<(), Fail> {
     let alloc = rt.alloc();
-    for (row, turned) in TURNED.iter().enumerate() {
+    for (row, (files, failing, status)) in TURNED.iter().enumerate() {
         let start = Start {
-            files: turned.files,
-            failing: turned.failing,
+            files: *files,
+            failing: *failing,
         };
         let mut source = MemSource::new(Vec::from_slice(alloc, INSERT)?, vec![in alloc]?);
         let mut sink = MemSink::new(vec![in alloc]?);
         let left = pipe_on(&rt, alloc, &mut source, &mut sink, &start, &CLOCK)?;
-        assert_eq!(rt; (left.status, left.rest), (turned.status, 0), "row {row}");
+        assert_eq!(rt; (left.status, left.rest), (*status, 0), "row {row}");
         assert_eq!(rt; left.untaken, INSERT.len(), "row {row}");
         assert!(rt; sink.bytes().is_empty(), "row {row}");
-        are_untouched(&rt, &left.disks, turned.files);
+        are_untouched(&rt, &left.disks, *files);
     }
     Ok(())
 }

@@ -1,9 +1,13 @@
 //! What stands on the disks after a run, also where a disk or the sink fails.
 
-use super::messages::{DONE, HEADER, INSERT, INSERT_E, INSERT_KEY, SECOND_DONE_E, UNKNOWN};
+use super::messages::{
+    DONE, FIND, GREETING, HEADER, INSERT, INSERT_E, INSERT_FIVE, INSERT_LONG_FIVE, INSERT_THREE,
+    SECOND_DONE_E, UNKNOWN,
+};
 use super::narrow::NarrowSink;
 use super::records::{
-    C_BEGAN, C_REFUSED, C_WRITTEN, CLOSED, E_BEGAN, E_WRITTEN, E_WRITTEN_THIRD, KEY_WRITTEN,
+    C_BEGAN, C_WRITTEN, CLOSED, E_BEGAN, E_WRITTEN, E_WRITTEN_THIRD, FIVE_REFUSED, FIVE_WRITTEN,
+    SECOND_REFUSED,
 };
 use super::{CLOCK, FRESH, NEVER, Start, disk_of, joined, pipe_on};
 use journal_frames::Journal;
@@ -14,130 +18,75 @@ use std::sync::Wait;
 use std::test::Fail;
 use std::thread::Threads;
 
-/// Requests, and what stands in the journals of the catalogue and the shard behind a run of which one put of at most ten
-/// bytes fails.
-#[derive(Clone, Copy)]
-struct Kept {
-    name: &'static str,
-    input: &'static [&'static [u8]],
-    failing_put: u64,
-    status: u8,
-    catalogue: &'static [&'static [u8]],
-    shard: &'static [&'static [u8]],
-}
+/// Messages or records.
+type Pieces = &'static [&'static [u8]];
 
-const KEPT: &[Kept] = &[
-    Kept {
-        name: "nothing",
-        input: &[],
-        failing_put: NEVER,
-        status: 0,
-        catalogue: &[CLOSED],
-        shard: &[CLOSED],
-    },
-    Kept {
-        name: "an insert",
-        input: &[INSERT],
-        failing_put: NEVER,
-        status: 0,
-        catalogue: &[C_BEGAN, CLOSED],
-        shard: &[C_WRITTEN, CLOSED],
-    },
-    Kept {
-        name: "a refusal",
-        input: &[UNKNOWN],
-        failing_put: NEVER,
-        status: 0,
-        catalogue: &[CLOSED],
-        shard: &[CLOSED],
-    },
-    Kept {
-        name: "a duplicate",
-        input: &[INSERT, INSERT],
-        failing_put: NEVER,
-        status: 0,
-        catalogue: &[C_BEGAN, CLOSED],
-        shard: &[C_WRITTEN, C_REFUSED, CLOSED],
-    },
-    Kept {
-        name: "two collections",
-        input: &[INSERT, INSERT_E],
-        failing_put: NEVER,
-        status: 0,
-        catalogue: &[C_BEGAN, E_BEGAN, CLOSED],
-        shard: &[C_WRITTEN, E_WRITTEN, CLOSED],
-    },
-    Kept {
-        name: "a refusal between inserts, and another key",
-        input: &[INSERT, UNKNOWN, INSERT_E, INSERT_KEY],
-        failing_put: NEVER,
-        status: 0,
-        catalogue: &[C_BEGAN, E_BEGAN, CLOSED],
-        shard: &[C_WRITTEN, E_WRITTEN_THIRD, KEY_WRITTEN, CLOSED],
-    },
-    Kept {
-        name: "a header behind an insert",
-        input: &[INSERT, HEADER],
-        failing_put: NEVER,
-        status: 0,
-        catalogue: &[C_BEGAN, CLOSED],
-        shard: &[C_WRITTEN, CLOSED],
-    },
-    Kept {
-        name: "a failing put of the first reply",
-        input: &[INSERT, INSERT],
-        failing_put: 0,
-        status: 4,
-        catalogue: &[C_BEGAN, CLOSED],
-        shard: &[C_WRITTEN, CLOSED],
-    },
-    Kept {
-        name: "a failing put in the middle of the second reply",
-        input: &[INSERT, INSERT],
-        failing_put: 9,
-        status: 4,
-        catalogue: &[C_BEGAN, CLOSED],
-        shard: &[C_WRITTEN, C_REFUSED, CLOSED],
-    },
-    Kept {
-        name: "a failing put of the second collection's reply",
-        input: &[INSERT, INSERT_E, INSERT_KEY],
-        failing_put: 9,
-        status: 4,
-        catalogue: &[C_BEGAN, E_BEGAN, CLOSED],
-        shard: &[C_WRITTEN, E_WRITTEN, CLOSED],
-    },
+/// Which of the puts, of at most ten bytes each, fails, the requests, the status, and the records that then stand in the
+/// journals of the catalogue and the shard.
+const KEPT: &[(u64, Pieces, u8, Pieces, Pieces)] = &[
+    (NEVER, &[], 0, &[], &[]),
+    (
+        NEVER,
+        &[INSERT_FIVE, INSERT_LONG_FIVE],
+        0,
+        &[C_BEGAN],
+        &[FIVE_WRITTEN, FIVE_REFUSED],
+    ),
+    (
+        NEVER,
+        &[INSERT_THREE],
+        0,
+        &[C_BEGAN],
+        &[C_WRITTEN, SECOND_REFUSED],
+    ),
+    (NEVER, &[UNKNOWN, GREETING, FIND], 0, &[], &[]),
+    (
+        NEVER,
+        &[INSERT, UNKNOWN, INSERT_E],
+        0,
+        &[C_BEGAN, E_BEGAN],
+        &[C_WRITTEN, E_WRITTEN_THIRD],
+    ),
+    (NEVER, &[INSERT, HEADER], 0, &[C_BEGAN], &[C_WRITTEN]),
+    (0, &[INSERT, INSERT_E], 4, &[C_BEGAN], &[C_WRITTEN]),
+    (
+        9,
+        &[INSERT, INSERT_E],
+        4,
+        &[C_BEGAN, E_BEGAN],
+        &[C_WRITTEN, E_WRITTEN],
+    ),
 ];
 
-/// The disk holds these bytes.
+/// The disk holds these records, and the gate behind them.
 fn holds(
     rt: &impl Abort,
     alloc: Global,
     disk: &MemDisk,
-    parts: &[&[u8]],
-    name: &str,
+    records: &[&[u8]],
+    row: usize,
 ) -> Result<(), Fail> {
-    let file = joined(alloc, parts)?;
-    assert_eq!(rt; disk.bytes(), file.as_slice(), "{name}");
+    let mut file = joined(alloc, records)?;
+    file.extend_from_slice(CLOSED)?;
+    assert_eq!(rt; disk.bytes(), file.as_slice(), "row {row}");
     Ok(())
 }
 
 #[test]
 fn files(rt: HostRuntime) -> Result<(), Fail> {
     let alloc = rt.alloc();
-    for kept in KEPT {
-        let name = kept.name;
-        let mut sink = NarrowSink::new(alloc, kept.failing_put);
-        let mut source = MemSource::new(joined(alloc, kept.input)?, vec![in alloc]?);
+    for (row, (failing, input, status, created, entered)) in KEPT.iter().enumerate() {
+        let mut sink = NarrowSink::new(alloc, *failing);
+        let mut source = MemSource::new(joined(alloc, input)?, vec![in alloc]?);
         let left = pipe_on(&rt, alloc, &mut source, &mut sink, &FRESH, &CLOCK)?;
-        assert_eq!(rt; left.status, kept.status, "{name}");
+        assert_eq!(rt; left.status, *status, "row {row}");
         let [catalogue, shard, router] = left.disks.as_slice() else {
             assert!(rt; false);
             return Ok(());
         };
-        holds(&rt, alloc, catalogue, kept.catalogue, name)?;
-        holds(&rt, alloc, shard, kept.shard, name)?;
-        holds(&rt, alloc, router, &[CLOSED], name)?;
+        holds(&rt, alloc, catalogue, created, row)?;
+        holds(&rt, alloc, shard, entered, row)?;
+        holds(&rt, alloc, router, &[], row)?;
     }
     Ok(())
 }

@@ -1,7 +1,8 @@
 use Rattle.std.proofs.Common.{◌≡◌, ℕ, List, [], ◌+◌, ◌-◌, ◌*◌, ◌^◌, ◌≤◌, ◌++◌, length, map, IsTrue}
+use Rattle.std.specs.Prelude.{None}
 use Rattle.outside.specs.Streams.{Took}
-use Rattle.wire_model.specs.Frames.{IsPartial}
-use Rattle.cluster_top.specs.Kept.{time_of}
+use Rattle.frame_model.specs.Outline.{outline, partial_outline}
+use Rattle.command_store.specs.Kept.{time_of}
 use Rattle.cluster_top.specs.Opened.{AreOpen, NoneFell, disks_of}
 use Rattle.cluster_top.specs.Serving.{Serving}
 use Rattle.cluster_top.proofs.connection.serve_connection.Given as goal
@@ -9,17 +10,20 @@ use Rattle.cluster_top.proofs.connection.serve_connection.Given as goal
 abbrev pub decreases-loop-taken : goal.decreases-loop-taken
 decreases-loop-taken g l = l.limit - l.taken
 
--- what was taken is requests that were answered, and what the buffer holds, which begins no whole one
+-- what was taken is requests that were served, and what the framer has left, which begins no whole one
 abbrev pub invariant-loop-taken : goal.invariant-loop-taken
 invariant-loop-taken g l = record {
   most : l.taken ≤ l.limit;
-  partial : IsPartial l.buffer.items;
-  answered : l.server.answered + length l.buffer.items ≤ l.taken;
-  time : time_of l.server.store ≤ 2 ^ 63 + 2 * l.server.answered;
+  partial : outline l.framer.bytes ≡ partial_outline;
+  fed : l.framer.place + length l.framer.bytes ≡ l.taken;
+  fault : l.framer.fault ≡ None;
+  count : l.server.taken ≤ l.framer.place;
+  replied : l.server.replied ≤ l.server.taken;
+  time : time_of l.server.store ≤ 2 ^ 63 + 100001 * l.server.taken;
   source_later : g.S.Source.fault_count l.fn.input ≤ g.S.Source.fault_count l.input;
   sink_later : g.K.Sink.fault_count l.fn.out ≤ g.K.Sink.fault_count l.out;
   catalogue : IsTrue l.journals.catalogue.is_open;
   shard : IsTrue l.journals.shard.is_open;
   disks_later : NoneFell (map g.D.Disk.fault_count (disks_of {D = g.row.D.Denot} l.fn.journals)) (map g.D.Disk.fault_count (disks_of {D = g.row.D.Denot} l.journals));
-  went : AreOpen {D = g.row.D.Denot} g.D.Disk.tells g.D.Disk.content g.D.Disk.may_leave l.fn.journals [] [] → (consumed : List ℕ) × (length consumed + length l.buffer.items ≡ l.taken) × Took g.S.Source.tells (g.S.Source.left l.fn.input) (consumed ++ l.buffer.items) (g.S.Source.left l.input) × Serving (g.C.Clock.gives l.clock) g.K.Sink.tells (g.K.Sink.held l.fn.out) (g.K.Sink.held l.out) (AreOpen {D = g.row.D.Denot} g.D.Disk.tells g.D.Disk.content g.D.Disk.may_leave l.journals) consumed l.server;
+  went : AreOpen {D = g.row.D.Denot} g.D.Disk.tells g.D.Disk.content g.D.Disk.may_leave l.fn.journals [] [] → (consumed : List ℕ) × (length consumed + length l.framer.bytes ≡ l.taken) × Took g.S.Source.tells (g.S.Source.left l.fn.input) (consumed ++ l.framer.bytes) (g.S.Source.left l.input) × Serving (g.C.Clock.gives l.clock) g.K.Sink.tells (g.K.Sink.held l.fn.out) (g.K.Sink.held l.out) (AreOpen {D = g.row.D.Denot} g.D.Disk.tells g.D.Disk.content g.D.Disk.may_leave l.journals) consumed l.server;
 }

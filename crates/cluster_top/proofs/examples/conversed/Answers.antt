@@ -1,37 +1,94 @@
-use Rattle.std.proofs.Common.{◌≡◌, ℕ, List, [], ◌∷◌, ◌++◌, refl, sym, ap, subst, ◌∙◌, inl, arith, rules, drop, append-nil}
-use Rattle.wire_model.specs.Messages.{Message, message_bytes, IsRequest}
-use Rattle.wire_model.specs.Frames.{no_header}
-use Rattle.history_model.specs.Examples.{first, reply_bytes, request, request_bytes}
-use Rattle.history_model.proofs.Sample.{body_spelled}
-use Rattle.cluster_top.specs.Headline.{AllAnswered, input_ended}
+use Rattle.std.proofs.Common.{◌≡◌, ℕ, ◌+◌, List, [], ◌∷◌, ◌++◌, take, refl, sym, ap, subst, arith}
+use Rattle.std.specs.Prelude.{None, Some, Option}
+use Rattle.frame_model.specs.Frames.{Frames, FramesFrom, ends, fails, goes_on}
+use Rattle.frame_model.specs.Outline.{FrameFault, bad_length}
+use Rattle.frame_model.specs.Requests.{Request}
+use Rattle.opmsg_frames.proofs.OneReading.{one_reading}
+use Rattle.service_model.specs.Exchange.{Exchange, InTurn}
+use Rattle.service_model.specs.Examples.{first}
+use Rattle.cluster_top.specs.Examples.{no_request_bytes, reply_bytes, request_bytes}
+use Rattle.cluster_top.specs.Headline.{AllAnswered, Cause, input_ended, no_request}
+use Rattle.cluster_top.proofs.Sample.{all_put, bytes_length, faulty_are_bytes, is_first}
 use Rattle.cluster_top.proofs.examples.conversed.Goals as goal
 
-abbrev with_body : List ℕ → Message
-with_body body = record { id = 1; answers = 0; body = body }
+turns : InTurn 0 1 (first ∷ [])
+turns = (refl, refl, refl, omega arith, omega arith, tt)
 
-spelled : request_bytes ≡ message_bytes request
-spelled = sym (ap (λ (body : List ℕ). message_bytes (with_body body)) body_spelled)
+alone : Frames request_bytes (first.request ∷ []) [] None
+alone = goes_on 0 request_bytes [] first.request [] [] None (is_first []) (ends _ [] refl)
 
-valid : IsRequest (with_body (drop 21 request_bytes))
-valid = search rules
+cut : Frames (request_bytes ++ take 10 request_bytes) (first.request ∷ []) (take 10 request_bytes) None
+cut = goes_on 0 (request_bytes ++ take 10 request_bytes) (take 10 request_bytes) first.request [] (take 10 request_bytes) None (is_first (take 10 request_bytes)) (ends _ (take 10 request_bytes) refl)
 
-all_put : AllAnswered reply_bytes (first ∷ []) (request ∷ [])
-all_put = record { asked = refl; each = (refl, tt); replied = refl }
+-- what stands behind the request, at place 94
+with_fault : Frames (request_bytes ++ no_request_bytes) (first.request ∷ []) no_request_bytes (Some (bad_length, 94))
+with_fault =
+    goes_on 0 (request_bytes ++ no_request_bytes) no_request_bytes first.request [] no_request_bytes (Some (bad_length, 94)) (is_first no_request_bytes)
+    (subst (λ (size : ℕ). FramesFrom (0 + size) no_request_bytes [] no_request_bytes (Some (bad_length, 94))) (sym bytes_length) (fails 94 no_request_bytes bad_length refl))
 
-pub returns-clause-ended : goal.returns-clause-ended
-returns-clause-ended c = input_ended tt (omega arith) (no_header (omega arith)) all_put
+-- status 0 tells of no fault
+no_fault : {limit : ℕ} {at_end source_failed sink_failed disk_failed : Type 0} {taken put : List ℕ} {said : List Exchange} {requests : List Request} {fault : Option (FrameFault × ℕ)} → Cause limit at_end source_failed sink_failed disk_failed taken put said requests fault 0 → fault ≡ None
+no_fault (input_ended at_end below none all) = none
 
-pub returns-clause-conversation : goal.returns-clause-conversation
-returns-clause-conversation c = record {
-  requests = request ∷ [];
+none_put : {limit : ℕ} {at_end source_failed sink_failed disk_failed : Type 0} {taken put : List ℕ} {said : List Exchange} {requests : List Request} {fault : Option (FrameFault × ℕ)} → Cause limit at_end source_failed sink_failed disk_failed taken put said requests fault 0 → AllAnswered put said requests
+none_put (input_ended at_end below none all) = all
+
+pub returns-clause-whole : goal.returns-clause-whole
+returns-clause-whole c = record {
+  requests = first.request ∷ [];
   left = [];
-  frames = record {
-    whole = spelled ∙ sym (append-nil (message_bytes request)) ∙ sym (append-nil (message_bytes request ++ []));
-    each = (subst (λ (body : List ℕ). IsRequest (with_body body)) (sym body_spelled) valid, tt);
-    ends = inl (no_header (omega arith));
-  };
+  fault = None;
+  frames = alone;
   rest_left = refl;
   most = omega arith;
-  turns = search rules;
-  cause = input_ended tt (omega arith) (no_header (omega arith)) all_put;
+  turns = turns;
+  cause = input_ended tt (omega arith) refl all_put;
 }
+
+pub returns-clause-unanswered : goal.returns-clause-unanswered
+returns-clause-unanswered c said = let put : [] ≡ reply_bytes = (none_put said.cause).replied in cc
+
+pub returns-clause-past_limit : goal.returns-clause-past_limit
+returns-clause-past_limit c said = omega (arith, said.most)
+
+pub returns-clause-partial : goal.returns-clause-partial
+returns-clause-partial c = record {
+  requests = first.request ∷ [];
+  left = take 10 request_bytes;
+  fault = None;
+  frames = cut;
+  rest_left = refl;
+  most = omega arith;
+  turns = turns;
+  cause = input_ended tt (omega arith) refl all_put;
+}
+
+pub returns-clause-faulty : goal.returns-clause-faulty
+returns-clause-faulty c = record {
+  requests = first.request ∷ [];
+  left = no_request_bytes;
+  fault = Some (bad_length, 94);
+  frames = with_fault;
+  rest_left = refl;
+  most = omega arith;
+  turns = turns;
+  cause = no_request refl all_put;
+}
+
+pub returns-clause-unnoticed : goal.returns-clause-unnoticed
+returns-clause-unnoticed c said =
+    let same : said.fault ≡ Some (bad_length, 94) = (one_reading 0 (request_bytes ++ no_request_bytes) _ _ _ _ _ _ faulty_are_bytes said.frames with_fault).fault_is in
+    let none : said.fault ≡ None = no_fault said.cause in
+    cc
+
+pub returns-clause-place : goal.returns-clause-place
+returns-clause-place c = with_fault
+
+abbrev place_of : Option (FrameFault × ℕ) → ℕ
+place_of None = 0
+place_of (Some found) = found.1
+
+pub returns-clause-other_place : goal.returns-clause-other_place
+returns-clause-other_place c frames =
+    let same : Some (bad_length, 94) ≡ Some (bad_length, 0) = (one_reading 0 (request_bytes ++ no_request_bytes) _ _ _ _ _ _ faulty_are_bytes with_fault frames).fault_is in
+    omega (arith, ap place_of same)

@@ -1,12 +1,11 @@
-use Rattle.std.proofs.Common.{◌≡◌, List, length, ◌++◌}
-use Rattle.std.specs.List.{flat_map, AllByRecursion}
-use Rattle.wire_model.specs.Messages.{Message, message_bytes, IsRequest}
-use Rattle.wire_model.specs.Outline.{IsBytes}
+use Rattle.std.proofs.Common.{length}
+use Rattle.opmsg_frames.proofs.Bytes.{IsBytes}
+use Rattle.cluster_top.proofs.Unframed.{Leads}
 use Rattle.cluster_top.proofs.framing.unframed.Given as goal
 
 abbrev pub decreases-loop-whole : goal.decreases-loop-whole
 decreases-loop-whole l = length l.rest
 
--- the bytes passed are requests
+-- only whole requests were passed
 abbrev pub invariant-loop-whole : goal.invariant-loop-whole
-invariant-loop-whole l = (requests : List Message) × (l.bytes ≡ flat_map message_bytes requests ++ l.rest) × AllByRecursion IsRequest requests × IsBytes l.rest
+invariant-loop-whole l = Leads l.bytes l.rest × IsBytes l.rest

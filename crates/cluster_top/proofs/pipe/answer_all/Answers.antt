@@ -1,93 +1,98 @@
-use Rattle.std.proofs.Common.{ℕ, ◌++◌, List, take, arith, sym, subst}
-use Rattle.std.proofs.lemmas.List.{take_rest}
-use Rattle.wire_model.specs.Frames.{IsPartial, IsMalformed}
-use Rattle.wire_model.specs.Outline.{IsBytes}
-use Rattle.wire_model.proofs.Outlines.{outline_partial, outline_malformed}
-use Rattle.cluster_top.specs.Opened.{AreLeft, AreOpen, disks_of}
-use Rattle.cluster_top.specs.Serving.{Serving, Stopped}
-use Rattle.cluster_top.proofs.Frames.{seen_at, seen_some, passed_bytes}
+use Rattle.std.proofs.Common.{◌++◌, arith}
+use Rattle.opmsg_frames.specs.Outlines.{fault_meant}
+use Rattle.cluster_top.specs.Opened.{AreLeft, disks_of}
+use Rattle.cluster_top.proofs.Frames.{some_bytes}
+use Rattle.cluster_top.proofs.Opened.{left_open}
+use Rattle.cluster_top.proofs.Rounds.{left_behind, next_given, next_malformed, next_memory, next_none, none_given, one_given, same_bytes, still_partial, told_malformed}
+use Rattle.cluster_top.proofs.Serving.{stopped_between}
 use Rattle.cluster_top.proofs.pipe.answer_all.Goals as goal
 
-pub returns-in-Partial-clause-served : goal.returns-in-Partial-clause-served
-returns-in-Partial-clause-served g c = λ held_before consumed s.
-    rw (c.stopped.ensures.stop, c.stopped.ensures.at)
-    (subst IsPartial (take_rest c.args.bytes.now c.requests.at) ((outline_partial _).0 (sym c.in-Partial.ensures)), c.requests.invariant.served held_before consumed s)
+pub returns-in-Ok-None-clause-served : goal.returns-in-Ok-None-clause-served
+returns-in-Ok-None-clause-served g c = λ held_before consumed s.
+    let was = c.requests.invariant.served held_before consumed s in
+    let told = next_none c.requests.framer c.next.new.self c.in-Ok-None.field-0 c.in-Ok-None.field-0-is c.in-Ok-None.ensures in
+    (was.0, none_given (consumed ++ c.args.framer.now.bytes) was.0 c.requests.framer c.next.new.self was.1 (same_bytes c.requests.framer c.next.new.self told.1), (still_partial c.requests.framer c.next.new.self told.1 told.0, was.2))
 
-pub returns-in-Partial-clause-partial : goal.returns-in-Partial-clause-partial
-returns-in-Partial-clause-partial g c = λ is.
-    rw c.stopped.ensures.at (subst IsPartial (take_rest c.args.bytes.now c.requests.at) ((outline_partial _).0 (sym c.in-Partial.ensures)))
+pub returns-in-Err-Malformed-clause-served : goal.returns-in-Err-Malformed-clause-served
+returns-in-Err-Malformed-clause-served g c = λ held_before consumed s.
+    let was = c.requests.invariant.served held_before consumed s in
+    let told = next_malformed c.requests.framer c.next.new.self c.in-Err-Malformed.field-0 c.in-Err-Malformed.field-0-0 c.in-Err-Malformed.field-0-1 c.in-Err-Malformed.field-0-is c.in-Err-Malformed.ensures in
+    (was.0, none_given (consumed ++ c.args.framer.now.bytes) was.0 c.requests.framer c.next.new.self was.1 told.bytes, (told_malformed c.requests.framer c.next.new.self (fault_meant c.in-Err-Malformed.field-0-0) c.in-Err-Malformed.field-0-1 c.requests.invariant.fault told, was.2))
 
-pub returns-in-Malformed-clause-served : goal.returns-in-Malformed-clause-served
-returns-in-Malformed-clause-served g c = λ held_before consumed s.
-    rw (c.stopped-in-Malformed.ensures.stop, c.stopped-in-Malformed.ensures.at)
-    (subst IsMalformed (take_rest c.args.bytes.now c.requests.at) (outline_malformed _ (sym c.in-Malformed.ensures)), c.requests.invariant.served held_before consumed s)
+pub returns-in-Err-Memory-clause-served : goal.returns-in-Err-Memory-clause-served
+returns-in-Err-Memory-clause-served g c = λ held_before consumed s.
+    let was = c.requests.invariant.served held_before consumed s in
+    let told = next_memory c.requests.framer c.next.new.self c.in-Err-Memory.field-0 c.in-Err-Memory.field-0-is c.in-Err-Memory.ensures in (
+      was.0,
+      none_given (consumed ++ c.args.framer.now.bytes) was.0 c.requests.framer c.next.new.self was.1 (same_bytes c.requests.framer c.next.new.self told),
+      stopped_between 7 _ _ _ _ _ (AreLeft g.D.Disk.tells g.D.Disk.content (disks_of {D = g.row.D.Denot} c.requests.journals)) was.0 _ was.2 (left_open g.D.Disk.tells g.D.Disk.content g.D.Disk.may_leave c.requests.journals _ _ was.2.journals),
+    )
 
-pub answer_one-fate-requires-clause-request : goal.answer_one-fate-requires-clause-request
-answer_one-fate-requires-clause-request g c = (seen_at c.args.bytes.now c.requests.at c.in-Request.whole (λ i. omega (arith, c.type_inv.bytes i)) c.requests.invariant.within c.in-Request.ensures).0
+pub returns-in-WriteFailed-clause-served : goal.returns-in-WriteFailed-clause-served
+returns-in-WriteFailed-clause-served g c = λ held_before consumed s.
+    let was = c.requests.invariant.served held_before consumed s in
+    let given = next_given c.requests.framer c.next.new.self c.in-Ok-Some.field-0 c.in-Ok-Some.request c.in-Ok-Some.field-0-is c.in-Ok-Some.ensures in
+    (was.0 ++ given.0.bytes, one_given (consumed ++ c.args.framer.now.bytes) was.0 c.requests.framer.bytes c.next.new.self.bytes given.0 was.1 given.1.first, c.in-WriteFailed.ensures.served given.0 given.1.meant_is given.1.first.reads held_before was.0 was.2)
 
-pub overflow_add-at : goal.overflow_add-at
-overflow_add-at g c = let here = seen_at c.args.bytes.now c.requests.at c.in-Request.whole (λ i. omega (arith, c.type_inv.bytes i)) c.requests.invariant.within c.in-Request.ensures in record { fits = omega (arith, here.1, c.requires.count) }
+pub returns-in-DiskFailed-clause-served : goal.returns-in-DiskFailed-clause-served
+returns-in-DiskFailed-clause-served g c = λ held_before consumed s.
+    let was = c.requests.invariant.served held_before consumed s in
+    let given = next_given c.requests.framer c.next.new.self c.in-Ok-Some.field-0 c.in-Ok-Some.request c.in-Ok-Some.field-0-is c.in-Ok-Some.ensures in
+    (was.0 ++ given.0.bytes, one_given (consumed ++ c.args.framer.now.bytes) was.0 c.requests.framer.bytes c.next.new.self.bytes given.0 was.1 given.1.first, c.in-DiskFailed.ensures.served given.0 given.1.meant_is given.1.first.reads held_before was.0 was.2)
+
+pub returns-in-NoMemory-clause-served : goal.returns-in-NoMemory-clause-served
+returns-in-NoMemory-clause-served g c = λ held_before consumed s.
+    let was = c.requests.invariant.served held_before consumed s in
+    let given = next_given c.requests.framer c.next.new.self c.in-Ok-Some.field-0 c.in-Ok-Some.request c.in-Ok-Some.field-0-is c.in-Ok-Some.ensures in
+    (was.0 ++ given.0.bytes, one_given (consumed ++ c.args.framer.now.bytes) was.0 c.requests.framer.bytes c.next.new.self.bytes given.0 was.1 given.1.first, c.in-NoMemory.ensures.served given.0 given.1.meant_is given.1.first.reads held_before was.0 was.2)
 
 pub requests-smaller : goal.requests-smaller
 requests-smaller g c =
-    let are : IsBytes c.args.bytes.now = λ i. omega (arith, c.type_inv.bytes i) in
-    let here = seen_at c.args.bytes.now c.requests.at c.in-Request.whole are c.requests.invariant.within c.in-Request.ensures in
-    omega (arith, here.1, seen_some c.args.bytes.now c.requests.at c.in-Request.whole are c.requests.invariant.within c.in-Request.ensures)
+    let given = next_given c.requests.framer c.next.new.self c.in-Ok-Some.field-0 c.in-Ok-Some.request c.in-Ok-Some.field-0-is c.in-Ok-Some.ensures in
+    omega (arith, left_behind c.requests.framer.bytes c.next.new.self.bytes given.0 given.1.first, some_bytes c.requests.framer.bytes c.next.new.self.bytes given.0 given.1.first)
 
-pub requests-preserved : goal.requests-preserved
-requests-preserved g c =
-    let are : IsBytes c.args.bytes.now = λ i. omega (arith, c.type_inv.bytes i) in
-    let here = seen_at c.args.bytes.now c.requests.at c.in-Request.whole are c.requests.invariant.within c.in-Request.ensures in
-    let some = seen_some c.args.bytes.now c.requests.at c.in-Request.whole are c.requests.invariant.within c.in-Request.ensures in
+pub requests-preserved-in-Served : goal.requests-preserved-in-Served
+requests-preserved-in-Served g c =
+    let given = next_given c.requests.framer c.next.new.self c.in-Ok-Some.field-0 c.in-Ok-Some.request c.in-Ok-Some.field-0-is c.in-Ok-Some.ensures in
+    let some = some_bytes c.requests.framer.bytes c.next.new.self.bytes given.0 given.1.first in
+    let behind = left_behind c.requests.framer.bytes c.next.new.self.bytes given.0 given.1.first in
     let was = c.requests.invariant.disks_later in
-    let is = c.answer_one-fate.ensures.disks_later in
-    let ready = c.answer_one-fate.ensures.open c.in-Answered.is in
+    let is = c.answer_one.ensures.disks_later in
+    let ready = c.answer_one.ensures.open c.in-Served.is in
     record {
-      within = here.1;
-      answered = omega (arith, c.answer_one-fate.ensures.answered c.in-Answered.is, c.requests.invariant.answered, some);
-      time = omega (arith, c.answer_one-fate.ensures.answered c.in-Answered.is, c.answer_one-fate.ensures.time c.in-Answered.is, c.requests.invariant.time);
-      later = omega (arith, c.requests.invariant.later, c.answer_one-fate.ensures.later);
+      fed = omega (arith, given.1.place, c.requests.invariant.fed, behind);
+      fault = given.1.fault;
+      taken = omega (arith, given.1.place, c.answer_one.ensures.taken c.in-Served.is, c.requests.invariant.taken, some);
+      replied = omega (arith, c.answer_one.ensures.taken c.in-Served.is, c.answer_one.ensures.replied c.in-Served.is, c.requests.invariant.replied);
+      time = omega (arith, c.answer_one.ensures.taken c.in-Served.is, c.answer_one.ensures.time c.in-Served.is, c.requests.invariant.time);
+      later = omega (arith, c.requests.invariant.later, c.answer_one.ensures.later);
       catalogue = ready.0;
       shard = ready.1;
       disks_later = (omega (arith, was.0, is.0), (omega (arith, was.1.0, is.1.0), (omega (arith, was.1.1.0, is.1.1.0), tt)));
       served = λ held_before consumed s.
-          subst (λ (bytes : List ℕ). Serving (g.C.Clock.gives c.args.clock.now) g.K.Sink.tells held_before (g.K.Sink.held c.answer_one-fate.new.out) (AreOpen {D = g.row.D.Denot} g.D.Disk.tells g.D.Disk.content g.D.Disk.may_leave c.answer_one-fate.new.journals) bytes c.answer_one-fate.new.server)
-          (passed_bytes consumed c.args.bytes.now c.requests.at c.in-Request.whole)
-          (c.in-Answered.ensures.served held_before (consumed ++ take c.requests.at c.args.bytes.now) (c.requests.invariant.served held_before consumed s));
+          let was = c.requests.invariant.served held_before consumed s in
+          (was.0 ++ given.0.bytes, one_given (consumed ++ c.args.framer.now.bytes) was.0 c.requests.framer.bytes c.next.new.self.bytes given.0 was.1 given.1.first, c.in-Served.ensures.served given.0 given.1.meant_is given.1.first.reads held_before was.0 was.2);
     }
 
-pub returns-in-WriteFailed-clause-within : goal.returns-in-WriteFailed-clause-within
-returns-in-WriteFailed-clause-within g c =
-    let here = seen_at c.args.bytes.now c.requests.at c.in-Request.whole (λ i. omega (arith, c.type_inv.bytes i)) c.requests.invariant.within c.in-Request.ensures in
-    omega (arith, here.1, c.stopped-in-WriteFailed.ensures.at)
-
-pub returns-in-WriteFailed-clause-served : goal.returns-in-WriteFailed-clause-served
-returns-in-WriteFailed-clause-served g c = λ held_before consumed s.
-    rw (c.stopped-in-WriteFailed.ensures.stop, c.stopped-in-WriteFailed.ensures.at)
-    (subst (λ (bytes : List ℕ). Stopped (g.C.Clock.gives c.args.clock.now) g.K.Sink.tells held_before (g.K.Sink.held c.answer_one-fate.new.out) (AreOpen {D = g.row.D.Denot} g.D.Disk.tells g.D.Disk.content g.D.Disk.may_leave c.answer_one-fate.new.journals) bytes)
-    (passed_bytes consumed c.args.bytes.now c.requests.at c.in-Request.whole)
-    (c.in-WriteFailed.ensures.served held_before (consumed ++ take c.requests.at c.args.bytes.now) (c.requests.invariant.served held_before consumed s)))
-
-pub returns-in-DiskFailed-clause-within : goal.returns-in-DiskFailed-clause-within
-returns-in-DiskFailed-clause-within g c =
-    let here = seen_at c.args.bytes.now c.requests.at c.in-Request.whole (λ i. omega (arith, c.type_inv.bytes i)) c.requests.invariant.within c.in-Request.ensures in
-    omega (arith, here.1, c.stopped-in-DiskFailed.ensures.at)
-
-pub returns-in-DiskFailed-clause-served : goal.returns-in-DiskFailed-clause-served
-returns-in-DiskFailed-clause-served g c = λ held_before consumed s.
-    rw (c.stopped-in-DiskFailed.ensures.stop, c.stopped-in-DiskFailed.ensures.at)
-    (subst (λ (bytes : List ℕ). Stopped (g.C.Clock.gives c.args.clock.now) g.K.Sink.tells held_before (g.K.Sink.held c.answer_one-fate.new.out) (AreLeft g.D.Disk.tells g.D.Disk.content (disks_of {D = g.row.D.Denot} c.answer_one-fate.new.journals)) bytes)
-    (passed_bytes consumed c.args.bytes.now c.requests.at c.in-Request.whole)
-    (c.in-DiskFailed.ensures.served held_before (consumed ++ take c.requests.at c.args.bytes.now) (c.requests.invariant.served held_before consumed s)))
-
-pub returns-in-NoMemory-clause-within : goal.returns-in-NoMemory-clause-within
-returns-in-NoMemory-clause-within g c =
-    let here = seen_at c.args.bytes.now c.requests.at c.in-Request.whole (λ i. omega (arith, c.type_inv.bytes i)) c.requests.invariant.within c.in-Request.ensures in
-    omega (arith, here.1, c.stopped-in-NoMemory.ensures.at)
-
-pub returns-in-NoMemory-clause-served : goal.returns-in-NoMemory-clause-served
-returns-in-NoMemory-clause-served g c = λ held_before consumed s.
-    rw (c.stopped-in-NoMemory.ensures.stop, c.stopped-in-NoMemory.ensures.at)
-    (subst (λ (bytes : List ℕ). Stopped (g.C.Clock.gives c.args.clock.now) g.K.Sink.tells held_before (g.K.Sink.held c.answer_one-fate.new.out) (AreLeft g.D.Disk.tells g.D.Disk.content (disks_of {D = g.row.D.Denot} c.answer_one-fate.new.journals)) bytes)
-    (passed_bytes consumed c.args.bytes.now c.requests.at c.in-Request.whole)
-    (c.in-NoMemory.ensures.served held_before (consumed ++ take c.requests.at c.args.bytes.now) (c.requests.invariant.served held_before consumed s)))
+pub requests-preserved : goal.requests-preserved
+requests-preserved g c =
+    let given = next_given c.requests.framer c.next.new.self c.in-Ok-Some.field-0 c.in-Ok-Some.request c.in-Ok-Some.field-0-is c.in-Ok-Some.ensures in
+    let some = some_bytes c.requests.framer.bytes c.next.new.self.bytes given.0 given.1.first in
+    let behind = left_behind c.requests.framer.bytes c.next.new.self.bytes given.0 given.1.first in
+    let was = c.requests.invariant.disks_later in
+    let is = c.answer_one.ensures.disks_later in
+    let ready = c.answer_one.ensures.open c.in-Served.is in
+    record {
+      fed = omega (arith, given.1.place, c.requests.invariant.fed, behind);
+      fault = given.1.fault;
+      taken = omega (arith, given.1.place, c.answer_one.ensures.taken c.in-Served.is, c.requests.invariant.taken, some);
+      replied = omega (arith, c.answer_one.ensures.taken c.in-Served.is, c.answer_one.ensures.replied c.in-Served.is, c.requests.invariant.replied);
+      time = omega (arith, c.answer_one.ensures.taken c.in-Served.is, c.answer_one.ensures.time c.in-Served.is, c.requests.invariant.time);
+      later = omega (arith, c.requests.invariant.later, c.answer_one.ensures.later);
+      catalogue = ready.0;
+      shard = ready.1;
+      disks_later = (omega (arith, was.0, is.0), (omega (arith, was.1.0, is.1.0), (omega (arith, was.1.1.0, is.1.1.0), tt)));
+      served = λ held_before consumed s.
+          let was = c.requests.invariant.served held_before consumed s in
+          (was.0 ++ given.0.bytes, one_given (consumed ++ c.args.framer.now.bytes) was.0 c.requests.framer.bytes c.next.new.self.bytes given.0 was.1 given.1.first, c.in-Served.ensures.served given.0 given.1.meant_is given.1.first.reads held_before was.0 was.2);
+    }

@@ -1,21 +1,24 @@
-use Rattle.std.proofs.Common.{ℕ, List, ◌+◌, ◌-◌, ◌*◌, ◌^◌, ◌≤◌, ◌++◌, length, take, map, IsTrue}
-use Rattle.cluster_top.specs.Kept.{time_of}
+use Rattle.std.proofs.Common.{◌≡◌, ℕ, List, ◌+◌, ◌*◌, ◌^◌, ◌≤◌, ◌++◌, length, map, IsTrue}
+use Rattle.std.specs.Prelude.{None}
+use Rattle.command_store.specs.Kept.{time_of}
 use Rattle.cluster_top.specs.Opened.{AreOpen, NoneFell, disks_of}
 use Rattle.cluster_top.specs.Serving.{Serving}
 use Rattle.cluster_top.proofs.pipe.answer_all.Given as goal
 
 abbrev pub decreases-requests : goal.decreases-requests
-decreases-requests g l = length l.bytes - l.at
+decreases-requests g l = length l.framer.bytes
 
--- the requests before the place were answered
+-- the requests that the framer gave were served
 abbrev pub invariant-requests : goal.invariant-requests
 invariant-requests g l = record {
-  within : l.at ≤ length l.bytes;
-  answered : l.server.answered ≤ l.fn.server.answered + l.at;
-  time : time_of l.server.store ≤ 2 ^ 63 + 2 * l.server.answered;
+  fed : l.framer.place + length l.framer.bytes ≡ l.fn.framer.place + length l.fn.framer.bytes;
+  fault : l.framer.fault ≡ None;
+  taken : l.server.taken ≤ l.framer.place;
+  replied : l.server.replied ≤ l.server.taken;
+  time : time_of l.server.store ≤ 2 ^ 63 + 100001 * l.server.taken;
   later : g.K.Sink.fault_count l.fn.out ≤ g.K.Sink.fault_count l.out;
   catalogue : IsTrue l.journals.catalogue.is_open;
   shard : IsTrue l.journals.shard.is_open;
   disks_later : NoneFell (map g.D.Disk.fault_count (disks_of {D = g.row.D.Denot} l.fn.journals)) (map g.D.Disk.fault_count (disks_of {D = g.row.D.Denot} l.journals));
-  served : (held_before consumed : List ℕ) → Serving (g.C.Clock.gives l.clock) g.K.Sink.tells held_before (g.K.Sink.held l.fn.out) (AreOpen {D = g.row.D.Denot} g.D.Disk.tells g.D.Disk.content g.D.Disk.may_leave l.fn.journals) consumed l.fn.server → Serving (g.C.Clock.gives l.clock) g.K.Sink.tells held_before (g.K.Sink.held l.out) (AreOpen {D = g.row.D.Denot} g.D.Disk.tells g.D.Disk.content g.D.Disk.may_leave l.journals) (consumed ++ take l.at l.bytes) l.server;
+  served : (held_before consumed : List ℕ) → Serving (g.C.Clock.gives l.clock) g.K.Sink.tells held_before (g.K.Sink.held l.fn.out) (AreOpen {D = g.row.D.Denot} g.D.Disk.tells g.D.Disk.content g.D.Disk.may_leave l.fn.journals) consumed l.fn.server → (more : List ℕ) × (consumed ++ l.fn.framer.bytes ≡ more ++ l.framer.bytes) × Serving (g.C.Clock.gives l.clock) g.K.Sink.tells held_before (g.K.Sink.held l.out) (AreOpen {D = g.row.D.Denot} g.D.Disk.tells g.D.Disk.content g.D.Disk.may_leave l.journals) more l.server;
 }

@@ -11,9 +11,10 @@ use Rattle.service_model.specs.Exchange.{Exchange, InTurn, number_for}
 use Rattle.service_model.specs.Machine.{Runs, serves, nothing_more, empty_store, leaves_all}
 use Rattle.service_model.specs.Right.{ByEnd, AreEntriesOf}
 use Rattle.service_model.specs.Statements.{answer_of, fails}
-use Rattle.service_model.specs.Examples.{entry_at, first, first_entry, first_store, five, long_five, second, second_entry, second_store, with_id}
+use Rattle.service_model.specs.Examples.{entry_at, first, first_entry, first_store, five, long_five, second, second_entry, second_store, silent, with_id}
 use Rattle.service_model.proofs.Runs.{machine_makes_one_history}
-use Rattle.service_model.proofs.Standing.{told_stands, told_inserts_stand}
+use Rattle.service_model.proofs.Standing.{right_is_whole, told_insert_stands}
+use Rattle.service_model.proofs.Told.{reply_told}
 use Rattle.service_model.proofs.Sample.{is_second}
 use Rattle.service_model.proofs.examples.one_history.Goals as goal
 
@@ -31,14 +32,19 @@ returns-clause-one c =
     machine_makes_one_history (λ moment. Unit {0}) (1000000 ∷ 1000000 ∷ []) (first ∷ second ∷ []) [] second_store second_store.creations second_store.entries run leaves_all turns
 
 -- of a statement there is an entry
-some_entry : (entries : List Entry) → AreEntriesOf [] first (codes "d.c") true 0 (with_id five ∷ []) entries → ⊥
-some_entry [] are = are
-some_entry (e ∷ entries) are = in_none e are.0
+some_entry : (x : Exchange) (entries : List Entry) → AreEntriesOf [] x (codes "d.c") true 0 (with_id five ∷ []) entries → ⊥
+some_entry x [] are = are
+some_entry x (e ∷ entries) are = in_none e are.0
 
 pub returns-clause-lost : goal.returns-clause-lost
 returns-clause-lost c one =
-    let stands = told_inserts_stand [] (first ∷ second ∷ []) first (codes "d.c") (with_id five ∷ []) true done_reply one (in_first first (second ∷ [])) refl refl in
-    some_entry stands.0 stands.1
+    let whole = told_insert_stands [] (first ∷ second ∷ []) first (codes "d.c") (with_id five ∷ []) true done_reply one (in_first first (second ∷ [])) refl refl in
+    some_entry first whole.entries whole.each
+
+pub returns-clause-silent : goal.returns-clause-silent
+returns-clause-silent c right =
+    let whole = right_is_whole [] silent (codes "d.c") (with_id five ∷ []) true refl right in
+    some_entry silent whole.entries whole.each
 
 -- the first request with the second's reply
 abbrev mixed : Exchange
@@ -48,7 +54,7 @@ by_either : (test : Bool) (A : Type 0) → ByEnd test A A → A
 by_either true A by = by
 by_either false A by = by
 
-not_told : (entries : List Entry) → AreEntriesOf (first_entry ∷ second_entry ∷ []) mixed (codes "d.c") true 0 (with_id five ∷ []) entries → duplicate_reply ≡ answer_document (answer_of entries) → ⊥
+not_told : (entries : List Entry) → AreEntriesOf (first_entry ∷ second_entry ∷ []) mixed (codes "d.c") true 0 (with_id five ∷ []) entries → answer_document (answer_of entries) ≡ duplicate_reply → ⊥
 not_told [] are told = are
 not_told (e ∷ entries) are told = by_place (in_cons e first_entry (second_entry ∷ []) are.0)
   where
@@ -63,14 +69,14 @@ not_told (e ∷ entries) are told = by_place (in_cons e first_entry (second_entr
 
     by_place : (e ≡ first_entry) ⊎ IsIn e (second_entry ∷ []) → ⊥
     by_place (inl same) =
-        let reply : duplicate_reply ≡ done_reply = told ∙ ap (λ (l : List Entry). answer_document (answer_of (e ∷ l))) alone ∙ ap (λ (d : Entry). answer_document (answer_of (d ∷ []))) same in
+        let reply : duplicate_reply ≡ done_reply = sym told ∙ ap (λ (l : List Entry). answer_document (answer_of (e ∷ l))) alone ∙ ap (λ (d : Entry). answer_document (answer_of (d ∷ []))) same in
         cc
     by_place (inr i) = by_second (in_cons e second_entry [] i)
 
 pub returns-clause-wrong : goal.returns-clause-wrong
 returns-clause-wrong c right =
-    let stands = told_stands (first_entry ∷ second_entry ∷ []) mixed (codes "d.c") (with_id five ∷ []) true duplicate_reply refl refl right in
-    not_told stands.0 stands.1 stands.2
+    let whole = right_is_whole (first_entry ∷ second_entry ∷ []) mixed (codes "d.c") (with_id five ∷ []) true refl right in
+    not_told whole.entries whole.each (reply_told false _ _ (sym whole.told))
 
 abbrev stale_entry : Entry
 stale_entry = entry_at 2 2 0 long_five (fails_with duplicate_key)

@@ -1,4 +1,4 @@
--- By induction on the run, with the exchanges before.
+-- Each request that was served was served rightly.
 use Rattle.service_model.proofs.Whole.{inserts_are_whole}
 use Rattle.service_model.proofs.laws.inserts_are_whole.Goals as goal
 

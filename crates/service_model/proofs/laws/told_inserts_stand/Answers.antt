@@ -1,6 +1,9 @@
--- A reply to an insert is right by its statements' entries alone.
-use Rattle.service_model.proofs.Standing.{told_inserts_stand}
+-- Only the last request may be under way, and it has no reply.
+use Rattle.service_model.proofs.Standing.{told_insert_stands, followed_insert_stands}
 use Rattle.service_model.proofs.laws.told_inserts_stand.Goals as goal
 
-pub returns : goal.returns
-returns c = told_inserts_stand
+pub returns-clause-told : goal.returns-clause-told
+returns-clause-told c = told_insert_stands
+
+pub returns-clause-followed : goal.returns-clause-followed
+returns-clause-followed c = followed_insert_stands

@@ -1,18 +1,16 @@
-use Rattle.std.proofs.Common.{ℕ, List, refl, ◌∙◌}
-use Rattle.wire_model.specs.Outline.{request_in}
-use Rattle.cluster_top.specs.Commands.{command_meant}
-use Rattle.cluster_top.proofs.ReplyBytes.{reply_bytes}
+use Rattle.std.proofs.Common.{◌≡◌, refl, ap}
+use Rattle.cluster_top.specs.declared.server.Server.{Server}
+use Rattle.cluster_top.proofs.Answering.{is_answered}
+use Rattle.cluster_top.proofs.Wanted.{wanted_taken}
+use Rattle.cluster_top.proofs.server.Server.answer.Goals.{then-not-request, else-not-request}
 use Rattle.cluster_top.proofs.server.Server.answer.Goals as goal
 
+pub serve-requires-clause-taken : goal.serve-requires-clause-taken
+serve-requires-clause-taken c =
+    let asked = c.requires.request in
+    rw (c.in_ok-wanted.ensures asked.0 asked.1 asked.2) (wanted_taken asked.0 asked.2)
+
 pub returns-clause-answer : goal.returns-clause-answer
-returns-clause-answer c = λ plain held.
-    let bytes : List ℕ = c.args.bytes.now in
-    let served = c.in_ok-served.ensures.served plain held in
-    record {
-      command = command_meant c.in_ok-command.command;
-      asked = c.in_ok-command.ensures;
-      after = served.after;
-      reply = c.in_ok-reply.ensures ∙ c.deref.ensures.value ∙ reply_bytes c.put_message.new.out.items c.new-reply.result.items _ _ c.in_ok-served.served.reply _ (request_in c.args.whole bytes) _ c.in_ok-put_message.ensures.ok c.new-reply.ensures.items refl c.number_at.ensures served.reply;
-      creation = served.creation;
-      entry = served.entry;
-    }
+returns-clause-answer c = λ meant m is machine held.
+    let kept : c.if-not-request.self.store ≡ c.serve.new.self = elim c.if-not-request.branch [ then-not-request w ↦ ap (λ (s : Server). s.store) w.self-is | else-not-request w ↦ ap (λ (s : Server). s.store) w.self-is ] in
+    is_answered machine c.args.moment meant _ c.args.self.now c.if-not-request.self c.serve.new.self c.in_ok-served.served _ (c.in_ok-wanted.ensures meant m is) (c.in_ok-served.ensures.served machine held) kept (c.in_ok-reply.ensures meant m) refl refl

@@ -1,0 +1,67 @@
+-- What passes the checks: a member by its rule, the documents of an insert by their number and their keys.
+use Rattle.std.proofs.Common.{◌≡◌, ℕ, ◌≤◌, List, [], ◌∷◌, length, refl, Bool, true, false, Option, Some, None, if◌then◌else◌, subst}
+use Rattle.std.specs.List.{AllByRecursion}
+use Rattle.std.specs.Str.{bytes_eq}
+use Rattle.std.proofs.lemmas.Slice.Eq.{bytes_eq-Decides}
+use Rattle.std.proofs.lemmas.Bool.{and_parts, leb-true}
+use Rattle.document_model.specs.Tree.{Datum, Members, no_members, member, get}
+use Rattle.value_order.specs.Keys.{is_key, key_of}
+use Rattle.history_model.specs.Errors.{ErrorCode, bad_value, failed_to_parse, shard_key_not_found}
+use Rattle.command_model.specs.Checks.{Verdict, first_of, is_one_of, unless_passes}
+use Rattle.command_model.specs.Members.{Rule, by_rule, check_documents, check_members, find_rule, is_statement_count}
+use Rattle.command_model.specs.Command.{check_statement, check_statements}
+use Rattle.command_model.specs.Sizes.{IsKeepable, IsSmall}
+
+pub passed_parts : (v : Verdict) (vs : List Verdict) → first_of (v ∷ vs) ≡ None → (v ≡ None) × (first_of vs ≡ None)
+passed_parts None vs e = (refl, e)
+passed_parts (Some error) vs e = absurd cc
+
+pub passed_last : (v : Verdict) → first_of (v ∷ []) ≡ None → v ≡ None
+passed_last v e = (passed_parts v [] e).0
+
+passed_test : (b : Bool) (error : ErrorCode) → unless_passes b error ≡ None → b ≡ true
+passed_test true error e = refl
+passed_test false error e = cc
+
+pub passed_else : (b : Bool) (v : Verdict) → (if b then Some failed_to_parse else v) ≡ None → v ≡ None
+passed_else true v e = cc
+passed_else false v e = e
+
+one_passed : (b : Bool) (rules : List Rule) (given : List (List ℕ)) (first name : List ℕ) (d value : Datum) (rest : Option Datum) →
+    bytes_eq first name ≡ b → (if b then Some d else rest) ≡ Some value →
+    (if is_one_of first given then Some failed_to_parse else by_rule (find_rule first rules) d) ≡ None →
+    (rest ≡ Some value → by_rule (find_rule name rules) value ≡ None) → by_rule (find_rule name rules) value ≡ None
+one_passed true rules given first name d value rest is got told others =
+    let same : first ≡ name = (bytes_eq-Decides first name).0 is in
+    let value_is : d ≡ value = cc in
+    let here : by_rule (find_rule first rules) d ≡ None = passed_else (is_one_of first given) (by_rule (find_rule first rules) d) told in
+    subst (λ (n : List ℕ). by_rule (find_rule n rules) value ≡ None) same (subst (λ (v : Datum). by_rule (find_rule first rules) v ≡ None) value_is here)
+one_passed false rules given first name d value rest is got told others = others got
+
+-- a member that is got passed its rule
+pub member_passed : (rules : List Rule) (given : List (List ℕ)) (ms : Members) (name : List ℕ) (value : Datum) → check_members rules given ms ≡ None → get name ms ≡ Some value → by_rule (find_rule name rules) value ≡ None
+member_passed rules given no_members name value e got = absurd cc
+member_passed rules given (member first d ms) name value e got =
+    let told = passed_parts (if is_one_of first given then Some failed_to_parse else by_rule (find_rule first rules) d) (check_members rules (first ∷ given) ms ∷ []) e in
+    let rest : check_members rules (first ∷ given) ms ≡ None = passed_last (check_members rules (first ∷ given) ms) told.1 in
+    one_passed (bytes_eq first name) rules given first name d value (get name ms) refl got told.0 (λ later. member_passed rules (first ∷ given) ms name value rest later)
+
+-- there are no more documents than a command may have
+pub few_documents : (documents : List Members) → check_documents (Some documents) ≡ None → length documents ≤ 100000
+few_documents documents e =
+    let count : is_statement_count (length documents) ≡ true = passed_test (is_statement_count (length documents)) bad_value e in
+    leb-true (length documents) 100000 (and_parts _ _ count).1
+
+abbrev key_verdict : Option Datum → Verdict
+key_verdict o = elim o [ None ↦ Some shard_key_not_found | Some key ↦ unless_passes (is_key key) bad_value ]
+
+with_key : (o : Option Datum) (document : Members) → key_of document ≡ o → IsSmall document → key_verdict o ≡ None → IsKeepable document
+with_key None document found small e = absurd cc
+with_key (Some key) document found small e = record { small = small; key = key; found = found; is = passed_test (is_key key) bad_value e }
+
+-- small documents that pass may be kept
+pub keepable : (documents : List Members) → AllByRecursion IsSmall documents → check_statements documents ≡ None → AllByRecursion IsKeepable documents
+keepable [] small e = tt
+keepable (document ∷ documents) small e =
+    let told = passed_parts (check_statement document) (check_statements documents ∷ []) e in
+    (with_key (key_of document) document refl small.0 told.0, keepable documents small.1 (passed_last (check_statements documents) told.1))

@@ -1,0 +1,7 @@
+mod Entered
+mod Begun
+mod Telling
+mod EntryBytes
+mod UnderWay
+mod Serving
+mod Samples

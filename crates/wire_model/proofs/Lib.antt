@@ -1,5 +1,0 @@
-pub mod Bytes
-pub mod Fronts
-pub mod Outlines
-pub mod Readings
-pub mod Speaking
