@@ -119,7 +119,7 @@ Machine told gives limit status rest =
     × (IsTrue told.disks_tell → Keep told.files creations entries)
 
 -- Whatever clients send, the entries on the shard's disk are one legal history of an unsharded collection with each
--- statement at most once, of which each reply is a right one; each request that is not under way was served rightly, and each
+-- statement at most once, of which each reply is a right one; each exchange that is not under way was served rightly, and each
 -- entry is of a collection that began before it, as the catalogue's disk says. Their times are those of the plain store.
 abbrev pub Headline : Told → (ℕ → Type 0) → (limit status rest : ℕ) → Type 0
 Headline told gives limit status rest =

@@ -1,6 +1,7 @@
 -- The disks before they are opened.
 use Rattle.std.specs.Prelude.{◌≡◌, ◌≢◌, ◌⊎◌, ℕ, Bool, IsTrue, List, [], ◌∷◌}
 use Rattle.std.specs.List.{AllByRecursion}
+use Rattle.outside.specs.Disks.{Within}
 use Rattle.cluster_top.specs.declared.opening.Disks.{Disks}
 
 -- the disks in order of their nodes
@@ -21,3 +22,9 @@ IsEmpty tells file = IsTrue tells → file ≡ []
 
 abbrev pub IsEmptyAll : Bool → List (List ℕ) → Type 0
 IsEmptyAll tells files = IsTrue tells → AllEmpty files
+
+-- what a crash may leave of each disk it could leave before, before and after in one order
+abbrev pub AreNoWorse : {D : Type 0} → (D → List ℕ → Type 0) → List D → List D → Type 0
+AreNoWorse may_leave [] [] = Unit {0}
+AreNoWorse may_leave (before ∷ befores) (after ∷ afters) = Within (may_leave before) (may_leave after) × AreNoWorse may_leave befores afters
+AreNoWorse may_leave befores afters = ⊥

@@ -2,10 +2,11 @@
 
 ghost use Rattle.std.specs.Prelude.{◌≡◌, ◌↔◌, ◌≤◌, [], map, true, false, vec_len, vec_capacity, IsTrue, IfOk, IfErr, OnErr};
 ghost use Rattle.outside.specs.Causes.{Rose};
+ghost use Rattle.outside.specs.Disks.{Within};
 ghost use Rattle.cluster_top.specs.Headline.{OneRose};
 ghost use Rattle.cluster_top.specs.Journals.{IsJournal};
 ghost use Rattle.cluster_top.specs.Opened.{AreLeft, AreOpen, IsOpen, NoneFell, disks_of};
-ghost use Rattle.cluster_top.specs.Opening.{AllEmpty, IsEmpty, IsEmptyAll, SomeFile, three};
+ghost use Rattle.cluster_top.specs.Opening.{AllEmpty, AreNoWorse, IsEmpty, IsEmptyAll, SomeFile, three};
 ghost use Rattle.cluster_top.specs.declared.opening.Trouble.TheVariants as troubles;
 
 use crate::journals::Journals;
@@ -83,6 +84,7 @@ pub fn put_back<D: Drop>(disks: &mut Vec<D>, taken: Disks<D>)
 fn is_empty<D: Disk>(disk: &mut D) -> Result<bool, Failed>
     ensures answer { IfOk result (λ empty. IsTrue D.tells → IsTrue empty ↔ (D.content disk.old ≡ [])) }
     ensures same { IsTrue D.tells → D.content disk.new ≡ D.content disk.old }
+    ensures crash { IsTrue D.tells → Within (D.may_leave disk.old) (D.may_leave disk.new) }
     ensures cause { OnErr result (Rose (D.fault_count disk.old) (D.fault_count disk.new)) }
     ensures later { D.fault_count disk.old ≤ D.fault_count disk.new }
 {
@@ -99,6 +101,7 @@ impl<D: Disk> Disks<D> {
         ensures empty { IfOk result (λ empty. IsTrue D.tells → IsTrue empty → AllEmpty (map D.content (three self.old))) }
         ensures some { IfOk result (λ empty. IsTrue D.tells → empty ≡ false → SomeFile (map D.content (three self.old))) }
         ensures same { IsTrue D.tells → map D.content (three self.new) ≡ map D.content (three self.old) }
+        ensures crash { IsTrue D.tells → AreNoWorse D.may_leave (three self.old) (three self.new) }
         ensures cause { OnErr result (OneRose (map D.fault_count (three self.old)) (map D.fault_count (three self.new))) }
         ensures later { NoneFell (map D.fault_count (three self.old)) (map D.fault_count (three self.new)) }
     {

@@ -6,7 +6,7 @@ ghost use Rattle.outside.specs.Causes.{Rose};
 ghost use Rattle.outside.specs.Streams.{Took, Put};
 ghost use Rattle.cluster_top.specs.Headline.{Machine, OneRose};
 ghost use Rattle.cluster_top.specs.Opened.{IsDurable, NoneFell};
-ghost use Rattle.cluster_top.specs.Opening.{IsEmptyAll, SomeFile, three};
+ghost use Rattle.cluster_top.specs.Opening.{AreNoWorse, IsEmptyAll, SomeFile, three};
 ghost use Rattle.cluster_top.specs.declared.opening.Trouble.TheVariants as troubles;
 
 use crate::connection::serve_connection;
@@ -88,7 +88,7 @@ pub fn pipe<S: Source, K: Sink, D: Disk, C: Clock>(
         × (IsTrue D.tells → SomeFile (map D.content (three disks))) }
     ensures not_empty { IsTrue D.tells → SomeFile (map D.content (three disks)) → (result.rest ≡ 0)
         × Took S.tells (S.left input.old) [] (S.left input.new) × Put K.tells (K.held out.old) [] (K.held out.new)
-        × (map D.content (three result.disks) ≡ map D.content (three disks))
+        × (map D.content (three result.disks) ≡ map D.content (three disks)) × AreNoWorse D.may_leave (three disks) (three result.disks)
         × ((result.status ≡ 6) ⊎ ((result.status ≡ 5) × OneRose (map D.fault_count (three disks)) (map D.fault_count (three result.disks)))) }
     ensures later { NoneFell (map D.fault_count (three disks)) (map D.fault_count (three result.disks)) }
 {

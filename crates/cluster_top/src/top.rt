@@ -6,7 +6,7 @@ ghost use Rattle.outside.specs.Streams.{Took, Put};
 ghost use Rattle.std.specs.List.{AllByRecursion};
 ghost use Rattle.cluster_top.specs.Headline.{Machine, Headline, OneRose};
 ghost use Rattle.cluster_top.specs.Opened.{IsDurable};
-ghost use Rattle.cluster_top.specs.Opening.{IsEmptyAll, SomeFile};
+ghost use Rattle.cluster_top.specs.Opening.{AreNoWorse, IsEmptyAll, SomeFile};
 ghost use Rattle.cluster_top.specs.Words.{node_count_of};
 
 use crate::opening::{put_back, take_apart};
@@ -36,9 +36,9 @@ pub struct Ended<D: Drop, L: Drop> {
 /// its end; what its requests leave stands on the disks, whose files must be empty at the start. The acceptor and the gate are
 /// not used.
 ///
-/// Statuses: 0 the input was read to its end; 2 the words are refused, and nothing was done; 3 a read failed; 4 a write
-/// failed; 5 a disk failed; 6 a disk's file was not empty, and nothing was done; 7 there was no memory; 9 the next bytes
-/// are no request; 10 2^40 bytes were taken and the end was not met.
+/// Statuses: 0 the input was read to its end; 2 the words are refused, and nothing was taken or put; 3 a read failed; 4 a
+/// write failed; 5 a disk failed; 6 a disk's file was not empty, and nothing was taken or put; 7 there was no memory; 9 the
+/// next bytes are no request; 10 2^40 bytes were taken and the end was not met.
 pub fn run<R, S, K, A, D, C, G>(
     _rt: &R,
     alloc: Global,
@@ -61,17 +61,17 @@ where
     A::Link: Send,
     requires { IfSome (node_count_of words.now) (λ count. vec_len disks ≡ count) }
 
-    // The words are refused exactly where they start no nodes, and then nothing is done.
+    // The words are refused exactly where they start no nodes, and then nothing is taken or put, and the disks come back.
     ensures words { (result.status ≡ 2) ↔ IsNone (node_count_of words.now) }
     ensures refused { IsNone (node_count_of words.now) → (result.rest ≡ 0)
         × Took S.tells (S.left input.old) [] (S.left input.new) × Put K.tells (K.held out.old) [] (K.held out.new)
         × (result.disks ≡ disks) }
 
-    // Where a disk tells bytes at the start, nothing is taken, put or changed on a disk, and the status is 6, or a disk
-    // failed. With status 6 there is such a disk, where they tell.
+    // Where a disk tells bytes at the start, nothing is taken or put, each file has the same bytes at the end, a crash may
+    // leave no more of a disk than before, and the status is 6, or a disk failed. With status 6 there is such a disk, where they tell.
     ensures not_empty { IsSome (node_count_of words.now) → IsTrue D.tells → SomeFile (map D.content disks.items) → (result.rest ≡ 0)
         × Took S.tells (S.left input.old) [] (S.left input.new) × Put K.tells (K.held out.old) [] (K.held out.new)
-        × (map D.content result.disks.items ≡ map D.content disks.items)
+        × (map D.content result.disks.items ≡ map D.content disks.items) × AreNoWorse D.may_leave disks.items result.disks.items
         × ((result.status ≡ 6) ⊎ ((result.status ≡ 5) × OneRose (map D.fault_count disks.items) (map D.fault_count result.disks.items))) }
     ensures six { result.status ≡ 6 → (result.rest ≡ 0)
         × Took S.tells (S.left input.old) [] (S.left input.new) × Put K.tells (K.held out.old) [] (K.held out.new)

@@ -1,9 +1,14 @@
 use Rattle.std.proofs.Common.{List, map, subst}
 use Rattle.cluster_top.specs.Headline.{OneRose}
-use Rattle.cluster_top.specs.Opening.{IsEmptyAll, three}
+use Rattle.cluster_top.specs.Opening.{IsEmptyAll, SomeFile, three}
 use Rattle.cluster_top.proofs.Endings.{told_by}
 use Rattle.cluster_top.proofs.Histories.{headline_of}
 use Rattle.cluster_top.proofs.top.run.Goals as goal
+
+pub returns-clause-not_empty : goal.returns-clause-not_empty
+returns-clause-not_empty g c = λ some told bytes.
+    let still : SomeFile (map g.D.Disk.content (three {D = g.row.D.Denot} c.take_apart-three.result)) = subst (λ (disks : List g.row.D.Denot). SomeFile (map g.D.Disk.content disks)) c.take_apart-three.ensures.disks bytes in
+    rw (c.take_apart-three.ensures.disks, c.put_back.ensures) (c.pipe-piped.ensures.not_empty told still)
 
 pub returns-clause-six : goal.returns-clause-six
 returns-clause-six g c = λ is. rw c.take_apart-three.ensures.disks (c.pipe-piped.ensures.six is)
