@@ -107,9 +107,9 @@ def mixed(size):
 
 def program(top, rounds):
     """A repository with the crates that the program stands on, and the program."""
-    for name in ("document_model", "bson_values"):
+    for name in ("bson_model", "bson_values"):
         shutil.copytree(TOP / "crates" / name, top / "crates" / name, ignore=shutil.ignore_patterns("out", "must-fail"))
-    lines = [line for line in (TOP / "crates.txt").read_text().splitlines() if line.startswith(("document_model:", "bson_values:"))]
+    lines = [line for line in (TOP / "crates.txt").read_text().splitlines() if line.startswith(("bson_model:", "bson_values:"))]
     (top / "crates.txt").write_text("\n".join(lines + ["measure: bson_values"]) + "\n")
     source = top / "crates" / "measure" / "src"
     source.mkdir(parents=True)

@@ -20,7 +20,7 @@ import time
 
 TOP = pathlib.Path(__file__).resolve().parent.parent
 
-BELOW = ("document_model", "bson_values", "outside", "journal_frames")
+BELOW = ("bson_model", "bson_values", "outside", "journal_frames")
 
 PROGRAM = """\
 //! Opens the journal in the file of the first word and tells how many records it has; then appends as many as the second

@@ -46,6 +46,26 @@ tells() {
     fi
 }
 
+# leaves_none NAME: there is no file in the working folder
+leaves_none() {
+    if [ -z "$(ls -A)" ]; then
+        echo "ok: no file left by $1"
+    else
+        echo "wrong: files left by $1: $(ls -A | tr '\n' ' ')"
+        failed=1
+    fi
+}
+
+# touches_none NAME: there is no reply, and no byte in a journal
+touches_none() {
+    if [ ! -s "$work/reply" ] && [ -z "$(cat node0?.journal | xxd -p)" ]; then
+        echo "ok: nothing served or written beside $1"
+    else
+        echo "wrong: a reply or bytes in a journal beside $1"
+        failed=1
+    fi
+}
+
 fresh; "$top/cluster" pipe < "$work/nothing" > "$work/reply" 2> "$work/errors"; check "empty input" 0 "" $?
 fresh; "$top/cluster" pipe < "$work/request" > "$work/reply" 2> "$work/errors"; check "one insert" 0 "" $?
 fresh; "$top/cluster" pipe < "$work/three" > "$work/reply" 2> "$work/errors"; check "an insert of three documents" 0 "" $?
@@ -59,6 +79,11 @@ tells "the reply to a greeting" "$work/reply" 0869736d617374657200
 fresh; cat "$work/request" "$work/flags" | "$top/cluster" pipe > "$work/reply" 2> "$work/errors"; check "an insert and flags that are refused" 9 "cluster: bad input" $?
 tells "the reply before flags that are refused" "$work/reply" 106e0001000000
 fresh; "$top/cluster" pope < "$work/nothing" > "$work/reply" 2> "$work/errors"; check "bad words" 2 "cluster: bad words" $?
+leaves_none "bad words"
+fresh; "$top/cluster" < "$work/nothing" > "$work/reply" 2> "$work/errors"; check "no words" 2 "cluster: bad words" $?
+leaves_none "no words"
+fresh; "$top/cluster" "$(printf 'pipe\377')" < "$work/nothing" > "$work/reply" 2> "$work/errors"; check "a word that is not UTF-8" 2 "cluster: bad words" $?
+leaves_none "a word that is not UTF-8"
 fresh; "$top/cluster" pipe < "$work" > "$work/reply" 2> "$work/errors"; check "a source that can't be read" 3 "cluster: read failed" $?
 fresh; "$top/cluster" pipe < "$work/request" > /dev/full 2> "$work/errors"; check "a full device" 4 "cluster: write failed" $?
 fresh; "$top/cluster" pipe < "$work/request" 2> "$work/errors" >&-; check "a closed output" 4 "cluster: write failed" $?
@@ -75,4 +100,12 @@ fresh; mkdir node01.journal
 "$top/cluster" pipe < "$work/request" > "$work/reply" 2> "$work/errors"; check "a journal that is a folder" 5 "cluster: disk failed" $?
 fresh; "$top/cluster" pipe < "$work/request" > "$work/reply" 2> "$work/errors"
 "$top/cluster" pipe < "$work/request" > "$work/reply" 2> "$work/errors"; check "a second start in one folder" 6 "cluster: damaged journal" $?
+for journal in node00.journal node01.journal node02.journal; do
+    fresh; : > $journal
+    flock $journal "$top/cluster" pipe < "$work/request" > "$work/reply" 2> "$work/errors"; check "a lock on $journal" 5 "cluster: disk failed" $?
+    touches_none "a lock on $journal"
+done
+fresh; : > node00.journal; ln node00.journal node02.journal
+"$top/cluster" pipe < "$work/request" > "$work/reply" 2> "$work/errors"; check "two journals that are one file" 5 "cluster: disk failed" $?
+touches_none "two journals that are one file"
 exit $failed

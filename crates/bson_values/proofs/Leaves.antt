@@ -1,5 +1,5 @@
 -- Lengths, texts, names and other leaves: what is read is spelled so, and what is spelled so is read.
-use Rattle.std.proofs.Common.{◌≡◌, ◌≢◌, ℕ, zero, suc, ◌+◌, ◌-◌, ◌^◌, ◌<◌, ◌≤◌, true, false, cond, ltb, leb, eqb, List, [], ◌∷◌, ◌++◌, length, get_or, take, drop, Result, Ok, Err, refl, sym, ap, subst, ◌∙◌, append_assoc, drop-cons, arith, inl, inr}
+use Rattle.std.proofs.Common.{◌≡◌, ◌≢◌, ℕ, zero, suc, ◌+◌, ◌-◌, ◌<◌, ◌≤◌, true, false, cond, ltb, leb, eqb, List, [], ◌∷◌, ◌++◌, length, get_or, take, drop, Result, Ok, Err, refl, sym, ap, subst, ◌∙◌, append_assoc, drop-cons, arith, inl, inr}
 use Rattle.std.specs.Prelude.{IsTrue}
 use Rattle.std.specs.Int.{w32, from_le_bytes, to_le_bytes}
 use Rattle.std.specs.Str.{IsUtf8, is_utf8}
@@ -9,28 +9,27 @@ use Rattle.std.proofs.lemmas.List.{take_at, drop_at, take-append-drop, length-ap
 use Rattle.std.proofs.lemmas.Nat.{le_bytes_4, from_le_bytes-to_le_bytes_4}
 use Rattle.std.proofs.lemmas.Str.{IsUtf8-from_is_utf8, is_utf8-from_IsUtf8}
 use Rattle.std.proofs.lemmas.Grind.{common_steps}
-use Rattle.document_model.specs.Spelling.{string}
-use Rattle.document_model.specs.Grammar.{HasNoZero}
+use Rattle.bson_model.specs.Spelling.{string}
+use Rattle.bson_model.specs.Grammar.{AreBytes, HasNoZero}
+use Rattle.bson_model.specs.Limits.{length_limit}
+use Rattle.bson_model.proofs.Lengths.{length-string, string-append}
 use Rattle.bson_values.specs.declared.fault.BsonFault.{BsonFault}
 use Rattle.bson_values.specs.declared.fault.BsonFault.TheVariants.{Short, BadLength, BadText, Trailing}
-use Rattle.bson_values.specs.Faults.{◌>>=◌}
+use Rattle.bson_values.specs.ReadFaults.{◌>>=◌}
 use Rattle.bson_values.specs.Names.{has_no_zero}
 use Rattle.bson_values.specs.Reading.{length_within, length_at, fixed_at, utf8_at, text_at, string_at, name_from, room_at, index_at, name_at}
 use Rattle.bson_values.proofs.NameTests.{test-from_HasNoZero}
 use Rattle.bson_values.proofs.Steps.{bind_ok, guard_ok, guard_true, chosen, ok_is}
 
-abbrev pub IsBytes : List ℕ → Type 0
-IsBytes bytes = (i : ℕ) → get_or bytes i 0 < 256
+pub AreBytes-drop : (n : ℕ) (bytes : List ℕ) → AreBytes bytes → AreBytes (drop n bytes)
+AreBytes-drop n bytes h i = rw get_or-drop (h (n + i))
 
-pub IsBytes-drop : (n : ℕ) (bytes : List ℕ) → IsBytes bytes → IsBytes (drop n bytes)
-IsBytes-drop n bytes h i = rw get_or-drop (h (n + i))
-
-pub IsBytes-take : (n : ℕ) (bytes : List ℕ) → IsBytes bytes → IsBytes (take n bytes)
-IsBytes-take n bytes h i = grind (arith, common_steps, h i)
+pub AreBytes-take : (n : ℕ) (bytes : List ℕ) → AreBytes bytes → AreBytes (take n bytes)
+AreBytes-take n bytes h i = grind (arith, common_steps, h i)
 
 -- what stands behind some bytes
-pub IsBytes-rest : (bytes a rest : List ℕ) → bytes ≡ a ++ rest → IsBytes bytes → IsBytes rest
-IsBytes-rest bytes a rest e h = subst (λ (r : List ℕ). IsBytes r) (ap (λ (s : List ℕ). drop (length a) s) e ∙ drop_at a rest (length a) refl) (IsBytes-drop (length a) bytes h)
+pub AreBytes-rest : (bytes a rest : List ℕ) → bytes ≡ a ++ rest → AreBytes bytes → AreBytes rest
+AreBytes-rest bytes a rest e h = subst (λ (r : List ℕ). AreBytes r) (ap (λ (s : List ℕ). drop (length a) s) e ∙ drop_at a rest (length a) refl) (AreBytes-drop (length a) bytes h)
 
 -- ---- names
 
@@ -42,42 +41,42 @@ pub record TakesName (bytes : List ℕ) (room : ℕ) (name rest : List ℕ) : Ty
 not_zero : (b : ℕ) → eqb b 0 ≡ false → b ≢ 0
 not_zero b e h = grind (arith, nat_tests)
 
-pub name_takes : (total place room : ℕ) (bytes : List ℕ) (x : List ℕ × List ℕ) → name_from total place room bytes ≡ Ok x → TakesName bytes room x.0 x.1
+pub name_takes : (total offset room : ℕ) (bytes : List ℕ) (x : List ℕ × List ℕ) → name_from total offset room bytes ≡ Ok x → TakesName bytes room x.0 x.1
 unfolding name_from
-name_takes total place zero bytes x e = absurd cc
-name_takes total place (suc room) [] x e = absurd cc
-name_takes total place (suc room) (b ∷ bytes) x e =
-    elim (chosen (eqb b 0) (Ok ([], bytes)) (name_from total place room bytes >>= λ y. Ok (b ∷ y.0, y.1)) (Ok x) e) [
+name_takes total offset zero bytes x e = absurd cc
+name_takes total offset (suc room) [] x e = absurd cc
+name_takes total offset (suc room) (b ∷ bytes) x e =
+    elim (chosen (eqb b 0) (Ok ([], bytes)) (name_from total offset room bytes >>= λ y. Ok (b ∷ y.0, y.1)) (Ok x) e) [
       | inl t ↦
           let is_zero : b ≡ 0 = eqb-true _ _ t.0 in
           subst (λ (y : List ℕ × List ℕ). TakesName (b ∷ bytes) (suc room) y.0 y.1) (ok_is ([], bytes) x t.1) (record { parts = ap (λ (c : ℕ). c ∷ bytes) is_zero; no_zero = tt; fits = omega arith })
       | inr t ↦
-          let a = bind_ok (name_from total place room bytes) (λ y. Ok (b ∷ y.0, y.1)) x t.1 in
-          let rest = name_takes total place room bytes a.0 a.1 in
+          let a = bind_ok (name_from total offset room bytes) (λ y. Ok (b ∷ y.0, y.1)) x t.1 in
+          let rest = name_takes total offset room bytes a.0 a.1 in
           let made : List ℕ × List ℕ = (b ∷ a.0.0, a.0.1) in
           subst (λ (y : List ℕ × List ℕ). TakesName (b ∷ bytes) (suc room) y.0 y.1) (ok_is made x a.2)
           (record { parts = ap (λ (s : List ℕ). b ∷ s) rest.parts; no_zero = (not_zero b t.0, rest.no_zero); fits = omega (arith, rest.fits) })
     ]
 
-pub name_again : (total place room : ℕ) (name rest : List ℕ) → HasNoZero name → length name < room → name_from total place room (name ++ 0 ∷ rest) ≡ Ok (name, rest)
+pub name_again : (total offset room : ℕ) (name rest : List ℕ) → HasNoZero name → length name < room → name_from total offset room (name ++ 0 ∷ rest) ≡ Ok (name, rest)
 unfolding name_from
-name_again total place zero name rest h fits = absurd (omega arith)
-name_again total place (suc room) [] rest h fits = refl
-name_again total place (suc room) (b ∷ name) rest h fits =
+name_again total offset zero name rest h fits = absurd (omega arith)
+name_again total offset (suc room) [] rest h fits = refl
+name_again total offset (suc room) (b ∷ name) rest h fits =
     let ne : b ≢ 0 = h.0 in
     let e : eqb b 0 ≡ false = grind (arith, nat_tests) in
-    rw (e, name_again total place room name rest h.1 (omega arith)) refl
+    rw (e, name_again total offset room name rest h.1 (omega arith)) refl
 
-pub utf8_takes : (place : ℕ) (text s : List ℕ) → utf8_at place text ≡ Ok s → (text ≡ s) × IsUtf8 s
+pub utf8_takes : (offset : ℕ) (text s : List ℕ) → utf8_at offset text ≡ Ok s → (text ≡ s) × IsUtf8 s
 unfolding utf8_at
-utf8_takes place text s e =
-    let g = guard_true (is_utf8 text) (BadText place) (Ok text) s e in
+utf8_takes offset text s e =
+    let g = guard_true (is_utf8 text) (BadText offset) (Ok text) s e in
     let same = ok_is text s g.1 in
     (same, subst (λ (t : List ℕ). IsUtf8 t) same (IsUtf8-from_is_utf8 text g.0))
 
-pub utf8_again : (place : ℕ) (text : List ℕ) → IsUtf8 text → utf8_at place text ≡ Ok text
+pub utf8_again : (offset : ℕ) (text : List ℕ) → IsUtf8 text → utf8_at offset text ≡ Ok text
 unfolding utf8_at
-utf8_again place text h = rw (is_utf8-from_IsUtf8 text h) refl
+utf8_again offset text h = rw (is_utf8-from_IsUtf8 text h) refl
 
 pub room_takes : (total room : ℕ) (rest : List ℕ) (left : ℕ) → room_at total room rest ≡ Ok left → (room ≡ left) × (0 < left)
 unfolding room_at
@@ -148,7 +147,7 @@ named_again total room name rest h utf8 fits =
 pub record TakesLength (bytes : List ℕ) (least beside room n : ℕ) (rest : List ℕ) : Type 0 where
   pub parts : bytes ≡ to_le_bytes w32 n ++ rest
   pub low : least ≤ n
-  pub high : n < 2 ^ 31
+  pub high : n < length_limit
   pub fits : n + beside ≤ room
 
 leb-false : (a b : ℕ) → leb a b ≡ false → b < a
@@ -157,32 +156,32 @@ leb-false a b e = grind (arith, nat_tests)
 lt-leb : (a b : ℕ) → b < a → leb a b ≡ false
 lt-leb a b e = grind (arith, nat_tests)
 
-back_32 : (bytes : List ℕ) → 4 ≤ length bytes → IsBytes bytes → to_le_bytes w32 (from_le_bytes w32 (take 4 bytes)) ≡ take 4 bytes
-back_32 bytes long h = le_bytes_4 (take 4 bytes) _ (omega (arith, length-take 4 bytes)) (IsBytes-take 4 bytes h) refl
+back_32 : (bytes : List ℕ) → 4 ≤ length bytes → AreBytes bytes → to_le_bytes w32 (from_le_bytes w32 (take 4 bytes)) ≡ take 4 bytes
+back_32 bytes long h = le_bytes_4 (take 4 bytes) _ (omega (arith, length-take 4 bytes)) (AreBytes-take 4 bytes h) refl
 
-pub length_takes : (total least beside room : ℕ) (bytes : List ℕ) (x : ℕ × List ℕ) → IsBytes bytes → length_at total least beside room bytes ≡ Ok x → TakesLength bytes least beside room x.0 x.1
+pub length_takes : (total least beside room : ℕ) (bytes : List ℕ) (x : ℕ × List ℕ) → AreBytes bytes → length_at total least beside room bytes ≡ Ok x → TakesLength bytes least beside room x.0 x.1
 unfolding length_at length_within
 length_takes total least beside room bytes x h e =
-    let place = total - length bytes in
+    let offset = total - length bytes in
     let n = from_le_bytes w32 (take 4 bytes) in
-    let within : Result (ℕ × List ℕ) BsonFault = cond (ltb n least) (Err (BadLength place)) (cond (leb (2 ^ 31) n) (Err (BadLength place)) (cond (ltb room (n + beside)) (Err (BadLength place)) (Ok (n, drop 4 bytes)))) in
-    let a = guard_ok (eqb (length bytes) 0) (Short total) (cond (ltb room 5) (Err (BadLength place)) (cond (ltb (length bytes) 4) (Err (Short total)) within)) x e in
-    let b = guard_ok (ltb room 5) (BadLength place) (cond (ltb (length bytes) 4) (Err (Short total)) within) x a.1 in
+    let within : Result (ℕ × List ℕ) BsonFault = cond (ltb n least) (Err (BadLength offset)) (cond (leb length_limit n) (Err (BadLength offset)) (cond (ltb room (n + beside)) (Err (BadLength offset)) (Ok (n, drop 4 bytes)))) in
+    let a = guard_ok (eqb (length bytes) 0) (Short total) (cond (ltb room 5) (Err (BadLength offset)) (cond (ltb (length bytes) 4) (Err (Short total)) within)) x e in
+    let b = guard_ok (ltb room 5) (BadLength offset) (cond (ltb (length bytes) 4) (Err (Short total)) within) x a.1 in
     let c = guard_ok (ltb (length bytes) 4) (Short total) within x b.1 in
-    let d = guard_ok (ltb n least) (BadLength place) (cond (leb (2 ^ 31) n) (Err (BadLength place)) (cond (ltb room (n + beside)) (Err (BadLength place)) (Ok (n, drop 4 bytes)))) x c.1 in
-    let f = guard_ok (leb (2 ^ 31) n) (BadLength place) (cond (ltb room (n + beside)) (Err (BadLength place)) (Ok (n, drop 4 bytes))) x d.1 in
-    let g = guard_ok (ltb room (n + beside)) (BadLength place) (Ok (n, drop 4 bytes)) x f.1 in
+    let d = guard_ok (ltb n least) (BadLength offset) (cond (leb length_limit n) (Err (BadLength offset)) (cond (ltb room (n + beside)) (Err (BadLength offset)) (Ok (n, drop 4 bytes)))) x c.1 in
+    let f = guard_ok (leb length_limit n) (BadLength offset) (cond (ltb room (n + beside)) (Err (BadLength offset)) (Ok (n, drop 4 bytes))) x d.1 in
+    let g = guard_ok (ltb room (n + beside)) (BadLength offset) (Ok (n, drop 4 bytes)) x f.1 in
     let long : 4 ≤ length bytes = ltb-false _ _ c.0 in
     let made : ℕ × List ℕ = (n, drop 4 bytes) in
     subst (λ (y : ℕ × List ℕ). TakesLength bytes least beside room y.0 y.1) (ok_is made x g.1)
     (record {
-      parts = sym (take-append-drop 4 bytes) ∙ ap (λ (front : List ℕ). front ++ drop 4 bytes) (sym (back_32 bytes long h));
+      parts = sym (take-append-drop 4 bytes) ∙ ap (λ (prefix : List ℕ). prefix ++ drop 4 bytes) (sym (back_32 bytes long h));
       low = ltb-false _ _ d.0;
       high = leb-false _ _ f.0;
       fits = ltb-false _ _ g.0;
     })
 
-length_is : (total least beside room n : ℕ) (bytes rest : List ℕ) → 4 ≤ length bytes → from_le_bytes w32 (take 4 bytes) ≡ n → drop 4 bytes ≡ rest → least ≤ n → n < 2 ^ 31 → n + beside ≤ room → 5 ≤ room
+length_is : (total least beside room n : ℕ) (bytes rest : List ℕ) → 4 ≤ length bytes → from_le_bytes w32 (take 4 bytes) ≡ n → drop 4 bytes ≡ rest → least ≤ n → n < length_limit → n + beside ≤ room → 5 ≤ room
     → length_at total least beside room bytes ≡ Ok (n, rest)
 unfolding length_at length_within
 length_is total least beside room n bytes rest long number behind low high fits some =
@@ -190,19 +189,19 @@ length_is total least beside room n bytes rest long number behind low high fits 
     let b : ltb room 5 ≡ false = le-ltb _ _ some in
     let c : ltb (length bytes) 4 ≡ false = le-ltb _ _ long in
     let f : ltb n least ≡ false = le-ltb _ _ low in
-    let g : leb (2 ^ 31) n ≡ false = lt-leb _ _ high in
+    let g : leb length_limit n ≡ false = lt-leb _ _ high in
     let k : ltb room (n + beside) ≡ false = le-ltb _ _ fits in
     rw (a, b, c, number, behind, f, g, k) refl
 
-pub length_again : (total least beside room n : ℕ) (rest : List ℕ) → least ≤ n → n < 2 ^ 31 → n + beside ≤ room → 5 ≤ room → length_at total least beside room (to_le_bytes w32 n ++ rest) ≡ Ok (n, rest)
+pub length_again : (total least beside room n : ℕ) (rest : List ℕ) → least ≤ n → n < length_limit → n + beside ≤ room → 5 ≤ room → length_at total least beside room (to_le_bytes w32 n ++ rest) ≡ Ok (n, rest)
 length_again total least beside room n rest low high fits some =
     length_is total least beside room n (to_le_bytes w32 n ++ rest) rest (omega (arith, length-append (to_le_bytes w32 n) rest)) (from_le_bytes-to_le_bytes_4 n (omega arith)) refl low high fits some
 
 -- ---- so many bytes
 
-pub record TakesFixed (bytes : List ℕ) (n room : ℕ) (front rest : List ℕ) : Type 0 where
-  pub parts : bytes ≡ front ++ rest
-  pub len : length front ≡ n
+pub record TakesFixed (bytes : List ℕ) (n room : ℕ) (prefix rest : List ℕ) : Type 0 where
+  pub parts : bytes ≡ prefix ++ rest
+  pub len : length prefix ≡ n
   pub fits : n ≤ room
 
 pub fixed_takes : (total n room : ℕ) (bytes : List ℕ) (x : List ℕ × List ℕ) → fixed_at total n room bytes ≡ Ok x → TakesFixed bytes n room x.0 x.1
@@ -220,12 +219,12 @@ fixed_takes total n room bytes x e =
           (record { parts = sym (take-append-drop n bytes); len = omega (arith, length-take n bytes); fits = ltb-false _ _ t.0 })
     ]
 
-pub fixed_again : (total n room : ℕ) (front rest : List ℕ) → length front ≡ n → n ≤ room → fixed_at total n room (front ++ rest) ≡ Ok (front, rest)
+pub fixed_again : (total n room : ℕ) (prefix rest : List ℕ) → length prefix ≡ n → n ≤ room → fixed_at total n room (prefix ++ rest) ≡ Ok (prefix, rest)
 unfolding fixed_at
-fixed_again total n room front rest len fits =
+fixed_again total n room prefix rest len fits =
     let a : ltb room n ≡ false = le-ltb _ _ fits in
-    let b : ltb (length (front ++ rest)) n ≡ false = le-ltb _ _ (omega (arith, length-append front rest)) in
-    rw (a, b, take_at front rest n len, drop_at front rest n len) refl
+    let b : ltb (length (prefix ++ rest)) n ≡ false = le-ltb _ _ (omega (arith, length-append prefix rest)) in
+    rw (a, b, take_at prefix rest n len, drop_at prefix rest n len) refl
 
 -- ---- texts
 
@@ -237,12 +236,12 @@ pub record TakesText (bytes : List ℕ) (n : ℕ) (text rest : List ℕ) : Type 
 pub text_takes : (total n : ℕ) (bytes : List ℕ) (x : List ℕ × List ℕ) → 0 < n → text_at total n bytes ≡ Ok x → TakesText bytes n x.0 x.1
 unfolding text_at
 text_takes total n bytes x some e =
-    let place = total - length bytes in
-    let read : Result (List ℕ × List ℕ) BsonFault = utf8_at place (take (n - 1) bytes) >>= λ text. Ok (text, drop n bytes) in
-    let a = guard_ok (ltb (length bytes) n) (Short total) (cond (eqb (get_or bytes (n - 1) 0) 0) read (Err (BadText place))) x e in
-    let b = guard_true (eqb (get_or bytes (n - 1) 0) 0) (BadText place) read x a.1 in
-    let c = bind_ok (utf8_at place (take (n - 1) bytes)) (λ text. Ok (text, drop n bytes)) x b.1 in
-    let t = utf8_takes place (take (n - 1) bytes) c.0 c.1 in
+    let offset = total - length bytes in
+    let read : Result (List ℕ × List ℕ) BsonFault = utf8_at offset (take (n - 1) bytes) >>= λ text. Ok (text, drop n bytes) in
+    let a = guard_ok (ltb (length bytes) n) (Short total) (cond (eqb (get_or bytes (n - 1) 0) 0) read (Err (BadText offset))) x e in
+    let b = guard_true (eqb (get_or bytes (n - 1) 0) 0) (BadText offset) read x a.1 in
+    let c = bind_ok (utf8_at offset (take (n - 1) bytes)) (λ text. Ok (text, drop n bytes)) x b.1 in
+    let t = utf8_takes offset (take (n - 1) bytes) c.0 c.1 in
     let long : n ≤ length bytes = ltb-false _ _ a.0 in
     let last : get_or bytes (n - 1) 0 ≡ 0 = eqb-true _ _ b.0 in
     let k : suc (n - 1) ≡ n = omega arith in
@@ -274,16 +273,10 @@ text_again total text rest utf8 =
 pub record TakesString (bytes : List ℕ) (room : ℕ) (text rest : List ℕ) : Type 0 where
   pub parts : bytes ≡ string text ++ rest
   pub utf8 : IsUtf8 text
-  pub high : length text + 1 < 2 ^ 31
+  pub high : length text + 1 < length_limit
   pub fits : length (string text) ≤ room
 
-pub length-string : (text : List ℕ) → length (string text) ≡ length text + 5
-length-string text = length-append (to_le_bytes w32 (length text + 1)) (text ++ 0 ∷ []) ∙ omega (arith, length-append text (0 ∷ []))
-
-string-append : (text rest : List ℕ) → string text ++ rest ≡ to_le_bytes w32 (length text + 1) ++ (text ++ 0 ∷ rest)
-string-append text rest = append_assoc (to_le_bytes w32 (length text + 1)) (text ++ 0 ∷ []) rest ∙ ap (λ (s : List ℕ). to_le_bytes w32 (length text + 1) ++ s) (append_assoc text (0 ∷ []) rest)
-
-pub string_takes : (total room : ℕ) (bytes : List ℕ) (x : List ℕ × List ℕ) → IsBytes bytes → string_at total room bytes ≡ Ok x → TakesString bytes room x.0 x.1
+pub string_takes : (total room : ℕ) (bytes : List ℕ) (x : List ℕ × List ℕ) → AreBytes bytes → string_at total room bytes ≡ Ok x → TakesString bytes room x.0 x.1
 unfolding string_at
 string_takes total room bytes x h e =
     let a = bind_ok (length_at total 1 4 room bytes) (λ y. text_at total y.0 y.1) x e in
@@ -296,7 +289,7 @@ string_takes total room bytes x h e =
       fits = omega (arith, t.len, n.fits, length-string x.0);
     }
 
-pub string_again : (total room : ℕ) (text rest : List ℕ) → IsUtf8 text → length text + 1 < 2 ^ 31 → length (string text) ≤ room → string_at total room (string text ++ rest) ≡ Ok (text, rest)
+pub string_again : (total room : ℕ) (text rest : List ℕ) → IsUtf8 text → length text + 1 < length_limit → length (string text) ≤ room → string_at total room (string text ++ rest) ≡ Ok (text, rest)
 unfolding string_at
 string_again total room text rest utf8 high fits =
     let len = length-string text in

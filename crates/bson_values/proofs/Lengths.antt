@@ -1,6 +1,6 @@
 -- How long a spelling is, counted part by part. A count that would pass the greatest number stays there.
 use Rattle.std.proofs.Common.{◌≡◌, ℕ, ◌+◌, ◌-◌, ◌<◌, ◌^◌, min, List, length}
-use Rattle.document_model.specs.Spelling.{framed}
+use Rattle.bson_model.specs.Spelling.{framed}
 
 abbrev pub capped : ℕ → ℕ
 capped n = min n (2 ^ 64 - 1)

@@ -1,10 +1,10 @@
 pub mod Again
 pub mod Copies
 pub mod FirstFault
-pub mod KindTests
+pub mod TypeTests
 pub mod Leaves
 pub mod Lengths
-pub mod Levels
+pub mod Depth
 pub mod NameScan
 pub mod NameTests
 pub mod Puts
@@ -18,3 +18,4 @@ pub mod WalkedLeaves
 pub mod WalkedValues
 pub mod Walking
 pub mod Whole
+pub use Rattle.bson_model.proofs.Joined

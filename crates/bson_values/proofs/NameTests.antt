@@ -2,7 +2,7 @@
 use Rattle.std.proofs.Common.{◌≡◌, ◌≢◌, ◌==◌, ℕ, List, [], ◌∷◌, Bool, true, false, refl, arith, cond}
 use Rattle.std.specs.Prelude.{IsTrue}
 use Rattle.std.proofs.lemmas.Bool.Decides.{nat_tests}
-use Rattle.document_model.specs.Grammar.{HasNoZero}
+use Rattle.bson_model.specs.Grammar.{HasNoZero}
 use Rattle.bson_values.specs.Names.{has_no_zero}
 
 -- a test that a zero fails

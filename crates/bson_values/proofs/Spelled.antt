@@ -2,10 +2,12 @@
 use Rattle.std.proofs.Common.{◌≡◌, ◌≢◌, ℕ, ◌+◌, ◌%◌, ◌<◌, ◌≤◌, ◌^◌, List, [], ◌∷◌, ◌++◌, length, refl, arith, length-append}
 use Rattle.std.specs.Fmt.{decimal}
 use Rattle.std.proofs.lemmas.Fmt.{decimal_by_steps}
-use Rattle.document_model.specs.Tree.{Datum, text_value, document_value, array_value, binary_value, object_id_value, boolean_value, date_value, null_value, int32_value, timestamp_value, int64_value, min_key_value, max_key_value, Items, no_items, item, Members, no_members, member}
-use Rattle.document_model.specs.Spelling.{kind_of, string, framed, element, written, written_value, written_items, written_members}
-use Rattle.document_model.specs.Grammar.{HasNoZero, ReadsValue, ReadsItems, ReadsMembers, ReadsAs}
-use Rattle.bson_values.specs.Sound.{IsDatum, AreItems, AreMembers}
+use Rattle.bson_model.specs.Tree.{Datum, string_value, document_value, array_value, binary_value, object_id_value, boolean_value, date_value, null_value, int32_value, timestamp_value, int64_value, min_key_value, max_key_value, Items, no_items, item, Fields, no_fields, field}
+use Rattle.bson_model.specs.Spelling.{type_byte_of, element, written, written_value, written_items, written_fields}
+use Rattle.bson_model.specs.Grammar.{HasNoZero, ReadsValue, ReadsItems, ReadsFields, ReadsAs}
+use Rattle.bson_model.specs.Limits.{length_limit, most_bytes_written}
+use Rattle.bson_model.proofs.Lengths.{length-string, length-framed, length-element}
+use Rattle.bson_values.specs.Sound.{IsDatum, AreItems, AreFields}
 
 no_zero_behind : (s : List ℕ) (b : ℕ) → HasNoZero s → b ≢ 0 → HasNoZero (s ++ b ∷ [])
 no_zero_behind [] b all here = (here, tt)
@@ -16,20 +18,11 @@ pub decimal_no_zero : (n : ℕ) → n < 2 ^ 64 → HasNoZero (decimal n)
 decimal_no_zero n small =
     decimal_by_steps (λ i s. HasNoZero s) (λ i l. (omega arith, tt)) (λ i s l all. no_zero_behind s (48 + i % 10) all (omega arith)) n small
 
-pub length-string : (s : List ℕ) → length (string s) ≡ length s + 5
-length-string s = omega (arith, length-append s (0 ∷ []))
-
-pub length-framed : (body : List ℕ) → length (framed body) ≡ length body + 5
-length-framed body = omega (arith, length-append body (0 ∷ []))
-
-pub length-element : (kind : ℕ) (name value : List ℕ) → length (element kind name value) ≡ length name + length value + 2
-length-element kind name value = omega (arith, length-append name (0 ∷ value))
-
 mutual
-  pub value_spelled : (d : Datum) → IsDatum d → length (written_value d) < 2 ^ 31 → ReadsValue (written_value d) d
-  value_spelled (text_value s) sound short = (refl, sound, omega (arith, length-string s))
+  pub value_spelled : (d : Datum) → IsDatum d → length (written_value d) < length_limit → ReadsValue (written_value d) d
+  value_spelled (string_value s) sound short = (refl, sound, omega (arith, length-string s))
   value_spelled (document_value ms) sound short =
-      (written_members ms, refl, omega (arith, length-framed (written_members ms)), members_spelled ms sound (omega (arith, length-framed (written_members ms))))
+      (written_fields ms, refl, omega (arith, length-framed (written_fields ms)), fields_spelled ms sound (omega (arith, length-framed (written_fields ms))))
   value_spelled (array_value ds) sound short =
       (written_items 0 ds, refl, omega (arith, length-framed (written_items 0 ds)), items_spelled 0 ds sound (omega (arith, length-framed (written_items 0 ds))))
   value_spelled (binary_value subtype content) sound short = (refl, omega arith)
@@ -43,20 +36,20 @@ mutual
   value_spelled min_key_value sound short = refl
   value_spelled max_key_value sound short = refl
 
-  pub items_spelled : (i : ℕ) (ds : Items) → AreItems ds → i + length (written_items i ds) < 2 ^ 31 → ReadsItems (written_items i ds) ds
+  pub items_spelled : (i : ℕ) (ds : Items) → AreItems ds → i + length (written_items i ds) < length_limit → ReadsItems (written_items i ds) ds
   items_spelled i no_items sound short = refl
   items_spelled i (item d ds) sound short =
-      let first : length (element (kind_of d) (decimal i) (written_value d)) ≡ length (decimal i) + length (written_value d) + 2 = length-element (kind_of d) (decimal i) (written_value d) in
-      let whole : length (written_items i (item d ds)) ≡ length (element (kind_of d) (decimal i) (written_value d)) + length (written_items (i + 1) ds) = length-append (element (kind_of d) (decimal i) (written_value d)) (written_items (i + 1) ds) in
+      let first : length (element (type_byte_of d) (decimal i) (written_value d)) ≡ length (decimal i) + length (written_value d) + 2 = length-element (type_byte_of d) (decimal i) (written_value d) in
+      let whole : length (written_items i (item d ds)) ≡ length (element (type_byte_of d) (decimal i) (written_value d)) + length (written_items (i + 1) ds) = length-append (element (type_byte_of d) (decimal i) (written_value d)) (written_items (i + 1) ds) in
       (decimal i, written_value d, written_items (i + 1) ds, refl, decimal_no_zero i (omega (arith, short)), value_spelled d sound.0 (omega (arith, first, whole, short)), items_spelled (i + 1) ds sound.1 (omega (arith, first, whole, short)))
 
-  pub members_spelled : (ms : Members) → AreMembers ms → length (written_members ms) < 2 ^ 31 → ReadsMembers (written_members ms) ms
-  members_spelled no_members sound short = refl
-  members_spelled (member name d ms) sound short =
-      let first : length (element (kind_of d) name (written_value d)) ≡ length name + length (written_value d) + 2 = length-element (kind_of d) name (written_value d) in
-      let whole : length (written_members (member name d ms)) ≡ length (element (kind_of d) name (written_value d)) + length (written_members ms) = length-append (element (kind_of d) name (written_value d)) (written_members ms) in
-      (written_value d, written_members ms, refl, sound.0, sound.1, value_spelled d sound.2 (omega (arith, first, whole, short)), members_spelled ms sound.3 (omega (arith, first, whole, short)))
+  pub fields_spelled : (ms : Fields) → AreFields ms → length (written_fields ms) < length_limit → ReadsFields (written_fields ms) ms
+  fields_spelled no_fields sound short = refl
+  fields_spelled (field name d ms) sound short =
+      let first : length (element (type_byte_of d) name (written_value d)) ≡ length name + length (written_value d) + 2 = length-element (type_byte_of d) name (written_value d) in
+      let whole : length (written_fields (field name d ms)) ≡ length (element (type_byte_of d) name (written_value d)) + length (written_fields ms) = length-append (element (type_byte_of d) name (written_value d)) (written_fields ms) in
+      (written_value d, written_fields ms, refl, sound.0, sound.1, value_spelled d sound.2 (omega (arith, first, whole, short)), fields_spelled ms sound.3 (omega (arith, first, whole, short)))
 
-pub written_spelled : (ms : Members) → AreMembers ms → length (written ms) ≤ 300000000 → ReadsAs (written ms) ms
+pub written_spelled : (ms : Fields) → AreFields ms → length (written ms) ≤ most_bytes_written → ReadsAs (written ms) ms
 written_spelled ms sound short =
-    (written_members ms, refl, omega (arith, length-framed (written_members ms)), members_spelled ms sound (omega (arith, length-framed (written_members ms))))
+    (written_fields ms, refl, omega (arith, length-framed (written_fields ms)), fields_spelled ms sound (omega (arith, length-framed (written_fields ms))))

@@ -1,24 +1,24 @@
--- Reading and walking go together: where a reader fails, the walk comes to the same fault at the same place.
+-- Reading and walking go together: where a reader fails, the walk comes to the same fault at the same offset.
 use Rattle.std.proofs.Common.{◌≡◌, ℕ, ◌+◌, ◌<◌, ◌≤◌, Bool, true, false, cond, ltb, List, ◌++◌, length, get_or, take, drop, Result, Ok, Err, refl, sym, ap, subst, ◌∙◌, append_assoc, arith, inl, inr}
 use Rattle.std.proofs.lemmas.Bool.{cases_lt, lt-ltb, le-ltb}
 use Rattle.std.proofs.lemmas.List.{take-append-drop, drop_at, length-append, get_or-drop}
-use Rattle.document_model.specs.Faults.{Step, ends_at, faulty, short_fault, length_fault, type_fault, text_fault, boolean_fault, depth_fault, trailing_fault, Walks}
+use Rattle.bson_model.specs.Faults.{Step, ends_at, faulty, short_fault, length_fault, type_fault, string_fault, boolean_fault, depth_fault, trailing_fault, Walks}
 use Rattle.bson_values.specs.declared.fault.BsonFault.{BsonFault}
 use Rattle.bson_values.specs.declared.fault.BsonFault.TheVariants.{Short, BadLength, BadType, BadText, BadBool, Deep, Trailing, Memory}
-use Rattle.bson_values.specs.Faults.{◌>>=◌}
+use Rattle.bson_values.specs.ReadFaults.{◌>>=◌}
 
 -- what the walk comes to from the second step on, it comes to from the first one on
 abbrev pub Leads : List ℕ → Step → Step → Type 0
 Leads all s t = (outcome : Step) → Walks all t outcome → Walks all s outcome
 
 abbrev pub stop : BsonFault → Step
-stop (Short place) = faulty short_fault place
-stop (BadLength place) = faulty length_fault place
-stop (BadType place byte) = faulty (type_fault byte) place
-stop (BadText place) = faulty text_fault place
-stop (BadBool place) = faulty boolean_fault place
-stop (Deep place) = faulty depth_fault place
-stop (Trailing place) = faulty trailing_fault place
+stop (Short offset) = faulty short_fault offset
+stop (BadLength offset) = faulty length_fault offset
+stop (BadType offset byte) = faulty (type_fault byte) offset
+stop (BadText offset) = faulty string_fault offset
+stop (BadBool offset) = faulty boolean_fault offset
+stop (Deep offset) = faulty depth_fault offset
+stop (Trailing offset) = faulty trailing_fault offset
 stop Memory = ends_at 0
 
 -- from a step on, the walk comes to the step behind what is read, or to the fault
@@ -67,7 +67,7 @@ lt_same a b c d below above = elim (cases_lt c d) [
 
 -- these bytes are the last of all
 abbrev pub Stands : List ℕ → List ℕ → Type 0
-Stands all rest = (front : List ℕ) × (all ≡ front ++ rest)
+Stands all rest = (prefix : List ℕ) × (all ≡ prefix ++ rest)
 
 pub stands_length : (all rest : List ℕ) → Stands all rest → length rest ≤ length all
 stands_length all rest s = let len : length all ≡ length s.0 + length rest = ap (λ (xs : List ℕ). length xs) s.1 ∙ length-append s.0 rest in omega arith
@@ -79,14 +79,14 @@ stands_behind all bytes a rest s e = (s.0 ++ a, s.1 ∙ ap (λ (xs : List ℕ). 
 pub stands_drop : (n : ℕ) (all bytes : List ℕ) → Stands all bytes → Stands all (drop n bytes)
 stands_drop n all bytes s = stands_behind all bytes (take n bytes) (drop n bytes) s (sym (take-append-drop n bytes))
 
-pub stands_at : (all rest : List ℕ) (place : ℕ) → Stands all rest → place + length rest ≡ length all → drop place all ≡ rest
-stands_at all rest place s e =
+pub stands_at : (all rest : List ℕ) (offset : ℕ) → Stands all rest → offset + length rest ≡ length all → drop offset all ≡ rest
+stands_at all rest offset s e =
     let len : length all ≡ length s.0 + length rest = ap (λ (xs : List ℕ). length xs) s.1 ∙ length-append s.0 rest in
-    ap (λ (xs : List ℕ). drop place xs) s.1 ∙ drop_at s.0 rest place (omega arith)
+    ap (λ (xs : List ℕ). drop offset xs) s.1 ∙ drop_at s.0 rest offset (omega arith)
 
--- the byte at a place
-pub byte_at : (all rest : List ℕ) (place i : ℕ) → Stands all rest → place + length rest ≡ length all → get_or all (place + i) 0 ≡ get_or rest i 0
-byte_at all rest place i s e = sym (get_or-drop place all i 0) ∙ ap (λ (xs : List ℕ). get_or xs i 0) (stands_at all rest place s e)
+-- the byte at an offset
+pub byte_at : (all rest : List ℕ) (offset i : ℕ) → Stands all rest → offset + length rest ≡ length all → get_or all (offset + i) 0 ≡ get_or rest i 0
+byte_at all rest offset i s e = sym (get_or-drop offset all i 0) ∙ ap (λ (xs : List ℕ). get_or xs i 0) (stands_at all rest offset s e)
 
-pub byte_here : (all rest : List ℕ) (place : ℕ) → Stands all rest → place + length rest ≡ length all → get_or all place 0 ≡ get_or rest 0 0
-byte_here all rest place s e = let k : place ≡ place + 0 = omega arith in ap (λ (n : ℕ). get_or all n 0) k ∙ byte_at all rest place 0 s e
+pub byte_here : (all rest : List ℕ) (offset : ℕ) → Stands all rest → offset + length rest ≡ length all → get_or all offset 0 ≡ get_or rest 0 0
+byte_here all rest offset s e = let k : offset ≡ offset + 0 = omega arith in ap (λ (n : ℕ). get_or all n 0) k ∙ byte_at all rest offset 0 s e

@@ -4,10 +4,10 @@ use Rattle.std.proofs.Common.{arith}
 use denote.Param.Weighed.{most}
 use Rattle.bson_values.specs.declared.value.Value.{Value}
 use Rattle.bson_values.specs.declared.value.Value.TheVariants.{Text, Doc, Array, Binary, ObjectId, Bool, Date, Null, Int32, Timestamp, Int64, MinKey, MaxKey}
-use Rattle.bson_values.specs.declared.value.Member.{Member}
-use Rattle.bson_values.specs.declared.value.Array.TheDeep.{deep-Value, deep-Member}
-use Rattle.bson_values.specs.Sizes.{datum_size, items_size, members_size}
-use Rattle.bson_values.specs.View.{datum_of, members_of, items_of}
+use Rattle.bson_values.specs.declared.value.Field.{Field}
+use Rattle.bson_values.specs.declared.value.Array.TheDeep.{deep-Value, deep-Field}
+use Rattle.bson_values.specs.Sizes.{datum_size, items_size, fields_size}
+use Rattle.bson_values.specs.View.{datum_of, fields_of, items_of}
 
 value_falls : (v : Value) → deep-Value v ≤ datum_size (datum_of v)
 value_falls (Text s) = omega arith
@@ -24,9 +24,9 @@ value_falls (Int64 z) = omega arith
 value_falls MinKey = omega arith
 value_falls MaxKey = omega arith
 
-pub members_fall : (ms : List Member) → max (most (λ m. deep-Member m) ms) 0 ≤ members_size (members_of ms)
-members_fall [] = omega arith
-members_fall (m ∷ ms) = omega (arith, value_falls m.value, members_fall ms)
+pub fields_fall : (ms : List Field) → max (most (λ m. deep-Field m) ms) 0 ≤ fields_size (fields_of ms)
+fields_fall [] = omega arith
+fields_fall (m ∷ ms) = omega (arith, value_falls m.value, fields_fall ms)
 
 pub items_fall : (vs : List Value) → max (most (λ v. deep-Value v) vs) 0 ≤ items_size (items_of vs)
 items_fall [] = omega arith

@@ -1,10 +1,15 @@
 pub mod Code
 pub mod Falls
-pub mod Faults
-pub mod Kinds
+pub mod ReadFaults
+pub mod Types
 pub mod Names
 pub mod Reading
 pub mod Rests
 pub mod Sizes
 pub mod Sound
 pub mod View
+pub use Rattle.bson_model.specs.Faults
+pub use Rattle.bson_model.specs.Grammar
+pub use Rattle.bson_model.specs.Limits
+pub use Rattle.bson_model.specs.Spelling
+pub use Rattle.bson_model.specs.Tree

@@ -3,13 +3,13 @@
 use Rattle.std.specs.Prelude.{◌≡◌, ◌<◌, ◌^◌, FitsSigned, length}
 use Rattle.std.specs.Int.{w32, w64}
 use Rattle.std.specs.Str.{IsUtf8}
-use Rattle.document_model.specs.Tree.{Datum, text_value, document_value, array_value, binary_value, object_id_value, boolean_value, date_value, null_value, int32_value, timestamp_value, int64_value, min_key_value, max_key_value, Items, no_items, item, Members, no_members, member}
-use Rattle.document_model.specs.Grammar.{HasNoZero}
+use Rattle.bson_model.specs.Tree.{Datum, string_value, document_value, array_value, binary_value, object_id_value, boolean_value, date_value, null_value, int32_value, timestamp_value, int64_value, min_key_value, max_key_value, Items, no_items, item, Fields, no_fields, field}
+use Rattle.bson_model.specs.Grammar.{HasNoZero}
 
 abbrev mutual
   pub IsDatum : Datum → Type 0
-  IsDatum (text_value s) = IsUtf8 s
-  IsDatum (document_value ms) = AreMembers ms
+  IsDatum (string_value s) = IsUtf8 s
+  IsDatum (document_value ms) = AreFields ms
   IsDatum (array_value ds) = AreItems ds
   IsDatum (binary_value subtype content) = subtype < 256
   IsDatum (object_id_value content) = length content ≡ 12
@@ -26,6 +26,6 @@ abbrev mutual
   AreItems no_items = Unit {0}
   AreItems (item d ds) = IsDatum d × AreItems ds
 
-  pub AreMembers : Members → Type 0
-  AreMembers no_members = Unit {0}
-  AreMembers (member name d ms) = HasNoZero name × IsUtf8 name × IsDatum d × AreMembers ms
+  pub AreFields : Fields → Type 0
+  AreFields no_fields = Unit {0}
+  AreFields (field name d ms) = HasNoZero name × IsUtf8 name × IsDatum d × AreFields ms

@@ -2,11 +2,11 @@
 use Rattle.std.specs.Prelude.{List, [], ◌∷◌}
 use Rattle.bson_values.specs.declared.value.Value.{Value}
 use Rattle.bson_values.specs.declared.value.Value.TheVariants.{Text, Doc, Array, Binary, ObjectId, Bool, Date, Null, Int32, Timestamp, Int64, MinKey, MaxKey}
-use Rattle.bson_values.specs.declared.value.Member.{Member}
-use Rattle.document_model.specs.Tree.{Datum, text_value, document_value, array_value, binary_value, object_id_value, boolean_value, date_value, null_value, int32_value, timestamp_value, int64_value, min_key_value, max_key_value, Items, no_items, item, Members, no_members, member}
+use Rattle.bson_values.specs.declared.value.Field.{Field}
+use Rattle.bson_model.specs.Tree.{Datum, string_value, document_value, array_value, binary_value, object_id_value, boolean_value, date_value, null_value, int32_value, timestamp_value, int64_value, min_key_value, max_key_value, Items, no_items, item, Fields, no_fields, field}
 
 abbrev pub datum_of : Value → Datum
-datum_of (Text s) = text_value s
+datum_of (Text s) = string_value s
 datum_of (Doc ms) = document_value ms
 datum_of (Array ds) = array_value ds
 datum_of (Binary subtype bytes) = binary_value subtype bytes
@@ -20,9 +20,9 @@ datum_of (Int64 z) = int64_value z
 datum_of MinKey = min_key_value
 datum_of MaxKey = max_key_value
 
-abbrev pub members_of : List Member → Members
-members_of [] = no_members
-members_of (m ∷ ms) = member m.name (datum_of m.value) (members_of ms)
+abbrev pub fields_of : List Field → Fields
+fields_of [] = no_fields
+fields_of (m ∷ ms) = field m.name (datum_of m.value) (fields_of ms)
 
 abbrev pub items_of : List Value → Items
 items_of [] = no_items

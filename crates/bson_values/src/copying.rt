@@ -1,9 +1,9 @@
-//! What a document has: its length as bytes, a member by its name, and a copy.
+//! What a document has: its length as bytes, a field by its name, and a copy.
 
 ghost use Rattle.std.specs.Prelude.{◌≡◌, ◌-◌, ◌^◌, min, length, IfOk};
 ghost use Rattle.std.specs.Option.{option_map};
-ghost use Rattle.document_model.specs.Tree.{get};
-ghost use Rattle.document_model.specs.Spelling.{framed, written, written_value, written_items};
+ghost use Rattle.bson_model.specs.Tree.{get};
+ghost use Rattle.bson_model.specs.Spelling.{framed, written, written_value, written_items};
 ghost use Rattle.bson_values.specs.View.{datum_of};
 
 use crate::text::Memory;
@@ -20,22 +20,20 @@ impl Document {
         ensures { result ≡ min (length (written self.now)) (2 ^ 64 - 1) }
     {
         let mut size = FRAME;
-        for member in &self.members {
-            let head = member.name.as_str().len() + 2;
-            size = size
-                .saturating_add(head)
-                .saturating_add(member.value.size());
+        for field in &self.fields {
+            let head = field.name.as_str().len() + 2;
+            size = size.saturating_add(head).saturating_add(field.value.size());
         }
         size
     }
 
-    /// The value of the first member of that name.
+    /// The value of the first field of that name.
     pub fn get(&self, name: &str) -> Option<&Value>
         ensures { option_map (λ v. datum_of v.now) result ≡ get name.now self.now }
     {
-        for member in &self.members {
-            if member.name.as_str() == name {
-                return Some(&member.value);
+        for field in &self.fields {
+            if field.name.as_str() == name {
+                return Some(&field.value);
             }
         }
         None
@@ -46,9 +44,9 @@ impl Document {
     pub fn copy(&self) -> Result<Document, Memory>
         ensures { IfOk result (λ d. d ≡ self.now) }
     {
-        let mut copy = Document::new(*self.members.allocator());
-        for member in &self.members {
-            copy.push(member.name.copy()?, member.value.copy()?)?;
+        let mut copy = Document::new(*self.fields.allocator());
+        for field in &self.fields {
+            copy.push(field.name.copy()?, field.value.copy()?)?;
         }
         Ok(copy)
     }
@@ -60,10 +58,10 @@ impl Array {
     fn size(&self) -> usize
         ensures { result ≡ min (length (framed (written_items 0 self.now))) (2 ^ 64 - 1) }
     {
-        let mut place = Buffer::new();
+        let mut offset = Buffer::new();
         let mut size = FRAME;
         for (i, value) in self.values.iter().enumerate() {
-            let head = place.format(i).len() + 2;
+            let head = offset.format(i).len() + 2;
             size = size.saturating_add(head).saturating_add(value.size());
         }
         size

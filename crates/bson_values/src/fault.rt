@@ -1,16 +1,16 @@
 //! Why bytes are no document.
 
 ghost use Rattle.std.specs.Prelude.{◌≡◌};
-ghost use Rattle.bson_values.specs.Faults.{fault_place};
+ghost use Rattle.bson_values.specs.ReadFaults.{fault_offset};
 ghost use Rattle.bson_values.specs.declared.fault.BsonFault.TheVariants.{Memory};
 
 use crate::text;
 use std::alloc::{AllocError, AllocFailed};
 
-/// Why bytes are no document. Each place counts from the first byte that was handed in.
+/// Why bytes are no document. Each offset counts from the first byte that was handed in.
 #[derive(Clone, Copy, Debug, PartialEq, Eq)]
 pub enum BsonFault {
-    /// The bytes end first; the place is their number.
+    /// The bytes end first; the offset is their number.
     Short { place: usize },
     /// A length is below its least or past what holds it.
     BadLength { place: usize },
@@ -20,7 +20,7 @@ pub enum BsonFault {
     BadText { place: usize },
     /// A boolean is neither 00 nor 01.
     BadBool { place: usize },
-    /// A document or an array at level 101.
+    /// A document or an array at depth 101.
     Deep { place: usize },
     /// The 00 of a document stands before its stated end, or another byte stands there.
     Trailing { place: usize },
@@ -31,16 +31,16 @@ pub enum BsonFault {
 impl BsonFault {
     /// Where the fault is, unless memory ran out.
     pub fn place(&self) -> Option<usize>
-        ensures { result ≡ fault_place self.now }
+        ensures { result ≡ fault_offset self.now }
     {
         match self {
-            BsonFault::Short { place } => Some(*place),
-            BsonFault::BadLength { place } => Some(*place),
-            BsonFault::BadType { place, .. } => Some(*place),
-            BsonFault::BadText { place } => Some(*place),
-            BsonFault::BadBool { place } => Some(*place),
-            BsonFault::Deep { place } => Some(*place),
-            BsonFault::Trailing { place } => Some(*place),
+            BsonFault::Short { place: offset } => Some(*offset),
+            BsonFault::BadLength { place: offset } => Some(*offset),
+            BsonFault::BadType { place: offset, .. } => Some(*offset),
+            BsonFault::BadText { place: offset } => Some(*offset),
+            BsonFault::BadBool { place: offset } => Some(*offset),
+            BsonFault::Deep { place: offset } => Some(*offset),
+            BsonFault::Trailing { place: offset } => Some(*offset),
             BsonFault::Memory => None,
         }
     }

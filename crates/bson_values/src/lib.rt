@@ -2,8 +2,9 @@
 #![tactic(auto)]
 
 mod copying;
+mod element_type;
 mod fault;
-mod kind;
+mod limits;
 mod reading;
 mod scan;
 mod text;
@@ -11,7 +12,8 @@ mod value;
 mod writing;
 
 pub use fault::BsonFault;
-pub use reading::{one_fault, one_spelling, read};
+pub use limits::{LENGTH_LIMIT, MOST_BYTES_KEPT, MOST_DEPTH_KEPT};
+pub use reading::{document_or_fault, one_fault, one_spelling, read};
 pub use text::{Blob, Memory, Name, Text, is_name};
-pub use value::{Array, Document, Member, Value};
+pub use value::{Array, Document, Field, Value};
 pub use writing::write;

@@ -1,23 +1,43 @@
-//! Reading what holds no value: lengths, texts, names and types.
+//! Reading what holds no value: lengths, strings, names and types.
 //!
-//! `total` is the number of all bytes that were handed in, so the place of the first of some bytes is total less
+//! `total` is the number of all bytes that were handed in, so the offset of the first of some bytes is total less
 //! their number. `room` is how many bytes, the last 00 with them, the document still has by its length.
 
 ghost use Rattle.std.specs.Prelude.{◌≡◌, ◌≢◌, ◌+◌, ◌<◌, ◌≤◌, length, IfOk, IfErr, IfNone};
-ghost use Rattle.bson_values.specs.Faults.{Gives};
-ghost use Rattle.bson_values.specs.Reading.{length_at, fixed_at, utf8_at, text_at, string_at, name_from, room_at, index_at, name_at, kind_at};
+ghost use Rattle.bson_values.specs.ReadFaults.{Gives};
+ghost use Rattle.bson_values.specs.Reading.{length_within, length_at, fixed_at, utf8_at, text_at, string_at, name_from, room_at, index_at, name_at, type_at};
 ghost use Rattle.bson_values.specs.Rests.{IsRest};
 
+use crate::element_type::ElementType;
 use crate::fault::BsonFault;
-use crate::kind::Kind;
+use crate::limits::LENGTH_LIMIT;
 use byteorder::{ByteOrder, LittleEndian};
 use std::str;
 
-// Lengths are signed: from this on they are negative.
-const LENGTHS: usize = 0x8000_0000;
+/// Judges a length that stands at an offset, and gives it with what stands behind it.
+#[tactic(auto, unfolding(crate::specs::Reading::length_within))]
+fn check_length(
+    least: usize,
+    beside: usize,
+    room: usize,
+    offset: usize,
+    count: usize,
+    rest: &[u8],
+) -> Result<(usize, &[u8]), BsonFault>
+    requires { beside ≤ 8 }
+    ensures gives { Gives (λ x. (x.0, x.1.now)) result (length_within least beside room offset count rest.now) }
+    ensures memory { IfErr result (λ e. e ≢ BsonFault.Memory) }
+    ensures fits { IfOk result (λ x.
+        (least ≤ x.0) × (x.0 + beside ≤ room) × (length x.1.now ≡ length rest.now)) }
+{
+    if count < least || count >= LENGTH_LIMIT || room < count + beside {
+        return Err(BsonFault::BadLength { place: offset });
+    }
+    Ok((count, rest))
+}
 
 /// Reads a length that is at least so much, and has so many bytes beside those that it counts.
-#[tactic(auto, unfolding(crate::specs::Reading::length_at, crate::specs::Reading::length_within))]
+#[tactic(auto, unfolding(crate::specs::Reading::length_at))]
 pub fn read_length(
     total: usize,
     least: usize,
@@ -35,19 +55,16 @@ pub fn read_length(
     if bytes.is_empty() {
         return Err(BsonFault::Short { place: total });
     }
-    let place = total - bytes.len();
+    let offset = total - bytes.len();
     if room < 5 {
-        return Err(BsonFault::BadLength { place });
+        return Err(BsonFault::BadLength { place: offset });
     }
     if bytes.len() < 4 {
         return Err(BsonFault::Short { place: total });
     }
-    let (front, rest) = bytes.split_at(4);
-    let length = LittleEndian::read_u32(front) as usize;
-    if length < least || length >= LENGTHS || room < length + beside {
-        return Err(BsonFault::BadLength { place });
-    }
-    Ok((length, rest))
+    let (prefix, rest) = bytes.split_at(4);
+    let count = LittleEndian::read_u32(prefix) as usize;
+    check_length(least, beside, room, offset, count, rest)
 }
 
 /// Reads so many bytes.
@@ -79,13 +96,13 @@ pub fn read_fixed(
 
 /// The text that the bytes are.
 #[tactic(auto, unfolding(crate::specs::Reading::utf8_at), using(crate::proofs::Utf8Tests::utf8_tests))]
-pub fn read_utf8(place: usize, bytes: &[u8]) -> Result<&str, BsonFault>
-    ensures gives { Gives (λ s. s.now) result (utf8_at place bytes.now) }
+pub fn read_utf8(offset: usize, bytes: &[u8]) -> Result<&str, BsonFault>
+    ensures gives { Gives (λ s. s.now) result (utf8_at offset bytes.now) }
     ensures same { IfOk result (λ s. s.now ≡ bytes.now) }
 {
     match str::from_utf8(bytes) {
         Ok(text) => Ok(text),
-        Err(_) => Err(BsonFault::BadText { place }),
+        Err(_) => Err(BsonFault::BadText { place: offset }),
     }
 }
 
@@ -100,17 +117,17 @@ pub fn read_text(total: usize, count: usize, bytes: &[u8]) -> Result<(&str, &[u8
     if bytes.len() < count {
         return Err(BsonFault::Short { place: total });
     }
-    let place = total - bytes.len();
+    let offset = total - bytes.len();
     if bytes[count - 1] != 0 {
-        return Err(BsonFault::BadText { place });
+        return Err(BsonFault::BadText { place: offset });
     }
-    let (front, _) = bytes.split_at(count - 1);
+    let (prefix, _) = bytes.split_at(count - 1);
     let (_, rest) = bytes.split_at(count);
-    let text = read_utf8(place, front)?;
+    let text = read_utf8(offset, prefix)?;
     Ok((text, rest))
 }
 
-/// Reads a text with its length (BSON 1.1, `string`).
+/// Reads a string with its length (BSON 1.1, `string`).
 #[tactic(auto, unfolding(crate::specs::Reading::string_at))]
 pub fn read_string(total: usize, room: usize, bytes: &[u8]) -> Result<(&str, &[u8]), BsonFault>
     requires total { length bytes.now ≤ total }
@@ -124,17 +141,17 @@ pub fn read_string(total: usize, room: usize, bytes: &[u8]) -> Result<(&str, &[u
 /// Finds a name's end, and gives the bytes before and behind it (BSON 1.1, `cstring`).
 pub fn scan_name(
     total: usize,
-    place: usize,
+    offset: usize,
     room: usize,
     bytes: &[u8],
 ) -> Result<(&[u8], &[u8]), BsonFault>
-    ensures gives { Gives (λ x. (x.0.now, x.1.now)) result (name_from total place room bytes.now) }
+    ensures gives { Gives (λ x. (x.0.now, x.1.now)) result (name_from total offset room bytes.now) }
     ensures rest { IfOk result (λ x.
         (length x.0.now + (length x.1.now + 1) ≡ length bytes.now) × (length x.0.now < room)) }
 {
     for (i, b) in bytes.iter().enumerate() {
         if i == room {
-            return Err(BsonFault::BadText { place });
+            return Err(BsonFault::BadText { place: offset });
         }
         if *b == 0 {
             return Ok((&bytes[..i], &bytes[i + 1..]));
@@ -143,7 +160,7 @@ pub fn scan_name(
     if bytes.len() < room {
         return Err(BsonFault::Short { place: total });
     }
-    Err(BsonFault::BadText { place })
+    Err(BsonFault::BadText { place: offset })
 }
 
 /// What room is left behind a name, which is some.
@@ -182,22 +199,22 @@ pub fn read_name(total: usize, room: usize, bytes: &[u8]) -> Result<(&str, usize
     ensures rest { IfOk result (λ x. (0 < x.1) × (length x.2.now < length bytes.now)
         × (length bytes.now + x.1 ≡ length x.2.now + room)) }
 {
-    let place = total - bytes.len();
-    let (name, rest) = scan_name(total, place, room, bytes)?;
-    let text = read_utf8(place, name)?;
+    let offset = total - bytes.len();
+    let (name, rest) = scan_name(total, offset, room, bytes)?;
+    let text = read_utf8(offset, name)?;
     let left = check_room(total, room - (bytes.len() - rest.len()), rest)?;
     Ok((text, left, rest))
 }
 
 /// Reads the type of the next element. There is none at the 00 that ends the document.
-#[tactic(auto, unfolding(crate::specs::Reading::kind_at, crate::specs::Reading::checked_kind))]
-pub fn read_kind(
+#[tactic(auto, unfolding(crate::specs::Reading::type_at, crate::specs::Reading::checked_type))]
+pub fn read_type(
     total: usize,
     room: usize,
     bytes: &[u8],
-) -> Result<(Option<Kind>, &[u8]), BsonFault>
+) -> Result<(Option<ElementType>, &[u8]), BsonFault>
     requires total { length bytes.now < total }
-    ensures gives { Gives (λ x. (x.0, x.1.now)) result (kind_at total room bytes.now) }
+    ensures gives { Gives (λ x. (x.0, x.1.now)) result (type_at total room bytes.now) }
     ensures rest { IfOk result (λ x. (0 < room) × (length x.1.now + 1 ≡ length bytes.now)) }
     ensures end { IfOk result (λ x. IfNone x.0 (room ≡ 1)) }
 {
@@ -210,20 +227,23 @@ pub fn read_kind(
         return Err(BsonFault::Short { place: total });
     };
     let byte = *byte;
-    let place = total - bytes.len();
+    let offset = total - bytes.len();
     if byte == 0 {
         if room != 1 {
-            return Err(BsonFault::Trailing { place });
+            return Err(BsonFault::Trailing { place: offset });
         }
         return Ok((None, rest));
     }
-    match Kind::from_byte(byte) {
-        Some(kind) => {
+    match ElementType::from_byte(byte) {
+        Some(type_byte) => {
             if room == 1 {
-                return Err(BsonFault::Trailing { place });
+                return Err(BsonFault::Trailing { place: offset });
             }
-            Ok((Some(kind), rest))
+            Ok((Some(type_byte), rest))
         }
-        None => Err(BsonFault::BadType { place, byte }),
+        None => Err(BsonFault::BadType {
+            place: offset,
+            byte,
+        }),
     }
 }

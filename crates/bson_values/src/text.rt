@@ -2,7 +2,7 @@
 
 ghost use Rattle.std.specs.Prelude.{◌≡◌, IfOk, IsTrue};
 ghost use Rattle.std.specs.Str.{IsUtf8};
-ghost use Rattle.document_model.specs.Grammar.{HasNoZero};
+ghost use Rattle.bson_model.specs.Grammar.{HasNoZero};
 ghost use Rattle.bson_values.specs.Names.{has_no_zero};
 
 use std::alloc::{AllocError, AllocFailed, Global};
@@ -67,7 +67,7 @@ impl Text {
     }
 }
 
-/// The name of a member: a text without 00 (BSON 1.1, `cstring`).
+/// The name of a field: a text without 00 (BSON 1.1, `cstring`).
 #[derive(Debug, Drop)]
 pub struct Name {
     text: Text,
@@ -75,7 +75,7 @@ pub struct Name {
 
 impl Model for Name {
     ghost use Rattle.std.specs.Prelude.{List, ℕ};
-    ghost use Rattle.document_model.specs.Grammar.{HasNoZero};
+    ghost use Rattle.bson_model.specs.Grammar.{HasNoZero};
 
     ghost Value = { List ℕ };
 

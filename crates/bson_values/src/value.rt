@@ -1,10 +1,10 @@
 //! Values, and the documents and arrays that hold them.
 
 ghost use Rattle.std.specs.Prelude.{◌≡◌, ◌≤◌, ◌==◌, length, All, OnOk, OnErr};
-ghost use Rattle.document_model.specs.Tree.{no_items, item, joined_items, no_members, member, joined};
-ghost use Rattle.bson_values.specs.Sizes.{datum_size, items_count, items_size, members_count, members_size};
-ghost use Rattle.bson_values.specs.Sound.{IsDatum, AreItems, AreMembers};
-ghost use Rattle.bson_values.specs.View.{datum_of, items_of, members_of};
+ghost use Rattle.bson_model.specs.Tree.{no_items, item, joined_items, no_fields, field, joined};
+ghost use Rattle.bson_values.specs.Sizes.{datum_size, items_count, items_size, fields_count, fields_size};
+ghost use Rattle.bson_values.specs.Sound.{IsDatum, AreItems, AreFields};
+ghost use Rattle.bson_values.specs.View.{datum_of, items_of, fields_of};
 
 use crate::text::{Blob, Memory, Name, Text};
 use std::alloc::Global;
@@ -42,19 +42,19 @@ pub enum Value {
     MaxKey,
 }
 
-/// A member of a document.
+/// A field of a document.
 #[cycle(value)]
 #[derive(Drop)]
-pub struct Member {
+pub struct Field {
     pub name: Name,
     pub value: Value,
 }
 
-/// A document: members in order, whose names may repeat.
+/// A document: fields in order, whose names may repeat.
 #[cycle(value)]
 #[derive(Drop)]
 pub struct Document {
-    pub(crate) members: Vec<Member>,
+    pub(crate) fields: Vec<Field>,
 }
 
 /// An array: values in order.
@@ -65,30 +65,30 @@ pub struct Array {
 }
 
 impl Model for Document {
-    ghost use Rattle.document_model.specs.Tree.{Members};
-    ghost use Rattle.bson_values.specs.Code.{members_code};
+    ghost use Rattle.bson_model.specs.Tree.{Fields};
+    ghost use Rattle.bson_values.specs.Code.{fields_code};
 
-    ghost Value = { Members };
+    ghost Value = { Fields };
 
-    ghost coded = { members_code };
+    ghost coded = { fields_code };
 
-    ghost use Rattle.bson_values.specs.View.{members_of};
-    ghost use Rattle.bson_values.specs.Sound.{AreMembers};
-    ghost use Rattle.bson_values.specs.Sizes.{members_size};
+    ghost use Rattle.bson_values.specs.View.{fields_of};
+    ghost use Rattle.bson_values.specs.Sound.{AreFields};
+    ghost use Rattle.bson_values.specs.Sizes.{fields_size};
 
-    ghost view = { λ d. members_of d.members.items };
+    ghost view = { λ d. fields_of d.fields.items };
 
-    ghost invariant = { λ d. AreMembers (members_of d.members.items) };
+    ghost invariant = { λ d. AreFields (fields_of d.fields.items) };
 
-    ghost size = { members_size };
+    ghost size = { fields_size };
 
-    ghost use Rattle.bson_values.specs.Falls.{members_fall};
+    ghost use Rattle.bson_values.specs.Falls.{fields_fall};
 
-    ghost size_decreases = { λ d h. members_fall d.members.items };
+    ghost size_decreases = { λ d h. fields_fall d.fields.items };
 }
 
 impl Model for Array {
-    ghost use Rattle.document_model.specs.Tree.{Items};
+    ghost use Rattle.bson_model.specs.Tree.{Items};
     ghost use Rattle.bson_values.specs.Code.{items_code};
 
     ghost Value = { Items };
@@ -127,7 +127,7 @@ impl Value {
                 let _text = text.as_str();
             }
             Value::Doc(document) => {
-                let _members = &document.members;
+                let _fields = &document.fields;
             }
             Value::Array(array) => {
                 let _values = &array.values;
@@ -159,50 +159,50 @@ impl Value {
 }
 
 impl Document {
-    /// The document without members.
+    /// The document without fields.
     pub fn new(alloc: Global) -> Document
-        ensures { result ≡ no_members }
+        ensures { result ≡ no_fields }
     {
         Document {
-            members: Vec::new(alloc),
+            fields: Vec::new(alloc),
         }
     }
 
-    /// How many members there are.
-    #[tactic(auto, using(crate::proofs::Views::count_members))]
+    /// How many fields there are.
+    #[tactic(auto, using(crate::proofs::Views::count_fields))]
     pub fn len(&self) -> usize
-        ensures { result ≡ members_count self.now }
+        ensures { result ≡ fields_count self.now }
     {
-        self.members.len()
+        self.fields.len()
     }
 
-    /// Whether there is no member.
+    /// Whether there is no field.
     pub fn is_empty(&self) -> bool
-        ensures { result ≡ (members_count self.now == 0) }
+        ensures { result ≡ (fields_count self.now == 0) }
     {
         self.len() == 0
     }
 
-    /// Puts a member behind the others. Fails for want of memory, and then changes nothing.
-    #[tactic(auto, using(crate::proofs::Views::pushed_members))]
+    /// Puts a field behind the others. Fails for want of memory, and then changes nothing.
+    #[tactic(auto, using(crate::proofs::Views::pushed_fields))]
     pub fn push(&mut self, name: Name, value: Value) -> Result<(), Memory>
-        ensures ok { OnOk result (self.new ≡ joined self.old (member name (datum_of value) no_members)) }
+        ensures ok { OnOk result (self.new ≡ joined self.old (field name (datum_of value) no_fields)) }
         ensures err { OnErr result (self.new ≡ self.old) }
     {
         let _name = name.as_str();
         value.look();
-        self.members.push(Member { name, value })?;
+        self.fields.push(Field { name, value })?;
         Ok(())
     }
 
-    /// The members, in order.
-    #[tactic(auto, using(crate::proofs::Views::members_inside))]
-    pub fn members(&self) -> &[Member]
-        ensures members { members_of result.now ≡ self.now }
-        ensures inside { All (λ m. datum_size (datum_of m.value) ≤ members_size self.now) result.now }
-        ensures sound { AreMembers self.now }
+    /// The fields, in order.
+    #[tactic(auto, using(crate::proofs::Views::fields_inside))]
+    pub fn fields(&self) -> &[Field]
+        ensures fields { fields_of result.now ≡ self.now }
+        ensures inside { All (λ m. datum_size (datum_of m.value) ≤ fields_size self.now) result.now }
+        ensures sound { AreFields self.now }
     {
-        self.members.as_slice()
+        self.fields.as_slice()
     }
 }
 

@@ -2,9 +2,10 @@
 
 ghost use Rattle.std.specs.Prelude.{◌≡◌, ◌≤◌, ◌<◌, ◌+◌, ◌-◌, ◌^◌, ◌∷◌, [], ◌++◌, length, take, drop, OnOk, OnErr};
 ghost use Rattle.std.specs.Int.{w32, w64, to_le_bytes};
-ghost use Rattle.document_model.specs.Tree.{document_levels};
-ghost use Rattle.document_model.specs.Spelling.{kind_of, string, framed, written, written_value, written_items, written_members};
-ghost use Rattle.document_model.specs.Grammar.{ReadsAs};
+ghost use Rattle.bson_model.specs.Tree.{document_depth};
+ghost use Rattle.bson_model.specs.Spelling.{type_byte_of, string, framed, written, written_value, written_items, written_fields};
+ghost use Rattle.bson_model.specs.Grammar.{ReadsAs};
+ghost use Rattle.bson_model.specs.Limits.{most_bytes_written, most_depth_written};
 ghost use Rattle.bson_values.specs.View.{datum_of};
 
 use crate::text::Memory;
@@ -12,21 +13,18 @@ use crate::value::{Array, Document, Value};
 use byteorder::{ByteOrder, LittleEndian};
 use itoa::Buffer;
 
-#[cfg(test)]
-mod tests;
-
 /// Puts the document's one spelling behind the bytes (BSON 1.1, `document`). The document has at most 104 levels and
 /// its spelling at most 300,000,000 bytes. Fails for want of memory, and then leaves the bytes as they were.
 #[tactic(auto, using(crate::proofs::Spelled::written_spelled))]
 pub fn write(doc: &Document, out: &mut Vec<u8>) -> Result<(), Memory>
-    requires levels { document_levels doc.now ≤ 104 }
-    requires size { length (written doc.now) ≤ 300000000 }
+    requires depth { document_depth doc.now ≤ most_depth_written }
+    requires size { length (written doc.now) ≤ most_bytes_written }
     ensures ok { OnOk result (out.new.items ≡ out.old.items ++ written doc.now) }
     // What was written is read again.
     ensures spells { OnOk result (ReadsAs (written doc.now) doc.now) }
     ensures err { OnErr result (out.new.items ≡ out.old.items) }
 {
-    let _members = doc.members();
+    let _fields = doc.fields();
     let len = out.len();
     let done = put_document(doc, out);
     if done.is_err() {
@@ -36,8 +34,8 @@ pub fn write(doc: &Document, out: &mut Vec<u8>) -> Result<(), Memory>
 }
 
 /// The byte that names the type (BSON 1.1, `element`).
-fn kind(value: &Value) -> u8
-    ensures { result ≡ kind_of (datum_of value.now) }
+fn type_byte(value: &Value) -> u8
+    ensures { result ≡ type_byte_of (datum_of value.now) }
 {
     match value {
         Value::Text(_) => 0x02,
@@ -86,16 +84,16 @@ fn put_u64(n: u64, out: &mut Vec<u8>) -> Result<(), Memory>
 }
 
 /// Puts what stands before a value: its type, its name and 00.
-fn put_head(kind: u8, name: &str, out: &mut Vec<u8>) -> Result<(), Memory>
-    ensures ok { OnOk result (out.new.items ≡ out.old.items ++ (kind ∷ name.now ++ 0 ∷ [])) }
+fn put_head(type_byte: u8, name: &str, out: &mut Vec<u8>) -> Result<(), Memory>
+    ensures ok { OnOk result (out.new.items ≡ out.old.items ++ (type_byte ∷ name.now ++ 0 ∷ [])) }
     ensures kept { take (length out.old.items) out.new.items ≡ out.old.items }
 {
-    put(&[kind], out)?;
+    put(&[type_byte], out)?;
     put(name.as_bytes(), out)?;
     put(&[0], out)
 }
 
-/// Puts a text: its length with the last 00, its bytes, and 00 (BSON 1.1, `string`).
+/// Puts a string: its length with the last 00, its bytes, and 00 (BSON 1.1, `string`).
 fn put_text(text: &str, out: &mut Vec<u8>) -> Result<(), Memory>
     requires { length text.now + 1 < 2 ^ 32 }
     ensures ok { OnOk result (out.new.items ≡ out.old.items ++ string text.now) }
@@ -117,7 +115,7 @@ fn put_binary(subtype: u8, bytes: &[u8], out: &mut Vec<u8>) -> Result<(), Memory
     put(bytes, out)
 }
 
-/// Writes the number over the four bytes at that place, the lowest first.
+/// Writes the number over the four bytes at that offset, the lowest first.
 fn set_u32(at: usize, n: u32, bytes: &mut [u8])
     requires { at + 4 ≤ length bytes.old }
     ensures { bytes.new ≡ take at bytes.old ++ (to_le_bytes w32 n ++ drop (at + 4) bytes.old) }
@@ -142,7 +140,7 @@ fn end_document(start: usize, out: &mut Vec<u8>) -> Result<(), Memory>
 /// Puts a value's bytes.
 #[cycle(writing)]
 fn put_value(value: &Value, out: &mut Vec<u8>) -> Result<(), Memory>
-    requires { length (written_value (datum_of value.now)) ≤ 300000000 }
+    requires { length (written_value (datum_of value.now)) ≤ most_bytes_written }
     ensures ok { OnOk result (out.new.items ≡ out.old.items ++ written_value (datum_of value.now)) }
     ensures kept { take (length out.old.items) out.new.items ≡ out.old.items }
 {
@@ -164,20 +162,20 @@ fn put_value(value: &Value, out: &mut Vec<u8>) -> Result<(), Memory>
 /// Puts a document. An `Err` may leave a part of it.
 #[cycle(writing)]
 fn put_document(document: &Document, out: &mut Vec<u8>) -> Result<(), Memory>
-    requires { length (written document.now) ≤ 300000000 }
+    requires { length (written document.now) ≤ most_bytes_written }
     ensures ok { OnOk result (out.new.items ≡ out.old.items ++ written document.now) }
     ensures kept { take (length out.old.items) out.new.items ≡ out.old.items }
 {
     let start = out.len();
     put_u32(0, out)?;
-    put_members(document, out)?;
+    put_fields(document, out)?;
     end_document(start, out)
 }
 
 /// Puts an array. An `Err` may leave a part of it.
 #[cycle(writing)]
 fn put_array(array: &Array, out: &mut Vec<u8>) -> Result<(), Memory>
-    requires { length (framed (written_items 0 array.now)) ≤ 300000000 }
+    requires { length (framed (written_items 0 array.now)) ≤ most_bytes_written }
     ensures ok { OnOk result (out.new.items ≡ out.old.items ++ framed (written_items 0 array.now)) }
     ensures kept { take (length out.old.items) out.new.items ≡ out.old.items }
 {
@@ -187,30 +185,30 @@ fn put_array(array: &Array, out: &mut Vec<u8>) -> Result<(), Memory>
     end_document(start, out)
 }
 
-/// Puts the members of a document.
+/// Puts the fields of a document.
 #[cycle(writing)]
-fn put_members(document: &Document, out: &mut Vec<u8>) -> Result<(), Memory>
-    requires { length (written_members document.now) ≤ 300000000 }
-    ensures ok { OnOk result (out.new.items ≡ out.old.items ++ written_members document.now) }
+fn put_fields(document: &Document, out: &mut Vec<u8>) -> Result<(), Memory>
+    requires { length (written_fields document.now) ≤ most_bytes_written }
+    ensures ok { OnOk result (out.new.items ≡ out.old.items ++ written_fields document.now) }
     ensures kept { take (length out.old.items) out.new.items ≡ out.old.items }
 {
-    for member in &document.members {
-        put_head(kind(&member.value), member.name.as_str(), out)?;
-        put_value(&member.value, out)?;
+    for field in &document.fields {
+        put_head(type_byte(&field.value), field.name.as_str(), out)?;
+        put_value(&field.value, out)?;
     }
     Ok(())
 }
 
-/// Puts the values of an array under their places as names: `0`, `1` and so on.
+/// Puts the values of an array under their indices as names: `0`, `1` and so on.
 #[cycle(writing)]
 fn put_items(array: &Array, out: &mut Vec<u8>) -> Result<(), Memory>
-    requires { length (written_items 0 array.now) ≤ 300000000 }
+    requires { length (written_items 0 array.now) ≤ most_bytes_written }
     ensures ok { OnOk result (out.new.items ≡ out.old.items ++ written_items 0 array.now) }
     ensures kept { take (length out.old.items) out.new.items ≡ out.old.items }
 {
-    let mut place = Buffer::new();
+    let mut offset = Buffer::new();
     for (i, value) in array.values.iter().enumerate() {
-        put_head(kind(value), place.format(i), out)?;
+        put_head(type_byte(value), offset.format(i), out)?;
         put_value(value, out)?;
     }
     Ok(())

@@ -2,7 +2,7 @@
 use Rattle.std.proofs.Common.{◌≡◌, ℕ, ◌+◌, ◌<◌, List, [], ◌∷◌, ◌++◌, length, take, drop, get_or, refl, sym, ◌∙◌, ap, subst, eqb, Bool, true, false, arith, length-append, add-one, IsTrue, ◌↔◌}
 use Rattle.std.specs.List.{AllByRecursion, position_or_len, before_first, after_first}
 use Rattle.std.proofs.lemmas.List.Sums.{split_at_first, passes_at_first}
-use Rattle.history_model.specs.Names.{IsDatabaseByte, IsNamespace, MakeNamespace, full_name}
+use Rattle.base_model.specs.Names.{IsDatabaseByte, IsNamespace, MakeNamespace, full_name}
 
 abbrev is_dot : ℕ → Bool
 is_dot b = eqb b 46
@@ -14,9 +14,9 @@ dot_place (b ∷ database) collection bytes =
     let rest : position_or_len is_dot (full_name database collection) ≡ length database = dot_place database collection bytes.1 in
     rw no_dot (omega (arith, rest))
 
-front : (database collection : List ℕ) → take (length database) (full_name database collection) ≡ database
-front [] collection = refl
-front (b ∷ database) collection = ap (λ bs. b ∷ bs) (front database collection)
+prefix : (database collection : List ℕ) → take (length database) (full_name database collection) ≡ database
+prefix [] collection = refl
+prefix (b ∷ database) collection = ap (λ bs. b ∷ bs) (prefix database collection)
 
 back : (database collection : List ℕ) → drop (length database + 1) (full_name database collection) ≡ collection
 back [] collection = refl
@@ -36,7 +36,7 @@ pub record IsSplit (text : List ℕ) : Type 0 where
 split : (database collection : List ℕ) → MakeNamespace database collection → IsSplit (full_name database collection)
 split database collection made =
     let place : position_or_len is_dot (full_name database collection) ≡ length database = dot_place database collection made.database_name.bytes in
-    let before : before_first is_dot (full_name database collection) ≡ database = rw place (front database collection) in
+    let before : before_first is_dot (full_name database collection) ≡ database = rw place (prefix database collection) in
     let after : after_first is_dot (full_name database collection) ≡ collection = rw place (back database collection) in
     record {
       found = omega (arith, place, length-append database (46 ∷ collection));

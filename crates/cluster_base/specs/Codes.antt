@@ -1,5 +1,5 @@
 -- What each code means: its number and its name.
-use Rattle.history_model.specs.Errors.{ErrorCode, bad_value, failed_to_parse, type_mismatch, overflow, invalid_bson, path_not_viable, cursor_not_found, max_time_expired, command_not_found, shard_key_not_found, immutable_field, shard_not_found, invalid_options, invalid_namespace, shutdown_in_progress, operation_failed, conflicting_operation, namespace_not_sharded, exceeded_memory_limit, transaction_too_old, snapshot_too_old, query_exceeded_memory, object_too_large, duplicate_key, stale_config}
+use Rattle.base_model.specs.Errors.{ErrorCode, bad_value, failed_to_parse, type_mismatch, overflow, invalid_bson, path_not_viable, cursor_not_found, max_time_expired, command_not_found, shard_key_not_found, immutable_field, shard_not_found, invalid_options, invalid_namespace, shutdown_in_progress, operation_failed, conflicting_operation, namespace_not_sharded, exceeded_memory_limit, transaction_too_old, snapshot_too_old, query_exceeded_memory, object_too_large, duplicate_key, stale_config}
 use Rattle.cluster_base.specs.declared.code.Code.{Code}
 use Rattle.cluster_base.specs.declared.code.Code.TheVariants.{BadValue, FailedToParse, TypeMismatch, Overflow, InvalidBson, PathNotViable, CursorNotFound, MaxTimeExpired, CommandNotFound, ShardKeyNotFound, ImmutableField, ShardNotFound, InvalidOptions, InvalidNamespace, ShutdownInProgress, OperationFailed, ConflictingOperation, NamespaceNotSharded, ExceededMemoryLimit, TransactionTooOld, SnapshotTooOld, QueryExceededMemory, ObjectTooLarge, DuplicateKey, StaleConfig}
 

@@ -5,9 +5,9 @@ ghost use Rattle.cluster_base.specs.Codes.{meaning_of};
 /// An error that a reply tells by its number and its name (MongoDB manual, "Error Codes").
 #[derive(Clone, Copy, Debug, PartialEq, Eq, Hash)]
 pub enum Code {
-    /// A member has a value that the command does not take.
+    /// A field has a value that the command does not take.
     BadValue,
-    /// A member is unknown, missing or given twice.
+    /// A field is unknown, missing or given twice.
     FailedToParse,
     /// A value has the wrong type.
     TypeMismatch,

@@ -27,7 +27,7 @@ pub struct Stmt {
     pub session: Session,
     /// The number of the write command in its session, `txnNumber`, and 0 in a router's own session.
     pub txn: i64,
-    /// The place of the statement in its command, from 0 on.
+    /// The index of the statement in its command, from 0 on.
     pub index: u32,
 }
 

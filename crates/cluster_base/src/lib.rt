@@ -5,8 +5,6 @@
 mod code;
 mod identity;
 mod namespace;
-#[cfg(test)]
-mod tests;
 mod time;
 
 pub use code::Code;

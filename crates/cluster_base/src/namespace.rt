@@ -1,7 +1,7 @@
 //! Names of databases, collections and namespaces (MongoDB manual, "Naming Restrictions").
 ghost use Rattle.std.specs.Prelude.{◌≡◌, ◌↔◌, IsTrue, IfOk, IsErrOf};
 ghost use Rattle.std.specs.List.{AllByRecursion};
-ghost use Rattle.history_model.specs.Names.{IsDatabaseByte, IsDatabaseName, IsCollectionByte, IsCollectionName, MakeNamespace, IsNamespace, full_name, is_reserved};
+ghost use Rattle.base_model.specs.Names.{IsDatabaseByte, IsDatabaseName, IsCollectionByte, IsCollectionName, MakeNamespace, IsNamespace, full_name, is_reserved};
 ghost use Rattle.cluster_base.specs.declared.namespace.NameFault.TheVariants.{Memory as out_of_memory};
 
 use bson_values::{Memory, Text};
@@ -128,7 +128,7 @@ pub struct Namespace {
 
 impl Model for Namespace {
     ghost use Rattle.std.specs.Prelude.{List, ℕ};
-    ghost use Rattle.history_model.specs.Names.{IsNamespace};
+    ghost use Rattle.base_model.specs.Names.{IsNamespace};
 
     ghost Value = { List ℕ };
 

@@ -1,6 +1,6 @@
 //! Cluster times, and the times that belong to a moment of a clock.
 ghost use Rattle.std.specs.Prelude.{◌≡◌};
-ghost use Rattle.history_model.specs.Times.{time_of_moment, retained_at};
+ghost use Rattle.base_model.specs.Times.{time_of_moment, retained_at};
 
 /// A cluster time (MongoDB manual, "Timestamps"): seconds since 1970 in the high 32 bits, and in the low 32 bits
 /// a counter within that second.

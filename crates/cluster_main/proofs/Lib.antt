@@ -1,2 +1,4 @@
-pub mod Repeated
-mod Undone
+mod FewNodes
+pub mod Lists
+mod OwnNames
+mod Unstarted

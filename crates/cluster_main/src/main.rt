@@ -1,30 +1,56 @@
-//! The program `cluster`. Its words are `pipe`: it takes the bytes of one connection from standard input and answers on
+//! The program `cluster`. Its one argument is `pipe`: it takes the bytes of one connection from standard input and answers on
 //! standard output; what requests leave stands in the files node00.journal, node01.journal and node02.journal in the working
-//! folder, which must be empty or absent at the start. It ends with the status of the run, and where that is not 0 it writes one line to standard error.
+//! folder, which must be empty or absent at the start. It ends with the status of the run, and where that is not 0 it writes one
+//! line to standard error. It holds the lock of each of these files from before their first use to its end, and ends with status
+//! 5 where one is held by another; where its arguments are refused no file is opened.
 #![tactic(auto)]
 
+mod arguments;
 mod journals;
+mod laws;
 mod line;
+mod locks;
 mod places;
 mod serving;
-mod words;
 
+use crate::arguments::arguments_of;
 use crate::journals::file_disks;
 use crate::line::told;
+use crate::locks::{NoLocks, journal_count, lock_journals};
 use crate::places::hold_places;
-use crate::serving::{NO_MEMORY, serve};
+use crate::serving::serve;
+use cluster_top::Status;
 use outside::standard::{StdSink, StdSource, WallClock};
+use std::env;
 use std::process::ExitCode;
 
 /// The nodes of `pipe`: the catalogue, a shard and a router.
 const NODES: usize = 3;
 
 fn main(rt: HostRuntime) -> ExitCode {
-    let _places = hold_places(&rt);
+    let places = hold_places(&rt);
+    let words = arguments_of(rt.alloc(), env::args(&rt));
+    let count = journal_count(&words);
+    if places.is_err() && count > 0 {
+        return told(&rt, Status::DiskFailed.number());
+    }
+    let _locks = match lock_journals(&rt, rt.alloc(), count) {
+        Ok(files) => files,
+        Err(NoLocks::Refused) => return told(&rt, Status::DiskFailed.number()),
+        Err(NoLocks::Memory) => return told(&rt, Status::OutOfMemory.number()),
+    };
     let mut input = StdSource::new(rt.stdin());
     let mut out = StdSink::new(rt.stdout());
     let Ok(disks) = file_disks(rt, rt.alloc(), NODES) else {
-        return told(&rt, NO_MEMORY);
+        return told(&rt, Status::OutOfMemory.number());
     };
-    serve(&rt, &mut input, &mut out, disks, &WallClock::new(rt))
+    serve(
+        &rt,
+        rt.alloc(),
+        words,
+        &mut input,
+        &mut out,
+        disks,
+        &WallClock::new(rt),
+    )
 }

@@ -2,9 +2,9 @@
 use Rattle.std.proofs.Common.{◌≡◌, ◌≤◌, ℕ, ◌+◌, List, [], ◌∷◌, ◌++◌, length, refl, sym, subst, arith, append_assoc, length-append}
 use Rattle.std.specs.Prelude.{Option}
 use Rattle.std.specs.List.{flat_map, AllByRecursion}
-use Rattle.frame_model.specs.Requests.{Request, IsRequest}
-use Rattle.frame_model.specs.Outline.{FrameFault}
-use Rattle.frame_model.specs.Frames.{IsFirst, FramesFrom, goes_on}
+use Rattle.opmsg_frames.specs.Requests.{Request, IsRequest}
+use Rattle.opmsg_frames.specs.Outline.{FrameFault}
+use Rattle.opmsg_frames.specs.Frames.{IsFirst, FramesFrom, goes_on}
 use Rattle.opmsg_frames.proofs.SpelledOutlines.{spelled_outline}
 use Rattle.opmsg_frames.proofs.Stays.{whole_stays}
 use Rattle.opmsg_frames.proofs.WholeMessages.{is_whole}

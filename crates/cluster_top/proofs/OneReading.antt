@@ -2,13 +2,13 @@
 use Rattle.std.specs.Prelude.{◌≡◌, ℕ, List, [], ◌∷◌, map}
 use Rattle.std.proofs.Common.{refl, ap, sym, ◌∙◌, subst}
 use Rattle.std.specs.List.{AllByRecursion}
-use Rattle.history_model.specs.Catalogue.{Creation}
-use Rattle.history_model.specs.History.{Entry}
-use Rattle.record_model.specs.Records.{Record}
-use Rattle.record_model.specs.Kept.{creates_of, KeepEntries}
-use Rattle.record_model.specs.Spelled.{spelled, IsSound}
-use Rattle.record_model.proofs.Entries.{one_list}
-use Rattle.record_model.proofs.Fronts.{one_record}
+use Rattle.plain_store_model.specs.Catalogue.{Creation}
+use Rattle.plain_store_model.specs.History.{Entry}
+use Rattle.shard_records.specs.Records.{Record}
+use Rattle.shard_records.specs.Kept.{creates_of, KeepEntries}
+use Rattle.shard_records.specs.Spelled.{spelled, IsSound}
+use Rattle.shard_records.proofs.Entries.{one_list}
+use Rattle.shard_records.proofs.Prefixes.{one_record}
 use Rattle.journal_frames.specs.Files.{Stands}
 use Rattle.journal_frames.proofs.Unique as unique
 use Rattle.cluster_top.specs.Journals.{IsJournal, Tell}

@@ -1,9 +1,9 @@
 -- What a framer gives and keeps, beside the bytes that were taken.
 use Rattle.std.specs.Prelude.{◌⊎◌, Option, Some, None, Ok, Err}
 use Rattle.std.proofs.Common.{◌≡◌, ℕ, ◌+◌, inl, inr, List, [], ◌++◌, length, sym, ap, ◌∙◌, subst, append_assoc, length-append}
-use Rattle.frame_model.specs.Requests.{Request}
-use Rattle.frame_model.specs.Frames.{IsFirst}
-use Rattle.frame_model.specs.Outline.{FrameFault, outline, partial_outline, faulty_outline}
+use Rattle.opmsg_frames.specs.Requests.{Request}
+use Rattle.opmsg_frames.specs.Frames.{IsFirst}
+use Rattle.opmsg_frames.specs.Outline.{FrameFault, outline, partial_outline, faulty_outline}
 use Rattle.opmsg_frames.specs.FramerViews.{FramerView}
 use Rattle.opmsg_frames.specs.Framers.{Given, IsNext, Told}
 use Rattle.opmsg_frames.specs.Outlines.{fault_meant}
@@ -11,7 +11,7 @@ use Rattle.opmsg_frames.specs.declared.fault.FrameFault as declared
 use Rattle.opmsg_frames.specs.declared.fault.FrameFault.TheVariants.{Malformed, Memory}
 use Rattle.opmsg_frames.specs.declared.fault.Malformed as faults
 use Rattle.opmsg_frames.specs.declared.request.Request as frames
-use Rattle.cluster_top.specs.Fates.{IsMalformed}
+use Rattle.cluster_top.specs.Stops.{IsMalformed}
 
 -- one request was given, of all bytes
 pub one_given : (all more before after : List ℕ) (m : Request) → all ≡ more ++ before → IsFirst before m after → all ≡ (more ++ m.bytes) ++ after
@@ -31,7 +31,7 @@ same_bytes old new same = ap (λ (f : FramerView). f.bytes) same
 pub still_partial : (old new : FramerView) → new ≡ old → outline old.bytes ≡ partial_outline → outline new.bytes ≡ partial_outline
 still_partial old new same partial = ap (λ (b : List ℕ). outline b) (same_bytes old new same) ∙ partial
 
--- a fault that is told for the first time stands at the front of the bytes
+-- a fault that is told for the first time stands at the beginning of the bytes
 pub told_malformed : (old new : FramerView) (fault : FrameFault) (place : ℕ) → old.fault ≡ None → Told old new fault place → IsMalformed new.bytes
 told_malformed old new fault place none told = by_cause told.cause
   where

@@ -3,32 +3,31 @@ use Rattle.std.proofs.Common.{◌≡◌, ℕ, zero, suc, ◌<◌, List, [], ◌�
 use Rattle.std.specs.Prelude.{true}
 use Rattle.std.specs.List.{AllByRecursion}
 use Rattle.std.proofs.lemmas.Fmt.{decimal_digit}
-use Rattle.document_model.specs.Tree.{Members, text_value, boolean_value}
-use Rattle.document_model.specs.Grammar.{ReadsAs}
-use Rattle.document_model.specs.Spelling.{written, written_value, framed, element}
-use Rattle.frame_model.specs.Frames.{IsFirst}
-use Rattle.frame_model.specs.Outline.{outline, message_outline}
-use Rattle.frame_model.specs.Requests.{IsMsg, IsRequest, msg_bytes}
-use Rattle.frame_model.specs.Sections.{IsStated, body_section}
-use Rattle.bson_values.specs.Sound.{AreMembers}
+use Rattle.bson_values.specs.Tree.{Fields, string_value, boolean_value}
+use Rattle.bson_values.specs.Grammar.{ReadsAs, AreBytes}
+use Rattle.bson_values.specs.Spelling.{written, written_value, framed, element}
+use Rattle.opmsg_frames.specs.Frames.{IsFirst}
+use Rattle.opmsg_frames.specs.Outline.{outline, message_outline}
+use Rattle.opmsg_frames.specs.Requests.{IsMsg, IsRequest, msg_bytes}
+use Rattle.opmsg_frames.specs.Sections.{IsStated, body_section}
+use Rattle.bson_values.specs.Sound.{AreFields}
 use Rattle.bson_values.proofs.Spelled.{written_spelled}
-use Rattle.opmsg_frames.proofs.Bytes.{IsBytes}
 use Rattle.opmsg_frames.proofs.Stays.{whole_stays}
 use Rattle.opmsg_frames.proofs.SpelledOutlines.{spelled_outline}
-use Rattle.service_model.specs.Examples.{first, five, insert_body, with_id}
-use Rattle.cluster_top.specs.Examples.{no_request_bytes, reply_bytes, request_bytes}
+use Rattle.plain_store_model.specs.SampleExchanges.{first, five, insert_body, with_id}
+use Rattle.cluster_top.specs.SampleRuns.{no_request_bytes, reply_bytes, request_bytes}
 use Rattle.cluster_top.specs.Headline.{AllAnswered}
 
-abbrev body : Members
+abbrev body : Fields
 body = insert_body (with_id five ∷ []) true
 
 -- its bytes, with this name in the array of documents
 abbrev body_with : List ℕ → List ℕ
 body_with name =
-    framed (element 0x02 (codes "insert") (written_value (text_value (codes "c")))
+    framed (element 0x02 (codes "insert") (written_value (string_value (codes "c")))
     ++ (element 0x04 (codes "documents") (framed (element 0x03 name (written (with_id five)) ++ []))
     ++ (element 0x08 (codes "ordered") (written_value (boolean_value true))
-    ++ (element 0x02 (codes "$db") (written_value (text_value (codes "d"))) ++ []))))
+    ++ (element 0x02 (codes "$db") (written_value (string_value (codes "d"))) ++ []))))
 
 body_spelled : written body ≡ body_with (48 ∷ [])
 body_spelled = ap body_with (decimal_digit 0 (omega arith))
@@ -42,10 +41,10 @@ bytes_spelled = ap (λ (document : List ℕ). msg_bytes 1 0 0 (body_section docu
 pub bytes_length : length first.request.bytes ≡ 94
 bytes_length = ap length bytes_spelled
 
-sound : AreMembers body
+sound : AreFields body
 sound = search rules
 
-key_sound : AreMembers (with_id five)
+key_sound : AreFields (with_id five)
 key_sound = search rules
 
 -- {_id: 5} is spelled by its bytes
@@ -89,12 +88,12 @@ is_first behind = record {
   reads = is_request;
 }
 
-each_byte : (bytes : List ℕ) → AllByRecursion (λ b. b < 256) bytes → IsBytes bytes
+each_byte : (bytes : List ℕ) → AllByRecursion (λ b. b < 256) bytes → AreBytes bytes
 each_byte [] all i = omega arith
 each_byte (b ∷ bytes) all zero = all.0
 each_byte (b ∷ bytes) all (suc i) = each_byte bytes all.1 i
 
-pub faulty_are_bytes : IsBytes (request_bytes ++ no_request_bytes)
+pub faulty_are_bytes : AreBytes (request_bytes ++ no_request_bytes)
 faulty_are_bytes = each_byte (request_bytes ++ no_request_bytes) (search rules)
 
 -- its reply was put

@@ -2,11 +2,11 @@
 -- router's nothing.
 use Rattle.std.specs.Prelude.{◌≡◌, ℕ, List, [], ◌∷◌, map}
 use Rattle.std.specs.List.{AllByRecursion}
-use Rattle.history_model.specs.Catalogue.{Creation}
-use Rattle.history_model.specs.History.{Entry}
-use Rattle.record_model.specs.Records.{Record, create_record, record_of}
-use Rattle.record_model.specs.Spelled.{spelled, IsSound}
-use Rattle.record_model.specs.Kept.{KeepEntries, creates_of}
+use Rattle.plain_store_model.specs.Catalogue.{Creation}
+use Rattle.plain_store_model.specs.History.{Entry}
+use Rattle.shard_records.specs.Records.{Record, create_record, record_of}
+use Rattle.shard_records.specs.Spelled.{spelled, IsSound}
+use Rattle.shard_records.specs.Kept.{KeepEntries, creates_of}
 use Rattle.journal_frames.specs.Files.{Stands}
 
 -- an opening of the file finds these records

@@ -1,17 +1,20 @@
 //! One connection, from its first byte to its last.
 
-ghost use Rattle.std.specs.Prelude.{◌≡◌, ◌≢◌, ◌≤◌, ◌^◌, [], List, map, IsTrue};
-ghost use Rattle.outside.specs.Causes.{Rose};
-ghost use Rattle.history_model.specs.Catalogue.{Creation};
-ghost use Rattle.history_model.specs.History.{Entry};
-ghost use Rattle.cluster_top.specs.Headline.{Machine, OneRose};
-ghost use Rattle.cluster_top.specs.Opened.{AreOpen, NoneFell, disks_of};
+ghost use Rattle.std.specs.Prelude.{◌≡◌, ◌≢◌, ◌≤◌, [], List, map, IsTrue};
+ghost use Rattle.outside.specs.Devices.{NoneFell, disks_call, sink_call, source_call};
+ghost use Rattle.plain_store_model.specs.Catalogue.{Creation};
+ghost use Rattle.plain_store_model.specs.History.{Entry};
+ghost use Rattle.cluster_top.specs.Counts.{OneRoseWhere, RoseWhere};
+ghost use Rattle.cluster_top.specs.Headline.{AsPlainStore, most_taken};
+ghost use Rattle.cluster_top.specs.OpenJournals.{AreOpen, disks_of};
+ghost use Rattle.cluster_top.specs.declared.status.Status.TheVariants as statuses;
 
-use crate::framing::unframed;
 use crate::journals::Journals;
-use crate::pipe::{Stop, answer_all};
+use crate::requests::answer_all;
+use crate::rest::unframed;
 use crate::server::Server;
-use crate::streams::{Taken, take_more};
+use crate::status::Status;
+use crate::streams::take_more;
 use opmsg_frames::Framer;
 use outside::clock::Clock;
 use outside::disk::Disk;
@@ -24,11 +27,11 @@ const PIECE: u64 = 65_536;
 /// How a connection ended: its status, and how many of the bytes taken stand after the last whole request.
 #[derive(Clone, Copy, Debug, PartialEq, Eq)]
 pub struct Ending {
-    pub status: u8,
+    pub status: Status,
     pub rest: u64,
 }
 
-fn ended(status: u8, rest: usize) -> Ending
+fn ended(status: Status, rest: usize) -> Ending
     ensures status { result.status ≡ status }
     ensures rest { result.rest ≡ rest }
 {
@@ -48,27 +51,26 @@ pub fn serve_connection<S: Source, K: Sink, D: Disk, C: Clock>(
     clock: &C,
     limit: u64,
 ) -> Ending
-    requires limit { limit ≤ 2 ^ 40 }
+    requires limit { limit ≤ most_taken }
     requires catalogue { IsTrue journals.old.catalogue.is_open }
     requires shard { IsTrue journals.old.shard.is_open }
-    ensures machine { AreOpen D.tells D.content D.may_leave journals.old [] [] → Machine (record {
-      source_tells = S.tells;
-      left_before = S.left input.old;
-      left_after = S.left input.new;
-      source_failed = Rose (S.fault_count input.old) (S.fault_count input.new);
-      sink_tells = K.tells;
-      held_before = K.held out.old;
-      held_after = K.held out.new;
-      sink_failed = Rose (K.fault_count out.old) (K.fault_count out.new);
-      disks_tell = D.tells;
-      disk_failed = OneRose (map D.fault_count (disks_of journals.old)) (map D.fault_count (disks_of journals.new));
-      files = map D.content (disks_of journals.new);
-    }) (C.gives clock.now) limit result.status result.rest }
+    ensures plain_store { AreOpen D.tells D.content D.may_leave journals.old [] [] → AsPlainStore
+        (source_call S.tells S.left S.fault_count input.old input.new)
+        (sink_call K.tells K.held K.fault_count out.old out.new)
+        (disks_call D.tells D.content D.place D.fault_count (disks_of journals.old) (disks_of journals.new))
+        (C.gives clock.now) limit result.status result.rest }
+
     // But where a disk failed or memory ended, no crash takes from what the journals keep.
-    ensures durable { AreOpen D.tells D.content D.may_leave journals.old [] [] → result.status ≢ 5 → result.status ≢ 7 →
+    ensures durable { AreOpen D.tells D.content D.may_leave journals.old [] [] → result.status ≢ statuses.DiskFailed → result.status ≢ statuses.OutOfMemory →
         (creations : List Creation) × (entries : List Entry) × AreOpen D.tells D.content D.may_leave journals.new creations entries }
-    ensures other { (result.status ≢ 2) × (result.status ≢ 6) }
+    ensures other { (result.status ≢ statuses.BadArguments) × (result.status ≢ statuses.DamagedJournal) }
+
+    // Each fault has its own status.
+    ensures read_fault { RoseWhere (result.status ≡ statuses.ReadFailed) (S.fault_count input.old) (S.fault_count input.new) }
+    ensures write_fault { RoseWhere (result.status ≡ statuses.WriteFailed) (K.fault_count out.old) (K.fault_count out.new) }
+    ensures disk_fault { OneRoseWhere (result.status ≡ statuses.DiskFailed) (map D.fault_count (disks_of journals.old)) (map D.fault_count (disks_of journals.new)) }
     ensures disks_later { NoneFell (map D.fault_count (disks_of journals.old)) (map D.fault_count (disks_of journals.new)) }
+    ensures places { map D.place (disks_of journals.new) ≡ map D.place (disks_of journals.old) }
 {
     let mut server = Server::new(alloc);
     let mut framer = Framer::new(alloc);
@@ -78,25 +80,20 @@ pub fn serve_connection<S: Source, K: Sink, D: Disk, C: Clock>(
         let room = (limit - taken).min(PIECE) as usize;
         // Room is made before anything is taken, so that all that was taken is fed.
         if framer.reserve(room).is_err() {
-            return ended(7, framer.rest().len());
+            return ended(Status::OutOfMemory, framer.rest().len());
         }
         piece.clear();
         match take_more(input, &mut piece, room) {
-            Taken::Bytes(count) => taken += count as u64,
-            Taken::End => return ended(0, framer.rest().len()),
-            Taken::Failed => return ended(3, framer.rest().len()),
-            Taken::NoMemory => return ended(7, framer.rest().len()),
+            Ok(count) => taken += count as u64,
+            Err(status) => return ended(status, framer.rest().len()),
         }
         let Ok(()) = framer.feed(&piece) else {
-            return ended(7, framer.rest().len());
+            return ended(Status::OutOfMemory, framer.rest().len());
         };
         match answer_all(alloc, &mut framer, &mut server, journals, out, clock) {
-            Stop::Partial => {}
-            Stop::Malformed => return ended(9, framer.rest().len()),
-            Stop::WriteFailed => return ended(4, unframed(framer.rest())),
-            Stop::DiskFailed => return ended(5, unframed(framer.rest())),
-            Stop::NoMemory => return ended(7, unframed(framer.rest())),
+            Ok(()) => {}
+            Err(status) => return ended(status, unframed(framer.rest())),
         }
     }
-    ended(10, framer.rest().len())
+    ended(Status::InputTooLong, framer.rest().len())
 }

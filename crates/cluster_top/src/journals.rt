@@ -2,13 +2,13 @@
 
 ghost use Rattle.std.specs.Prelude.{◌≡◌, ◌≤◌, ◌++◌, List, map, IsTrue, OnOk, OnErr, IfErr};
 ghost use Rattle.outside.specs.Causes.{Rose};
+ghost use Rattle.outside.specs.Devices.{NoneFell, OneRose};
 ghost use Rattle.outside.specs.Logs.{ByFault};
-ghost use Rattle.history_model.specs.Catalogue.{Creation};
-ghost use Rattle.history_model.specs.History.{Entry};
-ghost use Rattle.record_model.specs.Records.{Record, create_record, record_of};
+ghost use Rattle.plain_store_model.specs.Catalogue.{Creation};
+ghost use Rattle.plain_store_model.specs.History.{Entry};
+ghost use Rattle.shard_records.specs.Records.{Record, create_record, record_of};
 ghost use Rattle.command_store.specs.Served.{AreSpelled};
-ghost use Rattle.cluster_top.specs.Headline.{OneRose};
-ghost use Rattle.cluster_top.specs.Opened.{AreLeftInPart, AreOpen, IsOpen, HasInPart, NoneFell, disks_of};
+ghost use Rattle.cluster_top.specs.OpenJournals.{AreLeftInPart, AreOpen, IsOpen, HasInPart, disks_of};
 
 use bson_values::Blob;
 use journal_frames::Journal;
@@ -26,8 +26,8 @@ pub struct Journals<D: Disk> {
 /// Appends the records, in order.
 ///
 /// # Errors
-/// - `LogFault::Disk` only if the disk met a fault: then a front of the records stands.
-/// - `LogFault::Memory` for want of memory: then a front of the records stands.
+/// - `LogFault::Disk` only if the disk met a fault: then a prefix of the records stands.
+/// - `LogFault::Memory` for want of memory: then a prefix of the records stands.
 fn append_each<D: Disk>(journal: &mut Journal<D>, pieces: &[Blob]) -> Result<(), LogFault>
     requires { IsTrue journal.old.is_open }
     ensures appended { (records more : List Record) → AreSpelled more pieces.now →
@@ -37,7 +37,10 @@ fn append_each<D: Disk>(journal: &mut Journal<D>, pieces: &[Blob]) -> Result<(),
     ensures failed { (records more : List Record) → AreSpelled more pieces.now →
         IsOpen D.tells D.content D.may_leave records journal.old →
         OnErr result (HasInPart D.tells (D.content journal.new.disk) records more) }
-    ensures cause { IfErr result (λ e. ByFault e (λ faults. Rose (D.fault_count journal.old.disk) (D.fault_count journal.new.disk)) (Unit {0})) }
+    ensures cause { IfErr result (λ e. ByFault e (λ faults. Rose (D.fault_count journal.old.disk) (D.fault_count journal.new.disk))
+        (D.fault_count journal.new.disk ≡ D.fault_count journal.old.disk)) }
+    ensures calm { OnOk result (D.fault_count journal.new.disk ≡ D.fault_count journal.old.disk) }
+    ensures place { D.place journal.new.disk ≡ D.place journal.old.disk }
     ensures later { D.fault_count journal.old.disk ≤ D.fault_count journal.new.disk }
 {
     for piece in pieces {
@@ -50,8 +53,8 @@ impl<D: Disk> Journals<D> {
     /// Appends the records of collections that begin, and then those of writes, in order.
     ///
     /// # Errors
-    /// - `LogFault::Disk` only if a disk met a fault: then a front of the records stands.
-    /// - `LogFault::Memory` for want of memory: then a front of the records stands.
+    /// - `LogFault::Disk` only if a disk met a fault: then a prefix of the records stands.
+    /// - `LogFault::Memory` for want of memory: then a prefix of the records stands.
     pub fn keep(&mut self, creations: &[Blob], entries: &[Blob]) -> Result<(), LogFault>
         requires catalogue { IsTrue self.old.catalogue.is_open }
         requires shard { IsTrue self.old.shard.is_open }
@@ -66,7 +69,9 @@ impl<D: Disk> Journals<D> {
         ensures open { OnOk result (IsTrue self.new.catalogue.is_open × IsTrue self.new.shard.is_open) }
         ensures cause { IfErr result (λ e. ByFault e
             (λ faults. OneRose (map D.fault_count (disks_of self.old)) (map D.fault_count (disks_of self.new)))
-            (Unit {0})) }
+            (map D.fault_count (disks_of self.new) ≡ map D.fault_count (disks_of self.old))) }
+        ensures calm { OnOk result (map D.fault_count (disks_of self.new) ≡ map D.fault_count (disks_of self.old)) }
+        ensures places { map D.place (disks_of self.new) ≡ map D.place (disks_of self.old) }
         ensures later { NoneFell (map D.fault_count (disks_of self.old)) (map D.fault_count (disks_of self.new)) }
     {
         append_each(&mut self.catalogue, creations)?;

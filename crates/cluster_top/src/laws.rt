@@ -1,8 +1,8 @@
 //! The laws between the definitions.
 
 ghost use Rattle.std.specs.Prelude.{◌≡◌, ℕ, List};
-ghost use Rattle.history_model.specs.Catalogue.{Creation};
-ghost use Rattle.history_model.specs.History.{Entry};
+ghost use Rattle.plain_store_model.specs.Catalogue.{Creation};
+ghost use Rattle.plain_store_model.specs.History.{Entry};
 ghost use Rattle.cluster_top.specs.Journals.{Tell};
 
 /// The files of the nodes tell of one history at most, and of one list of collections.

@@ -1,22 +1,21 @@
 //! The top call of the cluster: it takes the bytes of a connection and answers reply bytes.
 #![tactic(auto)]
 
-mod asking;
+mod arguments;
 mod connection;
+mod disks;
 pub mod examples;
-mod framing;
 mod journals;
 pub mod laws;
-mod opening;
 mod pipe;
-mod piped;
+mod requests;
+mod rest;
 mod server;
+mod status;
 mod streams;
-#[cfg(test)]
-mod tests;
 mod top;
-mod words;
 
+pub use arguments::node_count;
 pub use outside::spoken::{Exchange, LinkEnd, Spoken};
+pub use status::Status;
 pub use top::{Ended, run};
-pub use words::node_count;

@@ -1,17 +1,20 @@
 //! The server of one connection.
 
 ghost use Rattle.std.specs.Prelude.{◌≡◌, ◌+◌, ◌-◌, ◌<◌, ◌≤◌, ◌^◌, length, max, IfOk, OnOk};
-ghost use Rattle.frame_model.specs.Requests as wire;
-ghost use Rattle.document_model.specs.Tree.{document_levels};
-ghost use Rattle.document_model.specs.Spelling.{written};
-ghost use Rattle.opmsg_frames.specs.Requests.{IsMeant};
-ghost use Rattle.service_model.specs.Machine.{empty_store};
+ghost use Rattle.opmsg_frames.specs.Requests as wire;
+ghost use Rattle.bson_values.specs.Tree.{document_depth};
+ghost use Rattle.bson_values.specs.Spelling.{written};
+ghost use Rattle.opmsg_frames.specs.RequestMeanings.{IsMeant};
+ghost use Rattle.command_words.specs.Command.{command_of};
+ghost use Rattle.plain_store_model.specs.PlainStore.{empty_store};
 ghost use Rattle.command_store.specs.Kept.{Represents, time_of};
+ghost use Rattle.command_store.specs.Wanted.{wanted_meant};
 ghost use Rattle.cluster_top.specs.Answers.{Answers, IsRead, replies_after, reply_for};
+ghost use Rattle.bson_values.specs.Limits.{most_bytes_written, most_depth_written};
 
-use crate::asking::wanted_by;
 use bson_values::{Blob, Document, Memory};
 use command_store::Store;
+use command_words::{Command, CommandFault, Refusal};
 use opmsg_frames::{Request, write_reply};
 use std::alloc::Global;
 
@@ -34,6 +37,17 @@ pub struct Answer {
     pub entries: Vec<Blob>,
 }
 
+// What the request asks for, or its first refusal.
+fn wanted(alloc: Global, request: &Request) -> Result<Result<Command, Refusal>, Memory>
+    ensures { (meant : wire.Request) → IsMeant request.now meant → IfOk result (λ wanted. wanted_meant wanted ≡ command_of meant) }
+{
+    match Command::read(alloc, request) {
+        Ok(command) => Ok(Ok(command)),
+        Err(CommandFault::Refused(refusal)) => Ok(Err(refusal)),
+        Err(CommandFault::Memory) => Err(Memory),
+    }
+}
+
 // The bytes of the reply with that number, if one is wanted.
 fn reply_to(
     alloc: Global,
@@ -41,8 +55,8 @@ fn reply_to(
     number: u64,
     document: &Document,
 ) -> Result<Option<Blob>, Memory>
-    requires levels { document_levels document.now ≤ 104 }
-    requires size { length (written document.now) ≤ 300000000 }
+    requires depth { document_depth document.now ≤ most_depth_written }
+    requires size { length (written document.now) ≤ most_bytes_written }
     ensures { (meant : wire.Request) → IsMeant request.now meant → IfOk result (λ reply. reply ≡ reply_for meant number document.now) }
 {
     if request.more {
@@ -87,7 +101,7 @@ impl Server {
         ensures time { OnOk result (time_of self.new.store ≤ max (time_of self.old.store) (2 ^ 63) + 100001) }
     {
         let count = self.taken + 1;
-        let wanted = wanted_by(alloc, request)?;
+        let wanted = wanted(alloc, request)?;
         let served = self.store.serve(alloc, moment, count, wanted)?;
         let reply = reply_to(alloc, request, self.replied + 1, &served.reply)?;
         self.taken = count;

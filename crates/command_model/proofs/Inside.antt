@@ -2,42 +2,42 @@
 use Rattle.std.proofs.Common.{◌≡◌, ℕ, suc, ◌+◌, ◌≤◌, List, [], ◌∷◌, length, refl, Bool, true, false, Option, Some, None, if◌then◌else◌, arith, subst}
 use Rattle.std.specs.List.{AllByRecursion}
 use Rattle.std.specs.Str.{bytes_eq}
-use Rattle.document_model.specs.Tree.{Datum, document_value, Items, no_items, item, Members, no_members, member, get, value_levels, array_levels, document_levels}
-use Rattle.document_model.specs.Spelling.{written_value, written_items, written_members}
-use Rattle.command_model.specs.Members.{documents_in}
-use Rattle.command_model.specs.Sizes.{IsSmall}
-use Rattle.command_model.proofs.Lengths.{length-item, length-member}
+use Rattle.opmsg_model.specs.Tree.{Datum, document_value, Items, no_items, item, Fields, no_fields, field, get, value_depth, array_depth, document_depth}
+use Rattle.opmsg_model.specs.Spelling.{written_value, written_items, written_fields}
+use Rattle.opmsg_model.specs.MessageSizes.{IsSmall}
+use Rattle.command_model.specs.Insert.{documents_in}
+use Rattle.opmsg_model.proofs.Lengths.{length-item, length-field}
 
-abbrev pub IsInside : Datum → Members → Type 0
-IsInside value ms = (suc (value_levels value) ≤ document_levels ms) × (length (written_value value) ≤ length (written_members ms))
+abbrev pub IsInside : Datum → Fields → Type 0
+IsInside value ms = (suc (value_depth value) ≤ document_depth ms) × (length (written_value value) ≤ length (written_fields ms))
 
-one_inside : (b : Bool) (first : List ℕ) (d value : Datum) (ms : Members) (rest : Option Datum) → (if b then Some d else rest) ≡ Some value → (rest ≡ Some value → IsInside value ms) → IsInside value (member first d ms)
+one_inside : (b : Bool) (first : List ℕ) (d value : Datum) (ms : Fields) (rest : Option Datum) → (if b then Some d else rest) ≡ Some value → (rest ≡ Some value → IsInside value ms) → IsInside value (field first d ms)
 one_inside true first d value ms rest e others =
     let same : d ≡ value = cc in
-    subst (λ (v : Datum). IsInside v (member first d ms)) same (omega arith, omega (arith, length-member first d ms))
+    subst (λ (v : Datum). IsInside v (field first d ms)) same (omega arith, omega (arith, length-field first d ms))
 one_inside false first d value ms rest e others =
     let there = others e in
-    (omega (arith, there.0), omega (arith, there.1, length-member first d ms))
+    (omega (arith, there.0), omega (arith, there.1, length-field first d ms))
 
--- a member's value has fewer levels, and no more bytes
-pub got_inside : (name : List ℕ) (ms : Members) (value : Datum) → get name ms ≡ Some value → IsInside value ms
-got_inside name no_members value e = absurd cc
-got_inside name (member first d ms) value e = one_inside (bytes_eq first name) first d value ms (get name ms) e (λ later. got_inside name ms value later)
+-- a field's value has fewer levels, and no more bytes
+pub got_inside : (name : List ℕ) (ms : Fields) (value : Datum) → get name ms ≡ Some value → IsInside value ms
+got_inside name no_fields value e = absurd cc
+got_inside name (field first d ms) value e = one_inside (bytes_eq first name) first d value ms (get name ms) e (λ later. got_inside name ms value later)
 
-in_front : (o : Option (List Members)) (ms : Members) (documents : List Members) → elim o [ None ↦ None | Some more ↦ Some (ms ∷ more) ] ≡ Some documents → IsSmall ms → ((more : List Members) → o ≡ Some more → AllByRecursion IsSmall more)
+in_prefix : (o : Option (List Fields)) (ms : Fields) (documents : List Fields) → elim o [ None ↦ None | Some more ↦ Some (ms ∷ more) ] ≡ Some documents → IsSmall ms → ((more : List Fields) → o ≡ Some more → AllByRecursion IsSmall more)
     → AllByRecursion IsSmall documents
-in_front None ms documents e here there = absurd cc
-in_front (Some more) ms documents e here there =
+in_prefix None ms documents e here there = absurd cc
+in_prefix (Some more) ms documents e here there =
     let same : ms ∷ more ≡ documents = cc in
-    subst (λ (l : List Members). AllByRecursion IsSmall l) same (here, there more refl)
+    subst (λ (l : List Fields). AllByRecursion IsSmall l) same (here, there more refl)
 
 -- the documents of a small array are small
-pub items_small : (i : ℕ) (ds : Items) (documents : List Members) → array_levels ds ≤ 100 → length (written_items i ds) ≤ 240000000 → documents_in ds ≡ Some documents → AllByRecursion IsSmall documents
+pub items_small : (i : ℕ) (ds : Items) (documents : List Fields) → array_depth ds ≤ 100 → length (written_items i ds) ≤ 240000000 → documents_in ds ≡ Some documents → AllByRecursion IsSmall documents
 items_small i no_items documents low short e =
     let same : [] ≡ documents = cc in
-    subst (λ (l : List Members). AllByRecursion IsSmall l) same tt
+    subst (λ (l : List Fields). AllByRecursion IsSmall l) same tt
 items_small i (item (document_value ms) ds) documents low short e =
-    in_front (documents_in ds) ms documents e
+    in_prefix (documents_in ds) ms documents e
     (omega arith, omega (arith, length-item i (document_value ms) ds))
     (λ more is. items_small (i + 1) ds more (omega arith) (omega (arith, length-item i (document_value ms) ds)) is)
 items_small i (item d ds) documents low short e = absurd cc

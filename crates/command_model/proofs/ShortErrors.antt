@@ -1,13 +1,18 @@
 -- The name of an error that a check tells is short.
-use Rattle.std.proofs.Common.{ℕ, ◌≤◌, List, [], ◌∷◌, length, Bool, true, false, Option, Some, None, if◌then◌else◌, codes, arith}
+use Rattle.std.proofs.Common.{ℕ, ◌≤◌, List, [], ◌∷◌, length, Bool, true, false, ◌||◌, not, Option, Some, None, if◌then◌else◌, codes, arith}
 use Rattle.std.specs.List.{AllByRecursion}
 use Rattle.std.specs.Str.{bytes_eq}
-use Rattle.document_model.specs.Tree.{Datum, text_value, document_value, array_value, binary_value, boolean_value, timestamp_value, Members, no_members, member, get}
-use Rattle.value_order.specs.Keys.{is_key, key_of}
-use Rattle.history_model.specs.Errors.{ErrorCode, bad_value, failed_to_parse, shard_key_not_found}
+use Rattle.opmsg_model.specs.Tree.{Datum, string_value, document_value, array_value, binary_value, boolean_value, timestamp_value, Fields, no_fields, field, get}
+use Rattle.value_model.specs.Keys.{is_key, key_of}
+use Rattle.opmsg_model.specs.Requests.{Form, msg_form, query_form}
+use Rattle.base_model.specs.Errors.{ErrorCode, bad_value, failed_to_parse, shard_key_not_found}
 use Rattle.command_model.specs.Checks.{Verdict, first_of, is_one_of, unless_passes}
-use Rattle.command_model.specs.Members.{Rule, any_value, boolean_needed, by_rule, check_documents, check_members, check_required, check_session, common_rules, document_needed, documents_in, documents_needed, find_rule, session_id, session_rules, text_needed}
-use Rattle.command_model.specs.Command.{Asked, Verb, check_all_statements, check_collection, check_command, check_concern, check_database, check_filter, check_level, check_needed, check_others, check_own, check_sequences, check_statement, check_statements, check_time, concern_rules, database_of, documents_asked, find_rules, find_verb, handshake_rules, insert_rules, insert_verb, is_snapshot, names_of, only_named}
+use Rattle.command_model.specs.Fields.{Rule, any_value, boolean_needed, by_rule, check_inner_fields, check_fields, check_required, check_session, common_rules, document_needed, find_rule, names_of, session_id, session_rules, string_needed}
+use Rattle.command_model.specs.Forms.{CommandForm, SequenceRule, Sequences, check_collection, check_command, check_database, check_sequence, check_sequences, database_of}
+use Rattle.command_model.specs.Handshake.{handshake_rules}
+use Rattle.command_model.specs.Insert.{check_count, check_documents, check_statement, check_statements, documents_in, documents_needed, insert_rules, some_needed}
+use Rattle.command_model.specs.Find.{check_concern, check_filter, check_level, check_time, concern_rules, filter_needed, find_rules, is_snapshot}
+use Rattle.command_model.specs.Command.{Command}
 
 abbrev pub IsShort : Verdict → Type 0
 IsShort None = Unit {0}
@@ -30,23 +35,25 @@ if_short false v short = short
 
 -- a check by rules, each of which tells short errors
 
-rule_short : (name : List ℕ) (rules : List Rule) (value : Datum) → AreShort rules → IsShort (by_rule (find_rule name rules) value)
-rule_short name [] value short = omega arith
-rule_short name (rule ∷ rules) value short = by_name (bytes_eq rule.name name) (short.0 value) (rule_short name rules value short.1)
+rule_short : (unlisted : Verdict) (name : List ℕ) (rules : List Rule) (given : Bool) (value : Datum) → IsShort unlisted → AreShort rules → IsShort (by_rule unlisted (find_rule name rules) given value)
+rule_short unlisted name [] given value none short = none
+rule_short unlisted name (rule ∷ rules) given value none short = by_name (bytes_eq rule.name name) (rule_short unlisted name rules given value none short.1)
   where
-    by_name : (b : Bool) → IsShort (rule.check value) → IsShort (by_rule (find_rule name rules) value) → IsShort (by_rule (if b then Some rule else find_rule name rules) value)
-    by_name true here there = here
-    by_name false here there = there
+    by_name : (b : Bool) → IsShort (by_rule unlisted (find_rule name rules) given value) → IsShort (by_rule unlisted (if b then Some rule else find_rule name rules) given value)
+    by_name true there = if_short given (rule.check value) (short.0 value)
+    by_name false there = there
 
-members_short : (rules : List Rule) (given : List (List ℕ)) (ms : Members) → AreShort rules → IsShort (check_members rules given ms)
-members_short rules given no_members short = tt
-members_short rules given (member name value ms) short =
-    first_short (if is_one_of name given then Some failed_to_parse else by_rule (find_rule name rules) value) (check_members rules (name ∷ given) ms ∷ [])
-    (if_short (is_one_of name given) (by_rule (find_rule name rules) value) (rule_short name rules value short))
-    (first_short (check_members rules (name ∷ given) ms) [] (members_short rules (name ∷ given) ms short) tt)
+fields_short : (unlisted : Verdict) (rules : List Rule) (given : List (List ℕ)) (ms : Fields) → IsShort unlisted → AreShort rules → IsShort (check_fields unlisted rules given ms)
+fields_short unlisted rules given no_fields none short = tt
+fields_short unlisted rules given (field name value ms) none short =
+    first_short (by_rule unlisted (find_rule name rules) (is_one_of name given) value) (check_fields unlisted rules (name ∷ given) ms ∷ []) (rule_short unlisted name rules (is_one_of name given) value none short)
+    (first_short (check_fields unlisted rules (name ∷ given) ms) [] (fields_short unlisted rules (name ∷ given) ms none short) tt)
 
-text_short : (value : Datum) → IsShort (text_needed value)
-text_short (text_value s) = tt
+inner_fields_short : (rules : List Rule) (ms : Fields) → AreShort rules → IsShort (check_inner_fields rules ms)
+inner_fields_short rules ms short = fields_short (Some failed_to_parse) rules [] ms (omega arith) short
+
+text_short : (value : Datum) → IsShort (string_needed value)
+text_short (string_value s) = tt
 text_short value = omega arith
 
 boolean_short : (value : Datum) → IsShort (boolean_needed value)
@@ -56,7 +63,7 @@ boolean_short value = omega arith
 any_short : (value : Datum) → IsShort (any_value value)
 any_short value = tt
 
-document_short : (check : Members → Verdict) → ((ms : Members) → IsShort (check ms)) → (value : Datum) → IsShort (document_needed check value)
+document_short : (check : Fields → Verdict) → ((ms : Fields) → IsShort (check ms)) → (value : Datum) → IsShort (document_needed check value)
 document_short check short (document_value ms) = short ms
 document_short check short value = omega arith
 
@@ -64,119 +71,121 @@ session_id_short : (value : Datum) → IsShort (session_id value)
 session_id_short (binary_value subtype content) = unless_short _ bad_value (omega arith)
 session_id_short value = omega arith
 
-required_short : (name : List ℕ) (ms : Members) → IsShort (check_required name ms)
+required_short : (name : List ℕ) (ms : Fields) → IsShort (check_required name ms)
 required_short name ms = by_found (get name ms)
   where
     by_found : (o : Option Datum) → IsShort (elim o [ None ↦ Some failed_to_parse | Some value ↦ None ])
     by_found None = omega arith
     by_found (Some value) = tt
 
-session_short : (ms : Members) → IsShort (check_session ms)
+session_short : (ms : Fields) → IsShort (check_session ms)
 session_short ms =
-    first_short (check_members session_rules [] ms) (check_required (codes "id") ms ∷ []) (members_short session_rules [] ms (session_id_short, tt))
+    first_short (check_inner_fields session_rules ms) (check_required (codes "id") ms ∷ []) (inner_fields_short session_rules ms (session_id_short, tt))
     (first_short (check_required (codes "id") ms) [] (required_short (codes "id") ms) tt)
 
 common_short : AreShort common_rules
 common_short = (text_short, (document_short check_session session_short, (any_short, (any_short, (any_short, (text_short, (boolean_short, (boolean_short, tt))))))))
 
-check_documents_short : (o : Option (List Members)) → IsShort (check_documents o)
+count_short : (documents : List Fields) → IsShort (check_count documents)
+count_short documents = unless_short _ bad_value (omega arith)
+
+check_documents_short : (o : Option (List Fields)) → IsShort (check_documents o)
 check_documents_short None = omega arith
-check_documents_short (Some documents) = unless_short _ bad_value (omega arith)
+check_documents_short (Some documents) = count_short documents
 
 documents_short : (value : Datum) → IsShort (documents_needed value)
 documents_short (array_value ds) = check_documents_short (documents_in ds)
 documents_short value = omega arith
 
-insert_short : AreShort insert_rules
+pub insert_short : AreShort insert_rules
 insert_short = (documents_short, (boolean_short, (document_short (λ ms. None) (λ ms. tt), (boolean_short, common_short))))
 
 level_short : (value : Datum) → IsShort (check_level value)
-level_short (text_value s) = unless_short _ bad_value (omega arith)
+level_short (string_value s) = unless_short _ bad_value (omega arith)
 level_short value = omega arith
 
 time_short : (snapshot : Bool) (value : Datum) → IsShort (check_time snapshot value)
 time_short snapshot (timestamp_value n) = unless_short snapshot bad_value (omega arith)
 time_short snapshot value = omega arith
 
-concern_short : (ms : Members) → IsShort (check_concern ms)
-concern_short ms = members_short (concern_rules ms) [] ms (level_short, (time_short (is_snapshot (get (codes "level") ms)), tt))
+concern_short : (ms : Fields) → IsShort (check_concern ms)
+concern_short ms = inner_fields_short (concern_rules ms) ms (level_short, (time_short (is_snapshot (get (codes "level") ms)), tt))
 
-filter_short : (ms : Members) → IsShort (check_filter ms)
-filter_short (member name value no_members) = unless_short _ bad_value (omega arith)
+filter_short : (ms : Fields) → IsShort (check_filter ms)
+filter_short (field name value no_fields) = unless_short _ bad_value (omega arith)
 filter_short ms = omega arith
 
-find_short : AreShort find_rules
+pub find_short : AreShort find_rules
 find_short = (document_short check_filter filter_short, (document_short check_concern concern_short, common_short))
 
-handshake_short : AreShort handshake_rules
+pub handshake_short : AreShort handshake_rules
 handshake_short = (text_short, (boolean_short, tt))
 
--- the checks of a command, in their order
+-- the other parts of forms
 
-database_short : (is_query : Bool) (o : Option Datum) → IsShort (check_database is_query o)
-database_short is_query (Some (text_value s)) = tt
-database_short is_query (Some value) = omega arith
-database_short is_query None = unless_short is_query failed_to_parse (omega arith)
-
-collection_short : (database : List ℕ) (value : Datum) → IsShort (check_collection database value)
-collection_short database (text_value s) = unless_short _ _ (omega arith)
+pub collection_short : (database : List ℕ) (value : Datum) → IsShort (check_collection database value)
+collection_short database (string_value s) = unless_short _ _ (omega arith)
 collection_short database value = omega arith
 
-own_short : (verb : Verb) (database : List ℕ) (value : Datum) → IsShort (check_own verb database value)
-own_short insert_verb database value = collection_short database value
-own_short find_verb database value = collection_short database value
-own_short verb database value = tt
+pub some_short : (o : Option (List Fields)) → IsShort (some_needed o)
+some_short None = omega arith
+some_short (Some documents) = tt
 
-others_short : (verb : Verb) (own : List ℕ) (ms : Members) → IsShort (check_others verb own ms)
-others_short insert_verb own ms = members_short insert_rules (own ∷ []) ms insert_short
-others_short find_verb own ms = members_short find_rules (own ∷ []) ms find_short
-others_short verb own ms = members_short handshake_rules [] (only_named (codes "$db" ∷ codes "helloOk" ∷ []) ms) handshake_short
+pub filter_needed_short : (o : Option Datum) → IsShort (filter_needed o)
+filter_needed_short None = omega arith
+filter_needed_short (Some value) = tt
 
-sequences_short : (verb : Verb) (given : List (List ℕ)) (sequences : List (List ℕ × List Members)) → IsShort (check_sequences verb given sequences)
-sequences_short verb given [] = tt
-sequences_short insert_verb given (s ∷ sequences) =
-    first_short _ (check_sequences insert_verb (s.0 ∷ given) sequences ∷ []) (if_short _ (check_documents (Some s.1)) (check_documents_short (Some s.1)))
-    (first_short (check_sequences insert_verb (s.0 ∷ given) sequences) [] (sequences_short insert_verb (s.0 ∷ given) sequences) tt)
-sequences_short verb given (s ∷ sequences) = omega arith
-
-needed_short : (verb : Verb) (r : Asked) → IsShort (check_needed verb r)
-needed_short insert_verb r = by_documents (documents_asked r)
-  where
-    by_documents : (o : Option (List Members)) → IsShort (elim o [ None ↦ Some failed_to_parse | Some documents ↦ None ])
-    by_documents None = omega arith
-    by_documents (Some documents) = tt
-needed_short find_verb r = by_filter (get (codes "filter") r.document)
-  where
-    by_filter : (o : Option Datum) → IsShort (elim o [ None ↦ Some bad_value | Some value ↦ None ])
-    by_filter None = omega arith
-    by_filter (Some value) = tt
-needed_short verb r = tt
-
-statement_short : (document : Members) → IsShort (check_statement document)
+statement_short : (document : Fields) → IsShort (check_statement document)
 statement_short document = by_key (key_of document)
   where
     by_key : (o : Option Datum) → IsShort (elim o [ None ↦ Some shard_key_not_found | Some key ↦ unless_passes (is_key key) bad_value ])
     by_key None = omega arith
     by_key (Some key) = unless_short (is_key key) bad_value (omega arith)
 
-statements_short : (documents : List Members) → IsShort (check_statements documents)
+pub statements_short : (documents : List Fields) → IsShort (check_statements documents)
 statements_short [] = tt
 statements_short (document ∷ documents) =
     first_short (check_statement document) (check_statements documents ∷ []) (statement_short document) (first_short (check_statements documents) [] (statements_short documents) tt)
 
-all_statements_short : (verb : Verb) (r : Asked) → IsShort (check_all_statements verb r)
-all_statements_short insert_verb r = by_documents (documents_asked r)
-  where
-    by_documents : (o : Option (List Members)) → IsShort (elim o [ None ↦ None | Some documents ↦ check_statements documents ])
-    by_documents None = tt
-    by_documents (Some documents) = statements_short documents
-all_statements_short verb r = tt
+abbrev pub IsShortSequence : Option SequenceRule → Type 0
+IsShortSequence None = Unit {0}
+IsShortSequence (Some rule) = (documents : List Fields) → IsShort (rule.check documents)
 
-pub command_short : (verb : Verb) (own : List ℕ) (value : Datum) (others : Members) (r : Asked) → IsShort (check_command verb own value others r)
-command_short verb own value others r =
-    first_short (check_database r.is_query (get (codes "$db") r.document)) _ (database_short r.is_query (get (codes "$db") r.document))
-    (first_short (check_own verb (database_of r) value) _ (own_short verb (database_of r) value)
-    (first_short (check_others verb own others) _ (others_short verb own others)
-    (first_short (check_sequences verb (names_of r.document) r.sequences) _ (sequences_short verb (names_of r.document) r.sequences)
-    (first_short (check_needed verb r) _ (needed_short verb r)
-    (first_short (check_all_statements verb r) [] (all_statements_short verb r) tt)))))
+pub documents_sequence_short : IsShortSequence (Some (record { identifier = codes "documents"; check = check_count }))
+documents_sequence_short = count_short
+
+-- each check of the form tells short errors
+pub record IsShortForm (form : CommandForm Command) : Type 0 where
+  pub own_check : (database : List ℕ) (value : Datum) → IsShort (form.check_own database value)
+  pub each_rule : AreShort form.rules
+  pub others : IsShort form.unlisted
+  pub sequence_rule : IsShortSequence form.sequence
+  pub needed : (document : Fields) (sequences : Sequences) → IsShort (form.check_needed document sequences)
+  pub last : (document : Fields) (sequences : Sequences) → IsShort (form.check_last document sequences)
+
+-- all checks of a command, in their order
+
+database_short : (sent : Form) (o : Option Datum) → IsShort (check_database sent o)
+database_short sent (Some (string_value s)) = tt
+database_short sent (Some value) = omega arith
+database_short msg_form None = omega arith
+database_short query_form None = tt
+
+sequence_short : (rule : Option SequenceRule) (given : Bool) (s : List ℕ × List Fields) → IsShortSequence rule → IsShort (check_sequence rule given s)
+sequence_short None given s short = omega arith
+sequence_short (Some rule) given s short = if_short (given || not (bytes_eq s.0 rule.identifier)) (rule.check s.1) (short s.1)
+
+sequences_short : (rule : Option SequenceRule) (given : List (List ℕ)) (sequences : Sequences) → IsShortSequence rule → IsShort (check_sequences rule given sequences)
+sequences_short rule given [] short = tt
+sequences_short rule given (s ∷ sequences) short =
+    first_short (check_sequence rule (is_one_of s.0 given) s) (check_sequences rule (s.0 ∷ given) sequences ∷ []) (sequence_short rule (is_one_of s.0 given) s short)
+    (first_short (check_sequences rule (s.0 ∷ given) sequences) [] (sequences_short rule (s.0 ∷ given) sequences short) tt)
+
+pub command_short : (form : CommandForm Command) (sent : Form) (own : List ℕ) (value : Datum) (others : Fields) (sequences : Sequences) → IsShortForm form → IsShort (check_command form sent own value others sequences)
+command_short form sent own value others sequences short =
+    first_short (check_database sent (get (codes "$db") (field own value others))) _ (database_short sent (get (codes "$db") (field own value others)))
+    (first_short (form.check_own (database_of sent (field own value others)) value) _ (short.own_check (database_of sent (field own value others)) value)
+    (first_short (check_fields form.unlisted form.rules (own ∷ []) others) _ (fields_short form.unlisted form.rules (own ∷ []) others short.others short.each_rule)
+    (first_short (check_sequences form.sequence (own ∷ names_of others) sequences) _ (sequences_short form.sequence (own ∷ names_of others) sequences short.sequence_rule)
+    (first_short (form.check_needed (field own value others) sequences) _ (short.needed (field own value others) sequences)
+    (first_short (form.check_last (field own value others) sequences) [] (short.last (field own value others) sequences) tt)))))

@@ -1,105 +1,224 @@
--- What a small request asks for is small.
-use Rattle.std.proofs.Common.{◌≡◌, ℕ, ◌≤◌, List, [], ◌∷◌, length, refl, Bool, true, false, Option, Some, None, Ok, if◌then◌else◌, codes, arith, subst}
+-- What a small request asks for is small, and an insert has documents.
+use Rattle.std.proofs.Common.{◌≡◌, ◌≢◌, ℕ, ◌≤◌, List, [], ◌∷◌, length, refl, Option, Some, None, Ok, Err, codes, arith, subst}
+use Rattle.std.specs.Prelude.{Result}
 use Rattle.std.specs.List.{AllByRecursion}
-use Rattle.std.specs.Str.{bytes_eq}
-use Rattle.std.proofs.lemmas.Slice.Eq.{bytes_eq-Decides}
-use Rattle.document_model.specs.Tree.{Datum, array_value, Members, no_members, member, get}
-use Rattle.document_model.specs.Spelling.{written_items, written_members}
-use Rattle.command_model.specs.Checks.{Verdict}
-use Rattle.command_model.specs.Members.{check_documents, documents_needed}
-use Rattle.command_model.specs.Command.{Asked, Command, Request, Verb, by_first, by_verb, by_verdict, check_all_statements, check_command, check_database, check_needed, check_others, check_own, check_sequences, check_statements, command_by, command_of, database_of, documents_asked, documents_of_value, end_sessions_verb, faulty_request, find_verb, hello_verb, insert_rules, insert_verb, legacy_verb, names_of, or_documents, or_refusal, ping_verb, read_request, verb_of}
-use Rattle.command_model.specs.Sizes.{IsKeepable, IsSmall, IsSmallRequest, IsTaken}
-use Rattle.command_model.proofs.Lengths.{length-framed}
-use Rattle.command_model.proofs.ShortErrors.{IsShort, command_short}
-use Rattle.command_model.proofs.Passed.{few_documents, keepable, member_passed, passed_else, passed_last, passed_parts}
+use Rattle.opmsg_model.specs.Tree.{Datum, array_value, Fields, no_fields, field, get}
+use Rattle.opmsg_model.specs.Spelling.{written_items, written_fields}
+use Rattle.opmsg_model.specs.Requests.{Form, Body, read_body, faulty_body, Request}
+use Rattle.opmsg_model.specs.MessageSizes.{IsSmall, IsSmallBody}
+use Rattle.base_model.specs.Errors.{failed_to_parse}
+use Rattle.base_model.specs.Refusals.{Refusal}
+use Rattle.command_model.specs.Checks.{Verdict, is_one_of}
+use Rattle.command_model.specs.Fields.{check_fields, names_of}
+use Rattle.command_model.specs.Forms.{CommandForm, Sequences, check_collection, check_command, check_database, check_sequence, check_sequences, command_by, database_of, made_into}
+use Rattle.command_model.specs.Handshake.{handshake_form, legacy_of}
+use Rattle.command_model.specs.Insert.{Insert, check_count, check_documents, check_statements, documents_asked, documents_needed, documents_of_value, insert_form, insert_rules, or_documents, some_needed}
+use Rattle.command_model.specs.Find.{find_form}
+use Rattle.command_model.specs.Command.{Command, hello_command, legacy_command, ping_command, end_sessions_command, insert_command, find_command, rows, form_of, by_form, by_verdict, command_asked, command_in, command_of, or_refusal}
+use Rattle.command_model.specs.CommandSizes.{IsKeepable, IsSmallCommand, IsTaken}
+use Rattle.opmsg_model.proofs.Lengths.{length-framed}
+use Rattle.command_model.proofs.ShortErrors.{IsShort, IsShortForm, collection_short, command_short, documents_sequence_short, filter_needed_short, find_short, handshake_short, insert_short, some_short, statements_short}
+use Rattle.command_model.proofs.Passed.{few_documents, keepable, field_passed, passed_else, passed_last, passed_parts, some_counted}
 use Rattle.command_model.proofs.Inside.{got_inside, items_small}
+use Rattle.command_model.proofs.Rows.{found_row}
 
--- the name of an insert
-insert_named : (own : List ℕ) → verb_of own ≡ Some insert_verb → own ≡ codes "insert"
-insert_named own is =
-    (bytes_eq-Decides own (codes "insert")).0
-    (by_tests (bytes_eq own (codes "hello")) (bytes_eq own (codes "isMaster")) (bytes_eq own (codes "ismaster")) (bytes_eq own (codes "ping")) (bytes_eq own (codes "endSessions")) (bytes_eq own (codes "insert")) (bytes_eq own (codes "find")) is)
-  where
-    by_tests : (a b c d e f g : Bool) →
-        (if a then Some hello_verb else if b then Some legacy_verb else if c then Some legacy_verb else if d then Some ping_verb else if e then Some end_sessions_verb else if f then Some insert_verb else if g then Some find_verb else None) ≡ Some insert_verb → f ≡ true
-    by_tests true b c d e f g is = cc
-    by_tests false true c d e f g is = cc
-    by_tests false false true d e f g is = cc
-    by_tests false false false true e f g is = cc
-    by_tests false false false false true f g is = cc
-    by_tests false false false false false true g is = refl
-    by_tests false false false false false false true is = cc
-    by_tests false false false false false false false is = cc
+abbrev AreSmall : Sequences → Type 0
+AreSmall sequences = AllByRecursion (λ s. AllByRecursion IsSmall s.1) sequences
 
--- the member `documents` of an insert stands behind its own
-got_behind : (own : List ℕ) (value d : Datum) (others : Members) → own ≡ codes "insert" → get (codes "documents") (member own value others) ≡ Some d → get (codes "documents") others ≡ Some d
-got_behind own value d others named got = subst (λ (n : List ℕ). get (codes "documents") (member n value others) ≡ Some d) named got
+-- an insert has documents
+abbrev HasDocuments : Command → Type 0
+HasDocuments hello_command = Unit {0}
+HasDocuments (legacy_command legacy) = Unit {0}
+HasDocuments ping_command = Unit {0}
+HasDocuments end_sessions_command = Unit {0}
+HasDocuments (insert_command insert) = insert.documents ≢ []
+HasDocuments (find_command find) = Unit {0}
 
-abbrev AreFewSmall : List Members → Type 0
-AreFewSmall documents = (length documents ≤ 100000) × AllByRecursion IsSmall documents
+-- a command of that name and form that passes has documents, and is as small as its request
+record IsSound (name : List ℕ) (form : CommandForm Command) : Type 0 where
+  short : IsShortForm form
+  some : (sent : Form) (value : Datum) (others : Fields) (sequences : Sequences) → check_command form sent name value others sequences ≡ None → HasDocuments (command_by form sent name value others sequences)
+  small : (sent : Form) (value : Datum) (others : Fields) (sequences : Sequences) → IsSmall (field name value others) → AreSmall sequences → check_command form sent name value others sequences ≡ None →
+      IsSmallCommand (command_by form sent name value others sequences)
 
--- the documents in the member
-few_in_member : (document : Members) (value : Datum) (documents : List Members) → IsSmall document → get (codes "documents") document ≡ Some value → documents_needed value ≡ None → documents_of_value value ≡ Some documents → AreFewSmall documents
-few_in_member document (array_value ds) documents small got passed is =
-    let inside = got_inside (codes "documents") document (array_value ds) got in
-    let counted : check_documents (Some documents) ≡ None = subst (λ (o : Option (List Members)). check_documents o ≡ None) is passed in
-    (few_documents documents counted, items_small 0 ds documents (omega (arith, inside.0, small.0)) (omega (arith, inside.1, small.1, length-framed (written_items 0 ds), length-framed (written_members document))) is)
-few_in_member document value documents small got passed is = absurd cc
+-- the documents of an insert are counted
 
--- the documents in the sequence
-few_in_sequence : (given : List (List ℕ)) (sequences : List (List ℕ × List Members)) (documents : List Members) → AllByRecursion (λ s. AllByRecursion IsSmall s.1) sequences → check_sequences insert_verb given sequences ≡ None →
-    elim sequences [ [] ↦ None | s ∷ more ↦ Some s.1 ] ≡ Some documents → AreFewSmall documents
-few_in_sequence given [] documents small passed is = absurd cc
-few_in_sequence given (s ∷ more) documents small passed is =
+counted_value : (value : Datum) (documents : List Fields) → documents_needed value ≡ None → documents_of_value value ≡ Some documents → check_count documents ≡ None
+counted_value (array_value ds) documents passed is = subst (λ (o : Option (List Fields)). check_documents o ≡ None) is passed
+counted_value value documents passed is = absurd cc
+
+counted_sequence : (given : List (List ℕ)) (sequences : Sequences) (documents : List Fields) → check_sequences insert_form.sequence given sequences ≡ None → elim sequences [ [] ↦ None | s ∷ more ↦ Some s.1 ] ≡ Some documents → check_count documents ≡ None
+counted_sequence given [] documents passed is = absurd cc
+counted_sequence given (s ∷ more) documents passed is =
     let same : s.1 ≡ documents = cc in
-    let told = passed_parts _ _ passed in
-    let counted : check_documents (Some s.1) ≡ None = passed_else _ _ told.0 in
-    subst AreFewSmall same (few_documents s.1 counted, small.0)
+    let told = passed_parts (check_sequence insert_form.sequence (is_one_of s.0 given) s) (check_sequences insert_form.sequence (s.0 ∷ given) more ∷ []) passed in
+    subst (λ (l : List Fields). check_count l ≡ None) same (passed_else _ _ told.0)
 
-few_asked : (o : Option Datum) (given : List (List ℕ)) (r : Asked) (documents : List Members) → IsSmallRequest (read_request r) → get (codes "documents") r.document ≡ o → ((value : Datum) → o ≡ Some value → documents_needed value ≡ None) →
-    check_sequences insert_verb given r.sequences ≡ None → elim o [ Some value ↦ documents_of_value value | None ↦ elim r.sequences [ [] ↦ None | s ∷ more ↦ Some s.1 ] ] ≡ Some documents → AreFewSmall documents
-few_asked None given r documents small got needed passed is = few_in_sequence given r.sequences documents small.1 passed is
-few_asked (Some value) given r documents small got needed passed is = few_in_member r.document value documents small.0 got (needed value refl) is
+counted_asked : (o : Option Datum) (given : List (List ℕ)) (sequences : Sequences) (documents : List Fields) → ((value : Datum) → o ≡ Some value → documents_needed value ≡ None) →
+    check_sequences insert_form.sequence given sequences ≡ None → elim o [ Some value ↦ documents_of_value value | None ↦ elim sequences [ [] ↦ None | s ∷ more ↦ Some s.1 ] ] ≡ Some documents → check_count documents ≡ None
+counted_asked None given sequences documents needed passed is = counted_sequence given sequences documents passed is
+counted_asked (Some value) given sequences documents needed passed is = counted_value value documents (needed value refl) is
 
-abbrev statements_verdict : Option (List Members) → Verdict
-statements_verdict o = elim o [ None ↦ None | Some documents ↦ check_statements documents ]
+-- and small
 
-statements_taken : (o : Option (List Members)) → statements_verdict o ≡ None → ((documents : List Members) → o ≡ Some documents → AreFewSmall documents) →
-    (length (or_documents o) ≤ 100000) × AllByRecursion IsKeepable (or_documents o)
-statements_taken None passed few = (omega arith, tt)
-statements_taken (Some documents) passed few = let known = few documents refl in (known.0, keepable documents known.1 passed)
+small_value : (document : Fields) (value : Datum) (documents : List Fields) → IsSmall document → get (codes "documents") document ≡ Some value → documents_of_value value ≡ Some documents → AllByRecursion IsSmall documents
+small_value document (array_value ds) documents small got is =
+    let inside = got_inside (codes "documents") document (array_value ds) got in
+    items_small 0 ds documents (omega (arith, inside.0, small.0)) (omega (arith, inside.1, small.1, length-framed (written_items 0 ds), length-framed (written_fields document))) is
+small_value document value documents small got is = absurd cc
+
+small_sequence : (sequences : Sequences) (documents : List Fields) → AreSmall sequences → elim sequences [ [] ↦ None | s ∷ more ↦ Some s.1 ] ≡ Some documents → AllByRecursion IsSmall documents
+small_sequence [] documents small is = absurd cc
+small_sequence (s ∷ more) documents small is =
+    let same : s.1 ≡ documents = cc in
+    subst (λ (l : List Fields). AllByRecursion IsSmall l) same small.0
+
+small_asked : (o : Option Datum) (document : Fields) (sequences : Sequences) (documents : List Fields) → IsSmall document → AreSmall sequences → get (codes "documents") document ≡ o →
+    elim o [ Some value ↦ documents_of_value value | None ↦ elim sequences [ [] ↦ None | s ∷ more ↦ Some s.1 ] ] ≡ Some documents → AllByRecursion IsSmall documents
+small_asked None document sequences documents small all got is = small_sequence sequences documents all is
+small_asked (Some value) document sequences documents small all got is = small_value document value documents small got is
 
 -- an insert that passes all checks
-insert_taken : (own : List ℕ) (value : Datum) (others : Members) (r : Asked) → own ≡ codes "insert" → r.document ≡ member own value others → IsSmallRequest (read_request r) → check_command insert_verb own value others r ≡ None → IsTaken (Ok (command_by insert_verb value r))
-insert_taken own value others r named document_is small passed =
-    let first = passed_parts (check_database r.is_query (get (codes "$db") r.document)) _ passed in
-    let second = passed_parts (check_own insert_verb (database_of r) value) _ first.1 in
-    let third = passed_parts (check_others insert_verb own others) _ second.1 in
-    let fourth = passed_parts (check_sequences insert_verb (names_of r.document) r.sequences) _ third.1 in
-    let fifth = passed_parts (check_needed insert_verb r) _ fourth.1 in
-    let statements = passed_last (check_all_statements insert_verb r) fifth.1 in
-    let needed = λ (d : Datum) (got : get (codes "documents") r.document ≡ Some d).
-    member_passed insert_rules (own ∷ []) others (codes "documents") d third.0
-    (got_behind own value d others named (subst (λ (ms : Members). get (codes "documents") ms ≡ Some d) document_is got)) in
-    statements_taken (documents_asked r) statements (λ documents is. few_asked (get (codes "documents") r.document) (names_of r.document) r documents small refl needed fourth.0 is)
+record Passes (value : Datum) (others : Fields) (sequences : Sequences) : Type 0 where
+  counted : (documents : List Fields) → documents_asked (field (codes "insert") value others) sequences ≡ Some documents → check_count documents ≡ None
+  needed : some_needed (documents_asked (field (codes "insert") value others) sequences) ≡ None
+  judged : check_statements (or_documents (documents_asked (field (codes "insert") value others) sequences)) ≡ None
 
-passed_taken : (verb : Verb) (own : List ℕ) (value : Datum) (others : Members) (r : Asked) → verb_of own ≡ Some verb → r.document ≡ member own value others → IsSmallRequest (read_request r) → check_command verb own value others r ≡ None → IsTaken (Ok (command_by verb value r))
-passed_taken insert_verb own value others r named document_is small passed = insert_taken own value others r (insert_named own named) document_is small passed
-passed_taken verb own value others r named document_is small passed = tt
+insert_passes : (sent : Form) (value : Datum) (others : Fields) (sequences : Sequences) → check_command (made_into insert_command insert_form) sent (codes "insert") value others sequences ≡ None → Passes value others sequences
+insert_passes sent value others sequences passed =
+    let document : Fields = field (codes "insert") value others in
+    let first = passed_parts (check_database sent (get (codes "$db") document)) _ passed in
+    let second = passed_parts (check_collection (database_of sent document) value) _ first.1 in
+    let third = passed_parts (check_fields (Some failed_to_parse) insert_rules (codes "insert" ∷ []) others) _ second.1 in
+    let fourth = passed_parts (check_sequences insert_form.sequence (codes "insert" ∷ names_of others) sequences) _ third.1 in
+    let fifth = passed_parts (some_needed (documents_asked document sequences)) _ fourth.1 in
+    record {
+      counted = λ documents is. counted_asked (get (codes "documents") document) (codes "insert" ∷ names_of others) sequences documents
+          (λ d got. field_passed insert_rules (codes "insert" ∷ []) others (codes "documents") d third.0 got) fourth.0 is;
+      needed = fifth.0;
+      judged = passed_last (check_statements (or_documents (documents_asked document sequences))) fifth.1;
+    }
 
-by_verdict_taken : (v : Verdict) (command : Command) → IsShort v → (v ≡ None → IsTaken (Ok command)) → IsTaken (or_refusal (by_verdict v command))
+some_of : (o : Option (List Fields)) → ((documents : List Fields) → o ≡ Some documents → check_count documents ≡ None) → some_needed o ≡ None → or_documents o ≢ []
+some_of None counted needed none = absurd cc
+some_of (Some documents) counted needed none = some_counted documents (counted documents refl) none
+
+small_of : (o : Option (List Fields)) → ((documents : List Fields) → o ≡ Some documents → check_count documents ≡ None) → ((documents : List Fields) → o ≡ Some documents → AllByRecursion IsSmall documents) → check_statements (or_documents o) ≡ None →
+    (length (or_documents o) ≤ 100000) × AllByRecursion IsKeepable (or_documents o)
+small_of None counted small judged = (omega arith, tt)
+small_of (Some documents) counted small judged = (few_documents documents (counted documents refl), keepable documents (small documents refl) judged)
+
+insert_sound : IsSound (codes "insert") (made_into insert_command insert_form)
+insert_sound = record {
+  short = record {
+    own_check = collection_short;
+    each_rule = insert_short;
+    others = omega arith;
+    sequence_rule = documents_sequence_short;
+    needed = λ document sequences. some_short (documents_asked document sequences);
+    last = λ document sequences. statements_short (or_documents (documents_asked document sequences));
+  };
+  some = λ sent value others sequences passed.
+      let passes = insert_passes sent value others sequences passed in
+      some_of (documents_asked (field (codes "insert") value others) sequences) passes.counted passes.needed;
+  small = λ sent value others sequences small all passed.
+      let passes = insert_passes sent value others sequences passed in
+      small_of (documents_asked (field (codes "insert") value others) sequences) passes.counted
+      (λ documents is. small_asked (get (codes "documents") (field (codes "insert") value others)) (field (codes "insert") value others) sequences documents small all refl is) passes.judged;
+}
+
+find_sound : IsSound (codes "find") (made_into find_command find_form)
+find_sound = record {
+  short = record {
+    own_check = collection_short;
+    each_rule = find_short;
+    others = omega arith;
+    sequence_rule = tt;
+    needed = λ document sequences. filter_needed_short (get (codes "filter") document);
+    last = λ document sequences. tt;
+  };
+  some = λ sent value others sequences passed. tt;
+  small = λ sent value others sequences small all passed. tt;
+}
+
+-- the commands that look at two fields alone
+handshake_is_short : (command : Fields → Command) → IsShortForm (handshake_form command)
+handshake_is_short command = record {
+  own_check = λ database value. tt;
+  each_rule = handshake_short;
+  others = tt;
+  sequence_rule = tt;
+  needed = λ document sequences. tt;
+  last = λ document sequences. tt;
+}
+
+handshake_sound : (name : List ℕ) (command : Fields → Command) → ((ms : Fields) → HasDocuments (command ms)) → ((ms : Fields) → IsSmallCommand (command ms)) → IsSound name (handshake_form command)
+handshake_sound name command some small = record {
+  short = handshake_is_short command;
+  some = λ sent value others sequences passed. some (field name value others);
+  small = λ sent value others sequences document_small all passed. small (field name value others);
+}
+
+all_sound : AllByRecursion (λ row. IsSound row.name row.form) rows
+all_sound = (
+  handshake_sound (codes "hello") (λ document. hello_command) (λ ms. tt) (λ ms. tt),
+  (
+    handshake_sound (codes "isMaster") (λ document. legacy_command (legacy_of document)) (λ ms. tt) (λ ms. tt),
+    (
+      handshake_sound (codes "ismaster") (λ document. legacy_command (legacy_of document)) (λ ms. tt) (λ ms. tt),
+      (
+        handshake_sound (codes "ping") (λ document. ping_command) (λ ms. tt) (λ ms. tt),
+        (handshake_sound (codes "endSessions") (λ document. end_sessions_command) (λ ms. tt) (λ ms. tt), (insert_sound, (find_sound, tt))),
+      ),
+    ),
+  ),
+)
+
+sound_of : (name : List ℕ) (form : CommandForm Command) → form_of name ≡ Some form → IsSound name form
+sound_of name form found = found_row IsSound name rows form all_sound found
+
+by_verdict_taken : (v : Verdict) (command : Command) → IsShort v → (v ≡ None → IsSmallCommand command) → IsTaken (or_refusal (by_verdict v command))
 by_verdict_taken None command short taken = taken refl
-by_verdict_taken (Some error) command short taken = (short, tt)
+by_verdict_taken (Some error) command short taken = short
 
-by_verb_taken : (verb : Option Verb) (own : List ℕ) (value : Datum) (others : Members) (r : Asked) → verb_of own ≡ verb → r.document ≡ member own value others → IsSmallRequest (read_request r) → IsTaken (or_refusal (by_verb verb own value others r))
-by_verb_taken None own value others r named document_is small = (omega arith, tt)
-by_verb_taken (Some verb) own value others r named document_is small =
-    by_verdict_taken (check_command verb own value others r) (command_by verb value r) (command_short verb own value others r) (λ passed. passed_taken verb own value others r named document_is small passed)
+by_form_taken : (form : Option (CommandForm Command)) (sent : Form) (own : List ℕ) (value : Datum) (others : Fields) (sequences : Sequences) → form_of own ≡ form → IsSmall (field own value others) → AreSmall sequences →
+    IsTaken (or_refusal (by_form form sent own value others sequences))
+by_form_taken None sent own value others sequences found small all = omega arith
+by_form_taken (Some form) sent own value others sequences found small all =
+    let sound = sound_of own form found in
+    by_verdict_taken (check_command form sent own value others sequences) (command_by form sent own value others sequences) (command_short form sent own value others sequences sound.short)
+    (λ passed. sound.small sent value others sequences small all passed)
 
-by_first_taken : (document : Members) (r : Asked) → r.document ≡ document → IsSmallRequest (read_request r) → IsTaken (or_refusal (by_first document r))
-by_first_taken no_members r document_is small = (omega arith, tt)
-by_first_taken (member own value others) r document_is small = by_verb_taken (verb_of own) own value others r refl document_is small
+asked_taken : (sent : Form) (document : Fields) (sequences : Sequences) → IsSmall document → AreSmall sequences → IsTaken (or_refusal (command_asked sent document sequences))
+asked_taken sent no_fields sequences small all = omega arith
+asked_taken sent (field own value others) sequences small all = by_form_taken (form_of own) sent own value others sequences refl small all
 
-pub command_taken : (request : Request) → IsSmallRequest request → IsTaken (command_of request)
-command_taken (read_request r) small = by_first_taken r.document r refl small
-command_taken (faulty_request place) small = (omega arith, (omega arith, omega arith))
+body_taken : (sent : Form) (body : Body) → IsSmallBody body → IsTaken (command_in sent body)
+body_taken sent (read_body document sequences) small = asked_taken sent document sequences small.0 small.1
+body_taken sent (faulty_body fault place) small = omega arith
+
+pub command_taken : (request : Request) → IsSmallBody request.body → IsTaken (command_of request)
+command_taken request small = body_taken request.form request.body small
+
+-- an insert has documents
+
+abbrev HaveDocuments : Result Command Refusal → Type 0
+HaveDocuments (Ok command) = HasDocuments command
+HaveDocuments (Err refusal) = Unit {0}
+
+by_verdict_some : (v : Verdict) (command : Command) → (v ≡ None → HasDocuments command) → HaveDocuments (or_refusal (by_verdict v command))
+by_verdict_some None command some = some refl
+by_verdict_some (Some error) command some = tt
+
+by_form_some : (form : Option (CommandForm Command)) (sent : Form) (own : List ℕ) (value : Datum) (others : Fields) (sequences : Sequences) → form_of own ≡ form → HaveDocuments (or_refusal (by_form form sent own value others sequences))
+by_form_some None sent own value others sequences found = tt
+by_form_some (Some form) sent own value others sequences found =
+    by_verdict_some (check_command form sent own value others sequences) (command_by form sent own value others sequences) (λ passed. (sound_of own form found).some sent value others sequences passed)
+
+body_some : (sent : Form) (body : Body) → HaveDocuments (command_in sent body)
+body_some sent (read_body no_fields sequences) = tt
+body_some sent (read_body (field own value others) sequences) = by_form_some (form_of own) sent own value others sequences refl
+body_some sent (faulty_body fault place) = tt
+
+pub some_documents : (request : Request) (insert : Insert) → command_of request ≡ Ok (insert_command insert) → insert.documents ≢ []
+some_documents request insert is = subst HaveDocuments is (body_some request.form request.body)

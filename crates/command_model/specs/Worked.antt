@@ -1,43 +1,47 @@
 -- Requests to try the definitions on.
 use Rattle.std.specs.Prelude.{ℕ, List, [], ◌∷◌, codes, false, pos}
-use Rattle.document_model.specs.Tree.{Datum, text_value, document_value, array_value, int32_value, Members, no_members, member, no_items, item}
-use Rattle.command_model.specs.Command.{Request, read_request}
+use Rattle.opmsg_model.specs.Tree.{Datum, string_value, document_value, array_value, int32_value, Fields, no_fields, field, no_items, item}
+use Rattle.opmsg_model.specs.Requests.{Body, Form, Request, msg_form, read_body}
 
-abbrev pub message : Members → Request
-message document = read_request (record { is_query = false; document = document; sequences = [] })
+-- the request with this body, of some message
+abbrev pub sent_as : Form → Body → Request
+sent_as form body = record { id = pos 1; more = false; form = form; body = body; bytes = [] }
+
+abbrev pub message : Fields → Request
+message document = sent_as msg_form (read_body document [])
 
 -- a message with one document sequence of that identifier
-abbrev pub with_sequence : Members → List ℕ → List Members → Request
-with_sequence document identifier documents = read_request (record { is_query = false; document = document; sequences = (identifier, documents) ∷ [] })
+abbrev pub with_sequence : Fields → List ℕ → List Fields → Request
+with_sequence document identifier documents = sent_as msg_form (read_body document ((identifier, documents) ∷ []))
 
 abbrev pub number_one : Datum
 number_one = int32_value (pos 1)
 
-abbrev pub id_only : Datum → Members
-id_only value = member (codes "_id") value no_members
+abbrev pub id_only : Datum → Fields
+id_only value = field (codes "_id") value no_fields
 
 -- {insert: "c", documents: [document], $db: "d"}
-abbrev pub insert_of : Members → Members
+abbrev pub insert_of : Fields → Fields
 insert_of document =
-    member (codes "insert") (text_value (codes "c"))
-    (member (codes "documents") (array_value (item (document_value document) no_items))
-    (member (codes "$db") (text_value (codes "d")) no_members))
+    field (codes "insert") (string_value (codes "c"))
+    (field (codes "documents") (array_value (item (document_value document) no_items))
+    (field (codes "$db") (string_value (codes "d")) no_fields))
 
 -- {$db: "d"}
-abbrev pub database_d : Members
-database_d = member (codes "$db") (text_value (codes "d")) no_members
+abbrev pub database_d : Fields
+database_d = field (codes "$db") (string_value (codes "d")) no_fields
 
 -- {insert: "c", documents: [first, second], $db: "d"}
-abbrev pub insert_two : Members → Members → Members
+abbrev pub insert_two : Fields → Fields → Fields
 insert_two first second =
-    member (codes "insert") (text_value (codes "c"))
-    (member (codes "documents") (array_value (item (document_value first) (item (document_value second) no_items)))
+    field (codes "insert") (string_value (codes "c"))
+    (field (codes "documents") (array_value (item (document_value first) (item (document_value second) no_items)))
     database_d)
 
 -- {insert: "c", ..}
-abbrev pub insert_with : Members → Members
-insert_with others = member (codes "insert") (text_value (codes "c")) others
+abbrev pub insert_with : Fields → Fields
+insert_with others = field (codes "insert") (string_value (codes "c")) others
 
 -- {x: 1}
-abbrev pub without_id : Members
-without_id = member (codes "x") number_one no_members
+abbrev pub without_id : Fields
+without_id = field (codes "x") number_one no_fields

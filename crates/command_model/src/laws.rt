@@ -1,18 +1,30 @@
 //! The laws between the definitions.
 
+ghost use Rattle.std.specs.Prelude.{◌≡◌, Some};
+ghost use Rattle.opmsg_model.specs.Tree.{Fields};
+ghost use Rattle.opmsg_model.specs.Requests.{Request};
+ghost use Rattle.opmsg_model.specs.MessageSizes.{IsSmallBody, IsWithin};
+ghost use Rattle.base_model.specs.Refusals.{Evidence, evidence_document};
 ghost use Rattle.command_model.specs.Answers.{Answer, answer_document};
-ghost use Rattle.command_model.specs.Command.{Request, command_of};
-ghost use Rattle.command_model.specs.Sizes.{IsSmallAnswer, IsSmallRequest, IsTaken, IsWithin};
+ghost use Rattle.command_model.specs.Command.{command_of};
+ghost use Rattle.command_model.specs.CommandSizes.{IsSmallAnswer, IsTaken};
+ghost use Rattle.opmsg_model.specs.Limits.{most_bytes_written, most_depth_written};
 
 /// What a request asks for is as small as the request: at most 100,000 documents, each with a key and no larger than a
-/// document that is read, or a refusal with little evidence.
+/// document that is read, or a refusal with a short name.
 #[tactic(auto, using(crate::proofs::Taken::command_taken))]
 pub fn commands_are_small()
-    ensures { (request : Request) → IsSmallRequest request → IsTaken (command_of request) }
+    ensures { (request : Request) → IsSmallBody request.body → IsTaken (command_of request) }
+{}
+
+/// There is little evidence.
+#[tactic(auto, using(crate::proofs::SmallAnswers::evidence_within))]
+pub fn evidence_is_small()
+    ensures { (evidence : Evidence) (document : Fields) → evidence_document evidence ≡ Some document → IsWithin 10 1000 document }
 {}
 
 /// The documents of small answers are within what is written.
 #[tactic(auto, using(crate::proofs::SmallAnswers::answer_small))]
 pub fn answers_are_small()
-    ensures { (answer : Answer) → IsSmallAnswer answer → IsWithin 104 300000000 (answer_document answer) }
+    ensures { (answer : Answer) → IsSmallAnswer answer → IsWithin most_depth_written most_bytes_written (answer_document answer) }
 {}

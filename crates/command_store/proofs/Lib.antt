@@ -4,4 +4,3 @@ mod Telling
 mod EntryBytes
 mod UnderWay
 mod Serving
-mod Samples

@@ -2,17 +2,18 @@
 use Rattle.std.proofs.Common.{◌≡◌, ℕ, ◌+◌, ◌<◌, ◌≤◌, List, [], ◌∷◌, ◌++◌, true, Option, Some, None, map, length-append, max, refl, sym, ap, ◌∙◌, arith, nat_lt, if◌then◌else◌}
 use Rattle.std.proofs.lemmas.Bool.{lt-ltb}
 use Rattle.std.proofs.lemmas.List.{map-append}
-use Rattle.history_model.specs.History as history
-use Rattle.history_model.specs.History.{Entry}
-use Rattle.history_model.specs.Errors.{ErrorCode, object_too_large, duplicate_key}
-use Rattle.history_model.proofs.Lists.{all_append}
-use Rattle.command_model.specs.Answers as model
-use Rattle.command_model.specs.Sizes.{IsSmallError}
-use Rattle.service_model.specs.Statements.{sum_of, errors_of, time_of}
-use Rattle.record_model.specs.Records.{Record, record_of}
-use Rattle.record_model.specs.Spelled.{spelled, IsSound}
+use Rattle.plain_store_model.specs.History as history
+use Rattle.plain_store_model.specs.History.{Entry}
+use Rattle.cluster_base.specs.Errors.{ErrorCode, object_too_large, duplicate_key}
+use Rattle.plain_store_model.proofs.Lists.{all_append}
+use Rattle.cluster_base.specs.Refusals.{without_evidence}
+use Rattle.command_words.specs.Insert as model
+use Rattle.command_words.specs.CommandSizes.{IsSmallError}
+use Rattle.plain_store_model.specs.Outcomes.{sum_of, errors_of, time_of}
+use Rattle.shard_records.specs.Records.{Record, record_of}
+use Rattle.shard_records.specs.Spelled.{spelled, IsSound}
 use Rattle.command_words.specs.declared.answer.WriteError.{WriteError}
-use Rattle.command_words.specs.Answers.{error_meant, errors_meant}
+use Rattle.command_words.specs.Errors.{error_meant, errors_meant}
 use Rattle.command_store.specs.Served.{AreSpelled}
 use Rattle.command_store.specs.Telling.{outcome_meant, error_at, Tells, IsEntry, IsSmallTold}
 use Rattle.command_store.specs.declared.statements.Outcome.{Outcome}
@@ -35,7 +36,7 @@ time_push (d ∷ entries) e = omega (arith, time_push entries e)
 told_error : (e : Entry) → errors_of (e ∷ []) ≡ error_at e.number.index e.outcome.error
 told_error e = by_error e.outcome.error
   where
-    by_error : (error : Option ErrorCode) → elim error [ None ↦ [] | Some told ↦ record { index = e.number.index; error = told } ∷ [] ] ≡ error_at e.number.index error
+    by_error : (error : Option ErrorCode) → elim error [ None ↦ [] | Some told ↦ record { index = e.number.index; refusal = without_evidence told } ∷ [] ] ≡ error_at e.number.index error
     by_error None = refl
     by_error (Some told) = refl
 
@@ -43,9 +44,9 @@ told_push : (entries : List Entry) (e : Entry) → errors_of (entries ++ e ∷ [
 told_push [] e = told_error e
 told_push (d ∷ entries) e = by_error d.outcome.error (told_push entries e)
   where
-    by_error : (error : Option ErrorCode) → errors_of (entries ++ e ∷ []) ≡ errors_of entries ++ error_at e.number.index e.outcome.error → elim error [ None ↦ errors_of (entries ++ e ∷ []) | Some told ↦ record { index = d.number.index; error = told } ∷ errors_of (entries ++ e ∷ []) ] ≡ elim error [ None ↦ errors_of entries | Some told ↦ record { index = d.number.index; error = told } ∷ errors_of entries ] ++ error_at e.number.index e.outcome.error
+    by_error : (error : Option ErrorCode) → errors_of (entries ++ e ∷ []) ≡ errors_of entries ++ error_at e.number.index e.outcome.error → elim error [ None ↦ errors_of (entries ++ e ∷ []) | Some told ↦ record { index = d.number.index; refusal = without_evidence told } ∷ errors_of (entries ++ e ∷ []) ] ≡ elim error [ None ↦ errors_of entries | Some told ↦ record { index = d.number.index; refusal = without_evidence told } ∷ errors_of entries ] ++ error_at e.number.index e.outcome.error
     by_error None same = same
-    by_error (Some told) same = ap (λ l. record { index = d.number.index; error = told } ∷ l) same
+    by_error (Some told) same = ap (λ l. record { index = d.number.index; refusal = without_evidence told } ∷ l) same
 
 -- bytes of records, with one more
 spelled_push : (records : List Record) (bytes : List (List ℕ)) (r : Record) (b : List ℕ) → AreSpelled records bytes → b ≡ spelled 1 r → IsSound r → AreSpelled (records ++ r ∷ []) (bytes ++ b ∷ [])
@@ -86,13 +87,13 @@ small_push old new index Inserted low counted errors most small = record {
 }
 small_push old new index Duplicate low counted errors most small = record {
   count = omega (arith, counted, small.count);
-  few = rw (errors, length-append (errors_meant old.errors.items) (record { index = index; error = duplicate_key } ∷ [])) (omega (arith, small.few));
-  each = rw errors (all_append IsSmallError (errors_meant old.errors.items) (record { index = index; error = duplicate_key } ∷ []) small.each ((low, omega arith), tt));
+  few = rw (errors, length-append (errors_meant old.errors.items) (record { index = index; refusal = without_evidence duplicate_key } ∷ [])) (omega (arith, small.few));
+  each = rw errors (all_append IsSmallError (errors_meant old.errors.items) (record { index = index; refusal = without_evidence duplicate_key } ∷ []) small.each ((low, omega arith), tt));
 }
 small_push old new index TooLarge low counted errors most small = record {
   count = omega (arith, counted, small.count);
-  few = rw (errors, length-append (errors_meant old.errors.items) (record { index = index; error = object_too_large } ∷ [])) (omega (arith, small.few));
-  each = rw errors (all_append IsSmallError (errors_meant old.errors.items) (record { index = index; error = object_too_large } ∷ []) small.each ((low, omega arith), tt));
+  few = rw (errors, length-append (errors_meant old.errors.items) (record { index = index; refusal = without_evidence object_too_large } ∷ [])) (omega (arith, small.few));
+  each = rw errors (all_append IsSmallError (errors_meant old.errors.items) (record { index = index; refusal = without_evidence object_too_large } ∷ []) small.each ((low, omega arith), tt));
 }
 
 -- and of more statements

@@ -3,3 +3,6 @@ pub mod Kept
 pub mod Served
 pub mod Steps
 pub mod Telling
+pub use Rattle.cluster_base.specs.Errors
+pub use Rattle.cluster_base.specs.Refusals
+pub use Rattle.cluster_base.specs.SampleReplies

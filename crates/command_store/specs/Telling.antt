@@ -1,17 +1,19 @@
 -- What statements are told together, beside their entries.
 use Rattle.std.specs.Prelude.{◌≡◌, ℕ, Bool, ◌≤◌, List, [], ◌∷◌, map, length, Option, Some, None}
 use Rattle.std.specs.List.{AllByRecursion}
-use Rattle.document_model.specs.Tree.{Members}
-use Rattle.history_model.specs.Errors.{ErrorCode, object_too_large, duplicate_key}
-use Rattle.history_model.specs.History as history
-use Rattle.history_model.specs.History.{Entry, done, fails_with}
-use Rattle.command_model.specs.Answers.{WriteError}
-use Rattle.command_model.specs.Sizes.{IsSmallError}
-use Rattle.service_model.specs.Machine as plain
-use Rattle.service_model.specs.Statements.{entries_of, sum_of, errors_of, time_of}
-use Rattle.record_model.specs.Records.{record_of}
-use Rattle.record_model.specs.Spelled.{spelled, IsSound}
-use Rattle.command_words.specs.Answers.{errors_meant}
+use Rattle.bson_values.specs.Tree.{Fields}
+use Rattle.cluster_base.specs.Errors.{ErrorCode, object_too_large, duplicate_key}
+use Rattle.plain_store_model.specs.History as history
+use Rattle.plain_store_model.specs.History.{Entry, done, fails_with}
+use Rattle.cluster_base.specs.Refusals.{without_evidence}
+use Rattle.command_words.specs.Insert.{WriteError}
+use Rattle.command_words.specs.CommandSizes.{IsSmallError}
+use Rattle.plain_store_model.specs.PlainStore as plain_store
+use Rattle.plain_store_model.specs.Outcomes.{sum_of, errors_of, time_of}
+use Rattle.plain_store_model.specs.Statements.{entries_of}
+use Rattle.shard_records.specs.Records.{record_of}
+use Rattle.shard_records.specs.Spelled.{spelled, IsSound}
+use Rattle.command_words.specs.Errors.{errors_meant}
 use Rattle.command_store.specs.Kept.{Represents}
 use Rattle.command_store.specs.Served.{AreSpelled, own_number}
 use Rattle.command_store.specs.Steps.{with_entries}
@@ -29,7 +31,7 @@ outcome_meant TooLarge = fails_with object_too_large
 -- the error of the statement with this index, if it has one
 abbrev pub error_at : ℕ → Option ErrorCode → List WriteError
 error_at index None = []
-error_at index (Some error) = record { index = index; error = error } ∷ []
+error_at index (Some error) = record { index = index; refusal = without_evidence error } ∷ []
 
 -- the entries are told so
 pub record Tells (told : Told) (entries : List Entry) : Type 0 where
@@ -53,6 +55,6 @@ pub record IsSmallTold (told : Told) (most : ℕ) : Type 0 where
   pub each : AllByRecursion IsSmallError (errors_meant told.errors.items)
 
 -- All statements of an insert have been served, and are told so. The time before the first is `before`.
-pub record AreServed (machine : plain.Store) (before : ℕ) (ordered : Bool) (count : ℕ) (namespace : List ℕ) (documents : List Members) (new : Store) (told : Told) : Type 0 where
-  pub tells : Tells told (entries_of machine.entries before ordered (λ index. own_number count index) 0 namespace documents)
-  pub after : Represents new (with_entries machine (entries_of machine.entries before ordered (λ index. own_number count index) 0 namespace documents))
+pub record AreServed (plain : plain_store.PlainStore) (before : ℕ) (ordered : Bool) (count : ℕ) (namespace : List ℕ) (documents : List Fields) (new : Store) (told : Told) : Type 0 where
+  pub tells : Tells told (entries_of plain.entries before ordered (λ index. own_number count index) 0 namespace documents)
+  pub after : Represents new (with_entries plain (entries_of plain.entries before ordered (λ index. own_number count index) 0 namespace documents))

@@ -1,7 +1,7 @@
 -- What the program's commands and refusals mean together.
 use Rattle.std.specs.Prelude.{Result, Ok, Err}
-use Rattle.history_model.specs.Command as history
-use Rattle.command_model.specs.Command as model
+use Rattle.cluster_base.specs.Refusals as history
+use Rattle.command_words.specs.Command as model
 use Rattle.command_words.specs.Commands.{command_meant}
 use Rattle.command_words.specs.Refusals.{refusal_meant}
 use Rattle.command_words.specs.declared.command.Command.{Command}

@@ -7,8 +7,6 @@ mod records;
 mod served;
 mod statements;
 mod store;
-#[cfg(test)]
-mod tests;
 
 pub use served::Served;
 pub use store::Store;

@@ -1,11 +1,11 @@
 //! The bytes of what a command leaves in the journals.
 
 ghost use Rattle.std.specs.Prelude.{◌≡◌, IfOk};
-ghost use Rattle.history_model.specs.History.{fails_with, insert_operation};
+ghost use Rattle.plain_store_model.specs.History.{fails_with, insert_operation};
 ghost use Rattle.cluster_base.specs.Codes.{meaning_of};
-ghost use Rattle.command_model.specs.Sizes.{IsSmall};
-ghost use Rattle.record_model.specs.Records.{create_record, outcome_words};
-ghost use Rattle.record_model.specs.Spelled.{spelled, IsSound};
+ghost use Rattle.command_words.specs.MessageSizes.{IsSmall};
+ghost use Rattle.shard_records.specs.Records.{create_record, outcome_words};
+ghost use Rattle.shard_records.specs.Spelled.{spelled, IsSound};
 ghost use Rattle.shard_records.specs.Meanings.{outcome_meant as words_told, record_meant};
 ghost use Rattle.shard_records.specs.Sizes.{IsWritableRecord};
 ghost use Rattle.command_store.specs.Served.{own_number};

@@ -1,11 +1,12 @@
 //! What a command gets.
 
 ghost use Rattle.std.specs.Prelude.{◌≡◌, ◌≤◌, [], length, IfOk};
-ghost use Rattle.document_model.specs.Tree.{document_levels};
-ghost use Rattle.document_model.specs.Spelling.{written};
-ghost use Rattle.command_model.specs.Answers.{answer_document};
-ghost use Rattle.command_model.specs.Sizes.{IsSmallAnswer};
-ghost use Rattle.command_words.specs.Answers.{answer_meant};
+ghost use Rattle.bson_values.specs.Tree.{document_depth};
+ghost use Rattle.bson_values.specs.Spelling.{written};
+ghost use Rattle.command_words.specs.Answers.{answer_document};
+ghost use Rattle.command_words.specs.CommandSizes.{IsSmallAnswer};
+ghost use Rattle.command_words.specs.AnswerMeanings.{answer_meant};
+ghost use Rattle.bson_values.specs.Limits.{most_bytes_written, most_depth_written};
 
 use bson_values::{Blob, Document, Memory};
 use command_words::{Answer, write_answer};
@@ -28,7 +29,7 @@ pub(crate) fn unwritten(alloc: Global, answer: &Answer) -> Result<Served, Memory
     ensures reply { IfOk result (λ s. s.reply ≡ answer_document (answer_meant answer.now)) }
     ensures creations { IfOk result (λ s. s.creations.items ≡ []) }
     ensures entries { IfOk result (λ s. s.entries.items ≡ []) }
-    ensures small { IfOk result (λ s. (document_levels s.reply ≤ 104) × (length (written s.reply) ≤ 300000000)) }
+    ensures small { IfOk result (λ s. (document_depth s.reply ≤ most_depth_written) × (length (written s.reply) ≤ most_bytes_written)) }
 {
     Ok(Served {
         reply: write_answer(alloc, answer)?,

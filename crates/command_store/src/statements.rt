@@ -1,11 +1,11 @@
 //! The statements of one insert, and what they are told together.
 
 ghost use Rattle.std.specs.Prelude.{◌≡◌, ◌<◌, ◌≤◌, ◌+◌, ◌-◌, ◌^◌, ◌&&◌, ℕ, List, [], ◌∷◌, ◌++◌, Some, is_some, OnOk};
-ghost use Rattle.history_model.specs.History.{Entry};
+ghost use Rattle.plain_store_model.specs.History.{Entry};
 
 use bson_values::{Blob, Memory};
 use cluster_base::{Code, Time};
-use command_words::{StatementIndex, WriteError};
+use command_words::{Evidence, Refusal, StatementIndex, WriteError};
 use std::alloc::Global;
 
 /// What one statement is told.
@@ -53,7 +53,7 @@ pub struct Told {
 
 impl Told {
     ghost use Rattle.cluster_base.specs.Codes.{meaning_of};
-    ghost use Rattle.command_words.specs.Answers.{errors_meant};
+    ghost use Rattle.command_words.specs.Errors.{errors_meant};
     ghost use Rattle.command_store.specs.Telling.{error_at, outcome_meant, Tells, IsEntry, IsSmallTold};
 
     /// No statement.
@@ -78,7 +78,11 @@ impl Told {
         ensures entries { self.new.entries.items ≡ self.old.entries.items }
     {
         let index = StatementIndex::of(index).unwrap();
-        self.errors.push(WriteError { index, code })?;
+        let refusal = Refusal {
+            code,
+            evidence: Evidence::Nothing,
+        };
+        self.errors.push(WriteError { index, refusal })?;
         Ok(())
     }
 

@@ -1,23 +1,24 @@
 //! The store: its time, and the documents that are kept.
 
-ghost use Rattle.std.specs.Prelude.{◌≡◌, ◌<◌, ◌≤◌, ◌+◌, ◌-◌, ◌^◌, ◌++◌, ◌∷◌, [], ℕ, List, Ok, Some, length, map, max, false, true, is_some, IfOk, IfSome, OnErr, OnOk};
+ghost use Rattle.std.specs.Prelude.{◌≡◌, ◌<◌, ◌≤◌, ◌+◌, ◌-◌, ◌^◌, ◌++◌, ◌∷◌, [], ℕ, List, Ok, Some, length, map, max, true, is_some, IfOk, IfSome, OnOk};
 ghost use Rattle.std.specs.List.{AllByRecursion};
 ghost use Rattle.std.specs.Option.{option_map};
-ghost use Rattle.document_model.specs.Tree.{Datum, Members, document_levels};
-ghost use Rattle.document_model.specs.Spelling.{written};
-ghost use Rattle.value_order.specs.Keys.{is_key};
+ghost use Rattle.bson_values.specs.Tree.{Datum, Fields, document_depth};
+ghost use Rattle.bson_values.specs.Spelling.{written};
+ghost use Rattle.value_compare.specs.Keys.{is_key};
 ghost use Rattle.bson_values.specs.View.{datum_of};
-ghost use Rattle.history_model.specs.History.{Entry, StatementNumber};
-ghost use Rattle.command_model.specs.Command.{insert_command};
-ghost use Rattle.command_model.specs.Answers.{answer_document};
-ghost use Rattle.command_model.specs.Sizes.{IsKeepable, IsSmall, IsSmallAnswer, IsTaken};
-ghost use Rattle.command_words.specs.Answers.{answer_meant};
+ghost use Rattle.plain_store_model.specs.History.{Entry, StatementNumber};
+ghost use Rattle.command_words.specs.MessageSizes.{IsSmall};
+ghost use Rattle.command_words.specs.Command.{insert_command};
+ghost use Rattle.command_words.specs.CommandSizes.{IsKeepable, IsSmallAnswer, IsTaken};
+ghost use Rattle.command_words.specs.AnswerMeanings.{answer_meant};
 ghost use Rattle.document_store.specs.Collections.{is_created, kept_under};
-ghost use Rattle.record_model.specs.Records.{create_record};
-ghost use Rattle.service_model.specs.Machine as machine;
-ghost use Rattle.service_model.specs.Statements.{entry_of};
+ghost use Rattle.shard_records.specs.Records.{create_record};
+ghost use Rattle.plain_store_model.specs.PlainStore as plain_store;
+ghost use Rattle.plain_store_model.specs.Statements.{entry_of};
 ghost use Rattle.command_store.specs.Steps.{begun, creations_for, raised, with_entries};
 ghost use Rattle.command_store.specs.Wanted.{wanted_meant};
+ghost use Rattle.bson_values.specs.Limits.{most_bytes_written, most_depth_written};
 
 use crate::finding::time_ahead;
 use crate::records::{creation_bytes, entry_bytes};
@@ -25,7 +26,7 @@ use crate::served::{Served, unwritten};
 use crate::statements::{Outcome, Place, Told};
 use bson_values::{Blob, Document, Memory, Text, Value};
 use cluster_base::{Namespace, Time, moment_time};
-use command_words::{Answer, Command, Refusal, write_answer};
+use command_words::{Answer, Command, Find, Insert, Refusal, write_answer};
 use document_store::Collections;
 use std::alloc::Global;
 use value_compare::{Key, key_of};
@@ -41,7 +42,7 @@ pub struct Store {
     // Documents are kept under keys alone.
     ghost keys: { (n : List ℕ) (k : Datum) → is_some (kept_under collections n k) ≡ true → is_key k ≡ true },
     // A document that is kept is as small as one that is read.
-    ghost small: { (n : List ℕ) (k : Datum) (s : ℕ) (d : Members) → kept_under collections n k ≡ Some (s, d) → IsSmall d },
+    ghost small: { (n : List ℕ) (k : Datum) (s : ℕ) (d : Fields) → kept_under collections n k ≡ Some (s, d) → IsSmall d },
 }
 
 // When the first statement of an insert may come at the earliest, but for one, and the record of the collection that begins, if
@@ -59,7 +60,7 @@ impl Store {
 
     /// The store without documents, at time 0.
     pub fn new(alloc: Global) -> Store
-        ensures empty { Represents result machine.empty_store }
+        ensures empty { Represents result plain_store.empty_store }
         ensures time { time_of result ≡ 0 }
     {
         Store {
@@ -70,7 +71,7 @@ impl Store {
 
     // Time rises to that of the moment.
     fn rise(&mut self, moment: u64)
-        ensures raised { (plain : machine.Store) → Represents self.old plain → Represents self.new (raised plain moment) }
+        ensures raised { (plain : plain_store.PlainStore) → Represents self.old plain → Represents self.new (raised plain moment) }
         ensures time { time_of self.new ≤ max (time_of self.old) (2 ^ 63) }
     {
         self.time = self.time.max(moment_time(moment).0);
@@ -101,14 +102,14 @@ impl Store {
         key: Value,
         at: Option<Time>,
     ) -> Result<Answer, Memory>
-        ensures answer { (plain : machine.Store) → Represents self.now plain →
-            IfOk result (λ a. answer_meant a ≡ machine.answer_find plain plain.time namespace.now (datum_of key) (option_map (λ t. t.0) at)) }
+        ensures answer { (plain : plain_store.PlainStore) → Represents self.now plain →
+            IfOk result (λ a. answer_meant a ≡ plain_store.answer_find plain plain.time namespace.now (datum_of key) (option_map (λ t. t.0) at)) }
         ensures small { IfOk result (λ a. IsSmallAnswer (answer_meant a)) }
     {
         let now = Time(self.time);
         let time = at.unwrap_or(now);
         if now.0 < time.0 {
-            return Ok(Answer::Refused(time_ahead(alloc, now)?));
+            return Ok(Answer::Refused(time_ahead(now)));
         }
         let name = namespace.as_str();
         let mut documents = Vec::new(alloc);
@@ -125,11 +126,11 @@ impl Store {
     // Begins the collection at the next time, if there is none of that name.
     fn begin(&mut self, alloc: Global, namespace: &Namespace) -> Result<Begun, Memory>
         requires room { time_of self.old < 2 ^ 64 - 1 }
-        ensures begun { (plain : machine.Store) (moment : ℕ) → Represents self.old (raised plain moment) →
+        ensures begun { (plain : plain_store.PlainStore) (moment : ℕ) → Represents self.old (raised plain moment) →
             OnOk result (Represents self.new (begun plain moment namespace.now)) }
-        ensures at { (plain : machine.Store) (moment : ℕ) → Represents self.old (raised plain moment) →
-            IfOk result (λ b. b.time.0 ≡ machine.time_before_write plain moment namespace.now) }
-        ensures records { (plain : machine.Store) (moment : ℕ) → Represents self.old (raised plain moment) →
+        ensures at { (plain : plain_store.PlainStore) (moment : ℕ) → Represents self.old (raised plain moment) →
+            IfOk result (λ b. b.time.0 ≡ plain_store.time_before_write plain moment namespace.now) }
+        ensures records { (plain : plain_store.PlainStore) (moment : ℕ) → Represents self.old (raised plain moment) →
             IfOk result (λ b. AreSpelled (map (λ c. create_record c) (creations_for plain moment namespace.now)) b.creations.items) }
         ensures created { OnOk result (is_created self.new.collections namespace.now ≡ true) }
         ensures time { time_of self.new ≡ time_of self.old }
@@ -162,9 +163,9 @@ impl Store {
         requires later { time_of self.old < time.0 }
         requires created { is_created self.old.collections namespace.now ≡ true }
         requires keepable { IsKeepable document.now }
-        ensures outcome { (plain : machine.Store) (number : StatementNumber) → Represents self.old plain →
+        ensures outcome { (plain : plain_store.PlainStore) (number : StatementNumber) → Represents self.old plain →
             IfOk result (λ o. outcome_meant o ≡ (entry_of plain.entries time.0 number namespace.now document.now).outcome) }
-        ensures entered { (plain : machine.Store) (number : StatementNumber) → Represents self.old plain →
+        ensures entered { (plain : plain_store.PlainStore) (number : StatementNumber) → Represents self.old plain →
             OnOk result (Represents self.new (with_entries plain (entry_of plain.entries time.0 number namespace.now document.now ∷ []))) }
         ensures created { is_created self.new.collections namespace.now ≡ true }
         ensures time { OnOk result (time_of self.new ≡ time.0) }
@@ -201,11 +202,11 @@ impl Store {
         requires keepable { IsKeepable document.now }
         requires index { place.index < 100000 }
         requires few { told.old.count < 2 ^ 32 - 1 }
-        ensures outcome { (plain : machine.Store) → Represents self.old plain →
+        ensures outcome { (plain : plain_store.PlainStore) → Represents self.old plain →
             IfOk result (λ o. outcome_meant o ≡ (entry_of plain.entries place.time.0 (own_number place.count place.index) namespace.now document.now).outcome) }
-        ensures entered { (plain : machine.Store) → Represents self.old plain →
+        ensures entered { (plain : plain_store.PlainStore) → Represents self.old plain →
             OnOk result (Represents self.new (with_entries plain (entry_of plain.entries place.time.0 (own_number place.count place.index) namespace.now document.now ∷ []))) }
-        ensures told { (plain : machine.Store) (entries : List Entry) → Represents self.old plain → Tells told.old entries → told.old.time.0 ≤ place.time.0 →
+        ensures told { (plain : plain_store.PlainStore) (entries : List Entry) → Represents self.old plain → Tells told.old entries → told.old.time.0 ≤ place.time.0 →
             OnOk result (Tells told.new (entries ++ entry_of plain.entries place.time.0 (own_number place.count place.index) namespace.now document.now ∷ [])) }
         ensures created { is_created self.new.collections namespace.now ≡ true }
         ensures time { OnOk result ((time_of self.new ≡ place.time.0) × (told.new.time ≡ place.time)) }
@@ -232,7 +233,7 @@ impl Store {
         requires created { is_created self.old.collections namespace.now ≡ true }
         requires later { time_of self.old ≤ before.0 }
         requires room { before.0 < 2 ^ 64 - 100001 }
-        ensures served { (plain : machine.Store) → Represents self.old plain →
+        ensures served { (plain : plain_store.PlainStore) → Represents self.old plain →
             IfOk result (λ t. AreServed plain before.0 ordered count namespace.now documents.now self.new t) }
         ensures time { OnOk result (time_of self.new ≤ before.0 + 100000) }
         ensures small { IfOk result (λ t. IsSmallTold t 100000) }
@@ -264,10 +265,10 @@ impl Store {
         requires few { length documents.now ≤ 100000 }
         requires keepable { AllByRecursion IsKeepable documents.now }
         requires room { time_of self.old < 2 ^ 64 - 100002 }
-        ensures served { (plain : machine.Store) (moment : ℕ) → Represents self.old (raised plain moment) →
-            IfOk result (λ s. IsServed plain moment count (Ok (insert_command namespace.now documents.now ordered)) self.new s) }
+        ensures served { (plain : plain_store.PlainStore) (moment : ℕ) → Represents self.old (raised plain moment) →
+            IfOk result (λ s. IsServed plain moment count (Ok (insert_command (record { namespace = namespace.now; documents = documents.now; ordered = ordered }))) self.new s) }
         ensures time { OnOk result (time_of self.new ≤ time_of self.old + 100001) }
-        ensures small { IfOk result (λ s. (document_levels s.reply ≤ 104) × (length (written s.reply) ≤ 300000000)) }
+        ensures small { IfOk result (λ s. (document_depth s.reply ≤ most_depth_written) × (length (written s.reply) ≤ most_bytes_written)) }
     {
         let Begun { time, creations } = self.begin(alloc, namespace)?;
         let Told {
@@ -301,30 +302,32 @@ impl Store {
     ) -> Result<Served, Memory>
         requires room { time_of self.old < 2 ^ 64 - 100002 }
         requires taken { IsTaken (wanted_meant wanted) }
-        ensures served { (plain : machine.Store) → Represents self.old plain → IfOk result (λ s. IsServed plain moment count (wanted_meant wanted) self.new s) }
+        ensures served { (plain : plain_store.PlainStore) → Represents self.old plain → IfOk result (λ s. IsServed plain moment count (wanted_meant wanted) self.new s) }
         ensures time { OnOk result (time_of self.new ≤ max (time_of self.old) (2 ^ 63) + 100001) }
-        ensures small { IfOk result (λ s. (document_levels s.reply ≤ 104) × (length (written s.reply) ≤ 300000000)) }
+        ensures small { IfOk result (λ s. (document_depth s.reply ≤ most_depth_written) × (length (written s.reply) ≤ most_bytes_written)) }
     {
         self.rise(moment);
         match wanted {
             Err(refusal) => unwritten(alloc, &Answer::Refused(refusal)),
             Ok(Command::Hello) => unwritten(alloc, &Answer::Hello { moment }),
-            Ok(Command::Legacy { shows_hello_ok }) => unwritten(
+            Ok(Command::Legacy(legacy)) => unwritten(
                 alloc,
                 &Answer::Legacy {
                     moment,
-                    hello_ok: shows_hello_ok,
+                    hello_ok: legacy.shows_hello_ok,
                 },
             ),
             Ok(Command::Ping | Command::EndSessions) => unwritten(alloc, &Answer::Done),
             Ok(
-                Command::Insert {
-                    namespace,
-                    documents,
-                    ordered,
-                },
+                Command::Insert(
+                    Insert {
+                        namespace,
+                        documents,
+                        ordered,
+                    },
+                ),
             ) => self.insert(alloc, count, &namespace, &documents, ordered),
-            Ok(Command::Find { namespace, key, at }) => {
+            Ok(Command::Find(Find { namespace, key, at })) => {
                 let answer = self.find(alloc, &namespace, key, at)?;
                 unwritten(alloc, &answer)
             }

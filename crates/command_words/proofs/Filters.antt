@@ -1,11 +1,11 @@
--- A filter has one member.
+-- A filter has one field.
 use Rattle.std.proofs.Common.{◌≡◌, ◌≢◌, List, [], ◌∷◌, length, refl, Some}
-use Rattle.history_model.specs.Errors.{bad_value}
-use Rattle.bson_values.specs.declared.value.Member.{Member}
-use Rattle.bson_values.specs.View.{members_of}
-use Rattle.command_model.specs.Command.{check_filter}
+use Rattle.command_model.specs.Errors.{bad_value}
+use Rattle.bson_values.specs.declared.value.Field.{Field}
+use Rattle.bson_values.specs.View.{fields_of}
+use Rattle.command_model.specs.Find.{check_filter}
 
-pub check_filter-other : (ms : List Member) → length ms ≢ 1 → check_filter (members_of ms) ≡ Some bad_value
+pub check_filter-other : (ms : List Field) → length ms ≢ 1 → check_filter (fields_of ms) ≡ Some bad_value
 check_filter-other [] h = refl
 check_filter-other (a ∷ []) h = absurd (h refl)
 check_filter-other (a ∷ b ∷ ms) h = refl

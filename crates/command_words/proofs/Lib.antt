@@ -1,8 +1,8 @@
+mod Asked
 mod Batches
 mod Copied
 mod Filters
-mod Handshakes
-mod OpenNames
-mod Plain
 mod Rulings
 mod Sequences
+pub use Rattle.command_model.proofs.SmallAnswers
+pub use Rattle.command_model.proofs.Taken

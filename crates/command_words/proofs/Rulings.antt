@@ -1,25 +1,25 @@
--- Members by their rules: a loop over them tells the first error.
-use Rattle.std.proofs.Common.{◌≡◌, ℕ, suc, ◌+◌, ◌<◌, List, [], ◌∷◌, ◌++◌, length, get_or, take, drop, refl, sym, ◌∙◌, ap, add-one, drop-cons, arith, Bool, true, false, ◌||◌, Some, None, if◌then◌else◌}
+-- Fields by their rules: a loop over them tells the first error.
+use Rattle.std.proofs.Common.{◌≡◌, ℕ, suc, ◌+◌, ◌<◌, List, [], ◌∷◌, ◌++◌, length, get_or, take, drop, refl, sym, ◌∙◌, ap, add-one, drop-cons, arith, Bool, true, false, ◌||◌, Some, None}
 use Rattle.std.specs.List.{list_any}
 use Rattle.std.specs.Str.{bytes_eq}
 use Rattle.std.proofs.Math.Seq.{take-suc}
-use Rattle.document_model.specs.Tree.{Datum, Members, member}
-use Rattle.history_model.specs.Errors.{ErrorCode, failed_to_parse}
-use Rattle.bson_values.specs.declared.value.Member.{Member}
-use Rattle.bson_values.specs.View.{datum_of, members_of}
+use Rattle.bson_values.specs.Tree.{Datum, Fields, field}
+use Rattle.command_model.specs.Errors.{ErrorCode}
+use Rattle.bson_values.specs.declared.value.Field.{Field}
+use Rattle.bson_values.specs.View.{datum_of, fields_of}
 use Rattle.command_model.specs.Checks.{Verdict, first_of, is_one_of}
-use Rattle.command_model.specs.Members.{Rule, by_rule, check_members, find_rule}
+use Rattle.command_model.specs.Fields.{Rule, by_rule, check_fields, find_rule}
 use Rattle.command_words.specs.Given.{names_given}
 
--- what is told of one member
-abbrev pub member_verdict : List Rule → List Member → Member → Verdict
-member_verdict rules given m = if list_any (λ n. bytes_eq n.name m.name) given then Some failed_to_parse else by_rule (find_rule m.name rules) (datum_of m.value)
+-- what is told of one field
+abbrev pub field_verdict : Verdict → List Rule → List Field → Field → Verdict
+field_verdict unlisted rules given m = by_rule unlisted (find_rule m.name rules) (list_any (λ n. bytes_eq n.name m.name) given) (datum_of m.value)
 
 pub or_false : (x : Bool) → (x || false) ≡ x
 or_false true = refl
 or_false false = refl
 
-pub given_so_far : (name : List ℕ) (ms : List Member) (names : List (List ℕ)) → is_one_of name (names_given names ms) ≡ (list_any (λ n. bytes_eq n.name name) ms || is_one_of name names)
+pub given_so_far : (name : List ℕ) (ms : List Field) (names : List (List ℕ)) → is_one_of name (names_given names ms) ≡ (list_any (λ n. bytes_eq n.name name) ms || is_one_of name names)
 given_so_far name [] names = refl
 given_so_far name (m ∷ ms) names = given_so_far name ms (m.name ∷ names) ∙ or_assoc (list_any (λ n. bytes_eq n.name name) ms) (bytes_eq m.name name) (is_one_of name names)
   where
@@ -29,7 +29,7 @@ given_so_far name (m ∷ ms) names = given_so_far name ms (m.name ∷ names) ∙
     or_assoc false true z = refl
     or_assoc false false z = refl
 
-pub one_more : (names : List (List ℕ)) (ms : List Member) (m : Member) → names_given names (ms ++ m ∷ []) ≡ m.name ∷ names_given names ms
+pub one_more : (names : List (List ℕ)) (ms : List Field) (m : Field) → names_given names (ms ++ m ∷ []) ≡ m.name ∷ names_given names ms
 one_more names [] m = refl
 one_more names (n ∷ ms) m = one_more (n.name ∷ names) ms m
 
@@ -37,21 +37,21 @@ last_of : (v : Verdict) → first_of (v ∷ []) ≡ v
 last_of None = refl
 last_of (Some e) = refl
 
-pub front_of : (ms : List Member) (i : ℕ) (m : Member) → i < length ms → m ≡ get_or ms i m → take (i + 1) ms ≡ take i ms ++ m ∷ []
-front_of ms i m inside is = let on : i + 1 ≡ suc i = omega arith in ap (λ n. take n ms) on ∙ take-suc ms i m inside ∙ ap (λ (last : Member). take i ms ++ last ∷ []) (sym is)
+pub prefix_of : (ms : List Field) (i : ℕ) (m : Field) → i < length ms → m ≡ get_or ms i m → take (i + 1) ms ≡ take i ms ++ m ∷ []
+prefix_of ms i m inside is = let on : i + 1 ≡ suc i = omega arith in ap (λ n. take n ms) on ∙ take-suc ms i m inside ∙ ap (λ (last : Field). take i ms ++ last ∷ []) (sym is)
 
-pub back_of : (ms : List Member) (i : ℕ) (m : Member) → i < length ms → m ≡ get_or ms i m → drop i ms ≡ m ∷ drop (i + 1) ms
-back_of ms i m inside is = rw add-one (drop-cons ms i m inside ∙ ap (λ (first : Member). first ∷ drop (suc i) ms) (sym is))
+pub back_of : (ms : List Field) (i : ℕ) (m : Field) → i < length ms → m ≡ get_or ms i m → drop i ms ≡ m ∷ drop (i + 1) ms
+back_of ms i m inside is = rw add-one (drop-cons ms i m inside ∙ ap (λ (first : Field). first ∷ drop (suc i) ms) (sym is))
 
--- the members of which nothing was told yet, behind those before them
-abbrev pub rest_verdict : List Rule → List Member → ℕ → Verdict
-rest_verdict rules ms i = check_members rules (names_given [] (take i ms)) (members_of (drop i ms))
+-- the fields of which nothing was told yet, behind those before them
+abbrev pub rest_verdict : Verdict → List Rule → List Field → ℕ → Verdict
+rest_verdict unlisted rules ms i = check_fields unlisted rules (names_given [] (take i ms)) (fields_of (drop i ms))
 
-pub rest_cons : (rules : List Rule) (ms : List Member) (i : ℕ) (m : Member) → i < length ms → m ≡ get_or ms i m → rest_verdict rules ms i ≡ first_of (member_verdict rules (take i ms) m ∷ rest_verdict rules ms (i + 1) ∷ [])
-rest_cons rules ms i m inside is =
+pub rest_cons : (unlisted : Verdict) (rules : List Rule) (ms : List Field) (i : ℕ) (m : Field) → i < length ms → m ≡ get_or ms i m → rest_verdict unlisted rules ms i ≡ first_of (field_verdict unlisted rules (take i ms) m ∷ rest_verdict unlisted rules ms (i + 1) ∷ [])
+rest_cons unlisted rules ms i m inside is =
     let cut : drop i ms ≡ m ∷ drop (i + 1) ms = back_of ms i m inside is in
-    let front : take (i + 1) ms ≡ take i ms ++ m ∷ [] = front_of ms i m inside is in
-    let named : names_given [] (take (i + 1) ms) ≡ m.name ∷ names_given [] (take i ms) = ap (λ xs. names_given [] xs) front ∙ one_more [] (take i ms) m in
+    let prefix : take (i + 1) ms ≡ take i ms ++ m ∷ [] = prefix_of ms i m inside is in
+    let named : names_given [] (take (i + 1) ms) ≡ m.name ∷ names_given [] (take i ms) = ap (λ xs. names_given [] xs) prefix ∙ one_more [] (take i ms) m in
     let given : is_one_of m.name (names_given [] (take i ms)) ≡ list_any (λ n. bytes_eq n.name m.name) (take i ms) = given_so_far m.name (take i ms) [] ∙ or_false _ in
     rw (cut, named, given) refl
 
@@ -67,10 +67,10 @@ stops whole now first rest e cons some so_far =
     let told : now ≡ Some e = cons ∙ ap (λ v. first_of (v ∷ rest ∷ [])) some in
     sym told ∙ so_far
 
--- the members behind a command's own
-pub behind_own : (rules : List Rule) (ms : List Member) (own : List ℕ) (value : Datum) (others : Members) → members_of ms ≡ member own value others → rest_verdict rules ms 1 ≡ check_members rules (own ∷ []) others
-behind_own rules [] own value others e = cc
-behind_own rules (m ∷ ms) own value others e =
+-- the fields behind a command's own
+pub behind_own : (unlisted : Verdict) (rules : List Rule) (ms : List Field) (own : List ℕ) (value : Datum) (others : Fields) → fields_of ms ≡ field own value others → rest_verdict unlisted rules ms 1 ≡ check_fields unlisted rules (own ∷ []) others
+behind_own unlisted rules [] own value others e = cc
+behind_own unlisted rules (m ∷ ms) own value others e =
     let name : m.name ≡ own = cc in
-    let rest : members_of ms ≡ others = cc in
+    let rest : fields_of ms ≡ others = cc in
     rw (name, rest) refl

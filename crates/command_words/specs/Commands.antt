@@ -1,57 +1,42 @@
--- What the program's commands and refusals mean.
-use Rattle.std.specs.Prelude.{◌≡◌, ℕ, List, [], ◌∷◌, Bool, Option, Some, None, Result, Ok, Err}
+-- What the program's commands are.
+use Rattle.std.specs.Prelude.{◌≡◌, Result, Ok, Err}
 use Rattle.std.specs.Option.{option_map}
-use Rattle.document_model.specs.Tree.{Members}
-use Rattle.history_model.specs.Errors.{ErrorCode}
-use Rattle.history_model.specs.Command as history
+use Rattle.command_model.specs.Errors.{ErrorCode}
+use Rattle.command_model.specs.Refusals as history
 use Rattle.bson_values.specs.View.{datum_of}
 use Rattle.cluster_base.specs.Codes.{meaning_of}
-use Rattle.cluster_base.specs.declared.code.Code.{Code}
 use Rattle.cluster_base.specs.declared.time.Time.{Time}
-use Rattle.command_model.specs.Checks.{Verdict}
+use Rattle.command_model.specs.Handshake as handshakes
+use Rattle.command_model.specs.Insert as inserts
+use Rattle.command_model.specs.Find as finds
 use Rattle.command_model.specs.Command as model
+use Rattle.command_words.specs.declared.handshake.Legacy as legacies
+use Rattle.command_words.specs.declared.insert.Insert as program_inserts
+use Rattle.command_words.specs.declared.find.Find as program_finds
 use Rattle.command_words.specs.declared.command.Command.{Command}
 use Rattle.command_words.specs.declared.command.Command.TheVariants.{Hello, Legacy, Ping, EndSessions, Insert, Find}
-use Rattle.command_words.specs.declared.request.Sequence.{Sequence}
-use Rattle.command_words.specs.declared.request.Request.{Request}
-use Rattle.command_words.specs.declared.request.Request.TheVariants.{Read, Faulty}
 use Rattle.command_words.specs.declared.refusal.CommandFault.{CommandFault}
 use Rattle.command_words.specs.declared.refusal.CommandFault.TheVariants as faults
 use Rattle.command_words.specs.declared.refusal.CheckFault.{CheckFault}
 use Rattle.command_words.specs.declared.refusal.CheckFault.TheVariants.{Refused, Memory}
 use Rattle.command_words.specs.Refusals.{refusal_meant}
-use Rattle.command_words.specs.declared.command.Verb.{Verb}
-use Rattle.command_words.specs.declared.command.Verb.TheVariants as verbs
+
+abbrev pub legacy_meant : legacies.Legacy → handshakes.Legacy
+legacy_meant legacy = record { shows_hello_ok = legacy.shows_hello_ok }
+
+abbrev pub insert_meant : program_inserts.Insert → inserts.Insert
+insert_meant insert = record { namespace = insert.namespace; documents = insert.documents.items; ordered = insert.ordered }
+
+abbrev pub find_meant : program_finds.Find → finds.Find
+find_meant find = record { namespace = find.namespace; key = datum_of find.key; at = option_map (λ (t : Time). t.0) find.at }
 
 abbrev pub command_meant : Command → model.Command
 command_meant Hello = model.hello_command
-command_meant (Legacy shows_hello_ok) = model.legacy_command shows_hello_ok
+command_meant (Legacy legacy) = model.legacy_command (legacy_meant legacy)
 command_meant Ping = model.ping_command
 command_meant EndSessions = model.end_sessions_command
-command_meant (Insert namespace documents ordered) = model.insert_command namespace documents.items ordered
-command_meant (Find namespace key at) = model.find_command namespace (datum_of key) (option_map (λ (t : Time). t.0) at)
-
-abbrev pub verb_meant : Verb → model.Verb
-verb_meant verbs.Hello = model.hello_verb
-verb_meant verbs.Legacy = model.legacy_verb
-verb_meant verbs.Ping = model.ping_verb
-verb_meant verbs.EndSessions = model.end_sessions_verb
-verb_meant verbs.Insert = model.insert_verb
-verb_meant verbs.Find = model.find_verb
-
-abbrev pub verdict_meant : Option Code → Verdict
-verdict_meant verdict = option_map meaning_of verdict
-
-abbrev pub sequences_meant : List Sequence → List (List ℕ × List Members)
-sequences_meant [] = []
-sequences_meant (s ∷ sequences) = (s.identifier.now, s.documents.now) ∷ sequences_meant sequences
-
-abbrev pub asked_meant : Bool → Members → List Sequence → model.Asked
-asked_meant is_query document sequences = record { is_query = is_query; document = document; sequences = sequences_meant sequences }
-
-abbrev pub request_meant : Request → model.Request
-request_meant (Read is_query document sequences) = model.read_request (asked_meant is_query document.now sequences.now)
-request_meant (Faulty place) = model.faulty_request place
+command_meant (Insert insert) = model.insert_command (insert_meant insert)
+command_meant (Find find) = model.find_command (find_meant find)
 
 -- the program gives the command or the error that the checks tell; want of memory is free
 abbrev pub Tells : Result Command CheckFault → Result model.Command ErrorCode → Type 0
@@ -64,9 +49,3 @@ abbrev pub Answers : Result Command CommandFault → Result model.Command histor
 Answers (Ok command) told = told ≡ Ok (command_meant command)
 Answers (Err (faults.Refused refusal)) told = told ≡ Err (refusal_meant refusal)
 Answers (Err faults.Memory) told = Unit {0}
-
--- the namespace of that name, where the check passes; want of memory is free
-abbrev pub NamesBy : Result (List ℕ) CheckFault → Verdict → List ℕ → Type 0
-NamesBy (Ok namespace) verdict name = (verdict ≡ None) × (namespace ≡ name)
-NamesBy (Err (Refused code)) verdict name = verdict ≡ Some (meaning_of code)
-NamesBy (Err Memory) verdict name = Unit {0}

@@ -1,7 +1,15 @@
--- The names of members that stand before others, the last first.
-use Rattle.std.specs.Prelude.{ℕ, List, [], ◌∷◌}
-use Rattle.bson_values.specs.declared.value.Member.{Member}
+-- What stands before other fields.
+use Rattle.std.specs.Prelude.{◌≡◌, ℕ, List, [], ◌∷◌, Some}
+use Rattle.bson_values.specs.Tree.{Datum}
+use Rattle.command_model.specs.Names.{full_name}
+use Rattle.command_model.specs.Forms.{string_or}
+use Rattle.bson_values.specs.declared.value.Field.{Field}
 
-abbrev pub names_given : List (List ℕ) → List Member → List (List ℕ)
+-- the names, the last first
+abbrev pub names_given : List (List ℕ) → List Field → List (List ℕ)
 names_given names [] = names
-names_given names (m ∷ members) = names_given (m.name ∷ names) members
+names_given names (m ∷ fields) = names_given (m.name ∷ names) fields
+
+-- the namespace of the database and the collection that a command's own field names
+abbrev pub NamesCollection : List ℕ → (database : List ℕ) → Datum → Type 0
+NamesCollection namespace database value = namespace ≡ full_name database (string_or [] (Some value))

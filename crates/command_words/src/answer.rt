@@ -4,13 +4,13 @@ ghost use Rattle.std.specs.Prelude.{◌≡◌, ◌<◌, Some, None, nat_lt, if�
 
 use crate::refusal::Refusal;
 use bson_values::{Document, Text};
-use cluster_base::{Code, Time};
+use cluster_base::Time;
 use std::marker::Model;
 
 /// The most statements of one command (MongoDB manual, "hello", `maxWriteBatchSize`).
 pub(crate) const MOST_STATEMENTS: u32 = 100_000;
 
-/// The place of a statement in its command, from 0 on, below 100000.
+/// The index of a statement in its command, from 0 on, below 100000.
 #[derive(Debug, Drop)]
 pub struct StatementIndex {
     index: u32,
@@ -27,7 +27,7 @@ impl Model for StatementIndex {
 }
 
 impl StatementIndex {
-    /// The place of that number, if a command can have so many statements.
+    /// The index of that number, if a command can have so many statements.
     pub fn of(index: u32) -> Option<StatementIndex>
         ensures { result ≡ (if nat_lt index 100000 then Some index else None) }
     {
@@ -47,11 +47,11 @@ impl StatementIndex {
     }
 }
 
-/// The error of one statement of a command (MongoDB manual, "insert", `writeErrors`).
+/// The error of one statement of a command, with its evidence (MongoDB manual, "insert", `writeErrors`).
 #[derive(Debug, Drop)]
 pub struct WriteError {
     pub index: StatementIndex,
-    pub code: Code,
+    pub refusal: Refusal,
 }
 
 /// What a request is answered.

@@ -1,67 +1,125 @@
-//! Commands.
+//! Commands: what requests ask for.
 
-ghost use Rattle.std.specs.Prelude.{◌≡◌};
+ghost use Rattle.std.specs.Prelude.{◌≡◌, ℕ};
 ghost use Rattle.std.specs.Option.{option_map};
+ghost use Rattle.bson_values.specs.Faults.{Fault};
+ghost use Rattle.command_model.specs.Refusals.{no_document_at};
+ghost use Rattle.bson_values.specs.ReadFaults.{fault_from};
+ghost use Rattle.command_model.specs.Requests as wire;
+ghost use Rattle.opmsg_frames.specs.Lists.{pairs_of};
+ghost use Rattle.opmsg_frames.specs.RequestMeanings.{IsMeant, form_meant};
 ghost use Rattle.command_model.specs.Command as model;
-ghost use Rattle.command_words.specs.Commands.{verb_meant};
+ghost use Rattle.command_words.specs.Commands.{Answers, Tells};
+ghost use Rattle.command_words.specs.Refusals.{refusal_meant};
+ghost use Rattle.command_words.specs.Rows.{row_meant};
 
-use bson_values::{Document, Value};
-use cluster_base::{Namespace, Time};
+use crate::find::{Find, FindForm};
+use crate::forms::read_by;
+use crate::handshake::{HandshakeForm, Legacy};
+use crate::insert::{Insert, InsertForm};
+use crate::refusal::{CheckFault, CommandFault, Evidence, Refusal};
+use bson_values::{BsonFault, Document};
+use cluster_base::Code;
+use opmsg_frames::{Body, Form, Request, Sequence};
+use std::alloc::Global;
 
 /// What a request asks for.
 #[derive(Drop)]
 pub enum Command {
     Hello,
-    /// `isMaster`, and whether `helloOk` is to be shown.
-    Legacy {
-        shows_hello_ok: bool,
-    },
+    /// `isMaster` and `ismaster`.
+    Legacy(Legacy),
     Ping,
     EndSessions,
-    /// To insert the documents, in order; `ordered`: the first error ends it.
-    Insert {
-        namespace: Namespace,
-        documents: Vec<Document>,
-        ordered: bool,
-    },
-    /// To find the document whose `_id` equals the key, at a time, if one is named.
-    Find {
-        namespace: Namespace,
-        key: Value,
-        at: Option<Time>,
-    },
+    Insert(Insert),
+    Find(Find),
 }
 
-/// The commands by their names.
-#[derive(Clone, Copy, Debug, PartialEq, Eq)]
-pub(crate) enum Verb {
-    Hello,
-    Legacy,
-    Ping,
-    EndSessions,
-    Insert,
-    Find,
+/// The forms that there are.
+#[derive(Clone, Copy)]
+pub(crate) enum AnyForm {
+    Handshake(HandshakeForm),
+    Insert(InsertForm),
+    Find(FindForm),
 }
 
-/// The command of that name.
-pub(crate) fn verb_of(name: &str) -> Option<Verb>
-    ensures { option_map verb_meant result ≡ model.verb_of name.now }
+// The form of the command of that name.
+fn form_of(name: &str) -> Option<AnyForm>
+    ensures { option_map row_meant result ≡ model.form_of name.now }
 {
-    if name == "hello" {
-        Some(Verb::Hello)
-    } else if name == "isMaster" {
-        Some(Verb::Legacy)
-    } else if name == "ismaster" {
-        Some(Verb::Legacy)
-    } else if name == "ping" {
-        Some(Verb::Ping)
-    } else if name == "endSessions" {
-        Some(Verb::EndSessions)
-    } else if name == "insert" {
-        Some(Verb::Insert)
-    } else if name == "find" {
-        Some(Verb::Find)
+    if "hello" == name {
+        Some(AnyForm::Handshake(HandshakeForm::Hello))
+    } else if "isMaster" == name {
+        Some(AnyForm::Handshake(HandshakeForm::Legacy))
+    } else if "ismaster" == name {
+        Some(AnyForm::Handshake(HandshakeForm::Legacy))
+    } else if "ping" == name {
+        Some(AnyForm::Handshake(HandshakeForm::Ping))
+    } else if "endSessions" == name {
+        Some(AnyForm::Handshake(HandshakeForm::EndSessions))
+    } else if "insert" == name {
+        Some(AnyForm::Insert(InsertForm))
+    } else if "find" == name {
+        Some(AnyForm::Find(FindForm))
     } else {
         None
+    }
+}
+
+// What the document of a body and document sequences ask for, by the form of their request.
+fn read_documents(
+    alloc: Global,
+    sent: Form,
+    document: &Document,
+    sequences: &[Sequence],
+) -> Result<Command, CheckFault>
+    ensures { Tells result (model.command_asked (form_meant sent) document.now (pairs_of sequences.now)) }
+{
+    let [own, ..] = document.fields() else {
+        return Err(CheckFault::Refused(Code::CommandNotFound));
+    };
+    let Some(form) = form_of(own.name.as_str()) else {
+        return Err(CheckFault::Refused(Code::CommandNotFound));
+    };
+    match form {
+        AnyForm::Handshake(form) => read_by(&form, alloc, sent, &own.value, document, sequences),
+        AnyForm::Insert(form) => read_by(&form, alloc, sent, &own.value, document, sequences),
+        AnyForm::Find(form) => read_by(&form, alloc, sent, &own.value, document, sequences),
+    }
+}
+
+// The refusal of a document that is no BSON, with the offset of its fault.
+fn no_document(fault: &BsonFault) -> Refusal
+    ensures { (first : Fault) (place : ℕ) → fault.now ≡ fault_from first place → refusal_meant result ≡ no_document_at place }
+{
+    let place = match fault.place() {
+        Some(place) => place as u64,
+        None => 0,
+    };
+    Refusal {
+        code: Code::InvalidBson,
+        evidence: Evidence::Place { place },
+    }
+}
+
+impl Command {
+    /// What a request asks for (MongoDB manual, "Database Commands"). Fails with its first refusal in the order of the
+    /// definitions, which shows the offset of the fault where a document is no BSON; and for want of memory.
+    pub fn read(alloc: Global, request: &Request) -> Result<Command, CommandFault>
+        ensures { (meant : wire.Request) → IsMeant request.now meant → Answers result (model.command_of meant) }
+    {
+        match &request.body {
+            Body::Read { doc, sequences } => {
+                match read_documents(alloc, request.form, doc, sequences.as_slice()) {
+                    Ok(command) => Ok(command),
+                    Err(CheckFault::Refused(code)) => Err(CommandFault::Refused(Refusal {
+                        code,
+                        evidence: Evidence::Nothing,
+                    })),
+                    Err(CheckFault::Memory) => Err(CommandFault::Memory),
+                }
+            }
+            Body::Faulty(fault) => Err(CommandFault::Refused(no_document(fault))),
+        }
     }
 }

@@ -1,14 +1,16 @@
-//! Building documents, a member at a time.
+//! Building documents, a field at a time.
 
 ghost use Rattle.std.specs.Prelude.{◌≡◌, IsTrue, OnOk, pos};
-ghost use Rattle.document_model.specs.Tree.{boolean_value, int32_value, text_value, no_members, member, joined};
+ghost use Rattle.bson_values.specs.Tree.{boolean_value, int32_value, string_value, no_fields, field, joined};
 ghost use Rattle.bson_values.specs.Names.{has_no_zero};
 ghost use Rattle.bson_values.specs.View.{datum_of};
+ghost use Rattle.command_model.specs.Shown.{ok, operation_time_at};
 
 use bson_values::{Document, Memory, Name, Text, Value};
+use cluster_base::Time;
 use std::alloc::Global;
 
-/// Puts a member behind the others. Fails for want of memory.
+/// Puts a field behind the others. Fails for want of memory.
 pub(crate) fn add(
     document: &mut Document,
     alloc: Global,
@@ -16,7 +18,7 @@ pub(crate) fn add(
     value: Value,
 ) -> Result<(), Memory>
     requires { IsTrue (has_no_zero name.now) }
-    ensures { OnOk result (document.new ≡ joined document.old (member name.now (datum_of value) no_members)) }
+    ensures { OnOk result (document.new ≡ joined document.old (field name.now (datum_of value) no_fields)) }
 {
     let name = Name::of(alloc, name)?;
     document.push(name, value)
@@ -30,7 +32,7 @@ pub(crate) fn add_text(
     text: &str,
 ) -> Result<(), Memory>
     requires { IsTrue (has_no_zero name.now) }
-    ensures { OnOk result (document.new ≡ joined document.old (member name.now (text_value text.now) no_members)) }
+    ensures { OnOk result (document.new ≡ joined document.old (field name.now (string_value text.now) no_fields)) }
 {
     let text = Text::of(alloc, text)?;
     add(document, alloc, name, Value::Text(text))
@@ -44,7 +46,7 @@ pub(crate) fn add_number(
     number: i32,
 ) -> Result<(), Memory>
     requires { IsTrue (has_no_zero name.now) }
-    ensures { OnOk result (document.new ≡ joined document.old (member name.now (int32_value number) no_members)) }
+    ensures { OnOk result (document.new ≡ joined document.old (field name.now (int32_value number) no_fields)) }
 {
     add(document, alloc, name, Value::Int32(number))
 }
@@ -57,7 +59,16 @@ pub(crate) fn add_boolean(
     boolean: bool,
 ) -> Result<(), Memory>
     requires { IsTrue (has_no_zero name.now) }
-    ensures { OnOk result (document.new ≡ joined document.old (member name.now (boolean_value boolean) no_members)) }
+    ensures { OnOk result (document.new ≡ joined document.old (field name.now (boolean_value boolean) no_fields)) }
 {
     add(document, alloc, name, Value::Bool(boolean))
+}
+
+/// Puts what the answer of an operation ends with behind the others: `ok`, and the time. Fails for want of memory.
+pub(crate) fn add_end(answer: &mut Document, alloc: Global, time: Time) -> Result<(), Memory>
+    ensures { OnOk result (answer.new ≡ joined answer.old (ok (operation_time_at time.0))) }
+{
+    add_number(answer, alloc, "ok", 1)?;
+    add(answer, alloc, "operationTime", Value::Timestamp(time.0))?;
+    Ok(())
 }

@@ -4,9 +4,9 @@ use Rattle.std.specs.Prelude.{Bool, true, false, ◌&&◌, if◌then◌else◌, 
 use Rattle.std.specs.Option.{option_map}
 use Rattle.std.specs.Map.{lookup}
 use Rattle.std.specs.BTreeMap.{BTreeMap, is_at, Updates}
-use Rattle.document_model.specs.Tree.{Datum}
-use Rattle.value_order.specs.Order.{order, same_value}
-use Rattle.value_order.proofs.Spans.{same_value_equivalence}
+use Rattle.bson_values.specs.Tree.{Datum}
+use Rattle.value_compare.specs.Order.{order, same_value}
+use Rattle.value_compare.proofs.Spans.{same_value_equivalence}
 use Rattle.document_store.specs.Collections.{kept_in, time_and_document}
 use Rattle.document_store.specs.declared.collections.Kept.{Kept}
 

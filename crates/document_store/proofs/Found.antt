@@ -6,9 +6,9 @@ use Rattle.std.specs.Ordering.{is_eq}
 use Rattle.std.specs.Cmp.{Equal-is}
 use Rattle.std.specs.Map.{lookup}
 use Rattle.std.specs.BTreeMap.{BTreeMap, is_at, get_by_text}
-use Rattle.document_model.specs.Tree.{Datum}
-use Rattle.value_order.specs.Order.{order, same_value}
-use Rattle.value_order.proofs.Flat.{order_total}
+use Rattle.bson_values.specs.Tree.{Datum}
+use Rattle.value_compare.specs.Order.{order, same_value}
+use Rattle.value_compare.proofs.Flat.{order_total}
 use Rattle.document_store.specs.Collections.{is_created, kept_in, kept_under, time_and_document}
 use Rattle.document_store.specs.declared.collections.Collections.{Collections}
 use Rattle.document_store.specs.declared.collections.Kept.{Kept}

@@ -4,8 +4,8 @@
 ghost use Rattle.std.specs.Prelude.{◌≡◌, ℕ, List, true, false, ◌||◌, ◌&&◌, Some, None, if◌then◌else◌, OnOk, OnErr};
 ghost use Rattle.std.specs.Option.{option_map};
 ghost use Rattle.std.specs.Str.{bytes_eq};
-ghost use Rattle.document_model.specs.Tree.{Datum};
-ghost use Rattle.value_order.specs.Order.{same_value};
+ghost use Rattle.bson_values.specs.Tree.{Datum};
+ghost use Rattle.value_compare.specs.Order.{same_value};
 
 use bson_values::{Document, Memory};
 use std::alloc::Global;

@@ -1,8 +1,8 @@
 //! The laws of what is kept.
 
 ghost use Rattle.std.specs.Prelude.{◌≡◌, ℕ, List, true, false, None};
-ghost use Rattle.document_model.specs.Tree.{Datum};
-ghost use Rattle.value_order.specs.Order.{same_value};
+ghost use Rattle.bson_values.specs.Tree.{Datum};
+ghost use Rattle.value_compare.specs.Order.{same_value};
 ghost use Rattle.document_store.specs.Collections.{is_created, kept_under};
 ghost use Rattle.document_store.specs.declared.collections.Collections.{Collections};
 

@@ -3,8 +3,6 @@
 
 mod collections;
 mod laws;
-#[cfg(test)]
-mod tests;
 
 pub use collections::{Collections, Kept};
 pub use laws::{nothing_without_its_namespace, same_keys_find_same};

@@ -15,21 +15,21 @@ pub in_first : {X : Type 0} (x : X) (xs : List X) → IsIn x (x ∷ xs)
 in_first x xs = ([], xs, refl)
 
 pub in_later : {X : Type 0} (x y : X) (xs : List X) → IsIn x xs → IsIn x (y ∷ xs)
-in_later x y xs (front, back, e) = (y ∷ front, back, ap (λ l. y ∷ l) e)
+in_later x y xs (prefix, back, e) = (y ∷ prefix, back, ap (λ l. y ∷ l) e)
 
 pub in_cons : {X : Type 0} (x y : X) (xs : List X) → IsIn x (y ∷ xs) → (x ≡ y) ⊎ IsIn x xs
-in_cons {X = X} x y xs i = by_front i.0 i.1 i.2
+in_cons {X = X} x y xs i = by_prefix i.0 i.1 i.2
   where
-    by_front : (front back : List X) → y ∷ xs ≡ front ++ x ∷ back → (x ≡ y) ⊎ IsIn x xs
-    by_front [] back e = inl (cc)
-    by_front (f ∷ front) back e = inr (front, back, cc)
+    by_prefix : (prefix back : List X) → y ∷ xs ≡ prefix ++ x ∷ back → (x ≡ y) ⊎ IsIn x xs
+    by_prefix [] back e = inl (cc)
+    by_prefix (f ∷ prefix) back e = inr (prefix, back, cc)
 
 pub in_none : {X : Type 0} (x : X) → IsIn x [] → ⊥
-in_none {X = X} x i = by_front i.0 i.1 i.2
+in_none {X = X} x i = by_prefix i.0 i.1 i.2
   where
-    by_front : (front back : List X) → [] ≡ front ++ x ∷ back → ⊥
-    by_front [] back e = cc
-    by_front (f ∷ front) back e = cc
+    by_prefix : (prefix back : List X) → [] ≡ prefix ++ x ∷ back → ⊥
+    by_prefix [] back e = cc
+    by_prefix (f ∷ prefix) back e = cc
 
 -- what holds of each item holds of one that stands there
 pub all_at : {X : Type 0} (P : X → Type 0) (x : X) (xs : List X) → AllByRecursion P xs → IsIn x xs → P x
@@ -45,11 +45,11 @@ all_append P [] ys all more = more
 all_append P (x ∷ xs) ys all more = (all.0, all_append P xs ys all.1 more)
 
 -- what stands in a list stands in a longer one
-pub in_front : {X : Type 0} (x : X) (xs ys : List X) → IsIn x xs → IsIn x (xs ++ ys)
-in_front x xs ys (front, back, e) = (front, back ++ ys, ap (λ l. l ++ ys) e ∙ append_assoc front (x ∷ back) ys)
+pub in_prefix : {X : Type 0} (x : X) (xs ys : List X) → IsIn x xs → IsIn x (xs ++ ys)
+in_prefix x xs ys (prefix, back, e) = (prefix, back ++ ys, ap (λ l. l ++ ys) e ∙ append_assoc prefix (x ∷ back) ys)
 
 pub in_back : {X : Type 0} (x : X) (xs ys : List X) → IsIn x ys → IsIn x (xs ++ ys)
-in_back x xs ys (front, back, e) = (xs ++ front, back, ap (λ l. xs ++ l) e ∙ sym (append_assoc xs front (x ∷ back)))
+in_back x xs ys (prefix, back, e) = (xs ++ prefix, back, ap (λ l. xs ++ l) e ∙ sym (append_assoc xs prefix (x ∷ back)))
 
 -- what stands in two lists joined stands in one of them
 pub in_append : {X : Type 0} (x : X) (xs ys : List X) → IsIn x (xs ++ ys) → IsIn x xs ⊎ IsIn x ys

@@ -3,11 +3,11 @@ use Rattle.std.proofs.Common.{◌≡◌, ℕ, ◌<◌, List, [], ◌∷◌, ◌+
 use Rattle.std.specs.Prelude.{Bool, true, false, Option, if◌then◌else◌, filter, nat_le}
 use Rattle.std.specs.List.{AllByRecursion}
 use Rattle.std.proofs.lemmas.Bool.{lt-leb}
-use Rattle.document_model.specs.Tree.{Datum, Members}
+use Rattle.base_model.specs.Tree.{Datum, Fields}
 use Rattle.history_model.specs.History.{effect, Entry, writes_to, document_after, document_left, document_at}
 
 -- one more entry
-pub document_after_push : (namespace : List ℕ) (key : Option Datum) (before : Option Members) (es : List Entry) (e : Entry) → document_after namespace key before (es ++ e ∷ []) ≡ (if writes_to namespace key e then (effect e.operation (document_after namespace key before es)).0 else document_after namespace key before es)
+pub document_after_push : (namespace : List ℕ) (key : Option Datum) (before : Option Fields) (es : List Entry) (e : Entry) → document_after namespace key before (es ++ e ∷ []) ≡ (if writes_to namespace key e then (effect e.operation (document_after namespace key before es)).0 else document_after namespace key before es)
 document_after_push namespace key before [] e = refl
 document_after_push namespace key before (d ∷ es) e = document_after_push namespace key (if writes_to namespace key d then (effect d.operation before).0 else before) es e
 

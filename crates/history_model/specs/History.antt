@@ -3,11 +3,12 @@
 use Rattle.std.specs.Prelude.{◌≡◌, ◌<◌, ◌⊎◌, ℕ, ℤ, List, [], ◌∷◌, ◌++◌, length, Option, Some, None, Bool, false, IsTrue, ◌&&◌, ◌||◌, if◌then◌else◌, filter, nat_le, nat_lt}
 use Rattle.std.specs.List.{AllByRecursion}
 use Rattle.std.specs.Str.{bytes_eq}
-use Rattle.document_model.specs.Tree.{Datum, Members, document_levels}
-use Rattle.document_model.specs.Spelling.{written}
-use Rattle.value_order.specs.Order.{same_value}
-use Rattle.value_order.specs.Keys.{key_of}
-use Rattle.history_model.specs.Errors.{ErrorCode, object_too_large, duplicate_key}
+use Rattle.base_model.specs.Tree.{Datum, Fields, document_depth}
+use Rattle.base_model.specs.Spelling.{written}
+use Rattle.value_model.specs.Order.{same_value}
+use Rattle.value_model.specs.Keys.{key_of}
+use Rattle.base_model.specs.Errors.{ErrorCode, object_too_large, duplicate_key}
+use Rattle.base_model.specs.Limits.{most_bytes_kept, most_depth_kept}
 
 -- who numbers statements: a client by 16 bytes, or a router for one request of one of its lives
 pub data Session : Type 0 where
@@ -22,7 +23,7 @@ pub record StatementNumber : Type 0 where
 
 -- what a statement does, in the words of the client
 pub data Operation : Type 0 where
-  insert_operation : Members → Operation
+  insert_operation : Fields → Operation
 
 -- what a statement is told
 pub record Outcome : Type 0 where
@@ -57,11 +58,11 @@ fails_with error = record { count = 0; modified = 0; upserted = None; error = So
 
 -- A document is kept where it has at most 16 mebibytes and 100 levels (MongoDB manual, "MongoDB Limits and Thresholds", BSON
 -- document size and nested depth).
-abbrev pub is_too_large : Members → Bool
-is_too_large document = nat_lt 16777216 (length (written document)) || nat_lt 100 (document_levels document)
+abbrev pub is_too_large : Fields → Bool
+is_too_large document = nat_lt most_bytes_kept (length (written document)) || nat_lt most_depth_kept (document_depth document)
 
 -- what an operation leaves of the document under its key, and what it is told
-abbrev pub effect : Operation → Option Members → Option Members × Outcome
+abbrev pub effect : Operation → Option Fields → Option Fields × Outcome
 effect (insert_operation document) None = if is_too_large document then (None, fails_with object_too_large) else (Some document, done)
 effect (insert_operation document) (Some before) = (Some before, fails_with duplicate_key)
 
@@ -70,17 +71,17 @@ abbrev pub writes_to : List ℕ → Option Datum → Entry → Bool
 writes_to namespace key e = bytes_eq e.namespace namespace && same_key (key_written e.operation) key
 
 -- the document that entries leave under a key, in order, from the one before
-abbrev pub document_after : List ℕ → Option Datum → Option Members → List Entry → Option Members
+abbrev pub document_after : List ℕ → Option Datum → Option Fields → List Entry → Option Fields
 document_after namespace key before [] = before
 document_after namespace key before (e ∷ es) =
     document_after namespace key (if writes_to namespace key e then (effect e.operation before).0 else before) es
 
 -- the document that these entries leave, from nothing
-abbrev pub document_left : List ℕ → Option Datum → List Entry → Option Members
+abbrev pub document_left : List ℕ → Option Datum → List Entry → Option Fields
 document_left namespace key entries = document_after namespace key None entries
 
 -- the unsharded collection at a time
-abbrev pub document_at : List Entry → List ℕ → Option Datum → ℕ → Option Members
+abbrev pub document_at : List Entry → List ℕ → Option Datum → ℕ → Option Fields
 document_at history namespace key time = document_left namespace key (filter (λ e. nat_le e.time time) history)
 
 -- entries are ordered by time, and at one time by shard
@@ -110,4 +111,4 @@ Legal history = LegalAfter [] history
 
 -- x stands in the list
 abbrev pub IsIn : {X : Type 0} → X → List X → Type 0
-IsIn {X} x xs = (front : List X) × (back : List X) × (xs ≡ front ++ x ∷ back)
+IsIn {X} x xs = (prefix : List X) × (back : List X) × (xs ≡ prefix ++ x ∷ back)

@@ -15,8 +15,8 @@ length-body bytes = length-append (to_le_bytes w64 (length bytes)) bytes
 stated : (rest : List ℕ) → (b : BeginsRecord rest) → (from_le_bytes w64 (take 8 rest) ≡ length b.bytes) × (length rest ≡ 9 + length b.bytes + length b.behind)
 stated rest b =
     let whole : rest ≡ to_le_bytes w64 (length b.bytes) ++ (b.bytes ++ b.gate ∷ b.behind) = b.split ∙ append_assoc (to_le_bytes w64 (length b.bytes)) b.bytes (b.gate ∷ b.behind) in
-    let front : take 8 rest ≡ to_le_bytes w64 (length b.bytes) = ap (λ (l : List ℕ). take 8 l) whole ∙ take_at (to_le_bytes w64 (length b.bytes)) (b.bytes ++ b.gate ∷ b.behind) 8 (length_bytes (length b.bytes)) in (
-      ap (λ (l : List ℕ). from_le_bytes w64 l) front ∙ from_le_bytes-to_le_bytes_8 (length b.bytes) b.fits,
+    let prefix : take 8 rest ≡ to_le_bytes w64 (length b.bytes) = ap (λ (l : List ℕ). take 8 l) whole ∙ take_at (to_le_bytes w64 (length b.bytes)) (b.bytes ++ b.gate ∷ b.behind) 8 (length_bytes (length b.bytes)) in (
+      ap (λ (l : List ℕ). from_le_bytes w64 l) prefix ∙ from_le_bytes-to_le_bytes_8 (length b.bytes) b.fits,
       ap length b.split ∙ omega (arith, length-append (body b.bytes) (b.gate ∷ b.behind), length-body b.bytes),
     )
 

@@ -12,21 +12,21 @@ split_gate records [] old is (inl shut) some = absurd shut
 split_gate records (gate ∷ more) old is (inl shut) some = (gate, more, is, shut)
 split_gate records rest old is (inr none) some = absurd (omega (arith, ap length none, some))
 
-shut_front : (n gate : ℕ) (more : List ℕ) → IsShut (gate ∷ more) → IsShut (gate ∷ take n more)
-shut_front zero gate more shut = tt
-shut_front (suc n) gate [] shut = tt
-shut_front (suc n) gate (b ∷ more) shut = shut
+shut_prefix : (n gate : ℕ) (more : List ℕ) → IsShut (gate ∷ more) → IsShut (gate ∷ take n more)
+shut_prefix zero gate more shut = tt
+shut_prefix (suc n) gate [] shut = tt
+shut_prefix (suc n) gate (b ∷ more) shut = shut
 
-take_behind : (front : List ℕ) (n gate : ℕ) (more : List ℕ) → take (length front + 1 + n) (front ++ gate ∷ more) ≡ front ++ gate ∷ take n more
+take_behind : (prefix : List ℕ) (n gate : ℕ) (more : List ℕ) → take (length prefix + 1 + n) (prefix ++ gate ∷ more) ≡ prefix ++ gate ∷ take n more
 take_behind [] n gate more = let one : 0 + 1 + n ≡ suc n = omega arith in rw one refl
-take_behind (b ∷ front) n gate more = let more_by : suc (length front) + 1 + n ≡ suc (length front + 1 + n) = omega arith in rw more_by (ap (λ (l : List ℕ). b ∷ l) (take_behind front n gate more))
+take_behind (b ∷ prefix) n gate more = let more_by : suc (length prefix) + 1 + n ≡ suc (length prefix + 1 + n) = omega arith in rw more_by (ap (λ (l : List ℕ). b ∷ l) (take_behind prefix n gate more))
 
 module _ (records : List (List ℕ)) (fits : Fit records) (end : ℕ) (size : end ≡ length (blocks records)) where
   cut_at : (old : List ℕ) → Stands old records → 0 < length old → (n : ℕ) → (gate : ℕ) × (more : List ℕ) × (take (end + 1 + n) old ≡ blocks records ++ gate ∷ take n more) × IsShut (gate ∷ take n more) × (end + 1 ≤ length old)
   cut_at old stands some n =
       let g = split_gate records stands.rest old stands.split stands.shut some in
       let at : end + 1 + n ≡ length (blocks records) + 1 + n = omega (arith, size) in
-      (g.0, g.1, ap (λ (m : ℕ). take m old) at ∙ ap (λ (f : List ℕ). take (length (blocks records) + 1 + n) f) g.2 ∙ take_behind (blocks records) n g.0 g.1, shut_front n g.0 g.1 g.3, omega (arith, size, ap length g.2, length-append (blocks records) (g.0 ∷ g.1)))
+      (g.0, g.1, ap (λ (m : ℕ). take m old) at ∙ ap (λ (f : List ℕ). take (length (blocks records) + 1 + n) f) g.2 ∙ take_behind (blocks records) n g.0 g.1, shut_prefix n g.0 g.1 g.3, omega (arith, size, ap length g.2, length-append (blocks records) (g.0 ∷ g.1)))
 
   -- what a cut behind the gate leaves
   pub cut_held : (old c : List ℕ) → Stands old records → 0 < length old → Cut (end + 1) old c → Stands c records
@@ -34,7 +34,7 @@ module _ (records : List (List ℕ)) (fits : Fit records) (end : ℕ) (size : en
       let whole = cut_at old stands some 0 in
       let long : end + 1 + (length c - (end + 1)) ≡ length c = omega (arith, cut.no_shorter, whole.4) in
       let g = cut_at old stands some (length c - (end + 1)) in
-      let is : c ≡ blocks records ++ g.0 ∷ take (length c - (end + 1)) g.1 = cut.front ∙ sym (ap (λ (n : ℕ). take n old) long) ∙ g.2 in
+      let is : c ≡ blocks records ++ g.0 ∷ take (length c - (end + 1)) g.1 = cut.prefix ∙ sym (ap (λ (n : ℕ). take n old) long) ∙ g.2 in
       record { rest = g.0 ∷ take (length c - (end + 1)) g.1; fits = fits; split = is; shut = inl g.3 }
 
   pub cut_crash : (file : List ℕ) (old : Outcomes) → Only file old → Stands file records → 0 < length file → (c : List ℕ) → After (Cut (end + 1)) old c → Stands c records

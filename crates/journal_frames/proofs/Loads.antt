@@ -34,9 +34,10 @@ read_on file buf window buf' at n so_far within is piece =
     ∙ sym (take-add at n file)
 
 -- what was read so far
-pub record IsReading (tells : Bool) {D : Type 0} (content : D → List ℕ) (may_leave : D → Outcomes) (moment : D → ℕ) (left_since : D → ℕ → Outcomes) (faults : D → ℕ) (old disk : D) (size : ℕ) (buf : List ℕ) (at : ℕ) : Type 0 where
+pub record IsReading (tells : Bool) {D : Type 0} (content : D → List ℕ) (may_leave : D → Outcomes) (moment : D → ℕ) (left_since : D → ℕ → Outcomes) (faults : D → ℕ) (place : D → List ℕ) (old disk : D) (size : ℕ) (buf : List ℕ) (at : ℕ) : Type 0 where
   pub within : at ≤ length buf
   pub len : length buf ≡ size
   pub bytes : IsTrue tells → take at buf ≡ take at (content old)
   pub undisturbed : IsTrue tells → IsUndisturbed content may_leave moment left_since old disk
-  pub later : faults old ≤ faults disk
+  pub calm : faults disk ≡ faults old
+  pub in_place : place disk ≡ place old

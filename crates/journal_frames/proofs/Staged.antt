@@ -11,10 +11,10 @@ use Rattle.journal_frames.proofs.Scanned.{blocks-push, fit_push}
 pub holds_is : (at : ℕ) (piece old new : List ℕ) → at ≤ length old → Holds at piece old new → new ≡ take at old ++ (piece ++ drop (at + length piece) old)
 holds_is at piece old new within holds =
     let some : min at (length old) ≡ at = omega (arith, within) in
-    let front : take at new ≡ take at old = subst (λ n. take n new ≡ take at old) some holds.before in
+    let prefix : take at new ≡ take at old = subst (λ n. take n new ≡ take at old) some holds.before in
     let back : drop at new ≡ piece ++ drop (at + length piece) old =
     sym (take-append-drop (length piece) (drop at new)) ∙ ap (λ (l : List ℕ). l ++ drop (length piece) (drop at new)) holds.here ∙ ap (λ (l : List ℕ). piece ++ l) (drop-drop (length piece) at new ∙ holds.after) in
-    sym (take-append-drop at new) ∙ ap (λ (l : List ℕ). l ++ drop at new) front ∙ ap (λ (l : List ℕ). take at old ++ l) back
+    sym (take-append-drop at new) ∙ ap (λ (l : List ℕ). l ++ drop at new) prefix ∙ ap (λ (l : List ℕ). take at old ++ l) back
 
 shut : (gate : ℕ) (rest : List ℕ) → gate ≢ 1 → IsShut (gate ∷ rest)
 shut gate [] is_not = tt
@@ -48,8 +48,8 @@ module _ (records : List (List ℕ)) (fits : Fit records) (end : ℕ) (size : en
   torn_behind n c torn =
       let long = length-at_rest in
       let some : min (end + 1) (length (at_rest records)) ≡ end + 1 = omega (arith, long) in
-      let front : take (end + 1) c ≡ at_rest records = subst (λ m. take m c ≡ take (end + 1) (at_rest records)) some torn.before ∙ take_all (end + 1) (at_rest records) (omega (arith, long)) in
-      let whole : c ≡ blocks records ++ 0 ∷ drop (end + 1) c = sym (take-append-drop (end + 1) c) ∙ ap (λ (l : List ℕ). l ++ drop (end + 1) c) front ∙ append_assoc (blocks records) (0 ∷ []) (drop (end + 1) c) in
+      let prefix : take (end + 1) c ≡ at_rest records = subst (λ m. take m c ≡ take (end + 1) (at_rest records)) some torn.before ∙ take_all (end + 1) (at_rest records) (omega (arith, long)) in
+      let whole : c ≡ blocks records ++ 0 ∷ drop (end + 1) c = sym (take-append-drop (end + 1) c) ∙ ap (λ (l : List ℕ). l ++ drop (end + 1) c) prefix ∙ append_assoc (blocks records) (0 ∷ []) (drop (end + 1) c) in
       subst (λ f. Stands f records) (sym whole) (stands_shut records 0 (drop (end + 1) c) fits (λ e. absurd (omega (arith, e))))
 
   pub held_behind : (bytes piece c : List ℕ) → piece ≡ body bytes ++ 0 ∷ [] → Holds (end + 1) piece (at_rest records) c → c ≡ staged records 0 bytes
@@ -75,10 +75,10 @@ module _ (records : List (List ℕ)) (fits : Fit records) (end : ℕ) (size : en
   torn_at gate rest c torn =
       let long : length (blocks records ++ gate ∷ rest) ≡ end + 1 + length rest = omega (arith, size, length-append (blocks records) (gate ∷ rest)) in
       let some : min end (length (blocks records ++ gate ∷ rest)) ≡ end = omega (arith, long) in
-      let front : take end c ≡ blocks records = subst (λ m. take m c ≡ take end (blocks records ++ gate ∷ rest)) some torn.before ∙ to_gate gate rest in
+      let prefix : take end c ≡ blocks records = subst (λ m. take m c ≡ take end (blocks records ++ gate ∷ rest)) some torn.before ∙ to_gate gate rest in
       let more : drop end c ≡ get_or c end 0 ∷ drop (end + 1) c = drop_more c end 0 (omega (arith, torn.no_shorter, long)) in (
         get_or c end 0,
-        sym (take-append-drop end c) ∙ ap (λ (l : List ℕ). l ++ drop end c) front ∙ ap (λ (l : List ℕ). blocks records ++ l) (more ∙ ap (λ (l : List ℕ). get_or c end 0 ∷ l) (torn.after ∙ from_gate gate rest)),
+        sym (take-append-drop end c) ∙ ap (λ (l : List ℕ). l ++ drop end c) prefix ∙ ap (λ (l : List ℕ). blocks records ++ l) (more ∙ ap (λ (l : List ℕ). get_or c end 0 ∷ l) (torn.after ∙ from_gate gate rest)),
       )
 
   pub held_at : (new gate : ℕ) (rest c : List ℕ) → Holds end (new ∷ []) (blocks records ++ gate ∷ rest) c → c ≡ blocks records ++ new ∷ rest

@@ -9,25 +9,25 @@ pub torn_nothing : (at n : ℕ) (bytes : List ℕ) → Torn at n bytes bytes
 torn_nothing at n bytes = record { before = take_min at bytes; after = refl; no_shorter = omega arith; no_longer = omega arith }
 
 pub cut_nothing : (n : ℕ) (bytes : List ℕ) → Cut n bytes bytes
-cut_nothing n bytes = record { no_shorter = omega arith; front = sym (take_all (length bytes) bytes (omega arith)) }
+cut_nothing n bytes = record { no_shorter = omega arith; prefix = sym (take_all (length bytes) bytes (omega arith)) }
 
 -- all may have been done
 pub torn_all : (at : ℕ) (piece old new : List ℕ) → Holds at piece old new → Torn at (length piece) old new
 torn_all at piece old new holds =
-    let front = ap length holds.before in
+    let prefix = ap length holds.before in
     let here = ap length holds.here in
     let behind = ap length holds.after in
     record {
       before = holds.before;
       after = holds.after;
-      no_shorter = omega (arith, front, here, behind, length-take (min at (length old)) new, length-take at old, length-take (length piece) (drop at new), length-drop at new, length-drop (at + length piece) new, length-drop (at + length piece) old);
-      no_longer = omega (arith, front, here, behind, length-take (min at (length old)) new, length-take at old, length-take (length piece) (drop at new), length-drop at new, length-drop (at + length piece) new, length-drop (at + length piece) old);
+      no_shorter = omega (arith, prefix, here, behind, length-take (min at (length old)) new, length-take at old, length-take (length piece) (drop at new), length-drop at new, length-drop (at + length piece) new, length-drop (at + length piece) old);
+      no_longer = omega (arith, prefix, here, behind, length-take (min at (length old)) new, length-take at old, length-take (length piece) (drop at new), length-drop at new, length-drop (at + length piece) new, length-drop (at + length piece) old);
     }
 
 pub cut_all : (n : ℕ) (old new : List ℕ) → new ≡ take n old → Cut n old new
 cut_all n old new is =
     let long = ap length is ∙ length-take n old in
-    record { no_shorter = omega (arith, long); front = is ∙ sym (ap (λ (m : ℕ). take m old) long ∙ take_min n old) }
+    record { no_shorter = omega (arith, long); prefix = is ∙ sym (ap (λ (m : ℕ). take m old) long ∙ take_min n old) }
 
 module _ {D : Type 0} (moment : D → ℕ) (left_since : D → ℕ → Outcomes) (may_leave : D → Outcomes) (step : List ℕ → List ℕ → Type 0) where
   -- A change and a sync: each crash since the start leaves an old outcome after a part of the change.

@@ -13,9 +13,9 @@ record Begins (file : List ℕ) : Type 0 where
   pub some : 0 < length behind
   pub split : file ≡ 1 ∷ (body bytes ++ behind)
 
--- the same front of a length leaves the same rest
-same_front : (a b x y : List ℕ) → length a ≡ length b → a ++ x ≡ b ++ y → (a ≡ b) × (x ≡ y)
-same_front a b x y len is = (
+-- the same prefix of a length leaves the same rest
+same_prefix : (a b x y : List ℕ) → length a ≡ length b → a ++ x ≡ b ++ y → (a ≡ b) × (x ≡ y)
+same_prefix a b x y len is = (
   sym (take_at a x (length a) refl) ∙ ap (λ (l : List ℕ). take (length a) l) is ∙ take_at b y (length a) (sym len),
   sym (drop_at a x (length a) refl) ∙ ap (λ (l : List ℕ). drop (length a) l) is ∙ drop_at b y (length a) (sym len),
 )
@@ -24,9 +24,9 @@ one_body : (r t x y : List ℕ) → length r < 2 ^ 64 → length t < 2 ^ 64 → 
 one_body r t x y fits fit is =
     let whole : to_le_bytes w64 (length r) ++ (r ++ x) ≡ to_le_bytes w64 (length t) ++ (t ++ y) =
     sym (append_assoc (to_le_bytes w64 (length r)) r x) ∙ is ∙ append_assoc (to_le_bytes w64 (length t)) t y in
-    let parts = same_front (to_le_bytes w64 (length r)) (to_le_bytes w64 (length t)) (r ++ x) (t ++ y) refl whole in
+    let parts = same_prefix (to_le_bytes w64 (length r)) (to_le_bytes w64 (length t)) (r ++ x) (t ++ y) refl whole in
     let len : length r ≡ length t = sym (from_le_bytes-to_le_bytes_8 (length r) fits) ∙ ap (λ (l : List ℕ). from_le_bytes w64 l) parts.0 ∙ from_le_bytes-to_le_bytes_8 (length t) fit in
-    same_front r t x y len parts.1
+    same_prefix r t x y len parts.1
 
 -- records up to bytes that begin with none
 one_split : (rs ts : List (List ℕ)) (x y : List ℕ) → Fit rs → Fit ts → 0 < length x → 0 < length y → ¬ Begins x → ¬ Begins y → blocks rs ++ x ≡ blocks ts ++ y → (rs ≡ ts) × (x ≡ y)
@@ -87,14 +87,14 @@ one_list (b ∷ file) records others s t =
     (one_split records others s.rest t.rest s.fits t.fits (shut_some s.rest shut) (shut_some t.rest closed) (shut_stops s.rest shut) (shut_stops t.rest closed) (sym s.split ∙ t.split)).0
 
 -- the place of damage is determined
-pub one_place : (file : List ℕ) (place other : ℕ) → IsDamaged file place → IsDamaged file other → place ≡ other
-one_place file place other s t =
+pub one_offset : (file : List ℕ) (offset other : ℕ) → IsDamaged file offset → IsDamaged file other → offset ≡ other
+one_offset file offset other s t =
     let one = one_split s.records t.records (s.gate ∷ s.rest) (t.gate ∷ t.rest) s.fits t.fits (omega arith) (omega arith) (open_stops s.gate s.rest s.no_record) (open_stops t.gate t.rest t.no_record) (sym s.split ∙ t.split) in
     s.at ∙ ap (λ (l : List (List ℕ)). length (blocks l)) one.0 ∙ sym t.at
 
 -- a file is not damaged where records stand in it
-pub not_both : (file : List ℕ) (records : List (List ℕ)) (place : ℕ) → Stands file records → IsDamaged file place → ⊥
-not_both file records place s t =
+pub not_both : (file : List ℕ) (records : List (List ℕ)) (offset : ℕ) → Stands file records → IsDamaged file offset → ⊥
+not_both file records offset s t =
     let shut = shut_rest file records s (omega (arith, ap length t.split, length-append (blocks t.records) (t.gate ∷ t.rest))) in
     let one = one_split records t.records s.rest (t.gate ∷ t.rest) s.fits t.fits (shut_some s.rest shut) (omega arith) (shut_stops s.rest shut) (open_stops t.gate t.rest t.no_record) (sym s.split ∙ t.split) in
     t.open_gate (subst IsShut one.1 shut)

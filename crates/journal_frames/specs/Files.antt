@@ -38,8 +38,8 @@ pub record BeginsRecord (rest : List ℕ) : Type 0 where
   pub fits : length bytes < 2 ^ 64
   pub split : rest ≡ body bytes ++ gate ∷ behind
 
--- Damage at a place: an open gate stands there, and no record behind it that ends before the file's last byte.
-pub record IsDamaged (file : List ℕ) (place : ℕ) : Type 0 where
+-- Damage at an offset: an open gate stands there, and no record behind it that ends before the file's last byte.
+pub record IsDamaged (file : List ℕ) (offset : ℕ) : Type 0 where
   pub records : List (List ℕ)
   pub gate : ℕ
   pub rest : List ℕ
@@ -47,7 +47,7 @@ pub record IsDamaged (file : List ℕ) (place : ℕ) : Type 0 where
   pub split : file ≡ blocks records ++ gate ∷ rest
   pub open_gate : ¬ IsShut (gate ∷ rest)
   pub no_record : ¬ BeginsRecord rest
-  pub at : place ≡ length (blocks records)
+  pub at : offset ≡ length (blocks records)
 
 -- the file has just these records, with or without one more
 abbrev pub StandsWithOrWithout : List (List ℕ) → List ℕ → List ℕ → Type 0

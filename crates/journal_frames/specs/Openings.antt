@@ -8,7 +8,7 @@ use Rattle.journal_frames.specs.declared.journal.OpenFault.TheVariants.{Disk, Da
 abbrev pub disk_left : {D : Type 0} → Result (JournalView D) (OpenFault D) → D
 disk_left (Ok journal) = journal.disk
 disk_left (Err (Disk disk)) = disk
-disk_left (Err (Damaged place disk)) = disk
+disk_left (Err (Damaged offset disk)) = disk
 disk_left (Err (Memory disk)) = disk
 
 -- where the disk failed
@@ -16,7 +16,12 @@ abbrev pub IfDiskFailed : {D : Type 0} → Result (JournalView D) (OpenFault D) 
 IfDiskFailed (Err (Disk disk)) failed = failed
 IfDiskFailed result failed = Unit {0}
 
--- where the file is damaged, at a place
+-- where the disk did not fail
+abbrev pub UnlessDiskFailed : {D : Type 0} → Result (JournalView D) (OpenFault D) → Type 0 → Type 0
+UnlessDiskFailed (Err (Disk disk)) calm = Unit {0}
+UnlessDiskFailed result calm = calm
+
+-- where the file is damaged, at an offset
 abbrev pub IfDamaged : {D : Type 0} → Result (JournalView D) (OpenFault D) → (ℕ → Type 0) → Type 0
-IfDamaged (Err (Damaged place disk)) damaged = damaged place
+IfDamaged (Err (Damaged offset disk)) damaged = damaged offset
 IfDamaged result damaged = Unit {0}

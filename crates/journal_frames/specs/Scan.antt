@@ -26,5 +26,5 @@ IsNext file (Whole bytes behind) = (rest : List ℕ) × (file ≡ 1 ∷ rest) ×
 IsNext file Damage = IsBroken file
 
 abbrev pub IsScanFault : List ℕ → ScanFault → Type 0
-IsScanFault file (faults.Damage place) = IsDamaged file place
+IsScanFault file (faults.Damage offset) = IsDamaged file offset
 IsScanFault file faults.Memory = Unit {0}

@@ -20,7 +20,7 @@ abbrev pub at_rest : List (List ℕ) → List ℕ
 at_rest records = blocks records ++ 0 ∷ []
 
 -- The journal is open: its file is at rest and all of it is on the disk, where the disk tells it, and `end` is the
--- place of the closed gate.
+-- offset of the closed gate.
 pub record IsAtRest (tells : Bool) (content : List ℕ) (may_leave : Outcomes) (records : List (List ℕ)) (end : ℕ) : Type 0 where
   pub size : end ≡ length (blocks records)
   pub fits : Fit records
@@ -33,7 +33,7 @@ pub record IsReady (tells : Bool) (content : List ℕ) (may_leave : Outcomes) (r
   pub fits : length bytes < 2 ^ 64
   pub piece_is : piece ≡ body bytes ++ 0 ∷ []
 
--- These records were found in the file, all of which is on the disk, and `end` is the place of the first gate that is not
+-- These records were found in the file, all of which is on the disk, and `end` is the offset of the first gate that is not
 -- open.
 pub record IsFound (tells : Bool) (content : List ℕ) (may_leave : Outcomes) (records : List (List ℕ)) (end : ℕ) : Type 0 where
   pub size : end ≡ length (blocks records)

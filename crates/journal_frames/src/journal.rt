@@ -4,7 +4,7 @@ ghost use Rattle.outside.specs.Causes.{Rose};
 ghost use Rattle.outside.specs.Disks.{LeavesOnly};
 ghost use Rattle.outside.specs.Logs.{ByFault, WithOrWithout};
 ghost use Rattle.journal_frames.specs.Files.{HaveSameRecords, IsDamaged, Stands, StandsWithOrWithout, body};
-ghost use Rattle.journal_frames.specs.Openings.{IfDamaged, IfDiskFailed, disk_left};
+ghost use Rattle.journal_frames.specs.Openings.{IfDamaged, IfDiskFailed, UnlessDiskFailed, disk_left};
 ghost use Rattle.journal_frames.specs.Views.{IsAtRest, IsFound};
 
 use crate::loading::{LoadFault, load};
@@ -27,7 +27,7 @@ pub struct Journal<D: Disk> {
     alloc: Global,
     disk: D,
     records: RecordList,
-    // The place of the closed gate behind the records.
+    // The offset of the closed gate behind the records.
     end: u64,
     is_open: bool,
 }
@@ -50,7 +50,7 @@ impl<D: Disk> Model for Journal<D> {
 pub enum OpenFault<D: Disk> {
     /// The disk met a fault, which is counted.
     Disk(D),
-    /// At the place an open gate stands before bytes that are no whole record; the disk's file is as before.
+    /// At the offset `place` an open gate stands before bytes that are no whole record; the disk's file is as before.
     Damaged { place: u64, disk: D },
     /// Want of memory.
     Memory(D),
@@ -89,7 +89,9 @@ fn settle<D: Disk>(disk: &mut D, len: usize, end: usize) -> Result<(), Failed>
         (IsTrue D.tells → len ≡ length (D.content disk.old)) →
         IsTrue D.tells → LeavesOnly D.moment D.left_since disk.old disk.new (λ c. Stands c records) }
     ensures cause { OnErr result (Rose (D.fault_count disk.old) (D.fault_count disk.new)) }
+    ensures calm { OnOk result (D.fault_count disk.new ≡ D.fault_count disk.old) }
     ensures later { D.fault_count disk.old ≤ D.fault_count disk.new }
+    ensures place { D.place disk.new ≡ D.place disk.old }
 {
     if len == 0 {
         write_first_gate(disk)?;
@@ -105,7 +107,7 @@ impl<D: Disk> Journal<D> {
     /// first gate that is not open, which is then closed, each step synced.
     ///
     /// # Errors
-    /// - `OpenFault::Disk` only if the disk met a fault.
+    /// - `OpenFault::Disk` only if the disk met a fault. With each other answer it met none.
     /// - `OpenFault::Damaged` if an open gate stands before bytes that are no whole record, unless the disk met a fault or memory
     ///   was wanted before that was seen, and only if such a gate stands there; the file is as before.
     /// - `OpenFault::Memory` for want of memory.
@@ -114,11 +116,13 @@ impl<D: Disk> Journal<D> {
         ensures open { IfOk result (λ journal. IsTrue journal.is_open) }
         ensures kept { IfOk result (λ journal. IsTrue D.tells →
             (c : List ℕ) → D.may_leave journal.disk c → Stands c journal.records) }
-        ensures damaged { IfDamaged result (λ place. IsTrue D.tells →
-            IsDamaged (D.content disk) place × (D.content (disk_left result) ≡ D.content disk)) }
-        ensures only { (place : ℕ) → IsTrue D.tells → IsDamaged (D.content disk) place → IsErr result }
+        ensures damaged { IfDamaged result (λ offset. IsTrue D.tells →
+            IsDamaged (D.content disk) offset × (D.content (disk_left result) ≡ D.content disk)) }
+        ensures only { (offset : ℕ) → IsTrue D.tells → IsDamaged (D.content disk) offset → IsErr result }
         ensures cause { IfDiskFailed result (Rose (D.fault_count disk) (D.fault_count (disk_left result))) }
+        ensures calm { UnlessDiskFailed result (D.fault_count (disk_left result) ≡ D.fault_count disk) }
         ensures later { D.fault_count disk ≤ D.fault_count (disk_left result) }
+        ensures place { D.place (disk_left result) ≡ D.place disk }
 
         // Whatever it answers, the same records stand on the disk, and a crash at any moment left them standing, or
         // what it might have left before.
@@ -179,6 +183,8 @@ impl<D: Disk> Log for Journal<D> {
 
     ghost fault_count = { λ j. D.fault_count j.disk };
 
+    ghost place = { λ j. D.place j.disk };
+
     /// Appends a record: its piece is written behind the closed gate and synced, and then the gate is opened and synced.
     fn append(&mut self, bytes: &[u8]) -> Result<(), LogFault>
         requires { IsTrue self.old.is_open }
@@ -192,7 +198,9 @@ impl<D: Disk> Log for Journal<D> {
             (λ faults. (faults ≡ D.fault_count self.new.disk)
             × Rose (D.fault_count self.old.disk) (D.fault_count self.new.disk))
             (Unit {0})) }
+        ensures calm { OnOk result (D.fault_count self.new.disk ≡ D.fault_count self.old.disk) }
         ensures later { D.fault_count self.old.disk ≤ D.fault_count self.new.disk }
+        ensures place { D.place self.new.disk ≡ D.place self.old.disk }
 
         // After it every crash leaves all records, and a crash at any moment of it left the earlier ones, with the new
         // one or without.

@@ -2,11 +2,11 @@
 ghost use Rattle.std.specs.Prelude.{◌≡◌, ℕ, ◌++◌, ◌∷◌, [], List};
 ghost use Rattle.journal_frames.specs.Files.{Fit, IsDamaged, Stands, blocks, body};
 
-/// A file has one reading: one list of records, or damage at one place, and not both.
+/// A file has one reading: one list of records, or damage at one offset, and not both.
 pub fn one_reading()
     ensures records { (file : List ℕ) (records others : List (List ℕ)) → Stands file records → Stands file others → records ≡ others }
-    ensures damage { (file : List ℕ) (place other : ℕ) → IsDamaged file place → IsDamaged file other → place ≡ other }
-    ensures apart { (file : List ℕ) (records : List (List ℕ)) (place : ℕ) → Stands file records → IsDamaged file place → ⊥ }
+    ensures damage { (file : List ℕ) (offset other : ℕ) → IsDamaged file offset → IsDamaged file other → offset ≡ other }
+    ensures apart { (file : List ℕ) (records : List (List ℕ)) (offset : ℕ) → Stands file records → IsDamaged file offset → ⊥ }
 {}
 
 /// Worked files: an empty one, one with a closed gate, one with a record of the byte 7, and one that ends in a record.

@@ -8,7 +8,5 @@ mod loading;
 mod putting;
 mod scanning;
 mod synced;
-#[cfg(test)]
-mod tests;
 
 pub use journal::{Journal, OpenFault};

@@ -46,7 +46,9 @@ fn fill<D: Disk>(disk: &mut D, buf: &mut [u8]) -> Result<usize, Failed>
     ensures at_end { IfOk result (λ n. IsTrue D.tells → n < length buf.old → length (D.content disk.old) ≤ n) }
     ensures undisturbed { IsTrue D.tells → IsUndisturbed D.content D.may_leave D.moment D.left_since disk.old disk.new }
     ensures cause { OnErr result (Rose (D.fault_count disk.old) (D.fault_count disk.new)) }
+    ensures calm { OnOk result (D.fault_count disk.new ≡ D.fault_count disk.old) }
     ensures later { D.fault_count disk.old ≤ D.fault_count disk.new }
+    ensures place { D.place disk.new ≡ D.place disk.old }
 {
     let mut at = 0;
     while at < buf.len() {
@@ -69,7 +71,9 @@ pub(crate) fn load<D: Disk>(alloc: Global, disk: &mut D) -> Result<Vec<u8>, Load
     ensures durable { OnOk result (IsTrue D.tells → Only (D.content disk.old) (D.may_leave disk.new)) }
     ensures undisturbed { IsTrue D.tells → IsUndisturbed D.content D.may_leave D.moment D.left_since disk.old disk.new }
     ensures cause { IfErr result (λ e. IsLoadFault (D.fault_count disk.old) (D.fault_count disk.new) e) }
+    ensures calm { OnOk result (D.fault_count disk.new ≡ D.fault_count disk.old) }
     ensures later { D.fault_count disk.old ≤ D.fault_count disk.new }
+    ensures place { D.place disk.new ≡ D.place disk.old }
 {
     disk.sync()?;
     let len = disk.len()?;

@@ -26,7 +26,9 @@ pub(crate) fn put_record<D: Disk>(disk: &mut D, end: u64, piece: &[u8]) -> Resul
         IsReady D.tells (D.content disk.old) (D.may_leave disk.old) records end bytes piece.now →
         IsTrue D.tells → LeavesOnly D.moment D.left_since disk.old disk.new (StandsWithOrWithout records bytes) }
     ensures cause { OnErr result (Rose (D.fault_count disk.old) (D.fault_count disk.new)) }
+    ensures calm { OnOk result (D.fault_count disk.new ≡ D.fault_count disk.old) }
     ensures later { D.fault_count disk.old ≤ D.fault_count disk.new }
+    ensures place { D.place disk.new ≡ D.place disk.old }
 {
     write_synced(disk, end + 1, piece)?;
     // The record has to be on the disk first: behind a gate that is open, what was there would count.
@@ -52,7 +54,9 @@ pub(crate) fn write_first_gate<D: Disk>(disk: &mut D) -> Result<(), Failed>
         (IsTrue D.tells → D.content disk.old ≡ []) →
         IsTrue D.tells → LeavesOnly D.moment D.left_since disk.old disk.new (λ c. Stands c records) }
     ensures cause { OnErr result (Rose (D.fault_count disk.old) (D.fault_count disk.new)) }
+    ensures calm { OnOk result (D.fault_count disk.new ≡ D.fault_count disk.old) }
     ensures later { D.fault_count disk.old ≤ D.fault_count disk.new }
+    ensures place { D.place disk.new ≡ D.place disk.old }
 {
     write_synced(disk, 0, &[0])?;
     Ok(())
@@ -77,7 +81,9 @@ pub(crate) fn close_end<D: Disk>(disk: &mut D, end: u64) -> Result<(), Failed>
         (IsTrue D.tells → 0 < length (D.content disk.old)) →
         IsTrue D.tells → LeavesOnly D.moment D.left_since disk.old disk.new (λ c. Stands c records) }
     ensures cause { OnErr result (Rose (D.fault_count disk.old) (D.fault_count disk.new)) }
+    ensures calm { OnOk result (D.fault_count disk.new ≡ D.fault_count disk.old) }
     ensures later { D.fault_count disk.old ≤ D.fault_count disk.new }
+    ensures place { D.place disk.new ≡ D.place disk.old }
 {
     // The cut has to be on the disk first: behind a gate that is torn open, what was there would count.
     cut_synced(disk, end + 1)?;

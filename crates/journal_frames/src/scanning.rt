@@ -21,7 +21,7 @@ pub(crate) enum Next<'a> {
 
 /// Why no records were found.
 pub(crate) enum ScanFault {
-    /// No record stands behind the open gate at this place.
+    /// No record stands behind the open gate at this offset.
     Damage { place: usize },
     /// Want of memory.
     Memory,
@@ -66,7 +66,7 @@ pub(crate) fn next_record(file: &[u8]) -> Next<'_>
     }
 }
 
-/// The records that stand in a file, and the place of the first gate that is not open.
+/// The records that stand in a file, and the offset of the first gate that is not open.
 ///
 /// # Errors
 /// - `ScanFault::Damage` exactly if an open gate stands before bytes that are no whole record.

@@ -6,7 +6,7 @@ ghost use Rattle.outside.specs.Disks.{After, Cut, Follows, Holds, LeavesOnly, On
 use outside::disk::Disk;
 use outside::streams::Failed;
 
-/// Writes the piece from the place `at` on, and syncs.
+/// Writes the piece from the offset `at` on, and syncs.
 ///
 /// # Errors
 /// `Failed` if the disk met a fault, which is counted. A part of the range may be written then.
@@ -18,7 +18,9 @@ pub(crate) fn write_synced<D: Disk>(disk: &mut D, at: u64, piece: &[u8]) -> Resu
     ensures any_moment { IsTrue D.tells → LeavesOnly D.moment D.left_since disk.old disk.new
         (After (Torn at (length piece.now)) (D.may_leave disk.old)) }
     ensures cause { OnErr result (Rose (D.fault_count disk.old) (D.fault_count disk.new)) }
+    ensures calm { OnOk result (D.fault_count disk.new ≡ D.fault_count disk.old) }
     ensures later { D.fault_count disk.old ≤ D.fault_count disk.new }
+    ensures place { D.place disk.new ≡ D.place disk.old }
 {
     disk.write_at(at, piece)?;
     disk.sync()?;
@@ -37,7 +39,9 @@ pub(crate) fn cut_synced<D: Disk>(disk: &mut D, len: u64) -> Result<(), Failed>
     ensures any_moment { IsTrue D.tells → LeavesOnly D.moment D.left_since disk.old disk.new
         (After (Cut len) (D.may_leave disk.old)) }
     ensures cause { OnErr result (Rose (D.fault_count disk.old) (D.fault_count disk.new)) }
+    ensures calm { OnOk result (D.fault_count disk.new ≡ D.fault_count disk.old) }
     ensures later { D.fault_count disk.old ≤ D.fault_count disk.new }
+    ensures place { D.place disk.new ≡ D.place disk.old }
 {
     disk.cut(len)?;
     disk.sync()

@@ -3,17 +3,17 @@ use Rattle.std.proofs.Common.{◌≡◌, ◌≢◌, ℕ, ◌<◌, ◌^◌, List,
 use Rattle.std.specs.Prelude.{ℤ, IfOk}
 use Rattle.std.specs.Int.{w32, cast_signed, cast_unsigned}
 use Rattle.std.proofs.lemmas.Int.{of_z-to_z}
-use Rattle.document_model.specs.Faults.{Fault}
+use Rattle.opmsg_model.specs.Faults.{Fault}
 use Rattle.bson_values.specs.declared.fault.BsonFault.{BsonFault}
 use Rattle.bson_values.specs.declared.fault.BsonFault.TheVariants.{Memory}
-use Rattle.bson_values.specs.Faults.{fault_from}
-use Rattle.frame_model.specs.Requests as wire
-use Rattle.frame_model.specs.Sections.{Section, documents_in}
+use Rattle.bson_values.specs.ReadFaults.{fault_from}
+use Rattle.opmsg_model.specs.Requests as wire
+use Rattle.opmsg_model.specs.Sections.{Section, documents_in}
 use Rattle.opmsg_frames.specs.declared.request.Body.{Body}
 use Rattle.opmsg_frames.specs.declared.request.Body.TheVariants.{Faulty}
-use Rattle.opmsg_frames.specs.Requests.{IsBody}
+use Rattle.opmsg_frames.specs.RequestMeanings.{IsBody}
 
-pub told : {E : Type 0} (sections : List Section) (result : Result Body E) (e : BsonFault) → IfOk result (λ body. (e ≢ Memory) × (body ≡ Faulty e)) → (e ≢ Memory → (fault : Fault) × (place : ℕ) × (e ≡ fault_from fault place) × wire.FirstFaulty (documents_in sections) fault place)
+pub told : {E : Type 0} (sections : List Section) (result : Result Body E) (e : BsonFault) → IfOk result (λ body. (e ≢ Memory) × (body ≡ Faulty e)) → (e ≢ Memory → (fault : Fault) × (offset : ℕ) × (e ≡ fault_from fault offset) × wire.FirstFaulty (documents_in sections) fault offset)
     → IfOk result (λ body. (meant : wire.Body) × IsBody body meant × wire.HasBody sections meant)
 told sections (Ok body) e h first =
     let x = first h.0 in

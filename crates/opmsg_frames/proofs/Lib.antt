@@ -4,7 +4,7 @@ pub mod SectionWalk
 pub mod Pairs
 pub mod Wholes
 pub mod DocumentReads
-pub mod SectionFronts
+pub mod SectionPrefixes
 pub mod SectionReads
 pub mod Bytes
 pub mod Spellings
@@ -22,5 +22,5 @@ pub mod SpelledOutlines
 pub mod WalkEnds
 pub mod SomeReading
 pub mod SmallSpellings
-pub mod WalkPlaces
+pub mod WalkOffsets
 pub mod SmallRequests

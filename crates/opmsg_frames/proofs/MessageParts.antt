@@ -3,9 +3,9 @@ use Rattle.std.proofs.Common.{◌≡◌, ℕ, ◌+◌, ◌≤◌, false, List, l
 use Rattle.std.specs.Int.{w32, cast_signed}
 use Rattle.std.specs.List.{flat_map}
 use Rattle.std.proofs.lemmas.Nat.{from_le_bytes-to_le_bytes_4}
-use Rattle.frame_model.specs.Messages.{number_at, stated_length, opcode, op_msg, op_query, most_bytes}
-use Rattle.frame_model.specs.Sections.{Section, section_bytes}
-use Rattle.frame_model.specs.Requests.{Request, IsMsg, IsQuery, IsFlags, is_more, msg_bytes, query_bytes}
+use Rattle.opmsg_model.specs.Messages.{number_at, stated_length, opcode, op_msg, op_query, most_bytes}
+use Rattle.opmsg_model.specs.Sections.{Section, section_bytes}
+use Rattle.opmsg_model.specs.Requests.{Request, IsMsg, IsQuery, IsFlags, is_more, msg_bytes, query_bytes}
 
 pub record MsgParts (r : Request) (sections : List Section) : Type 0 where
   pub stated : stated_length r.bytes ≡ length r.bytes

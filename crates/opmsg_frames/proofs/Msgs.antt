@@ -4,11 +4,13 @@ use Rattle.std.specs.Prelude.{◌||◌, ◌==◌, nat_lt, if◌then◌else◌}
 use Rattle.std.specs.Int.{w32, cast_signed}
 use Rattle.std.specs.List.{flat_map}
 use Rattle.std.proofs.lemmas.Bool.Decides.{nat_tests}
-use Rattle.frame_model.specs.Messages.{int32, header, number_at, opcode, op_msg, most_bytes}
-use Rattle.frame_model.specs.Sections.{Section, section_bytes}
-use Rattle.frame_model.specs.Requests.{msg_form, Body, IsMsg, is_more, low_flags}
-use Rattle.frame_model.specs.Outline.{FrameFault, bad_flags, msg_fault, sections_fault, takes_flags}
-use Rattle.opmsg_frames.proofs.Bytes.{IsBytes, back_part, number_fits, number_front}
+use Rattle.opmsg_model.specs.Messages.{int32, header, number_at, opcode, op_msg, most_bytes}
+use Rattle.opmsg_model.specs.Sections.{Section, section_bytes}
+use Rattle.opmsg_model.specs.Requests.{msg_form, Body, IsMsg, is_more, low_flags}
+use Rattle.opmsg_model.specs.Outline.{FrameFault, bad_flags, msg_fault, sections_fault, takes_flags}
+use Rattle.opmsg_frames.proofs.Bytes.{number_fits, number_prefix}
+use Rattle.bson_values.proofs.Leaves.{AreBytes-drop}
+use Rattle.opmsg_model.specs.Grammar.{AreBytes}
 use Rattle.opmsg_frames.proofs.Spellings.{sections_exist}
 
 -- its flags are taken, and its sections are right
@@ -29,11 +31,11 @@ taken_flags low e = either low (low == 0) (low == 2) refl refl e
 joins : (b₀ b₄ b₈ b₁₂ b₁₆ s : List ℕ) (n i a c f : ℕ) → b₀ ≡ int32 n ++ b₄ → b₄ ≡ int32 i ++ b₈ → b₈ ≡ int32 a ++ b₁₂ → b₁₂ ≡ int32 c ++ b₁₆ → b₁₆ ≡ int32 f ++ s → b₀ ≡ header n i a c ++ (int32 f ++ s)
 joins b₀ b₄ b₈ b₁₂ b₁₆ s n i a c f p q r t u = rw (p, q, r, t, u) refl
 
-pub is_msg : (bytes : List ℕ) → IsBytes bytes → 20 ≤ length bytes → length bytes ≤ most_bytes → number_at 0 bytes ≡ length bytes → opcode bytes ≡ op_msg → msg_fault bytes ≡ None
+pub is_msg : (bytes : List ℕ) → AreBytes bytes → 20 ≤ length bytes → length bytes ≤ most_bytes → number_at 0 bytes ≡ length bytes → opcode bytes ≡ op_msg → msg_fault bytes ≡ None
     → (sections : List Section) × (drop 20 bytes ≡ flat_map section_bytes sections) × ((body : Body) → IsMsg (record { id = cast_signed w32 (number_at 4 bytes); more = is_more (number_at 16 bytes); form = msg_form; body = body; bytes = bytes }) sections)
 is_msg bytes are least most stated code sound =
     let f = flags_and_sections (nat_lt (length bytes) 20) (takes_flags (number_at 16 bytes)) (sections_fault (length bytes) 0 false (drop 20 bytes)) sound in
-    let x = sections_exist (length bytes) 0 false (drop 20 bytes) (back_part 20 bytes are) f.1 in
+    let x = sections_exist (length bytes) 0 false (drop 20 bytes) (AreBytes-drop 20 bytes are) f.1 in
     let size : number_at 0 bytes ≡ length (flat_map section_bytes x.sections) + 20 = stated ∙ omega (arith, length-drop 20 bytes, ap (λ (l : List ℕ). length l) x.split, least) in (
       x.sections,
       x.split,
@@ -45,11 +47,11 @@ is_msg bytes are least most stated code sound =
         answers_fit = number_fits 8 bytes are;
         flags_fit = number_fits 16 bytes are;
         whole = joins bytes (drop 4 bytes) (drop 8 bytes) (drop 12 bytes) (drop 16 bytes) (flat_map section_bytes x.sections) (length (flat_map section_bytes x.sections) + 20) (number_at 4 bytes) (number_at 8 bytes) op_msg (number_at 16 bytes)
-            (number_front 0 bytes are (omega (arith, least)) ∙ ap (λ (n : ℕ). int32 n ++ drop 4 bytes) size)
-            (number_front 4 bytes are (omega (arith, least)))
-            (number_front 8 bytes are (omega (arith, least)))
-            (number_front 12 bytes are (omega (arith, least)) ∙ ap (λ (n : ℕ). int32 n ++ drop 16 bytes) code)
-            (number_front 16 bytes are (omega (arith, least)) ∙ ap (λ (l : List ℕ). int32 (number_at 16 bytes) ++ l) x.split);
+            (number_prefix 0 bytes are (omega (arith, least)) ∙ ap (λ (n : ℕ). int32 n ++ drop 4 bytes) size)
+            (number_prefix 4 bytes are (omega (arith, least)))
+            (number_prefix 8 bytes are (omega (arith, least)))
+            (number_prefix 12 bytes are (omega (arith, least)) ∙ ap (λ (n : ℕ). int32 n ++ drop 16 bytes) code)
+            (number_prefix 16 bytes are (omega (arith, least)) ∙ ap (λ (l : List ℕ). int32 (number_at 16 bytes) ++ l) x.split);
         most = most;
         id = refl;
         taken = taken_flags (low_flags (number_at 16 bytes)) f.0;

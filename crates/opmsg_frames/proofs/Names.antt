@@ -5,15 +5,15 @@ use Rattle.std.proofs.lemmas.List.{append-nil}
 use Rattle.std.proofs.lemmas.Bool.Decides.{nat_tests}
 use Rattle.std.proofs.lemmas.Grind.{common_steps}
 use Rattle.std.proofs.Math.Seq.{take-suc}
-use Rattle.document_model.specs.Faults.{before_zero}
+use Rattle.opmsg_model.specs.Faults.{before_zero}
 
 -- what was passed before, and what is still found
 abbrev pub after : List ℕ → Option (List ℕ) → Option (List ℕ)
-after front name = option_map (λ more. front ++ more) name
+after prefix name = option_map (λ more. prefix ++ more) name
 
-regroup : (front : List ℕ) (b : ℕ) (name : Option (List ℕ)) → after front (option_map (λ more. b ∷ more) name) ≡ after (front ++ b ∷ []) name
-regroup front b (Some x) = ap (λ (more : List ℕ). Some more) (simp append_assoc)
-regroup front b None = refl
+regroup : (prefix : List ℕ) (b : ℕ) (name : Option (List ℕ)) → after prefix (option_map (λ more. b ∷ more) name) ≡ after (prefix ++ b ∷ []) name
+regroup prefix b (Some x) = ap (λ (more : List ℕ). Some more) (simp append_assoc)
+regroup prefix b None = refl
 
 one : (b : ℕ) (rest : List ℕ) → b ≢ 0 → before_zero (b ∷ rest) ≡ option_map (λ more. b ∷ more) (before_zero rest)
 one b rest h = let e : eqb b 0 ≡ false = grind (arith, nat_tests) in rw e refl

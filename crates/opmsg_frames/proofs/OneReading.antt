@@ -1,29 +1,30 @@
 -- Bytes have one reading.
 use Rattle.std.proofs.Common.{◌≡◌, ℕ, ◌+◌, Option, Some, List, length, take, drop, refl, sym, ap, ◌∙◌}
 use Rattle.std.proofs.lemmas.List.{take_at, drop_at}
-use Rattle.frame_model.specs.Requests.{Request}
-use Rattle.frame_model.specs.Frames.{IsFirst, FramesFrom, ends, fails, goes_on}
-use Rattle.frame_model.specs.Outline.{FrameFault, partial_outline, message_outline, faulty_outline, outline}
-use Rattle.opmsg_frames.proofs.Bytes.{IsBytes, front_part, back_part}
+use Rattle.opmsg_model.specs.Requests.{Request}
+use Rattle.opmsg_model.specs.Frames.{IsFirst, FramesFrom, ends, fails, goes_on}
+use Rattle.opmsg_model.specs.Outline.{FrameFault, partial_outline, message_outline, faulty_outline, outline}
+use Rattle.bson_values.proofs.Leaves.{AreBytes-take, AreBytes-drop}
+use Rattle.opmsg_model.specs.Grammar.{AreBytes}
 use Rattle.opmsg_frames.proofs.OneRequest.{one_request}
 
 -- one request stands first
-pub first_once : (bytes : List ℕ) (r s : Request) (behind rest : List ℕ) → IsBytes bytes → IsFirst bytes r behind → IsFirst bytes s rest → (r ≡ s) × (behind ≡ rest)
+pub first_once : (bytes : List ℕ) (r s : Request) (behind rest : List ℕ) → AreBytes bytes → IsFirst bytes r behind → IsFirst bytes s rest → (r ≡ s) × (behind ≡ rest)
 first_once bytes r s behind rest are a b =
     let whole : message_outline (length r.bytes) ≡ message_outline (length s.bytes) = sym a.whole ∙ b.whole in
     let size : length r.bytes ≡ length s.bytes = cc in
-    let front : take (length r.bytes) bytes ≡ r.bytes = ap (λ (l : List ℕ). take (length r.bytes) l) a.split ∙ take_at r.bytes behind (length r.bytes) refl in
-    let same : r.bytes ≡ s.bytes = sym front ∙ ap (λ (l : List ℕ). take (length r.bytes) l) b.split ∙ take_at s.bytes rest (length r.bytes) (sym size) in
+    let prefix : take (length r.bytes) bytes ≡ r.bytes = ap (λ (l : List ℕ). take (length r.bytes) l) a.split ∙ take_at r.bytes behind (length r.bytes) refl in
+    let same : r.bytes ≡ s.bytes = sym prefix ∙ ap (λ (l : List ℕ). take (length r.bytes) l) b.split ∙ take_at s.bytes rest (length r.bytes) (sym size) in
     let left : drop (length r.bytes) bytes ≡ behind = ap (λ (l : List ℕ). drop (length r.bytes) l) a.split ∙ drop_at r.bytes behind (length r.bytes) refl in (
-      one_request r s (rw front at (front_part (length r.bytes) bytes are)) same a.reads b.reads,
+      one_request r s (rw prefix at (AreBytes-take (length r.bytes) bytes are)) same a.reads b.reads,
       sym left ∙ ap (λ (l : List ℕ). drop (length r.bytes) l) b.split ∙ drop_at s.bytes rest (length r.bytes) (sym size),
     )
 
 -- the bytes behind a request
-pub behind_bytes : (bytes : List ℕ) (r : Request) (behind : List ℕ) → IsBytes bytes → IsFirst bytes r behind → IsBytes behind
+pub behind_bytes : (bytes : List ℕ) (r : Request) (behind : List ℕ) → AreBytes bytes → IsFirst bytes r behind → AreBytes behind
 behind_bytes bytes r behind are a =
     let left : drop (length r.bytes) bytes ≡ behind = ap (λ (l : List ℕ). drop (length r.bytes) l) a.split ∙ drop_at r.bytes behind (length r.bytes) refl in
-    rw left at (back_part (length r.bytes) bytes are)
+    rw left at (AreBytes-drop (length r.bytes) bytes are)
 
 -- how bytes begin
 not_partial : (bytes : List ℕ) (r : Request) (behind : List ℕ) → outline bytes ≡ partial_outline → IsFirst bytes r behind → ⊥
@@ -41,28 +42,28 @@ pub record Alike (requests others : List Request) (rest more : List ℕ) (fault 
   pub fault_is : fault ≡ other
 
 placed : FrameFault → ℕ → Option (FrameFault × ℕ)
-placed fault place = Some (fault, place)
+placed fault offset = Some (fault, offset)
 
-same_placed : (f g : FrameFault) (place : ℕ) → f ≡ g → placed f place ≡ placed g place
-same_placed f g place e = ap (λ (h : FrameFault). placed h place) e
+same_placed : (f g : FrameFault) (offset : ℕ) → f ≡ g → placed f offset ≡ placed g offset
+same_placed f g offset e = ap (λ (h : FrameFault). placed h offset) e
 
 same_fault : (bytes : List ℕ) (f g : FrameFault) → outline bytes ≡ faulty_outline f → outline bytes ≡ faulty_outline g → f ≡ g
 same_fault bytes f g a b = let q : faulty_outline f ≡ faulty_outline g = sym a ∙ b in cc
 
-pub one_reading : (place : ℕ) (bytes : List ℕ) (requests others : List Request) (rest more : List ℕ) (fault other : Option (FrameFault × ℕ)) → IsBytes bytes → FramesFrom place bytes requests rest fault → FramesFrom place bytes others more other → Alike requests others rest more fault other
+pub one_reading : (offset : ℕ) (bytes : List ℕ) (requests others : List Request) (rest more : List ℕ) (fault other : Option (FrameFault × ℕ)) → AreBytes bytes → FramesFrom offset bytes requests rest fault → FramesFrom offset bytes others more other → Alike requests others rest more fault other
 unfolding placed
-one_reading place bytes _ _ _ _ _ _ are (ends _ _ e) (ends _ _ f) = record { requests_are = refl; rest_is = refl; fault_is = refl }
-one_reading place bytes _ _ _ _ _ _ are (ends _ _ e) (fails _ _ g f) = absurd (not_both bytes g e f)
-one_reading place bytes _ _ _ _ _ _ are (ends _ _ e) (goes_on _ _ behind s others _ _ f more) = absurd (not_partial bytes s behind e f)
-one_reading place bytes _ _ _ _ _ _ are (fails _ _ g e) (ends _ _ f) = absurd (not_both bytes g f e)
-one_reading place bytes _ _ _ _ _ _ are (fails _ _ g e) (fails _ _ h f) = record { requests_are = refl; rest_is = refl; fault_is = same_placed g h place (same_fault bytes g h e f) }
-one_reading place bytes _ _ _ _ _ _ are (fails _ _ g e) (goes_on _ _ behind s others _ _ f more) = absurd (not_faulty bytes s behind g e f)
-one_reading place bytes _ _ _ _ _ _ are (goes_on _ _ behind r requests _ _ e more) (ends _ _ f) = absurd (not_partial bytes r behind f e)
-one_reading place bytes _ _ _ _ _ _ are (goes_on _ _ behind r requests _ _ e more) (fails _ _ g f) = absurd (not_faulty bytes r behind g f e)
-one_reading place bytes _ _ _ _ _ _ are (goes_on _ _ behind r requests rest fault e rs) (goes_on _ _ behind' s others more other f ss) =
+one_reading offset bytes _ _ _ _ _ _ are (ends _ _ e) (ends _ _ f) = record { requests_are = refl; rest_is = refl; fault_is = refl }
+one_reading offset bytes _ _ _ _ _ _ are (ends _ _ e) (fails _ _ g f) = absurd (not_both bytes g e f)
+one_reading offset bytes _ _ _ _ _ _ are (ends _ _ e) (goes_on _ _ behind s others _ _ f more) = absurd (not_partial bytes s behind e f)
+one_reading offset bytes _ _ _ _ _ _ are (fails _ _ g e) (ends _ _ f) = absurd (not_both bytes g f e)
+one_reading offset bytes _ _ _ _ _ _ are (fails _ _ g e) (fails _ _ h f) = record { requests_are = refl; rest_is = refl; fault_is = same_placed g h offset (same_fault bytes g h e f) }
+one_reading offset bytes _ _ _ _ _ _ are (fails _ _ g e) (goes_on _ _ behind s others _ _ f more) = absurd (not_faulty bytes s behind g e f)
+one_reading offset bytes _ _ _ _ _ _ are (goes_on _ _ behind r requests _ _ e more) (ends _ _ f) = absurd (not_partial bytes r behind f e)
+one_reading offset bytes _ _ _ _ _ _ are (goes_on _ _ behind r requests _ _ e more) (fails _ _ g f) = absurd (not_faulty bytes r behind g f e)
+one_reading offset bytes _ _ _ _ _ _ are (goes_on _ _ behind r requests rest fault e rs) (goes_on _ _ behind' s others more other f ss) =
     let first = first_once bytes r s behind behind' are e f in
     let same : r ≡ s = first.0 in
-    let next : FramesFrom (place + length r.bytes) behind others more other = rw (sym first.0, sym first.1) at ss in
-    let behind_it = one_reading (place + length r.bytes) behind requests others rest more fault other (behind_bytes bytes r behind are e) rs next in
+    let next : FramesFrom (offset + length r.bytes) behind others more other = rw (sym first.0, sym first.1) at ss in
+    let behind_it = one_reading (offset + length r.bytes) behind requests others rest more fault other (behind_bytes bytes r behind are e) rs next in
     let all : requests ≡ others = behind_it.requests_are in
     record { requests_are = cc (same, all); rest_is = behind_it.rest_is; fault_is = behind_it.fault_is }

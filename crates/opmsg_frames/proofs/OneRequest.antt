@@ -4,14 +4,15 @@ use Rattle.std.specs.Prelude.{ℤ}
 use Rattle.std.specs.Int.{w32, cast_signed}
 use Rattle.std.specs.List.{AllByRecursion, concat, flat_map}
 use Rattle.std.proofs.lemmas.List.{append-nil, take_at, drop_at}
-use Rattle.frame_model.specs.Messages.{number_at, opcode}
-use Rattle.frame_model.specs.Sections.{Section, body_section, sequence_section, sequence_bytes, section_bytes, IsStated, IsSection}
-use Rattle.frame_model.specs.Requests.{Request, Form, msg_form, query_form, Body, HasBody, IsForm, IsRequest, is_more}
-use Rattle.frame_model.specs.Outline.{no_section, next_body, next_sequence, next_section}
+use Rattle.opmsg_model.specs.Messages.{number_at, opcode}
+use Rattle.opmsg_model.specs.Sections.{Section, body_section, sequence_section, sequence_bytes, section_bytes, IsStated, IsSection}
+use Rattle.opmsg_model.specs.Requests.{Request, Form, msg_form, query_form, Body, HasBody, IsForm, IsRequest, is_more}
+use Rattle.opmsg_model.specs.Outline.{no_section, next_body, next_sequence, next_section}
 use Rattle.opmsg_frames.specs.Outlines.{sequence_parts}
-use Rattle.opmsg_frames.proofs.Bytes.{IsBytes, back_part}
+use Rattle.bson_values.proofs.Leaves.{AreBytes-drop}
+use Rattle.opmsg_model.specs.Grammar.{AreBytes}
 use Rattle.opmsg_frames.proofs.DocumentReads.{first_number}
-use Rattle.opmsg_frames.proofs.SectionFronts.{next_of, next_is, parts_are}
+use Rattle.opmsg_frames.proofs.SectionPrefixes.{next_of, next_is, parts_are}
 use Rattle.opmsg_frames.proofs.MessageParts.{msg_parts, query_parts}
 use Rattle.opmsg_frames.proofs.OneBody.{body_once}
 
@@ -67,11 +68,11 @@ pub sections_once : (s t : List Section) → AllByRecursion IsSection s → AllB
 sections_once s t a b low e = by_next s t a b low (same_next s t a b low e)
 
 -- the document of a message that holds no other
-cons_bytes : (bytes : List ℕ) → IsBytes bytes → (i : ℕ) → get_or (0 ∷ bytes) i 0 < 256
+cons_bytes : (bytes : List ℕ) → AreBytes bytes → (i : ℕ) → get_or (0 ∷ bytes) i 0 < 256
 cons_bytes bytes are zero = omega arith
 cons_bytes bytes are (suc i) = are i
 
-pub lone_bytes : (document : List ℕ) → IsBytes document → IsBytes (flat_map section_bytes (body_section document ∷ []))
+pub lone_bytes : (document : List ℕ) → AreBytes document → AreBytes (flat_map section_bytes (body_section document ∷ []))
 lone_bytes document are = cons_bytes (document ++ []) (rw (append-nil document) are)
 
 -- what two requests have the same
@@ -81,7 +82,7 @@ record Same (r s : Request) (f g : Form) : Type 0 where
   more : r.more ≡ s.more
   body : r.body ≡ s.body
 
-by_form : (r s : Request) (f g : Form) → IsBytes r.bytes → r.bytes ≡ s.bytes → IsForm r f → IsForm s g → Same r s f g
+by_form : (r s : Request) (f g : Form) → AreBytes r.bytes → r.bytes ≡ s.bytes → IsForm r f → IsForm s g → Same r s f g
 by_form r s msg_form msg_form are e (a, m, b) (c, n, d) =
     let p = msg_parts r a m in
     let q = msg_parts s c n in
@@ -92,7 +93,7 @@ by_form r s msg_form msg_form are e (a, m, b) (c, n, d) =
       form = refl;
       id = p.id ∙ ap (λ (l : List ℕ). cast_signed w32 (number_at 4 l)) e ∙ sym q.id;
       more = p.more ∙ ap (λ (l : List ℕ). is_more (number_at 16 l)) e ∙ sym q.more;
-      body = body_once a r.body s.body (rw p.behind at (back_part 20 r.bytes are)) b of_a;
+      body = body_once a r.body s.body (rw p.behind at (AreBytes-drop 20 r.bytes are)) b of_a;
     }
 by_form r s query_form query_form are e (a, m, b) (c, n, d) =
     let p = query_parts r a m in
@@ -103,7 +104,7 @@ by_form r s query_form query_form are e (a, m, b) (c, n, d) =
       form = refl;
       id = p.id ∙ ap (λ (l : List ℕ). cast_signed w32 (number_at 4 l)) e ∙ sym q.id;
       more = p.more ∙ sym q.more;
-      body = body_once (body_section a ∷ []) r.body s.body (lone_bytes a (rw p.behind at (back_part 39 r.bytes are))) b of_a;
+      body = body_once (body_section a ∷ []) r.body s.body (lone_bytes a (rw p.behind at (AreBytes-drop 39 r.bytes are))) b of_a;
     }
 by_form r s msg_form query_form are e (a, m, b) (c, n, d) =
     absurd (omega (arith, (msg_parts r a m).code, (query_parts s c n).code, ap (λ (l : List ℕ). opcode l) e))
@@ -116,7 +117,7 @@ made id more form body bytes = record { id = id; more = more; form = form; body 
 alike : (i j : ℤ) (m n : Bool) (f g : Form) (b c : Body) (x y : List ℕ) → i ≡ j → m ≡ n → f ≡ g → b ≡ c → x ≡ y → made i m f b x ≡ made j n g c y
 alike i j m n f g b c x y p q r s t = cc
 
-pub one_request : (r s : Request) → IsBytes r.bytes → r.bytes ≡ s.bytes → IsRequest r → IsRequest s → r ≡ s
+pub one_request : (r s : Request) → AreBytes r.bytes → r.bytes ≡ s.bytes → IsRequest r → IsRequest s → r ≡ s
 unfolding made
 one_request r s are e a b =
     let same = by_form r s r.form s.form are e a b in

@@ -6,11 +6,12 @@ use Rattle.std.specs.Str.{bytes_eq}
 use Rattle.std.proofs.lemmas.Bool.Decides.{nat_tests}
 use Rattle.std.proofs.lemmas.Slice.Eq.{bytes_eq-Decides}
 use Rattle.std.proofs.lemmas.List.{take-append-drop, drop-drop}
-use Rattle.document_model.specs.Faults.{before_zero}
-use Rattle.frame_model.specs.Messages.{int32, header, number_at, opcode, op_query, most_bytes}
-use Rattle.frame_model.specs.Requests.{query_form, Body, IsQuery, IsGreeting, admin_command}
-use Rattle.frame_model.specs.Outline.{is_query, greets}
-use Rattle.opmsg_frames.proofs.Bytes.{IsBytes, number_fits, number_front}
+use Rattle.opmsg_model.specs.Faults.{before_zero}
+use Rattle.opmsg_model.specs.Messages.{int32, header, number_at, opcode, op_query, most_bytes}
+use Rattle.opmsg_model.specs.Requests.{query_form, Body, IsQuery, IsGreeting, admin_command}
+use Rattle.opmsg_model.specs.Outline.{is_query, greets}
+use Rattle.opmsg_frames.proofs.Bytes.{number_fits, number_prefix}
+use Rattle.opmsg_model.specs.Grammar.{AreBytes}
 use Rattle.opmsg_frames.proofs.Spellings.{zero_splits}
 
 same : (a b : List ℕ) → bytes_eq a b ≡ true → a ≡ b
@@ -53,7 +54,7 @@ five true true false d e p = absurd (let x : false ≡ true = p in cc)
 five true true true false e p = absurd (let x : false ≡ true = p in cc)
 five true true true true false p = absurd (let x : false ≡ true = p in cc)
 
-pub is_sound : (bytes : List ℕ) → IsBytes bytes → 44 ≤ length bytes → length bytes ≤ most_bytes → number_at 0 bytes ≡ length bytes → opcode bytes ≡ op_query → is_query bytes ≡ true
+pub is_sound : (bytes : List ℕ) → AreBytes bytes → 44 ≤ length bytes → length bytes ≤ most_bytes → number_at 0 bytes ≡ length bytes → opcode bytes ≡ op_query → is_query bytes ≡ true
     → ((body : Body) → IsQuery (record { id = cast_signed w32 (number_at 4 bytes); more = false; form = query_form; body = body; bytes = bytes }) (drop 39 bytes))
 is_sound bytes are least most stated code sound body =
     let p = five (nat_le 44 (length bytes)) (bytes_eq (take 11 (drop 20 bytes)) admin_command) (number_at 39 bytes == length bytes - 39) (nat_lt 0 (slice_index bytes 43)) (greets (before_zero (drop 44 bytes))) sound in
@@ -74,14 +75,14 @@ is_sound bytes are least most stated code sound body =
       skip_fits = number_fits 31 bytes are;
       count_fits = number_fits 35 bytes are;
       whole = joins bytes (drop 4 bytes) (drop 8 bytes) (drop 12 bytes) (drop 16 bytes) (drop 20 bytes) (drop 31 bytes) (drop 35 bytes) (drop 39 bytes) (length (drop 39 bytes) + 39) (number_at 4 bytes) (number_at 8 bytes) op_query (number_at 16 bytes) (number_at 31 bytes) (number_at 35 bytes)
-          (number_front 0 bytes are (omega (arith, least)) ∙ ap (λ (n : ℕ). int32 n ++ drop 4 bytes) (omega (arith, stated, document, least)))
-          (number_front 4 bytes are (omega (arith, least)))
-          (number_front 8 bytes are (omega (arith, least)))
-          (number_front 12 bytes are (omega (arith, least)) ∙ ap (λ (n : ℕ). int32 n ++ drop 16 bytes) code)
-          (number_front 16 bytes are (omega (arith, least)))
+          (number_prefix 0 bytes are (omega (arith, least)) ∙ ap (λ (n : ℕ). int32 n ++ drop 4 bytes) (omega (arith, stated, document, least)))
+          (number_prefix 4 bytes are (omega (arith, least)))
+          (number_prefix 8 bytes are (omega (arith, least)))
+          (number_prefix 12 bytes are (omega (arith, least)) ∙ ap (λ (n : ℕ). int32 n ++ drop 16 bytes) code)
+          (number_prefix 16 bytes are (omega (arith, least)))
           (sym (rw drop-drop at (take-append-drop 11 (drop 20 bytes))) ∙ ap (λ (l : List ℕ). l ++ drop 31 bytes) collection)
-          (number_front 31 bytes are (omega (arith, least)))
-          (number_front 35 bytes are (omega (arith, least)));
+          (number_prefix 31 bytes are (omega (arith, least)))
+          (number_prefix 35 bytes are (omega (arith, least)));
       most = most;
       id = refl;
       more = refl;
@@ -92,7 +93,7 @@ is_sound bytes are least most stated code sound body =
         g.1,
         g.2,
         k,
-        number_front 39 bytes are (omega (arith, least)) ∙ ap (λ (m : ℕ). int32 m ++ drop 43 bytes) n ∙ ap (λ (l : List ℕ). int32 (length (drop 39 bytes)) ++ l) (drop-cons bytes 43 0 (omega (arith, least)) ∙ ap (λ (l : List ℕ). slice_index bytes 43 ∷ l) g.3),
+        number_prefix 39 bytes are (omega (arith, least)) ∙ ap (λ (m : ℕ). int32 m ++ drop 43 bytes) n ∙ ap (λ (l : List ℕ). int32 (length (drop 39 bytes)) ++ l) (drop-cons bytes 43 0 (omega (arith, least)) ∙ ap (λ (l : List ℕ). slice_index bytes 43 ∷ l) g.3),
       );
     }
 

@@ -1,8 +1,7 @@
 -- What is wrong with sections, section by section.
-use Rattle.std.proofs.Common.{◌≡◌, ℕ, zero, suc, ◌+◌, ◌-◌, ◌<◌, Bool, false, List, length, sym, ap, ◌∙◌, arith}
+use Rattle.std.proofs.Common.{◌≡◌, ℕ, zero, suc, ◌+◌, ◌-◌, ◌<◌, Bool, false, List, length, sym, ap, ◌∙◌, arith, Some}
 use Rattle.std.specs.Prelude.{◌||◌, not}
-use Rattle.frame_model.specs.Outline.{Next, no_section, unknown_kind, bad_size, next_body, next_sequence, next_section, ended_fault, behind_fault, sections_fault, is_sequence, bad_kind, bad_section}
-use Rattle.std.proofs.Common.{Some}
+use Rattle.opmsg_model.specs.Outline.{Next, no_section, unknown_kind, bad_size, next_body, next_sequence, next_section, ended_fault, behind_fault, sections_fault, is_sequence, bad_kind, bad_section}
 
 -- what is wrong from here on is what is wrong with all
 pub record AsBefore (bodies : ℕ) (bad : Bool) (rest bytes : List ℕ) (n m : ℕ) : Type 0 where

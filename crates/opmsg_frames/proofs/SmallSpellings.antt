@@ -2,12 +2,12 @@
 use Rattle.std.proofs.Common.{◌≡◌, ℕ, ◌+◌, ◌*◌, ◌<◌, ◌≤◌, List, ◌++◌, length, ap, arith, length-append}
 use Rattle.std.specs.Fmt.{decimal}
 use Rattle.std.proofs.lemmas.Fmt.{length-decimal-le}
-use Rattle.document_model.specs.Tree.{Datum, text_value, document_value, array_value, binary_value, object_id_value, boolean_value, date_value, null_value, int32_value, timestamp_value, int64_value, min_key_value, max_key_value, Items, no_items, item, Members, no_members, member}
-use Rattle.document_model.specs.Spelling.{kind_of, framed, element, written, written_value, written_items, written_members}
-use Rattle.document_model.specs.Grammar.{ReadsValue, ReadsItems, ReadsMembers, ReadsAs}
-use Rattle.bson_values.proofs.Spelled.{length-framed, length-element}
-use Rattle.frame_model.specs.Requests.{IsKept}
-use Rattle.opmsg_frames.specs.Sizes.{IsSmall}
+use Rattle.opmsg_model.specs.Tree.{Datum, string_value, document_value, array_value, binary_value, object_id_value, boolean_value, date_value, null_value, int32_value, timestamp_value, int64_value, min_key_value, max_key_value, Items, no_items, item, Fields, no_fields, field}
+use Rattle.opmsg_model.specs.Spelling.{type_byte_of, framed, element, written, written_value, written_items, written_fields}
+use Rattle.opmsg_model.specs.Grammar.{ReadsValue, ReadsItems, ReadsFields, ReadsAs}
+use Rattle.opmsg_model.proofs.Lengths.{length-framed, length-element}
+use Rattle.opmsg_model.specs.Requests.{IsKept}
+use Rattle.opmsg_model.specs.MessageSizes.{IsSmall}
 
 -- a value that was read as it is spelled
 as_read : (bytes spelled : List ℕ) → bytes ≡ spelled → length spelled ≤ 5 * length bytes
@@ -32,9 +32,9 @@ few_digits i low = length-decimal-le 8 i (omega arith) (omega (arith, low)) (ome
 
 mutual
   value_short : (bytes : List ℕ) (d : Datum) → ReadsValue bytes d → length bytes ≤ 200000000 → length (written_value d) ≤ 5 * length bytes
-  value_short bytes (text_value s) (e, utf8, low) few = as_read bytes (written_value (text_value s)) e
+  value_short bytes (string_value s) (e, utf8, low) few = as_read bytes (written_value (string_value s)) e
   value_short bytes (document_value ms) (body, e, low, reads) few =
-      in_frame bytes body (written_members ms) e (members_short body ms reads (omega (arith, few, ap (λ (l : List ℕ). length l) e, length-framed body)))
+      in_frame bytes body (written_fields ms) e (fields_short body ms reads (omega (arith, few, ap (λ (l : List ℕ). length l) e, length-framed body)))
   value_short bytes (array_value ds) (body, e, low, reads) few =
       in_frame bytes body (written_items 0 ds) e (items_short 0 body ds reads (omega (arith, few, ap (λ (l : List ℕ). length l) e, length-framed body)))
   value_short bytes (binary_value subtype content) (e, low) few = as_read bytes (written_value (binary_value subtype content)) e
@@ -51,20 +51,20 @@ mutual
   items_short : (i : ℕ) (bytes : List ℕ) (ds : Items) → ReadsItems bytes ds → 2 * i + length bytes ≤ 200000000 → length (written_items i ds) ≤ 5 * length bytes
   items_short i bytes no_items e few = omega arith
   items_short i bytes (item d ds) (name, value, rest, e, no_zero, reads, others) few =
-      let size = behind (kind_of d) bytes name value rest e in
+      let size = behind (type_byte_of d) bytes name value rest e in
       let digits : length (decimal i) ≤ 8 = few_digits i (omega (arith, few, size)) in
-      in_element (kind_of d) bytes name value rest (decimal i) (written_value d) (written_items (i + 1) ds) e (omega (arith, digits)) (value_short value d reads (omega (arith, few, size))) (items_short (i + 1) rest ds others (omega (arith, few, size)))
+      in_element (type_byte_of d) bytes name value rest (decimal i) (written_value d) (written_items (i + 1) ds) e (omega (arith, digits)) (value_short value d reads (omega (arith, few, size))) (items_short (i + 1) rest ds others (omega (arith, few, size)))
 
-  members_short : (bytes : List ℕ) (ms : Members) → ReadsMembers bytes ms → length bytes ≤ 200000000 → length (written_members ms) ≤ 5 * length bytes
-  members_short bytes no_members e few = omega arith
-  members_short bytes (member name d ms) (value, rest, e, no_zero, utf8, reads, others) few =
-      let size = behind (kind_of d) bytes name value rest e in
-      in_element (kind_of d) bytes name value rest name (written_value d) (written_members ms) e (omega arith) (value_short value d reads (omega (arith, few, size))) (members_short rest ms others (omega (arith, few, size)))
+  fields_short : (bytes : List ℕ) (ms : Fields) → ReadsFields bytes ms → length bytes ≤ 200000000 → length (written_fields ms) ≤ 5 * length bytes
+  fields_short bytes no_fields e few = omega arith
+  fields_short bytes (field name d ms) (value, rest, e, no_zero, utf8, reads, others) few =
+      let size = behind (type_byte_of d) bytes name value rest e in
+      in_element (type_byte_of d) bytes name value rest name (written_value d) (written_fields ms) e (omega arith) (value_short value d reads (omega (arith, few, size))) (fields_short rest ms others (omega (arith, few, size)))
 
 -- at most five times as long as what was read
-pub written_short : (bytes : List ℕ) (ms : Members) → ReadsAs bytes ms → length bytes ≤ 200000000 → length (written ms) ≤ 5 * length bytes
+pub written_short : (bytes : List ℕ) (ms : Fields) → ReadsAs bytes ms → length bytes ≤ 200000000 → length (written ms) ≤ 5 * length bytes
 written_short bytes ms (body, e, low, reads) few =
-    in_frame bytes body (written_members ms) e (members_short body ms reads (omega (arith, few, ap (λ (l : List ℕ). length l) e, length-framed body)))
+    in_frame bytes body (written_fields ms) e (fields_short body ms reads (omega (arith, few, ap (λ (l : List ℕ). length l) e, length-framed body)))
 
-pub kept_small : (bytes : List ℕ) (ms : Members) → IsKept bytes ms → length bytes ≤ 48000000 → IsSmall ms
-kept_small bytes ms (reads, levels) few = (levels, omega (arith, few, written_short bytes ms reads (omega (arith, few))))
+pub kept_small : (bytes : List ℕ) (ms : Fields) → IsKept bytes ms → length bytes ≤ 48000000 → IsSmall ms
+kept_small bytes ms (reads, depth) few = (depth, omega (arith, few, written_short bytes ms reads (omega (arith, few))))

@@ -7,13 +7,13 @@ use Rattle.std.proofs.lemmas.Bool.Decides.{nat_tests}
 use Rattle.std.proofs.lemmas.List.{drop_at}
 use Rattle.std.proofs.lemmas.Str.{is_utf8-from_IsUtf8}
 use Rattle.std.proofs.Math.Seq.{take-length}
-use Rattle.document_model.specs.Faults.{before_zero}
-use Rattle.frame_model.specs.Messages.{int32, number_at, stated_length, opcode, op_msg, op_query, most_bytes}
-use Rattle.frame_model.specs.Sections.{Section, body_section, sequence_section, sequence_bytes, section_bytes, IsStated, IsSection, bodies}
-use Rattle.frame_model.specs.Requests.{Request, Form, msg_form, query_form, IsForm, IsRequest, IsMsg, IsQuery, IsGreeting, low_flags, admin_command}
-use Rattle.frame_model.specs.Outline.{Next, FrameFault, bad_length, too_long, bad_opcode, bad_flags, bad_query, message_outline, outline, headed_outline, whole_outline, header_fault, message_fault, msg_fault, is_query, greets, takes_flags, has_stated, are_documents, is_named, is_sequence, ended_fault, behind_fault, sections_fault}
+use Rattle.opmsg_model.specs.Faults.{before_zero}
+use Rattle.opmsg_model.specs.Messages.{int32, number_at, stated_length, opcode, op_msg, op_query, most_bytes}
+use Rattle.opmsg_model.specs.Sections.{Section, body_section, sequence_section, sequence_bytes, section_bytes, IsStated, IsSection, bodies}
+use Rattle.opmsg_model.specs.Requests.{Request, Form, msg_form, query_form, IsForm, IsRequest, IsMsg, IsQuery, IsGreeting, low_flags, admin_command}
+use Rattle.opmsg_model.specs.Outline.{Next, FrameFault, bad_length, too_long, bad_opcode, bad_flags, bad_query, message_outline, outline, headed_outline, whole_outline, header_fault, message_fault, msg_fault, is_query, greets, takes_flags, has_stated, are_documents, is_named, is_sequence, ended_fault, behind_fault, sections_fault}
 use Rattle.opmsg_frames.proofs.DocumentReads.{first_number, is_stated}
-use Rattle.opmsg_frames.proofs.SectionFronts.{next_is, name_ends, behind_zero}
+use Rattle.opmsg_frames.proofs.SectionPrefixes.{next_is, name_ends, behind_zero}
 use Rattle.opmsg_frames.proofs.StatedDocuments.{none_left, step}
 use Rattle.opmsg_frames.proofs.Stays.{cut_outline, outline_by, short_outline}
 use Rattle.opmsg_frames.proofs.MessageParts.{msg_parts, query_parts}

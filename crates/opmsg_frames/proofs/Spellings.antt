@@ -8,18 +8,19 @@ use Rattle.std.specs.Str.{is_utf8}
 use Rattle.std.proofs.lemmas.Bool.Decides.{nat_tests}
 use Rattle.std.proofs.lemmas.List.{length-take-le, take-append-drop, take-take}
 use Rattle.std.proofs.lemmas.Str.{IsUtf8-from_is_utf8}
-use Rattle.document_model.specs.Faults.{before_zero}
-use Rattle.document_model.specs.Grammar.{HasNoZero}
-use Rattle.frame_model.specs.Messages.{int32, number_at}
-use Rattle.frame_model.specs.Sections.{Section, body_section, sequence_section, sequence_bytes, section_bytes, IsStated, IsSection, bodies}
-use Rattle.frame_model.specs.Outline.{Next, no_section, unknown_kind, bad_size, next_body, next_sequence, next_section, has_stated, are_documents, is_named, is_sequence, ended_fault, behind_fault, sections_fault, bad_kind, bad_section, no_body, two_bodies}
-use Rattle.opmsg_frames.proofs.Bytes.{IsBytes, front_part, back_part, number_front}
-use Rattle.opmsg_frames.proofs.SectionFronts.{behind_zero}
+use Rattle.opmsg_model.specs.Faults.{before_zero}
+use Rattle.opmsg_model.specs.Grammar.{HasNoZero, AreBytes}
+use Rattle.opmsg_model.specs.Messages.{int32, number_at}
+use Rattle.opmsg_model.specs.Sections.{Section, body_section, sequence_section, sequence_bytes, section_bytes, IsStated, IsSection, bodies}
+use Rattle.opmsg_model.specs.Outline.{Next, no_section, unknown_kind, bad_size, next_body, next_sequence, next_section, has_stated, are_documents, is_named, is_sequence, ended_fault, behind_fault, sections_fault, bad_kind, bad_section, no_body, two_bodies}
+use Rattle.opmsg_frames.proofs.Bytes.{number_prefix}
+use Rattle.bson_values.proofs.Leaves.{AreBytes-take, AreBytes-drop}
+use Rattle.opmsg_frames.proofs.SectionPrefixes.{behind_zero}
 use Rattle.opmsg_frames.proofs.StatedDocuments.{within}
 
--- the front of so many bytes as it states
-pub stated_front : (bytes : List ℕ) → has_stated bytes ≡ true → IsStated (take (number_at 0 bytes) bytes)
-stated_front bytes e =
+-- the prefix of so many bytes as it states
+pub stated_prefix : (bytes : List ℕ) → has_stated bytes ≡ true → IsStated (take (number_at 0 bytes) bytes)
+stated_prefix bytes e =
     let w = within bytes e in
     let l : length (take (number_at 0 bytes) bytes) ≡ number_at 0 bytes = length-take-le (number_at 0 bytes) bytes w.1 in
     let n : number_at 0 (take (number_at 0 bytes) bytes) ≡ number_at 0 bytes = ap (λ (four : List ℕ). from_le_bytes w32 four) (take-take 4 (number_at 0 bytes) bytes (omega (arith, w.0))) in
@@ -33,7 +34,7 @@ by_stated : (n : ℕ) (all : List ℕ) (s : Bool) → has_stated all ≡ s → (
 by_stated n all false t others e = absurd (let r : false ≡ true = e in cc)
 by_stated n all true t others e =
     let more = others (drop (number_at 0 all) all) e in
-    (take (number_at 0 all) all ∷ more.0, sym (take-append-drop (number_at 0 all) all) ∙ ap (λ (rest : List ℕ). take (number_at 0 all) all ++ rest) more.1, (stated_front all t, more.2))
+    (take (number_at 0 all) all ∷ more.0, sym (take-append-drop (number_at 0 all) all) ∙ ap (λ (rest : List ℕ). take (number_at 0 all) all ++ rest) more.1, (stated_prefix all t, more.2))
 
 pub documents_exist : (n : ℕ) (bytes : List ℕ) → are_documents n bytes ≡ true → Documents bytes
 unfolding are_documents
@@ -90,30 +91,30 @@ abbrev Spelled : List ℕ → Next → Type 0
 Spelled bytes no_section = bytes ≡ []
 Spelled bytes unknown_kind = Unit {0}
 Spelled bytes bad_size = Unit {0}
-Spelled bytes (next_body document rest) = (bytes ≡ 0 ∷ (document ++ rest)) × IsStated document × IsBytes rest
-Spelled bytes (next_sequence content rest) = (bytes ≡ 1 ∷ ((int32 (length content + 4) ++ content) ++ rest)) × IsBytes rest
+Spelled bytes (next_body document rest) = (bytes ≡ 0 ∷ (document ++ rest)) × IsStated document × AreBytes rest
+Spelled bytes (next_sequence content rest) = (bytes ≡ 1 ∷ ((int32 (length content + 4) ++ content) ++ rest)) × AreBytes rest
 
-sized_front : (s : List ℕ) → IsBytes s → IsStated s → s ≡ int32 (length (drop 4 s) + 4) ++ drop 4 s
-sized_front s are stated =
+sized_prefix : (s : List ℕ) → AreBytes s → IsStated s → s ≡ int32 (length (drop 4 s) + 4) ++ drop 4 s
+sized_prefix s are stated =
     let n : number_at 0 s ≡ length (drop 4 s) + 4 = stated.1 ∙ omega (arith, length-drop 4 s, stated.0) in
-    number_front 0 s are (omega (arith, stated.0)) ∙ ap (λ (k : ℕ). int32 k ++ drop 4 s) n
+    number_prefix 0 s are (omega (arith, stated.0)) ∙ ap (λ (k : ℕ). int32 k ++ drop 4 s) n
 
-by_kind : (kind : ℕ) (bytes : List ℕ) (z one stated : Bool) → eqb kind 0 ≡ z → eqb kind 1 ≡ one → has_stated bytes ≡ stated → IsBytes bytes → Spelled (kind ∷ bytes) (if z then (if stated then next_body (take (number_at 0 bytes) bytes) (drop (number_at 0 bytes) bytes) else bad_size) else if one then (if stated then next_sequence (drop 4 (take (number_at 0 bytes) bytes)) (drop (number_at 0 bytes) bytes) else bad_size) else unknown_kind)
+by_kind : (kind : ℕ) (bytes : List ℕ) (z one stated : Bool) → eqb kind 0 ≡ z → eqb kind 1 ≡ one → has_stated bytes ≡ stated → AreBytes bytes → Spelled (kind ∷ bytes) (if z then (if stated then next_body (take (number_at 0 bytes) bytes) (drop (number_at 0 bytes) bytes) else bad_size) else if one then (if stated then next_sequence (drop 4 (take (number_at 0 bytes) bytes)) (drop (number_at 0 bytes) bytes) else bad_size) else unknown_kind)
 by_kind kind bytes true one true t u v are =
     let k : kind ≡ 0 = grind (arith, nat_tests) in
-    (rw k (ap (λ (l : List ℕ). 0 ∷ l) (sym (take-append-drop (number_at 0 bytes) bytes))), stated_front bytes v, back_part (number_at 0 bytes) bytes are)
+    (rw k (ap (λ (l : List ℕ). 0 ∷ l) (sym (take-append-drop (number_at 0 bytes) bytes))), stated_prefix bytes v, AreBytes-drop (number_at 0 bytes) bytes are)
 by_kind kind bytes true one false t u v are = tt
 by_kind kind bytes false true true t u v are =
     let k : kind ≡ 1 = grind (arith, nat_tests) in
-    let front = sized_front (take (number_at 0 bytes) bytes) (front_part (number_at 0 bytes) bytes are) (stated_front bytes v) in
-    (rw k (ap (λ (l : List ℕ). 1 ∷ l) (sym (take-append-drop (number_at 0 bytes) bytes) ∙ ap (λ (l : List ℕ). l ++ drop (number_at 0 bytes) bytes) front)), back_part (number_at 0 bytes) bytes are)
+    let prefix = sized_prefix (take (number_at 0 bytes) bytes) (AreBytes-take (number_at 0 bytes) bytes are) (stated_prefix bytes v) in
+    (rw k (ap (λ (l : List ℕ). 1 ∷ l) (sym (take-append-drop (number_at 0 bytes) bytes) ∙ ap (λ (l : List ℕ). l ++ drop (number_at 0 bytes) bytes) prefix)), AreBytes-drop (number_at 0 bytes) bytes are)
 by_kind kind bytes false true false t u v are = tt
 by_kind kind bytes false false stated t u v are = tt
 
-tail_bytes : (b : ℕ) (bytes : List ℕ) → IsBytes (b ∷ bytes) → IsBytes bytes
+tail_bytes : (b : ℕ) (bytes : List ℕ) → AreBytes (b ∷ bytes) → AreBytes bytes
 tail_bytes b bytes are i = are (suc i)
 
-next_spelled : (bytes : List ℕ) → IsBytes bytes → Spelled bytes (next_section bytes)
+next_spelled : (bytes : List ℕ) → AreBytes bytes → Spelled bytes (next_section bytes)
 next_spelled [] are = refl
 next_spelled (kind ∷ bytes) are = by_kind kind bytes (eqb kind 0) (eqb kind 1) (has_stated bytes) refl refl refl (tail_bytes kind bytes are)
 
@@ -136,7 +137,7 @@ well false true e = (refl, refl)
 well false false e = absurd (let q : true ≡ false = e in cc)
 well true good e = absurd (let q : true ≡ false = e in cc)
 
-by_next : (n seen : ℕ) (bad : Bool) (bytes : List ℕ) (next : Next) → Spelled bytes next → ((k : ℕ) (b : Bool) (rest : List ℕ) → IsBytes rest → sections_fault n k b rest ≡ None → Exist k b rest) → behind_fault (sections_fault n) seen bad next ≡ None → Exist seen bad bytes
+by_next : (n seen : ℕ) (bad : Bool) (bytes : List ℕ) (next : Next) → Spelled bytes next → ((k : ℕ) (b : Bool) (rest : List ℕ) → AreBytes rest → sections_fault n k b rest ≡ None → Exist k b rest) → behind_fault (sections_fault n) seen bad next ≡ None → Exist seen bad bytes
 unfolding behind_fault
 by_next n seen bad bytes no_section s others e =
     let w = ended_well seen bad e in
@@ -164,7 +165,7 @@ by_next n seen bad bytes (next_sequence content rest) s others e =
       good = w.0;
     }
 
-pub sections_exist : (n seen : ℕ) (bad : Bool) (bytes : List ℕ) → IsBytes bytes → sections_fault n seen bad bytes ≡ None → Exist seen bad bytes
+pub sections_exist : (n seen : ℕ) (bad : Bool) (bytes : List ℕ) → AreBytes bytes → sections_fault n seen bad bytes ≡ None → Exist seen bad bytes
 unfolding sections_fault
 sections_exist zero seen bad bytes are e = absurd (let q : Some bad_section ≡ None = e in cc)
 sections_exist (suc n) seen bad bytes are e = by_next n seen bad bytes (next_section bytes) (next_spelled bytes are) (λ k b rest a q. sections_exist n k b rest a q) e

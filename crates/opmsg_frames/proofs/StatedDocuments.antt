@@ -3,10 +3,10 @@ use Rattle.std.proofs.Common.{◌≡◌, ℕ, zero, suc, ◌+◌, ◌-◌, ◌<�
 use Rattle.std.specs.Prelude.{nat_le, ◌&&◌, if◌then◌else◌}
 use Rattle.std.specs.Bool.{Decides}
 use Rattle.std.proofs.lemmas.Bool.Decides.{Decides-and, nat_tests}
-use Rattle.frame_model.specs.Messages.{number_at}
+use Rattle.opmsg_model.specs.Messages.{number_at}
 use Rattle.std.specs.Str.{is_utf8}
-use Rattle.document_model.specs.Faults.{before_zero}
-use Rattle.frame_model.specs.Outline.{has_stated, are_documents, is_named, is_sequence}
+use Rattle.opmsg_model.specs.Faults.{before_zero}
+use Rattle.opmsg_model.specs.Outline.{has_stated, are_documents, is_named, is_sequence}
 use Rattle.opmsg_frames.specs.Outlines.{parts_by, parts_if, sequence_parts}
 
 decides_le : (a b : ℕ) → Decides (nat_le a b) (a ≤ b)

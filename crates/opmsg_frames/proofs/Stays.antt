@@ -4,8 +4,8 @@ use Rattle.std.specs.Prelude.{◌||◌, ◌==◌, ◌^◌, nat_lt, nat_le, if◌
 use Rattle.std.specs.Int.{w32, from_le_bytes}
 use Rattle.std.proofs.lemmas.List.{take-append-le, drop-append-le, take-append-drop, length-take}
 use Rattle.std.proofs.lemmas.Bool.Decides.{nat_tests}
-use Rattle.frame_model.specs.Messages.{number_at, stated_length, opcode, op_msg, op_query, most_bytes}
-use Rattle.frame_model.specs.Outline.{FrameFault, bad_length, too_long, bad_opcode, Outline, partial_outline, message_outline, faulty_outline, outline, headed_outline, whole_outline, header_fault, message_fault}
+use Rattle.opmsg_model.specs.Messages.{number_at, stated_length, opcode, op_msg, op_query, most_bytes}
+use Rattle.opmsg_model.specs.Outline.{FrameFault, bad_length, too_long, bad_opcode, Outline, partial_outline, message_outline, faulty_outline, outline, headed_outline, whole_outline, header_fault, message_fault}
 use Rattle.opmsg_frames.proofs.WholeMessages.{is_whole}
 
 number_stays : (k : ℕ) (bytes more : List ℕ) → k + 4 ≤ length bytes → number_at k (bytes ++ more) ≡ number_at k bytes
@@ -39,8 +39,8 @@ by_cut bytes more n false e =
     let fits : n ≤ length bytes = grind (arith, nat_tests) in
     let l = length-append bytes more in
     let cut : nat_lt (length (bytes ++ more)) n ≡ false = grind (arith, nat_tests, l, fits) in
-    let front : take n (bytes ++ more) ≡ take n bytes = take-append-le n bytes more fits in
-    inr (ap (λ (c : Bool). outline_by n c (take n (bytes ++ more))) cut ∙ ap (λ (m : List ℕ). outline_by n false m) front)
+    let prefix : take n (bytes ++ more) ≡ take n bytes = take-append-le n bytes more fits in
+    inr (ap (λ (c : Bool). outline_by n c (take n (bytes ++ more))) cut ∙ ap (λ (m : List ℕ). outline_by n false m) prefix)
 
 then_same : (old new other : Outline) → other ≡ new → Stays old new → Stays old other
 then_same old new other e (inl p) = inl p
@@ -86,8 +86,8 @@ fault_stays bytes more fault e = pick (stays bytes more)
     pick (inl p) = absurd (let q : partial_outline ≡ faulty_outline fault = sym p ∙ e in cc)
     pick (inr p) = p ∙ e
 
-pub front_is_partial : (bytes : List ℕ) (n k : ℕ) → outline bytes ≡ message_outline n → k < n → outline (take k bytes) ≡ partial_outline
-front_is_partial bytes n k e lt = pick (stays (take k bytes) (drop k bytes))
+pub prefix_is_partial : (bytes : List ℕ) (n k : ℕ) → outline bytes ≡ message_outline n → k < n → outline (take k bytes) ≡ partial_outline
+prefix_is_partial bytes n k e lt = pick (stays (take k bytes) (drop k bytes))
   where
     pick : (outline (take k bytes) ≡ partial_outline) ⊎ (outline (take k bytes ++ drop k bytes) ≡ outline (take k bytes)) → outline (take k bytes) ≡ partial_outline
     pick (inl p) = p

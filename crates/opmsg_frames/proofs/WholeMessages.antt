@@ -2,12 +2,12 @@
 use Rattle.std.proofs.Common.{◌≡◌, ℕ, ◌+◌, ◌-◌, ◌++◌, ◌≤◌, ◌⊎◌, inl, inr, Bool, true, false, Option, Some, None, List, length, take, drop, refl, sym, ap, ◌∙◌, arith}
 use Rattle.std.specs.Prelude.{◌||◌, ◌==◌, ◌^◌, nat_lt, nat_le, if◌then◌else◌}
 use Rattle.std.proofs.lemmas.Bool.Decides.{nat_tests}
-use Rattle.frame_model.specs.Messages.{number_at, stated_length, opcode, op_msg, op_query, most_bytes}
+use Rattle.opmsg_model.specs.Messages.{number_at, stated_length, opcode, op_msg, op_query, most_bytes}
 use Rattle.std.specs.Int.{w32, from_le_bytes}
 use Rattle.std.proofs.lemmas.List.{length-take-le, take-append-drop, drop-take, take-take}
-use Rattle.frame_model.specs.Frames.{IsFirst}
-use Rattle.frame_model.specs.Requests.{Request, IsRequest}
-use Rattle.frame_model.specs.Outline.{FrameFault, bad_length, too_long, bad_opcode, bad_query, bad_flags, Outline, partial_outline, message_outline, faulty_outline, outline, headed_outline, whole_outline, header_fault, message_fault, msg_fault, is_query, takes_flags, sections_fault}
+use Rattle.opmsg_model.specs.Frames.{IsFirst}
+use Rattle.opmsg_model.specs.Requests.{Request, IsRequest}
+use Rattle.opmsg_model.specs.Outline.{FrameFault, bad_length, too_long, bad_opcode, bad_query, bad_flags, Outline, partial_outline, message_outline, faulty_outline, outline, headed_outline, whole_outline, header_fault, message_fault, msg_fault, is_query, takes_flags, sections_fault}
 
 pub record IsWhole (n : ℕ) (bytes : List ℕ) : Type 0 where
   pub least : 16 ≤ n
@@ -88,19 +88,19 @@ pub msg_length : (bytes : List ℕ) → msg_fault bytes ≡ None → 20 ≤ leng
 msg_length bytes e = by_length (nat_lt (length bytes) 20) (length bytes) (if takes_flags (number_at 16 bytes) then sections_fault (length bytes) 0 false (drop 20 bytes) else Some bad_flags) refl e
 
 -- the message has its own length and opcode
-front_number : (k n : ℕ) (bytes : List ℕ) → k + 4 ≤ n → number_at k (take n bytes) ≡ number_at k bytes
-front_number k n bytes room = ap (λ (four : List ℕ). from_le_bytes w32 four) (part k n bytes room)
+prefix_number : (k n : ℕ) (bytes : List ℕ) → k + 4 ≤ n → number_at k (take n bytes) ≡ number_at k bytes
+prefix_number k n bytes room = ap (λ (four : List ℕ). from_le_bytes w32 four) (part k n bytes room)
   where
     part : (k n : ℕ) (bytes : List ℕ) → k + 4 ≤ n → take 4 (drop k (take n bytes)) ≡ take 4 (drop k bytes)
     part k n bytes room =
         let e : n ≡ k + (n - k) = omega arith in
         ap (λ (m : ℕ). take 4 (drop k (take m bytes))) e ∙ ap (λ (l : List ℕ). take 4 l) (drop-take k (n - k) bytes) ∙ take-take 4 (n - k) (drop k bytes) (omega arith)
 
-pub front_stated : (n : ℕ) (bytes : List ℕ) → IsWhole n bytes → number_at 0 (take n bytes) ≡ length (take n bytes)
-front_stated n bytes w = front_number 0 n bytes (omega (arith, w.least)) ∙ w.stated ∙ sym (length-take-le n bytes w.fits)
+pub prefix_stated : (n : ℕ) (bytes : List ℕ) → IsWhole n bytes → number_at 0 (take n bytes) ≡ length (take n bytes)
+prefix_stated n bytes w = prefix_number 0 n bytes (omega (arith, w.least)) ∙ w.stated ∙ sym (length-take-le n bytes w.fits)
 
-pub front_code : (n : ℕ) (bytes : List ℕ) → IsWhole n bytes → (opcode (take n bytes) ≡ op_msg) ⊎ (opcode (take n bytes) ≡ op_query)
-front_code n bytes w = rw (front_number 12 n bytes (omega (arith, w.least))) w.code
+pub prefix_code : (n : ℕ) (bytes : List ℕ) → IsWhole n bytes → (opcode (take n bytes) ≡ op_msg) ⊎ (opcode (take n bytes) ≡ op_query)
+prefix_code n bytes w = rw (prefix_number 12 n bytes (omega (arith, w.least))) w.code
 
 pub is_first : (n : ℕ) (bytes : List ℕ) (meant : Request) → outline bytes ≡ message_outline n → meant.bytes ≡ take n bytes → IsRequest meant → IsFirst bytes meant (drop n bytes) × (length meant.bytes ≡ n)
 is_first n bytes meant o e is =

@@ -2,14 +2,14 @@
 -- next request as often as one likes.
 use Rattle.std.specs.Prelude.{◌≡◌, ℕ, List, [], ◌∷◌, ◌++◌, Option, Some, None, Result, Ok, Err}
 use Rattle.std.specs.List.{flat_map, AllByRecursion}
-use Rattle.frame_model.specs.Requests as wire
+use Rattle.opmsg_model.specs.Requests as wire
 use Rattle.opmsg_frames.specs.declared.fault.FrameFault.{FrameFault}
 use Rattle.opmsg_frames.specs.declared.fault.FrameFault.TheVariants.{Malformed}
 use Rattle.opmsg_frames.specs.declared.fault.Malformed as faults
 use Rattle.opmsg_frames.specs.declared.request.Request.{Request}
 use Rattle.opmsg_frames.specs.Framers.{IsNext}
 use Rattle.opmsg_frames.specs.FramerViews.{FramerView}
-use Rattle.opmsg_frames.specs.Requests.{IsMeant}
+use Rattle.opmsg_frames.specs.RequestMeanings.{IsMeant}
 
 pub data Step : Type 0 where
   -- this piece was taken
@@ -21,8 +21,8 @@ pub data Step : Type 0 where
 
 -- a step changes a framer so
 abbrev pub IsStep : FramerView → Step → FramerView → Type 0
-IsStep old (took piece) new = (new.bytes ≡ old.bytes ++ piece) × (new.place ≡ old.place) × (new.fault ≡ old.fault)
-IsStep old refused new = (new.bytes ≡ old.bytes) × (new.place ≡ old.place) × (new.fault ≡ old.fault)
+IsStep old (took piece) new = (new.bytes ≡ old.bytes ++ piece) × (new.offset ≡ old.offset) × (new.fault ≡ old.fault)
+IsStep old refused new = (new.bytes ≡ old.bytes) × (new.offset ≡ old.offset) × (new.fault ≡ old.fault)
 IsStep old (answered answer) new = IsNext old new answer
 
 abbrev pub IsConversation : FramerView → List Step → FramerView → Type 0
@@ -31,7 +31,7 @@ IsConversation old (step ∷ steps) new = (between : FramerView) × IsStep old s
 
 -- a framer to which no bytes were fed
 abbrev pub new_framer : FramerView
-new_framer = record { bytes = []; place = 0; fault = None; room = 0 }
+new_framer = record { bytes = []; offset = 0; fault = None; room = 0 }
 
 abbrev pub piece_of : Step → List ℕ
 piece_of (took piece) = piece
@@ -55,10 +55,10 @@ AreMeant [] meants = meants ≡ []
 AreMeant (request ∷ requests) meants =
     (meant : wire.Request) × (others : List wire.Request) × (meants ≡ meant ∷ others) × IsMeant request meant × AreMeant requests others
 
--- each answer among these steps tells this fault at this place
+-- each answer among these steps tells this fault at this offset
 abbrev pub IsToldAgain : faults.Malformed → ℕ → Step → Type 0
-IsToldAgain fault place (answered answer) = answer ≡ Err (Malformed fault place)
-IsToldAgain fault place step = Unit {0}
+IsToldAgain fault offset (answered answer) = answer ≡ Err (Malformed fault offset)
+IsToldAgain fault offset step = Unit {0}
 
 abbrev pub OnlyTell : faults.Malformed → ℕ → List Step → Type 0
-OnlyTell fault place steps = AllByRecursion (λ step. IsToldAgain fault place step) steps
+OnlyTell fault offset steps = AllByRecursion (λ step. IsToldAgain fault offset step) steps

@@ -1,13 +1,13 @@
 -- What contracts see of a framer.
 use Rattle.std.specs.Prelude.{◌≡◌, ℕ, List, Option, ◌==◌, if◌then◌else◌, refl}
 use Rattle.std.specs.Coded.{Coded, code_by, coded×, coded_list, coded_option, coded_ℕ}
-use Rattle.frame_model.specs.Outline.{FrameFault, bad_length, too_long, bad_opcode, bad_flags, bad_kind, bad_section, two_bodies, no_body, bad_query}
+use Rattle.opmsg_model.specs.Outline.{FrameFault, bad_length, too_long, bad_opcode, bad_flags, bad_kind, bad_section, two_bodies, no_body, bad_query}
 
--- the bytes fed that were not given out, the place of the first of them, the fault, if one was told, and for how many
+-- the bytes fed that were not given out, the offset of the first of them, the fault, if one was told, and for how many
 -- bytes there is memory
 pub record FramerView : Type 0 where
   pub bytes : List ℕ
-  pub place : ℕ
+  pub offset : ℕ
   pub fault : Option FrameFault
   pub room : ℕ
 
@@ -51,4 +51,4 @@ fault_code = code_by ℕ coded_ℕ fault_number fault_numbered fault_back
 abbrev pub framer_code : Coded FramerView
 framer_code =
     code_by (List ℕ × (ℕ × (Option FrameFault × ℕ))) (coded× (coded_list coded_ℕ) (coded× coded_ℕ (coded× (coded_option fault_code) coded_ℕ)))
-    (λ f. (f.bytes, (f.place, (f.fault, f.room)))) (λ p. record { bytes = p.0; place = p.1.0; fault = p.1.1.0; room = p.1.1.1 }) (λ _. refl)
+    (λ f. (f.bytes, (f.offset, (f.fault, f.room)))) (λ p. record { bytes = p.0; offset = p.1.0; fault = p.1.1.0; room = p.1.1.1 }) (λ _. refl)

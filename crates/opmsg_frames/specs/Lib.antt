@@ -1,8 +1,12 @@
 pub mod Outlines
 pub mod Lists
-pub mod Requests
+pub mod RequestMeanings
 pub mod FramerViews
 pub mod Framers
 pub mod Readings
 pub mod Conversations
-pub mod Sizes
+pub use Rattle.opmsg_model.specs.Frames
+pub use Rattle.opmsg_model.specs.Outline
+pub use Rattle.opmsg_model.specs.Replies
+pub use Rattle.opmsg_model.specs.Requests
+pub use Rattle.opmsg_model.specs.Sections

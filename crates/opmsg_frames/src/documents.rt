@@ -2,11 +2,11 @@
 
 ghost use Rattle.std.specs.Prelude.{◌≡◌, ◌<◌, ◌^◌, ◌++◌, ◌∷◌, [], ℕ, List, length};
 ghost use Rattle.std.specs.List.{AllByRecursion, concat, flat_map};
-ghost use Rattle.document_model.specs.Faults.{HasFirstFault};
-ghost use Rattle.document_model.specs.Tree.{Members};
-ghost use Rattle.frame_model.specs.Requests.{AreKept, FirstFaulty, Hold, IsKept};
-ghost use Rattle.frame_model.specs.Sections.{IsSection, IsStated, Section, bodies, documents_in, section_bytes, sequence_bytes, sequence_section};
-ghost use Rattle.opmsg_frames.specs.Requests.{Outcome};
+ghost use Rattle.opmsg_model.specs.Faults.{HasFirstFault};
+ghost use Rattle.opmsg_model.specs.Tree.{Fields};
+ghost use Rattle.opmsg_model.specs.Requests.{AreKept, FirstFaulty, Hold, IsKept};
+ghost use Rattle.opmsg_model.specs.Sections.{IsSection, IsStated, Section, bodies, documents_in, section_bytes, sequence_bytes, sequence_section};
+ghost use Rattle.opmsg_frames.specs.RequestMeanings.{ReadOutcome};
 
 use crate::lists::{DocList, Sequence, SequenceList};
 use crate::sections::{Next, has_stated, next_section, number_at, split_sequence};
@@ -16,7 +16,7 @@ use std::alloc::Global;
 /// Reads the document that the bytes are, all of them.
 pub(crate) fn read_whole(alloc: Global, bytes: &[u8]) -> Result<Document, BsonFault>
     ensures { IsStated bytes.now →
-        Outcome (λ doc. IsKept bytes.now doc) (λ fault place. HasFirstFault bytes.now fault place) result }
+        ReadOutcome (λ doc. IsKept bytes.now doc) (λ fault offset. HasFirstFault bytes.now fault offset) result }
 {
     let (doc, _) = read(alloc, bytes)?;
     Ok(doc)
@@ -25,7 +25,7 @@ pub(crate) fn read_whole(alloc: Global, bytes: &[u8]) -> Result<Document, BsonFa
 /// Reads documents, one behind the other.
 fn read_documents(alloc: Global, bytes: &[u8]) -> Result<DocList, BsonFault>
     ensures { (documents : List (List ℕ)) → bytes.now ≡ concat documents → AllByRecursion IsStated documents →
-        Outcome (λ list. AreKept documents list) (λ fault place. FirstFaulty documents fault place) result }
+        ReadOutcome (λ list. AreKept documents list) (λ fault offset. FirstFaulty documents fault offset) result }
 {
     let mut list = DocList::new(alloc);
     let mut rest = bytes;
@@ -45,8 +45,8 @@ fn take_sequence(
 ) -> Result<(), BsonFault>
     ensures { (identifier : List ℕ) (documents : List (List ℕ)) → content.now ≡ sequence_bytes identifier documents →
         IsSection (sequence_section identifier documents) →
-        Outcome (λ done. (mss : List Members) × AreKept documents mss × (sequences.new ≡ sequences.old ++ (identifier, mss) ∷ []))
-        (λ fault place. FirstFaulty documents fault place) result }
+        ReadOutcome (λ done. (mss : List Fields) × AreKept documents mss × (sequences.new ≡ sequences.old ++ (identifier, mss) ∷ []))
+        (λ fault offset. FirstFaulty documents fault offset) result }
 {
     match split_sequence(content) {
         Some((identifier, documents)) => {
@@ -69,7 +69,7 @@ pub(crate) fn read_sections(
 ) -> Result<(Document, SequenceList), BsonFault>
     ensures { (sections : List Section) → bytes.now ≡ flat_map section_bytes sections → length bytes.now < 2 ^ 32 →
         AllByRecursion IsSection sections → bodies sections ≡ 1 →
-        Outcome (λ x. Hold sections (x.0 ∷ []) x.1) (λ fault place. FirstFaulty (documents_in sections) fault place) result }
+        ReadOutcome (λ x. Hold sections (x.0 ∷ []) x.1) (λ fault offset. FirstFaulty (documents_in sections) fault offset) result }
 {
     let mut doc = Document::new(alloc);
     let mut sequences = SequenceList::new(alloc);

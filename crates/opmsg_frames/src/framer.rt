@@ -1,12 +1,12 @@
 //! Requests from bytes that come in any pieces.
 
 ghost use Rattle.std.specs.Prelude.{◌≡◌, ◌+◌, ◌-◌, ◌<◌, ◌≤◌, ◌^◌, IsOk, None, OnErr, OnOk, length};
-ghost use Rattle.frame_model.specs.Outline.{message_outline, outline};
+ghost use Rattle.opmsg_model.specs.Outline.{message_outline, outline};
 ghost use Rattle.opmsg_frames.specs.Conversations.{IsStep, new_framer, refused, took};
 ghost use Rattle.opmsg_frames.specs.Framers.{IsNext};
 
 use crate::fault::{FrameFault, Malformed};
-use crate::message::read_front;
+use crate::message::read_prefix;
 use crate::outline::{Outline, outline_of};
 use crate::request::Request;
 use bson_values::Memory;
@@ -14,12 +14,12 @@ use bytes::BytesMut;
 use std::alloc::Global;
 use std::marker::Model;
 
-/// The bytes of a connection that are not yet given out as requests, and the place of the first of them.
+/// The bytes of a connection that are not yet given out as requests, and the offset of the first of them.
 #[derive(Drop)]
 pub struct Framer {
     alloc: Global,
     bytes: BytesMut,
-    place: u64,
+    offset: u64,
     // The fault that was told.
     fault: Option<Malformed>,
 }
@@ -35,9 +35,9 @@ impl Model for Framer {
     ghost use Rattle.std.specs.Option.{option_map};
     ghost use Rattle.opmsg_frames.specs.Outlines.{fault_meant};
 
-    ghost view = { λ f. record { bytes = f.bytes.items; place = f.place; fault = option_map (λ fault. fault_meant fault) f.fault; room = f.bytes.spare } };
+    ghost view = { λ f. record { bytes = f.bytes.items; offset = f.offset; fault = option_map (λ fault. fault_meant fault) f.fault; room = f.bytes.spare } };
 
-    ghost invariant = { λ f. f.place + length f.bytes.items < 2 ^ 64 };
+    ghost invariant = { λ f. f.offset + length f.bytes.items < 2 ^ 64 };
 }
 
 impl Framer {
@@ -48,7 +48,7 @@ impl Framer {
         Framer {
             alloc,
             bytes: BytesMut::new(alloc),
-            place: 0,
+            offset: 0,
             fault: None,
         }
     }
@@ -57,7 +57,7 @@ impl Framer {
     pub fn reserve(&mut self, count: usize) -> Result<(), Memory>
         ensures room { OnOk result (count ≤ self.new.room) }
         ensures bytes { self.new.bytes ≡ self.old.bytes }
-        ensures place { self.new.place ≡ self.old.place }
+        ensures offset { self.new.offset ≡ self.old.offset }
         ensures fault { self.new.fault ≡ self.old.fault }
     {
         self.bytes.reserve(count)?;
@@ -69,9 +69,9 @@ impl Framer {
     pub fn feed(&mut self, piece: &[u8]) -> Result<(), Memory>
         ensures taken { OnOk result (IsStep self.old (took piece.now) self.new) }
         ensures refused { OnErr result (IsStep self.old refused self.new) }
-        ensures room { length piece.now ≤ self.old.room → self.old.place + length self.old.bytes + length piece.now < 2 ^ 64 - 1 → IsOk result }
+        ensures room { length piece.now ≤ self.old.room → self.old.offset + length self.old.bytes + length piece.now < 2 ^ 64 - 1 → IsOk result }
     {
-        let end = self.place + self.bytes.len() as u64;
+        let end = self.offset + self.bytes.len() as u64;
         if piece.len() as u64 >= u64::MAX - end {
             return Err(Memory);
         }
@@ -94,15 +94,21 @@ impl Framer {
     pub fn next(&mut self) -> Result<Option<Request>, FrameFault>
         ensures { IsNext self.old self.new result }
     {
-        let place = self.place;
+        let offset = self.offset;
         if let Some(fault) = self.fault {
-            return Err(FrameFault::Malformed { fault, place });
+            return Err(FrameFault::Malformed {
+                fault,
+                place: offset,
+            });
         }
         match outline_of(self.bytes.as_slice()) {
             Outline::Partial => Ok(None),
             Outline::Faulty(fault) => {
                 self.fault = Some(fault);
-                Err(FrameFault::Malformed { fault, place })
+                Err(FrameFault::Malformed {
+                    fault,
+                    place: offset,
+                })
             }
             Outline::Message(count) => self.take_message(count),
         }
@@ -114,10 +120,10 @@ impl Framer {
         requires fault { self.old.fault ≡ None }
         ensures { IsNext self.old self.new result }
     {
-        match read_front(self.alloc, self.bytes.as_slice(), count) {
+        match read_prefix(self.alloc, self.bytes.as_slice(), count) {
             Ok(request) => {
                 self.bytes.advance(count);
-                self.place += count as u64;
+                self.offset += count as u64;
                 Ok(Some(request))
             }
             Err(Memory) => Err(FrameFault::Memory),

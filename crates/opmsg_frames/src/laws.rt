@@ -1,19 +1,20 @@
 //! The laws of frames.
 
 ghost use Rattle.std.specs.Prelude.{◌≡◌, ◌<◌, ◌++◌, ◌∷◌, [], ℕ, List, Option, Some, None, Ok, Err, drop, length, take};
-ghost use Rattle.frame_model.specs.Frames.{Frames, IsFirst};
-ghost use Rattle.frame_model.specs.Outline as wire;
-ghost use Rattle.frame_model.specs.Outline.{faulty_outline, message_outline, outline, partial_outline};
-ghost use Rattle.frame_model.specs.Requests.{IsRequest, Request};
+ghost use Rattle.opmsg_model.specs.Frames.{Frames, IsFirst};
+ghost use Rattle.opmsg_model.specs.Outline as wire;
+ghost use Rattle.opmsg_model.specs.Outline.{faulty_outline, message_outline, outline, partial_outline};
+ghost use Rattle.opmsg_model.specs.Requests.{IsRequest, Request};
 ghost use Rattle.opmsg_frames.specs.Conversations.{AreMeant, IsConversation, OnlyTell, Step, answered, fed, given, new_framer};
 ghost use Rattle.opmsg_frames.specs.FramerViews.{FramerView};
 ghost use Rattle.opmsg_frames.specs.Outlines.{fault_meant};
-ghost use Rattle.opmsg_frames.specs.Readings.{AreBytes, PlacedFault};
-ghost use Rattle.opmsg_frames.specs.Sizes.{IsSmallBody};
+ghost use Rattle.opmsg_frames.specs.Readings.{PlacedFault};
+ghost use Rattle.opmsg_model.specs.Grammar.{AreBytes};
+ghost use Rattle.opmsg_model.specs.MessageSizes.{IsSmallBody};
 
 use crate::fault::{FrameFault, Malformed};
 
-/// A message or a fault at the front of the bytes stands there however they go on, and no message is told of before its
+/// A message or a fault at the beginning of the bytes stands there however they go on, and no message is told of before its
 /// last byte.
 pub fn outline_stays()
     ensures whole { (bytes more : List ℕ) (n : ℕ) →
@@ -31,7 +32,7 @@ pub fn request_is_whole()
 {}
 
 /// The documents of a request are within 100 levels and spelled in at most 240,000,000 bytes, and a fault is told at a
-/// place within the longest message.
+/// offset within the longest message.
 pub fn request_is_small()
     ensures { (request : Request) → IsRequest request → IsSmallBody request.body }
 {}
@@ -42,7 +43,7 @@ pub fn one_request()
         IsRequest request → IsRequest other → request ≡ other }
 {}
 
-/// Bytes are read in one way at most: as these requests, that rest, and this fault at its place, or none.
+/// Bytes are read in one way at most: as these requests, that rest, and this fault at its offset, or none.
 pub fn one_reading()
     ensures requests { (bytes rest more : List ℕ) (requests others : List Request) →
         (fault other : PlacedFault) → AreBytes bytes →
@@ -65,20 +66,20 @@ pub fn some_reading()
 
 /// Whatever pieces the bytes come in, and however often a framer is asked between them: the requests given are the first
 /// of the bytes fed, in order; all of them, if it answered last that there is none or that there is a fault; and that
-/// fault is the one of the bytes, at its place, which every later answer tells again.
+/// fault is the one of the bytes, at its offset, which every later answer tells again.
 pub fn every_cutting()
-    ensures front { (steps : List Step) (end : FramerView) →
+    ensures prefix { (steps : List Step) (end : FramerView) →
         AreBytes (fed steps) → IsConversation new_framer steps end →
         (requests : List Request) (rest : List ℕ) (fault : PlacedFault) → Frames (fed steps) requests rest fault →
         (first others : List Request) × (requests ≡ first ++ others) × AreMeant (given steps) first }
     ensures all { (steps : List Step) (end : FramerView) →
         IsConversation new_framer (steps ++ answered (Ok None) ∷ []) end →
         (requests : List Request) × AreMeant (given steps) requests × Frames (fed steps) requests end.bytes None }
-    ensures fault { (steps : List Step) (fault : Malformed) (place : ℕ) (end : FramerView) →
-        IsConversation new_framer (steps ++ answered (Err (FrameFault.Malformed fault place)) ∷ []) end →
+    ensures fault { (steps : List Step) (fault : Malformed) (offset : ℕ) (end : FramerView) →
+        IsConversation new_framer (steps ++ answered (Err (FrameFault.Malformed fault offset)) ∷ []) end →
         (requests : List Request) × AreMeant (given steps) requests
-        × Frames (fed steps) requests end.bytes (Some (fault_meant fault, place)) }
-    ensures again { (before after : List Step) (fault : Malformed) (place : ℕ) (start end : FramerView) →
-        IsConversation start (before ++ answered (Err (FrameFault.Malformed fault place)) ∷ after) end →
-        OnlyTell fault place after }
+        × Frames (fed steps) requests end.bytes (Some (fault_meant fault, offset)) }
+    ensures again { (before after : List Step) (fault : Malformed) (offset : ℕ) (start end : FramerView) →
+        IsConversation start (before ++ answered (Err (FrameFault.Malformed fault offset)) ∷ after) end →
+        OnlyTell fault offset after }
 {}

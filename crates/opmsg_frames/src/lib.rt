@@ -19,6 +19,3 @@ pub use lists::{DocList, Sequence, SequenceList};
 pub use outline::{Outline, outline_of};
 pub use reply::write_reply;
 pub use request::{Body, Form, Request};
-
-#[cfg(test)]
-mod tests;

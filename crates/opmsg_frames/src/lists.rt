@@ -16,12 +16,12 @@ pub struct DocList {
 impl Model for DocList {
     ghost use Rattle.std.specs.Prelude.{List};
     ghost use Rattle.std.specs.Coded.{coded_list};
-    ghost use Rattle.document_model.specs.Tree.{Members};
-    ghost use Rattle.bson_values.specs.Code.{members_code};
+    ghost use Rattle.opmsg_model.specs.Tree.{Fields};
+    ghost use Rattle.bson_values.specs.Code.{fields_code};
 
-    ghost Value = { List Members };
+    ghost Value = { List Fields };
 
-    ghost coded = { coded_list members_code };
+    ghost coded = { coded_list fields_code };
 
     ghost view = { λ l. l.documents.items };
 }
@@ -69,12 +69,12 @@ pub struct SequenceList {
 impl Model for SequenceList {
     ghost use Rattle.std.specs.Prelude.{List, ℕ};
     ghost use Rattle.std.specs.Coded.{coded_list, coded×, coded_ℕ};
-    ghost use Rattle.document_model.specs.Tree.{Members};
-    ghost use Rattle.bson_values.specs.Code.{members_code};
+    ghost use Rattle.opmsg_model.specs.Tree.{Fields};
+    ghost use Rattle.bson_values.specs.Code.{fields_code};
 
-    ghost Value = { List (List ℕ × List Members) };
+    ghost Value = { List (List ℕ × List Fields) };
 
-    ghost coded = { coded_list (coded× (coded_list coded_ℕ) (coded_list members_code)) };
+    ghost coded = { coded_list (coded× (coded_list coded_ℕ) (coded_list fields_code)) };
 
     ghost use Rattle.opmsg_frames.specs.Lists.{pairs_of};
 

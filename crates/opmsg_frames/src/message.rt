@@ -3,15 +3,16 @@
 ghost use Rattle.std.specs.Prelude.{◌≡◌, ◌≢◌, ◌⊎◌, ◌<◌, ◌≤◌, ◌^◌, ◌∷◌, [], List, None, true, drop, length, IfOk};
 ghost use Rattle.std.specs.Int.{w32, cast_signed};
 ghost use Rattle.std.specs.List.{AllByRecursion, flat_map};
-ghost use Rattle.frame_model.specs.Frames.{IsFirst};
-ghost use Rattle.frame_model.specs.Messages.{op_msg, op_query, number_at, opcode};
-ghost use Rattle.frame_model.specs.Outline.{is_query, message_fault, message_outline, msg_fault, outline};
-ghost use Rattle.frame_model.specs.Requests as wire;
-ghost use Rattle.frame_model.specs.Sections.{IsSection, IsStated, Section, bodies, body_section, section_bytes};
-ghost use Rattle.opmsg_frames.specs.Requests.{IsBody, IsMeant};
+ghost use Rattle.opmsg_model.specs.Frames.{IsFirst};
+ghost use Rattle.opmsg_model.specs.Messages.{header_length, most_bytes, number_at, op_msg, op_query, opcode, sections_offset};
+ghost use Rattle.opmsg_model.specs.Outline.{is_query, message_fault, message_outline, msg_fault, outline};
+ghost use Rattle.opmsg_model.specs.Requests as wire;
+ghost use Rattle.opmsg_model.specs.Sections.{IsSection, IsStated, Section, bodies, body_section, section_bytes};
+ghost use Rattle.opmsg_frames.specs.RequestMeanings.{IsBody, IsMeant};
 
 use crate::documents::{read_sections, read_whole};
 use crate::lists::SequenceList;
+use crate::outline::SECTIONS_OFFSET;
 use crate::request::{Body, Form, Request};
 use crate::sections::number_at;
 use bson_values::{BsonFault, Memory};
@@ -39,7 +40,7 @@ fn request_id(bytes: &[u8]) -> i32
 
 /// Whether a request of OP_MSG wants no reply.
 fn is_more(bytes: &[u8]) -> bool
-    requires { 20 ≤ length bytes.now }
+    requires { sections_offset ≤ length bytes.now }
     ensures { result ≡ wire.is_more (number_at 16 bytes.now) }
 {
     number_at(bytes, 16) % 0x1_0000 == 2
@@ -59,14 +60,14 @@ fn read_body(alloc: Global, bytes: &[u8]) -> Result<Body, Memory>
 
 /// Reads a whole message of OP_MSG.
 fn read_msg(alloc: Global, bytes: &[u8]) -> Result<Request, Memory>
-    requires least { 20 ≤ length bytes.now }
-    requires most { length bytes.now ≤ 48000000 }
+    requires least { sections_offset ≤ length bytes.now }
+    requires most { length bytes.now ≤ most_bytes }
     requires stated { number_at 0 bytes.now ≡ length bytes.now }
     requires opcode { opcode bytes.now ≡ op_msg }
     requires sound { msg_fault bytes.now ≡ None }
     ensures { IfOk result (λ r. (meant : wire.Request) × IsMeant r meant × (meant.bytes ≡ bytes.now) × wire.IsRequest meant) }
 {
-    let (_, sections) = bytes.split_at(20);
+    let (_, sections) = bytes.split_at(SECTIONS_OFFSET);
     let body = read_body(alloc, sections)?;
     Ok(Request {
         id: request_id(bytes),
@@ -93,7 +94,7 @@ fn read_lone(alloc: Global, bytes: &[u8]) -> Result<Body, Memory>
 /// Reads a whole message of OP_QUERY.
 fn read_query(alloc: Global, bytes: &[u8]) -> Result<Request, Memory>
     requires least { 44 ≤ length bytes.now }
-    requires most { length bytes.now ≤ 48000000 }
+    requires most { length bytes.now ≤ most_bytes }
     requires stated { number_at 0 bytes.now ≡ length bytes.now }
     requires opcode { opcode bytes.now ≡ op_query }
     requires sound { is_query bytes.now ≡ true }
@@ -111,8 +112,8 @@ fn read_query(alloc: Global, bytes: &[u8]) -> Result<Request, Memory>
 
 /// Reads a whole message whose outline is right.
 pub(crate) fn read_message(alloc: Global, bytes: &[u8]) -> Result<Request, Memory>
-    requires least { 16 ≤ length bytes.now }
-    requires most { length bytes.now ≤ 48000000 }
+    requires least { header_length ≤ length bytes.now }
+    requires most { length bytes.now ≤ most_bytes }
     requires stated { number_at 0 bytes.now ≡ length bytes.now }
     requires opcode { (opcode bytes.now ≡ op_msg) ⊎ (opcode bytes.now ≡ op_query) }
     requires sound { message_fault bytes.now ≡ None }
@@ -126,7 +127,7 @@ pub(crate) fn read_message(alloc: Global, bytes: &[u8]) -> Result<Request, Memor
 }
 
 /// Reads the whole message of `count` bytes that begins the bytes.
-pub(crate) fn read_front(alloc: Global, bytes: &[u8], count: usize) -> Result<Request, Memory>
+pub(crate) fn read_prefix(alloc: Global, bytes: &[u8], count: usize) -> Result<Request, Memory>
     requires { outline bytes.now ≡ message_outline count }
     ensures { IfOk result (λ r. (meant : wire.Request) × IsMeant r meant × IsFirst bytes.now meant (drop count bytes.now) × (length meant.bytes ≡ count)) }
 {

@@ -1,8 +1,9 @@
-//! What stands at the front of the bytes of a connection.
+//! What stands at the beginning of the bytes of a connection.
 
-ghost use Rattle.std.specs.Prelude.{◌≡◌, ◌+◌, ◌<◌, ◌≤◌, length};
+ghost use Rattle.std.specs.Prelude.{◌≡◌, ◌+◌, ◌<◌, ◌≤◌, None, length};
 ghost use Rattle.std.specs.Option.{option_map};
-ghost use Rattle.frame_model.specs.Outline.{greets, header_fault, is_query, message_fault, msg_fault, outline};
+ghost use Rattle.opmsg_model.specs.Messages.{header_length};
+ghost use Rattle.opmsg_model.specs.Outline.{greets, header_fault, headed_outline, is_query, message_fault, msg_fault, outline, whole_outline};
 ghost use Rattle.opmsg_frames.specs.Outlines.{fault_meant, outline_meant};
 
 use crate::fault::Malformed;
@@ -11,7 +12,10 @@ use crate::sections::{before_zero, number_at, sections_fault};
 // Header, flags, collection, two counts and the least document.
 const LEAST_QUERY: usize = 44;
 
-const HEADER: usize = 16;
+const HEADER_LENGTH: usize = 16;
+
+/// The bytes of an OP_MSG before its sections: header and flags.
+pub(crate) const SECTIONS_OFFSET: usize = 20;
 
 const MOST_BYTES: u32 = 48_000_000;
 
@@ -32,11 +36,11 @@ pub enum Outline {
 
 /// What is wrong with a header.
 fn header_fault(bytes: &[u8]) -> Option<Malformed>
-    requires { 16 ≤ length bytes.now }
+    requires { header_length ≤ length bytes.now }
     ensures { option_map (λ f. fault_meant f) result ≡ header_fault bytes.now }
 {
     let stated = number_at(bytes, 0);
-    if stated < 16 || stated >= 0x8000_0000 {
+    if stated < HEADER_LENGTH as u32 || stated >= 0x8000_0000 {
         return Some(Malformed::BadLength);
     }
     if stated > MOST_BYTES {
@@ -81,20 +85,20 @@ fn is_query(bytes: &[u8]) -> bool
 fn msg_fault(bytes: &[u8]) -> Option<Malformed>
     ensures { option_map (λ f. fault_meant f) result ≡ msg_fault bytes.now }
 {
-    if bytes.len() < 20 {
+    if bytes.len() < SECTIONS_OFFSET {
         return Some(Malformed::BadFlags);
     }
     let low = number_at(bytes, 16) % 0x1_0000;
     if low != 0 && low != 2 {
         return Some(Malformed::BadFlags);
     }
-    let (_, sections) = bytes.split_at(20);
+    let (_, sections) = bytes.split_at(SECTIONS_OFFSET);
     sections_fault(sections)
 }
 
 /// What is wrong with a whole message that has one of the two opcodes.
 fn message_fault(bytes: &[u8]) -> Option<Malformed>
-    requires { 16 ≤ length bytes.now }
+    requires { header_length ≤ length bytes.now }
     ensures { option_map (λ f. fault_meant f) result ≡ message_fault bytes.now }
 {
     if number_at(bytes, 12) == OP_MSG {
@@ -106,24 +110,41 @@ fn message_fault(bytes: &[u8]) -> Option<Malformed>
     Some(Malformed::BadQuery)
 }
 
-/// What stands at the front of the bytes: less than a whole message, a whole one, or a fault. It is a fault as soon as its
-/// header's 16 bytes tell one, or else once the message is whole.
-pub fn outline_of(bytes: &[u8]) -> Outline
-    ensures { outline_meant result ≡ outline bytes.now }
+/// What a whole message is.
+fn whole_outline(message: &[u8]) -> Outline
+    requires { header_length ≤ length message.now }
+    ensures { outline_meant result ≡ whole_outline (length message.now) (message_fault message.now) }
 {
-    if bytes.len() < HEADER {
-        return Outline::Partial;
+    match message_fault(message) {
+        Some(fault) => Outline::Faulty(fault),
+        None => Outline::Message(message.len()),
     }
-    if let Some(fault) = header_fault(bytes) {
-        return Outline::Faulty(fault);
-    }
+}
+
+/// What stands at the beginning of bytes whose header is right.
+fn headed_outline(bytes: &[u8]) -> Outline
+    requires least { header_length ≤ length bytes.now }
+    requires header { header_fault bytes.now ≡ None }
+    ensures { outline_meant result ≡ headed_outline bytes.now None }
+{
     let stated = number_at(bytes, 0) as usize;
     if bytes.len() < stated {
         return Outline::Partial;
     }
     let (message, _) = bytes.split_at(stated);
-    match message_fault(message) {
+    whole_outline(message)
+}
+
+/// What stands at the beginning of the bytes: less than a whole message, a whole one, or a fault. It is a fault as soon as its
+/// header's 16 bytes tell one, or else once the message is whole.
+pub fn outline_of(bytes: &[u8]) -> Outline
+    ensures { outline_meant result ≡ outline bytes.now }
+{
+    if bytes.len() < HEADER_LENGTH {
+        return Outline::Partial;
+    }
+    match header_fault(bytes) {
         Some(fault) => Outline::Faulty(fault),
-        None => Outline::Message(stated),
+        None => headed_outline(bytes),
     }
 }

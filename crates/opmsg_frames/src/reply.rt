@@ -2,12 +2,13 @@
 
 ghost use Rattle.std.specs.Prelude.{◌≡◌, ◌≤◌, ◌++◌, length, take, OnErr, OnOk};
 ghost use Rattle.std.specs.Int.{w32, cast_unsigned};
-ghost use Rattle.document_model.specs.Spelling.{written};
-ghost use Rattle.document_model.specs.Tree.{document_levels};
-ghost use Rattle.frame_model.specs.Messages.{header, int32};
-ghost use Rattle.frame_model.specs.Replies.{reply_bytes, reply_head};
-ghost use Rattle.frame_model.specs.Requests.{msg_form, query_form};
-ghost use Rattle.opmsg_frames.specs.Requests.{form_meant};
+ghost use Rattle.opmsg_model.specs.Spelling.{written};
+ghost use Rattle.opmsg_model.specs.Tree.{document_depth};
+ghost use Rattle.opmsg_model.specs.Messages.{header, int32};
+ghost use Rattle.opmsg_model.specs.Replies.{reply_bytes, reply_head};
+ghost use Rattle.opmsg_model.specs.Requests.{msg_form, query_form};
+ghost use Rattle.opmsg_frames.specs.RequestMeanings.{form_meant};
+ghost use Rattle.opmsg_model.specs.Limits.{most_bytes_written, most_depth_written};
 
 use crate::request::{Form, Request};
 use bson_values::{Document, Memory, write};
@@ -70,7 +71,7 @@ fn put_header(size: u32, id: i32, answers: i32, code: u32, out: &mut Vec<u8>) ->
 
 /// Puts what stands before the document of a reply to OP_MSG. An `Err` may leave a part of it.
 fn put_msg_head(id: i32, number: i32, size: u32, out: &mut Vec<u8>) -> Result<(), Memory>
-    requires { size ≤ 300000000 }
+    requires { size ≤ most_bytes_written }
     ensures ok { OnOk result (out.new.items ≡ out.old.items ++ reply_head msg_form id number size) }
     ensures kept { take (length out.old.items) out.new.items ≡ out.old.items }
 {
@@ -82,7 +83,7 @@ fn put_msg_head(id: i32, number: i32, size: u32, out: &mut Vec<u8>) -> Result<()
 
 /// Puts what stands before the document of an OP_REPLY. An `Err` may leave a part of it.
 fn put_query_head(id: i32, number: i32, size: u32, out: &mut Vec<u8>) -> Result<(), Memory>
-    requires { size ≤ 300000000 }
+    requires { size ≤ most_bytes_written }
     ensures ok { OnOk result (out.new.items ≡ out.old.items ++ reply_head query_form id number size) }
     ensures kept { take (length out.old.items) out.new.items ≡ out.old.items }
 {
@@ -93,7 +94,7 @@ fn put_query_head(id: i32, number: i32, size: u32, out: &mut Vec<u8>) -> Result<
 
 /// Puts what stands before the document of a reply. An `Err` may leave a part of it.
 fn put_head(form: Form, id: i32, number: i32, size: u32, out: &mut Vec<u8>) -> Result<(), Memory>
-    requires { size ≤ 300000000 }
+    requires { size ≤ most_bytes_written }
     ensures ok { OnOk result (out.new.items ≡ out.old.items ++ reply_head (form_meant form) id number size) }
     ensures kept { take (length out.old.items) out.new.items ≡ out.old.items }
 {
@@ -110,8 +111,8 @@ fn put_reply(
     doc: &Document,
     out: &mut Vec<u8>,
 ) -> Result<(), Memory>
-    requires levels { document_levels doc.now ≤ 104 }
-    requires size { length (written doc.now) ≤ 300000000 }
+    requires depth { document_depth doc.now ≤ most_depth_written }
+    requires size { length (written doc.now) ≤ most_bytes_written }
     ensures ok { OnOk result (out.new.items
         ≡ out.old.items ++ reply_bytes (form_meant request.now.form) request.now.id number doc.now) }
     ensures kept { take (length out.old.items) out.new.items ≡ out.old.items }
@@ -130,8 +131,8 @@ pub fn write_reply(
     doc: &Document,
     out: &mut Vec<u8>,
 ) -> Result<(), Memory>
-    requires levels { document_levels doc.now ≤ 104 }
-    requires size { length (written doc.now) ≤ 300000000 }
+    requires depth { document_depth doc.now ≤ most_depth_written }
+    requires size { length (written doc.now) ≤ most_bytes_written }
     ensures ok { OnOk result (out.new.items
         ≡ out.old.items ++ reply_bytes (form_meant request.now.form) request.now.id number doc.now) }
     ensures err { OnErr result (out.new.items ≡ out.old.items) }

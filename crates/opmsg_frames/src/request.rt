@@ -20,7 +20,7 @@ pub enum Body {
         doc: Document,
         sequences: SequenceList,
     },
-    /// The first fault of the first document that has one. Its place counts from that document's first byte.
+    /// The first fault of the first document that has one. Its offset counts from that document's first byte.
     Faulty(BsonFault),
 }
 

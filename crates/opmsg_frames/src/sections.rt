@@ -3,9 +3,9 @@
 ghost use Rattle.std.specs.Prelude.{◌≡◌, ◌+◌, ◌<◌, ◌≤◌, ℕ, length, IfSome, false};
 ghost use Rattle.std.specs.Option.{option_map};
 ghost use Rattle.std.specs.Str.{is_utf8};
-ghost use Rattle.document_model.specs.Faults.{before_zero};
-ghost use Rattle.frame_model.specs.Messages.{number_at};
-ghost use Rattle.frame_model.specs.Outline.{are_documents, ended_fault, has_stated, is_sequence, next_section, sections_fault};
+ghost use Rattle.opmsg_model.specs.Faults.{before_zero};
+ghost use Rattle.opmsg_model.specs.Messages.{number_at};
+ghost use Rattle.opmsg_model.specs.Outline.{are_documents, ended_fault, has_stated, is_sequence, next_section, sections_fault};
 ghost use Rattle.opmsg_frames.specs.Outlines.{IfBehind, fault_meant, next_meant, sequence_parts, text_if};
 
 use crate::fault::Malformed;
@@ -34,12 +34,12 @@ pub(crate) enum Next<'a> {
     },
 }
 
-/// The little-endian number at a place.
-pub(crate) fn number_at(bytes: &[u8], place: usize) -> u32
-    requires { place + 4 ≤ length bytes.now }
-    ensures { result ≡ number_at place bytes.now }
+/// The little-endian number at an offset.
+pub(crate) fn number_at(bytes: &[u8], offset: usize) -> u32
+    requires { offset + 4 ≤ length bytes.now }
+    ensures { result ≡ number_at offset bytes.now }
 {
-    LittleEndian::read_u32(&bytes[place..place + 4])
+    LittleEndian::read_u32(&bytes[offset..offset + 4])
 }
 
 /// The length that the bytes begin with, where it is at least 5 and within them.

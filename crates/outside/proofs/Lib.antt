@@ -1,3 +1,1 @@
-pub mod Parts
 pub mod Relations
-pub mod Crashes

@@ -1,6 +1,7 @@
--- What was taken in two calls was taken in one, and so with what was put; and a count that rose has risen for good.
-use Rattle.std.proofs.Common.{ℕ, ◌≤◌, List, ◌++◌, Bool, arith, append_assoc, sym, ◌∙◌, ap}
+-- What was taken in two calls was taken in one, and so with what was put; and counts that rose have risen for good.
+use Rattle.std.proofs.Common.{◌≡◌, ℕ, ◌≤◌, List, [], ◌∷◌, ◌++◌, Bool, inl, inr, refl, arith, append_assoc, sym, ◌∙◌, ap, subst}
 use Rattle.outside.specs.Causes.{Rose}
+use Rattle.outside.specs.Devices.{NoneFell, OneRose}
 use Rattle.outside.specs.Streams.{Took, Put}
 
 -- two takes, one after the other, are one
@@ -18,3 +19,30 @@ put_then tells held bytes held' more held'' put put' told =
 -- a count that did not fall and then rose rose
 pub later_rose : (before between after : ℕ) → before ≤ between → Rose between after → Rose before after
 later_rose before between after later rose = omega arith
+
+-- a count that rose after none fell rose from before
+pub one_rose_later : (a b c : List ℕ) → NoneFell a b → OneRose b c → OneRose a c
+one_rose_later [] [] c fell rose = absurd rose
+one_rose_later [] (y ∷ b) c fell rose = absurd fell
+one_rose_later (x ∷ a) [] c fell rose = absurd fell
+one_rose_later (x ∷ a) (y ∷ b) [] fell rose = absurd rose
+one_rose_later (x ∷ a) (y ∷ b) (z ∷ c) fell (inl rose) = inl (later_rose x y z fell.0 rose)
+one_rose_later (x ∷ a) (y ∷ b) (z ∷ c) fell (inr rose) = inr (one_rose_later a b c fell.1 rose)
+
+-- counts that did not fall twice did not fall
+pub none_fell_then : (a b c : List ℕ) → NoneFell a b → NoneFell b c → NoneFell a c
+none_fell_then [] [] [] fell more = tt
+none_fell_then [] [] (z ∷ c) fell more = absurd more
+none_fell_then [] (y ∷ b) c fell more = absurd fell
+none_fell_then (x ∷ a) [] c fell more = absurd fell
+none_fell_then (x ∷ a) (y ∷ b) [] fell more = absurd more
+none_fell_then (x ∷ a) (y ∷ b) (z ∷ c) fell more = (omega (arith, fell.0, more.0), none_fell_then a b c fell.1 more.1)
+
+-- counts have not fallen from themselves
+pub none_fell_self : (a : List ℕ) → NoneFell a a
+none_fell_self [] = tt
+none_fell_self (x ∷ a) = (omega arith, none_fell_self a)
+
+-- counts that stayed did not fall
+pub none_fell_same : (a b : List ℕ) → b ≡ a → NoneFell a b
+none_fell_same a b same = subst (NoneFell a) (sym same) (none_fell_self a)

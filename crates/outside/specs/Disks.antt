@@ -6,7 +6,7 @@ use Rattle.std.specs.Prelude.{◌≡◌, ◌⊎◌, ℕ, ◌+◌, ◌≤◌, min
 abbrev pub Outcomes : Type 1
 Outcomes = List ℕ → Type 0
 
--- Old with the piece from this place on. What lies between the old end and a place behind it may be any bytes.
+-- Old with the piece from this offset on. What lies between the old end and an offset behind it may be any bytes.
 pub record Holds (at : ℕ) (piece old new : List ℕ) : Type 0 where
   pub before : take (min at (length old)) new ≡ take at old
   pub here : take (length piece) (drop at new) ≡ piece
@@ -22,7 +22,7 @@ pub record Torn (at n : ℕ) (old new : List ℕ) : Type 0 where
 -- Old after a cut to n bytes that was cut short: some length between.
 pub record Cut (n : ℕ) (old new : List ℕ) : Type 0 where
   pub no_shorter : min n (length old) ≤ length new
-  pub front : new ≡ take (length new) old
+  pub prefix : new ≡ take (length new) old
 
 -- one of these outcomes after a step
 abbrev pub After : (List ℕ → List ℕ → Type 0) → Outcomes → Outcomes

@@ -2,8 +2,4 @@ pub mod Causes
 pub mod Disks
 pub mod Logs
 pub mod Streams
-pub mod Plan
-pub mod CallList
-pub mod Memory
-pub mod Calls
-pub mod Moments
+pub mod Devices

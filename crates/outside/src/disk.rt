@@ -5,7 +5,7 @@ ghost use Rattle.outside.specs.Disks.{Cut, Elapses, Follows, Holds, Only, Torn, 
 
 use crate::streams::Failed;
 
-/// A file of bytes, which are read and written at places from 0 on. Each error is a fault that is counted. Until a sync,
+/// A file of bytes, which are read and written at offsets from 0 on. Each error is a fault that is counted, and nothing else is. Until a sync,
 /// a crash may leave any bytes in a range that was written and past the old end, and may undo a cut.
 pub trait Disk: Drop {
     // Whether the type tells what the file holds. Clauses on the content are of those that do.
@@ -26,6 +26,9 @@ pub trait Disk: Drop {
     // How many faults the disk met.
     ghost fault_count: { Self → ℕ };
 
+    // Where the disk is: of a disk in memory the bytes that it was made of, of a disk over a file the bytes of its path.
+    ghost place: { Self → List ℕ };
+
     /// The file's length in bytes.
     ///
     /// # Errors
@@ -37,9 +40,11 @@ pub trait Disk: Drop {
         ensures time { IsTrue tells →
             Elapses (moment self.old) (moment self.new) (left_since self.old) (left_since self.new) (may_leave self.new) }
         ensures cause { OnErr result (Rose (fault_count self.old) (fault_count self.new)) }
-        ensures later { fault_count self.old ≤ fault_count self.new };
+        ensures calm { OnOk result (fault_count self.new ≡ fault_count self.old) }
+        ensures later { fault_count self.old ≤ fault_count self.new }
+        ensures place { place self.new ≡ place self.old };
 
-    /// Reads bytes from the place `at` on into the front of `buf`, and gives their number, of which 0 for a `buf` with
+    /// Reads bytes from the offset `at` on into the front of `buf`, and gives their number, of which 0 for a `buf` with
     /// room is the end. It may read fewer than there are.
     ///
     /// # Errors
@@ -55,9 +60,11 @@ pub trait Disk: Drop {
         ensures time { IsTrue tells →
             Elapses (moment self.old) (moment self.new) (left_since self.old) (left_since self.new) (may_leave self.new) }
         ensures cause { OnErr result (Rose (fault_count self.old) (fault_count self.new)) }
-        ensures later { fault_count self.old ≤ fault_count self.new };
+        ensures calm { OnOk result (fault_count self.new ≡ fault_count self.old) }
+        ensures later { fault_count self.old ≤ fault_count self.new }
+        ensures place { place self.new ≡ place self.old };
 
-    /// Writes the whole piece from the place `at` on, over what is there and past the end.
+    /// Writes the whole piece from the offset `at` on, over what is there and past the end.
     ///
     /// # Errors
     /// `Failed` if the disk met a fault, which is counted. A part of the range may be written then.
@@ -68,7 +75,9 @@ pub trait Disk: Drop {
         ensures time { IsTrue tells →
             Elapses (moment self.old) (moment self.new) (left_since self.old) (left_since self.new) (may_leave self.new) }
         ensures cause { OnErr result (Rose (fault_count self.old) (fault_count self.new)) }
-        ensures later { fault_count self.old ≤ fault_count self.new };
+        ensures calm { OnOk result (fault_count self.new ≡ fault_count self.old) }
+        ensures later { fault_count self.old ≤ fault_count self.new }
+        ensures place { place self.new ≡ place self.old };
 
     /// Cuts the file to `len` bytes, if it is longer.
     ///
@@ -81,7 +90,9 @@ pub trait Disk: Drop {
         ensures time { IsTrue tells →
             Elapses (moment self.old) (moment self.new) (left_since self.old) (left_since self.new) (may_leave self.new) }
         ensures cause { OnErr result (Rose (fault_count self.old) (fault_count self.new)) }
-        ensures later { fault_count self.old ≤ fault_count self.new };
+        ensures calm { OnOk result (fault_count self.new ≡ fault_count self.old) }
+        ensures later { fault_count self.old ≤ fault_count self.new }
+        ensures place { place self.new ≡ place self.old };
 
     /// Makes what was written and cut stay: after it a crash leaves what reads give.
     ///
@@ -89,12 +100,15 @@ pub trait Disk: Drop {
     /// `Failed` if the disk met a fault, which is counted. What a crash may leave is then no more than before.
     fn sync(&mut self) -> Result<(), Failed>
         ensures durable { OnOk result (IsTrue tells → Only (content self.new) (may_leave self.new)) }
+        ensures stays { OnOk result (IsTrue tells → may_leave self.new (content self.new)) }
         ensures same { IsTrue tells → content self.new ≡ content self.old }
         ensures crash { IsTrue tells → Within (may_leave self.old) (may_leave self.new) }
         ensures time { IsTrue tells →
             Elapses (moment self.old) (moment self.new) (left_since self.old) (left_since self.new) (may_leave self.new) }
         ensures cause { OnErr result (Rose (fault_count self.old) (fault_count self.new)) }
-        ensures later { fault_count self.old ≤ fault_count self.new };
+        ensures calm { OnOk result (fault_count self.new ≡ fault_count self.old) }
+        ensures later { fault_count self.old ≤ fault_count self.new }
+        ensures place { place self.new ≡ place self.old };
 
     /// How many faults the disk met, at most 2^64 - 1.
     fn faults(&self) -> u64

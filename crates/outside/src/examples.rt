@@ -2,11 +2,10 @@
 
 ghost use Rattle.std.specs.Prelude.{◌≡◌, ◌⊎◌, ◌≤◌, ℕ, [], ◌∷◌, ◌-◌, ◌^◌, List, false, true};
 ghost use Rattle.outside.specs.Causes.{Rose};
+ghost use Rattle.outside.specs.Devices.{SourceGave, SourceIsUntouched, SinkIsUntouched, source_call, sink_call, DisksAreInPlace, NoneFell, OneRose, disks_call};
 ghost use Rattle.outside.specs.Disks.{Cut, Elapses, Follows, Holds, LeavesOnly, Only, Torn, Within};
 ghost use Rattle.outside.specs.Logs.{ByFault, WithOrWithout};
-ghost use Rattle.outside.specs.Calls.{left_after, left_after_some, replayed};
 ghost use Rattle.outside.specs.declared.log.LogFault.TheVariants.{Disk as DiskFault, Memory};
-ghost use Rattle.outside.specs.declared.memory.call.Call.TheVariants.{Cut as CutTo, Sync, Write};
 ghost use Rattle.outside.specs.Streams.{Put, Took};
 
 /// A count that rises, one that stays, and one at its last value.
@@ -20,6 +19,29 @@ pub fn moved()
     ensures taken { Took true (1 ∷ 2 ∷ []) (1 ∷ []) (2 ∷ []) × (Took true (1 ∷ 2 ∷ []) (2 ∷ []) (1 ∷ []) → ⊥) }
     ensures put { Put true (1 ∷ []) (2 ∷ []) (1 ∷ 2 ∷ []) × (Put true (1 ∷ []) (2 ∷ []) (2 ∷ 1 ∷ []) → ⊥) }
     ensures untold { Took false [] (1 ∷ []) [] × Put false [] (1 ∷ []) [] }
+{}
+
+/// Counts of faults of three disks, of which one rises, none rises, and one falls.
+pub fn counted_each()
+    ensures one { OneRose (0 ∷ 0 ∷ 0 ∷ []) (0 ∷ 1 ∷ 0 ∷ []) × (OneRose (0 ∷ 0 ∷ []) (0 ∷ 0 ∷ []) → ⊥) }
+    ensures none_fell { NoneFell (0 ∷ 1 ∷ []) (0 ∷ 2 ∷ []) × (NoneFell (0 ∷ 1 ∷ []) (1 ∷ 0 ∷ []) → ⊥) }
+    ensures missing { NoneFell (0 ∷ 1 ∷ []) (0 ∷ []) → ⊥ }
+{}
+
+/// A source, here the bytes that it has left, and a sink, here the bytes that it holds, over a call.
+pub fn streamed()
+    ensures gave { SourceGave (source_call true (λ (left : List ℕ). left) (λ _. 0) (1 ∷ []) []) (1 ∷ []) }
+    ensures moved { SourceIsUntouched (source_call true (λ (left : List ℕ). left) (λ _. 0) (1 ∷ []) []) → ⊥ }
+    ensures rose { SourceIsUntouched (source_call true (λ (n : ℕ). []) (λ n. n) 0 1) → ⊥ }
+    ensures untouched { SinkIsUntouched (sink_call true (λ (held : List ℕ). held) (λ _. 0) (1 ∷ []) (1 ∷ [])) }
+{}
+
+/// Disks, here the bytes of their places, over a call: each in its place, or exchanged.
+pub fn placed()
+    ensures in_place { DisksAreInPlace (disks_call true (λ _. []) (λ (place : List ℕ). place) (λ _. 0)
+        ((1 ∷ []) ∷ (2 ∷ []) ∷ []) ((1 ∷ []) ∷ (2 ∷ []) ∷ [])) }
+    ensures exchanged { DisksAreInPlace (disks_call true (λ _. []) (λ (place : List ℕ). place) (λ _. 0)
+        ((1 ∷ []) ∷ (2 ∷ []) ∷ []) ((2 ∷ []) ∷ (1 ∷ []) ∷ [])) → ⊥ }
 {}
 
 /// Bytes 1 2 3 and a piece that was written over them, past their end, and behind a gap of any bytes.
@@ -57,8 +79,7 @@ pub fn outcomes()
 
 /// Time goes on by one call. It neither forgets what might have been left nor makes it up.
 pub fn time()
-    ensures goes_on { Elapses 0 1 (left_after_some [] []) (left_after_some [] (Write 0 (1 ∷ []) ∷ []))
-        (left_after [] (Write 0 (1 ∷ []) ∷ [])) }
+    ensures goes_on { Elapses 0 1 (λ _ c. c ≡ []) (λ _ c. (c ≡ []) ⊎ (c ≡ 1 ∷ [])) (λ c. c ≡ 1 ∷ []) }
     ensures back { Elapses 1 0 (λ _ c. c ≡ []) (λ _ c. c ≡ []) (λ c. c ≡ []) → ⊥ }
     ensures forgets { Elapses 0 0 (λ _ c. c ≡ []) (λ _ _. ⊥) (λ c. c ≡ []) → ⊥ }
     ensures makes_up { Elapses 0 0 (λ _ _. ⊥) (λ _ c. c ≡ []) (λ _. ⊥) → ⊥ }
@@ -77,16 +98,4 @@ pub fn logged()
     ensures with { WithOrWithout (λ rs. rs ≡ (1 ∷ []) ∷ []) [] (1 ∷ []) }
     ensures without { WithOrWithout (λ rs. rs ≡ []) [] (1 ∷ []) }
     ensures other { WithOrWithout (λ rs. rs ≡ (2 ∷ []) ∷ []) [] (1 ∷ []) → ⊥ }
-{}
-
-/// A write and a sync stay. A write without a sync leaves any bytes in its range and nothing elsewhere, and a cut without
-/// one any length between.
-pub fn crashes()
-    ensures replayed { replayed (1 ∷ 2 ∷ 3 ∷ []) (Write 1 (9 ∷ []) ∷ CutTo 2 ∷ Sync ∷ []) ≡ 1 ∷ 9 ∷ [] }
-    ensures synced { Only (1 ∷ 9 ∷ 3 ∷ []) (left_after (1 ∷ 2 ∷ 3 ∷ []) (Write 1 (9 ∷ []) ∷ Sync ∷ [])) }
-    ensures stays { left_after (1 ∷ 2 ∷ 3 ∷ []) (Write 1 (9 ∷ []) ∷ Sync ∷ []) (1 ∷ 9 ∷ 3 ∷ []) }
-    ensures any_byte { left_after (1 ∷ 2 ∷ 3 ∷ []) (Write 1 (9 ∷ []) ∷ []) (1 ∷ 7 ∷ 3 ∷ []) }
-    ensures elsewhere { left_after (1 ∷ 2 ∷ 3 ∷ []) (Write 1 (9 ∷ []) ∷ []) (1 ∷ 9 ∷ 4 ∷ []) → ⊥ }
-    ensures any_length { left_after (1 ∷ 2 ∷ 3 ∷ []) (CutTo 1 ∷ []) (1 ∷ 2 ∷ []) }
-    ensures no_other { left_after (1 ∷ 2 ∷ 3 ∷ []) (CutTo 1 ∷ []) (1 ∷ 9 ∷ []) → ⊥ }
 {}

@@ -1,4 +1,4 @@
-//! A row of records that stay.
+//! A row of records, which an opening finds again.
 ghost use Rattle.std.specs.Prelude.{◌≡◌, ℕ, ◌≤◌, ◌++◌, ◌∷◌, [], List, take, IsTrue, Bool, OnOk, IfErr, OnErr};
 ghost use Rattle.outside.specs.Causes.{Rose};
 ghost use Rattle.outside.specs.Logs.{ByFault, WithOrWithout};
@@ -16,7 +16,7 @@ pub enum LogFault {
     Memory,
 }
 
-/// A row of records, to which records are appended for good.
+/// A row of records, to which records are appended; an opening finds them again.
 pub trait Log {
     // The records, in order.
     ghost records: { Self → List (List ℕ) };
@@ -30,7 +30,11 @@ pub trait Log {
     // How many faults the log's disk met.
     ghost fault_count: { Self → ℕ };
 
-    /// Appends a record. After it, the record stays over every crash.
+    // Where the log's disk is.
+    ghost place: { Self → List ℕ };
+
+    /// Appends a record. After it, an opening of the log finds the records with this one (`kept`). Of crashes the journal says
+    /// it, in the clause `durable` of its own `append`.
     ///
     /// # Errors
     /// - `LogFault::Disk` only if the disk met a fault: then the record stands or it doesn't.
@@ -46,7 +50,9 @@ pub trait Log {
         ensures cause { IfErr result (λ e. ByFault e
             (λ faults. (faults ≡ fault_count self.new) × Rose (fault_count self.old) (fault_count self.new))
             (Unit {0})) }
-        ensures later { fault_count self.old ≤ fault_count self.new };
+        ensures calm { OnOk result (fault_count self.new ≡ fault_count self.old) }
+        ensures later { fault_count self.old ≤ fault_count self.new }
+        ensures place { place self.new ≡ place self.old };
 }
 
 /// A row of records in memory, in order.

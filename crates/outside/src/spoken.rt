@@ -32,7 +32,7 @@ pub enum LinkEnd {
     AtEnd,
     /// The next bytes begin no message (MongoDB manual, "Wire Protocol").
     NoFrame {
-        /// The place of the fault, in bytes from the link's first.
+        /// The offset of the fault, in bytes from the link's first.
         place: u64,
     },
     /// A fault was met while bytes were taken from the link.

@@ -2,8 +2,7 @@
 //! disks, and the system's clock.
 ghost use Rattle.std.specs.Prelude.{◌≡◌, ℕ, ◌<◌, ◌≤◌, [], length, take, false, IfOk, OnOk, OnErr};
 ghost use Rattle.std.specs.Io.KnownBytes.{Consumes, Appends, IsAtEnd, Keeps};
-ghost use Rattle.outside.specs.Causes.{Rose};
-ghost use Rattle.outside.specs.Plan.{next_count};
+ghost use Rattle.outside.specs.Causes.{Rose, next_count};
 
 mod file;
 
@@ -42,11 +41,11 @@ impl<R: Read + Drop> Source for StdSource<R> {
         ensures count { IfOk result (λ n. n ≤ length buf.old) }
         ensures len { length buf.new ≡ length buf.old }
         ensures cause { OnErr result (Rose self.old.faults self.new.faults) }
+        ensures calm { OnOk result (self.new.faults ≡ self.old.faults) }
         ensures later { self.old.faults ≤ self.new.faults }
 
-        // An error is counted, and nothing else is. Where the reader tells its bytes, none is skipped.
+        // An error is counted once. Where the reader tells its bytes, none is skipped.
         ensures fault { OnErr result (self.new.faults ≡ next_count self.old.faults) }
-        ensures calm { OnOk result (self.new.faults ≡ self.old.faults) }
         ensures read { IfOk result (λ n. Consumes (R.remaining self.old.reader) (R.remaining self.new.reader)
             (take n buf.new)) }
         ensures at_end { IfOk result (λ n. n ≡ 0 → 0 < length buf.old → IsAtEnd (R.remaining self.new.reader)) }
@@ -91,11 +90,11 @@ impl<W: Write + Drop> Sink for StdSink<W> {
         ensures count { IfOk result (λ n. n ≤ length piece.now) }
         ensures some { IfOk result (λ n. 0 < length piece.now → 0 < n) }
         ensures cause { OnErr result (Rose self.old.faults self.new.faults) }
+        ensures calm { OnOk result (self.new.faults ≡ self.old.faults) }
         ensures later { self.old.faults ≤ self.new.faults }
 
-        // An error is counted, and nothing else is. Where the writer tells its bytes, none is dropped.
+        // An error is counted once. Where the writer tells its bytes, none is dropped.
         ensures fault { OnErr result (self.new.faults ≡ next_count self.old.faults) }
-        ensures calm { OnOk result (self.new.faults ≡ self.old.faults) }
         ensures wrote { IfOk result (λ n. Appends (W.contents self.old.writer) (W.contents self.new.writer)
             (take n piece.now)) }
     {

@@ -1,5 +1,5 @@
 //! Streams of bytes: where bytes come from, where bytes go to, and the links that clients open.
-ghost use Rattle.std.specs.Prelude.{◌≡◌, ℕ, ◌<◌, ◌≤◌, List, [], length, take, Bool, IsTrue, IfOk, OnErr};
+ghost use Rattle.std.specs.Prelude.{◌≡◌, ℕ, ◌<◌, ◌≤◌, List, [], length, take, Bool, IsTrue, IfOk, OnOk, OnErr};
 ghost use Rattle.outside.specs.Causes.{Rose};
 ghost use Rattle.outside.specs.Streams.{Took, Put};
 
@@ -33,6 +33,7 @@ pub trait Source {
         ensures at_end { IfOk result (λ n. 0 < length buf.old → n ≡ 0 → IsTrue tells → left self.new ≡ []) }
         ensures nothing { OnErr result (Took tells (left self.old) [] (left self.new)) }
         ensures cause { OnErr result (Rose (fault_count self.old) (fault_count self.new)) }
+        ensures calm { OnOk result (fault_count self.new ≡ fault_count self.old) }
         ensures later { fault_count self.old ≤ fault_count self.new }
         ensures aside { beside self.new ≡ beside self.old };
 }
@@ -61,6 +62,7 @@ pub trait Sink {
         ensures put { IfOk result (λ n. Put tells (held self.old) (take n piece.now) (held self.new)) }
         ensures nothing { OnErr result (Put tells (held self.old) [] (held self.new)) }
         ensures cause { OnErr result (Rose (fault_count self.old) (fault_count self.new)) }
+        ensures calm { OnOk result (fault_count self.new ≡ fault_count self.old) }
         ensures later { fault_count self.old ≤ fault_count self.new }
         ensures aside { beside self.new ≡ beside self.old };
 }
@@ -89,6 +91,7 @@ pub trait Acceptor {
     /// `Failed` if the acceptor met a fault, which is counted.
     fn listen(&mut self, port: u16) -> Result<(), Failed>
         ensures cause { OnErr result (Rose (fault_count self.old) (fault_count self.new)) }
+        ensures calm { OnOk result (fault_count self.new ≡ fault_count self.old) }
         ensures later { fault_count self.old ≤ fault_count self.new };
 
     /// The next link that a client opens.
@@ -97,5 +100,6 @@ pub trait Acceptor {
     /// `Failed` if the acceptor met a fault, which is counted.
     fn next(&mut self) -> Result<Self::Link, Failed>
         ensures cause { OnErr result (Rose (fault_count self.old) (fault_count self.new)) }
+        ensures calm { OnOk result (fault_count self.new ≡ fault_count self.old) }
         ensures later { fault_count self.old ≤ fault_count self.new };
 }

@@ -2,9 +2,9 @@
 use Rattle.std.proofs.Common.{◌≡◌, ℕ, List, [], ◌∷◌, ◌++◌, map, refl, sym, ap, ◌∙◌}
 use Rattle.std.specs.Prelude.{Bool, true, false, Option, Some, None}
 use Rattle.std.specs.List.{AllByRecursion}
-use Rattle.document_model.specs.Tree.{Members}
+use Rattle.chunk_model.specs.Tree.{Fields}
 use Rattle.history_model.specs.History.{Operation, insert_operation, is_too_large, effect, Entry}
-use Rattle.history_model.proofs.Standing.{put_in}
+use Rattle.history_model.proofs.LegalHistories.{put_in}
 use Rattle.record_model.specs.Records.{EntryWords, Record, entry_record, create_record, words_of, record_of}
 use Rattle.record_model.specs.Kept.{IsKnown, Keeps, KeepEntries}
 
@@ -51,14 +51,14 @@ own_entries shard [] all = refl
 own_entries shard (e ∷ entries) all =
     (e, entries, refl, record { own = refl; place = all.0.0; error = all.0.1 }, own_entries shard entries all.1)
 
-pub in_parts : (shard : ℕ) (front back : List Record) (entries later : List Entry) → KeepEntries shard front entries → KeepEntries shard back later → KeepEntries shard (front ++ back) (entries ++ later)
+pub in_parts : (shard : ℕ) (prefix back : List Record) (entries later : List Entry) → KeepEntries shard prefix entries → KeepEntries shard back later → KeepEntries shard (prefix ++ back) (entries ++ later)
 in_parts shard [] back entries later p q = rw p q
-in_parts shard (create_record c ∷ front) back entries later p q = in_parts shard front back entries later p q
-in_parts shard (entry_record w ∷ front) back entries later p q =
-    (p.0, p.1 ++ later, ap (λ (es : List Entry). es ++ later) p.2, p.3, in_parts shard front back p.1 later p.4 q)
+in_parts shard (create_record c ∷ prefix) back entries later p q = in_parts shard prefix back entries later p q
+in_parts shard (entry_record w ∷ prefix) back entries later p q =
+    (p.0, p.1 ++ later, ap (λ (es : List Entry). es ++ later) p.2, p.3, in_parts shard prefix back p.1 later p.4 q)
 
 -- what an operation tells
-pub known_effect : (operation : Operation) (before : Option Members) → IsKnown (effect operation before).1.error
+pub known_effect : (operation : Operation) (before : Option Fields) → IsKnown (effect operation before).1.error
 known_effect (insert_operation document) None = by_size (is_too_large document)
   where
     by_size : (large : Bool) → IsKnown (put_in document large).1.error

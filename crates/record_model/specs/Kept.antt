@@ -1,9 +1,9 @@
 -- What the records of a shard's journal keep: entries, and the collections that began.
 use Rattle.std.specs.Prelude.{◌≡◌, ℕ, ℤ, pos, List, [], ◌∷◌, Option, Some, None, if◌then◌else◌}
 use Rattle.std.specs.Ordering.{int_eq}
-use Rattle.history_model.specs.Errors.{ErrorCode, bad_value, failed_to_parse, type_mismatch, overflow, invalid_bson, path_not_viable, cursor_not_found, max_time_expired, command_not_found, shard_key_not_found, immutable_field, shard_not_found, invalid_options, invalid_namespace, shutdown_in_progress, operation_failed, conflicting_operation, namespace_not_sharded, exceeded_memory_limit, transaction_too_old, snapshot_too_old, query_exceeded_memory, object_too_large, duplicate_key, stale_config}
+use Rattle.chunk_model.specs.Errors.{ErrorCode, bad_value, failed_to_parse, type_mismatch, overflow, invalid_bson, path_not_viable, cursor_not_found, max_time_expired, command_not_found, shard_key_not_found, immutable_field, shard_not_found, invalid_options, invalid_namespace, shutdown_in_progress, operation_failed, conflicting_operation, namespace_not_sharded, exceeded_memory_limit, transaction_too_old, snapshot_too_old, query_exceeded_memory, object_too_large, duplicate_key, stale_config}
 use Rattle.history_model.specs.History.{Entry}
-use Rattle.history_model.specs.Catalogue.{Creation}
+use Rattle.chunk_model.specs.Catalogue.{Creation}
 use Rattle.record_model.specs.Records.{EntryWords, Record, entry_record, create_record, code_of, record_of}
 
 -- the errors that a reply may tell (MongoDB manual, "Error Codes")

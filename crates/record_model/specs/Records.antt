@@ -1,18 +1,18 @@
 -- What a node of a shard keeps in its journal. The records are own; an entry's words are those of the client (MongoDB
 -- manual, "insert", "update" and "delete").
 use Rattle.std.specs.Prelude.{ℕ, ℤ, pos, List, Bool, Option, Some, None}
-use Rattle.document_model.specs.Tree.{Datum, Members}
-use Rattle.history_model.specs.Errors.{ErrorCode}
+use Rattle.chunk_model.specs.Tree.{Datum, Fields}
+use Rattle.chunk_model.specs.Errors.{ErrorCode}
 use Rattle.history_model.specs.History.{StatementNumber, Operation, insert_operation, Outcome, Entry}
-use Rattle.history_model.specs.Catalogue.{Creation}
+use Rattle.chunk_model.specs.Catalogue.{Creation}
 
 -- what a statement does
 pub data OperationWords : Type 0 where
-  insert_words : Members → OperationWords
+  insert_words : Fields → OperationWords
   -- filter, change, and whether a document is put in where none meets the filter
-  update_words : Members → Members → Bool → OperationWords
+  update_words : Fields → Fields → Bool → OperationWords
   -- filter
-  delete_words : Members → OperationWords
+  delete_words : Fields → OperationWords
 
 -- what a statement is told; an error is told by its number, and 0 is none
 pub record OutcomeWords : Type 0 where

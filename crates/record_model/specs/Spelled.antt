@@ -3,11 +3,11 @@
 -- are.
 use Rattle.std.specs.Prelude.{◌≡◌, ℕ, ◌<◌, ◌^◌, List, [], ◌∷◌, ◌++◌, length, codes, Option, Some, None, FitsSigned}
 use Rattle.std.specs.Int.{w32, w64, to_le_bytes, cast_unsigned}
-use Rattle.document_model.specs.Tree.{Datum, Members, no_members, member}
-use Rattle.document_model.specs.Spelling.{written, boolean_byte}
-use Rattle.document_model.specs.Grammar.{ReadsAs}
+use Rattle.chunk_model.specs.Tree.{Datum, Fields, no_fields, field}
+use Rattle.chunk_model.specs.Spelling.{written, boolean_byte}
+use Rattle.chunk_model.specs.Grammar.{ReadsAs}
 use Rattle.history_model.specs.History.{Session, client_session, router_session, StatementNumber}
-use Rattle.history_model.specs.Catalogue.{Creation}
+use Rattle.chunk_model.specs.Catalogue.{Creation}
 use Rattle.record_model.specs.Records.{OperationWords, insert_words, update_words, delete_words, OutcomeWords, EntryWords, Record, entry_record, create_record}
 
 -- a number of four bytes, and one of eight
@@ -18,12 +18,12 @@ abbrev pub eight : ℕ → List ℕ
 eight n = to_le_bytes w64 n
 
 -- the number of its bytes, and the bytes
-abbrev pub spelled_text : List ℕ → List ℕ
-spelled_text s = four (length s) ++ s
+abbrev pub spelled_string : List ℕ → List ℕ
+spelled_string s = four (length s) ++ s
 
 -- {_id: key}
-abbrev pub key_document : Datum → Members
-key_document key = member (codes "_id") key no_members
+abbrev pub key_document : Datum → Fields
+key_document key = field (codes "_id") key no_fields
 
 -- 00 for none; 01 and the key
 abbrev pub spelled_key : Option Datum → List ℕ
@@ -47,10 +47,10 @@ abbrev pub spelled_outcome : OutcomeWords → List ℕ
 spelled_outcome o = four o.count ++ (four o.modified ++ (spelled_key o.upserted ++ four (cast_unsigned w32 o.code)))
 
 abbrev pub spelled_entry : EntryWords → List ℕ
-spelled_entry e = eight e.time ++ (spelled_text e.namespace ++ (spelled_number e.number ++ (spelled_words e.words ++ spelled_outcome e.outcome)))
+spelled_entry e = eight e.time ++ (spelled_string e.namespace ++ (spelled_number e.number ++ (spelled_words e.words ++ spelled_outcome e.outcome)))
 
 abbrev pub spelled_creation : Creation → List ℕ
-spelled_creation c = spelled_text c.namespace ++ (eight c.epoch ++ eight c.at)
+spelled_creation c = spelled_string c.namespace ++ (eight c.epoch ++ eight c.at)
 
 -- a record in a format
 abbrev pub spelled : ℕ → Record → List ℕ
@@ -58,7 +58,7 @@ spelled format (entry_record e) = format ∷ 0x02 ∷ spelled_entry e
 spelled format (create_record c) = format ∷ 0x20 ∷ spelled_creation c
 
 -- a document's spelling spells it
-abbrev pub IsSpellable : Members → Type 0
+abbrev pub IsSpellable : Fields → Type 0
 IsSpellable document = ReadsAs (written document) document
 
 abbrev pub IsSoundKey : Option Datum → Type 0

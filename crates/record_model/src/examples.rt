@@ -1,9 +1,9 @@
 //! The definitions on records that one can check by hand.
 
 ghost use Rattle.std.specs.Prelude.{◌≡◌, ◌++◌, ◌∷◌, List, []};
-ghost use Rattle.history_model.specs.Examples.{creation};
+ghost use Rattle.chunk_model.specs.SampleCollections.{creation};
 ghost use Rattle.history_model.specs.History.{Entry};
-ghost use Rattle.record_model.specs.Examples.{creation_bytes, insert, insert_bytes, records, update};
+ghost use Rattle.record_model.specs.SampleRecords.{creation_bytes, insert, insert_bytes, records, update};
 ghost use Rattle.record_model.specs.Kept.{KeepEntries, creates_of};
 ghost use Rattle.record_model.specs.Records.{create_record, entry_record, record_of};
 ghost use Rattle.record_model.specs.Spelled.{IsSound, spelled};

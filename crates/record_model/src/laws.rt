@@ -2,14 +2,14 @@
 
 ghost use Rattle.std.specs.Prelude.{◌≡◌, ◌++◌, ℕ, List, Option, map};
 ghost use Rattle.std.specs.List.{AllByRecursion};
-ghost use Rattle.document_model.specs.Tree.{Members};
+ghost use Rattle.chunk_model.specs.Tree.{Fields};
 ghost use Rattle.history_model.specs.History.{effect, Entry, Operation};
 ghost use Rattle.record_model.specs.Kept.{IsKnown, KeepEntries};
 ghost use Rattle.record_model.specs.Records.{Record, record_of};
 ghost use Rattle.record_model.specs.Spelled.{IsSound, spelled};
 
 /// Bytes spell one record at most, in the newest format.
-#[tactic(auto, using(crate::proofs::Fronts::one_record))]
+#[tactic(auto, using(crate::proofs::Prefixes::one_record))]
 pub fn one_record()
     ensures { (a b : Record) → IsSound a → IsSound b → spelled 1 a ≡ spelled 1 b → a ≡ b }
 {}
@@ -25,6 +25,6 @@ pub fn one_list()
 #[tactic(auto, using(crate::proofs::Entries::own_entries, crate::proofs::Entries::in_parts, crate::proofs::Entries::known_effect))]
 pub fn entries_are_kept()
     ensures own { (shard : ℕ) (entries : List Entry) → AllByRecursion (λ e. (e.shard ≡ shard) × IsKnown e.outcome.error) entries → KeepEntries shard (map record_of entries) entries }
-    ensures known { (operation : Operation) (before : Option Members) → IsKnown (effect operation before).1.error }
-    ensures parts { (shard : ℕ) (front back : List Record) (entries later : List Entry) → KeepEntries shard front entries → KeepEntries shard back later → KeepEntries shard (front ++ back) (entries ++ later) }
+    ensures known { (operation : Operation) (before : Option Fields) → IsKnown (effect operation before).1.error }
+    ensures parts { (shard : ℕ) (prefix back : List Record) (entries later : List Entry) → KeepEntries shard prefix entries → KeepEntries shard back later → KeepEntries shard (prefix ++ back) (entries ++ later) }
 {}

@@ -1,1 +1,3 @@
 pub mod Puts
+pub use Rattle.record_model.proofs.Entries
+pub use Rattle.record_model.proofs.Prefixes

@@ -7,10 +7,10 @@ use Rattle.cluster_base.specs.declared.time.Time.{Time}
 use Rattle.value_compare.specs.declared.words.OpWords.{OpWords}
 use Rattle.value_compare.specs.declared.words.OpWords.TheVariants.{Insert, Update, Delete}
 use Rattle.value_compare.specs.declared.words.Reply.{Reply}
-use Rattle.history_model.specs.History as history
-use Rattle.history_model.specs.History.{client_session, router_session, StatementNumber}
+use Rattle.record_model.specs.History as history
+use Rattle.record_model.specs.History.{client_session, router_session, StatementNumber}
 use Rattle.record_model.specs.Records as records
-use Rattle.history_model.specs.Catalogue.{Creation}
+use Rattle.record_model.specs.Catalogue.{Creation}
 use Rattle.record_model.specs.Records.{OperationWords, insert_words, update_words, delete_words, OutcomeWords, EntryWords, entry_record, create_record}
 use Rattle.shard_records.specs.declared.record.Record.{Record}
 use Rattle.shard_records.specs.declared.record.Record.TheVariants.{Entry, Create}

@@ -1,12 +1,10 @@
 -- Which records are written: each document in them has at most 104 levels and 300,000,000 bytes.
-use Rattle.std.specs.Prelude.{◌≤◌, length, Option, Some, None}
-use Rattle.document_model.specs.Tree.{Datum, Members, document_levels}
-use Rattle.document_model.specs.Spelling.{written}
+use Rattle.std.specs.Prelude.{Option, Some, None}
+use Rattle.bson_values.specs.Tree.{Datum}
+use Rattle.bson_values.specs.Spelling.{written}
 use Rattle.record_model.specs.Records.{OperationWords, insert_words, update_words, delete_words, Record, entry_record, create_record}
 use Rattle.record_model.specs.Spelled.{key_document}
-
-abbrev pub IsWritable : Members → Type 0
-IsWritable document = (document_levels document ≤ 104) × (length (written document) ≤ 300000000)
+use Rattle.bson_values.specs.Limits.{IsWritable}
 
 abbrev pub AreWritable : OperationWords → Type 0
 AreWritable (insert_words document) = IsWritable document

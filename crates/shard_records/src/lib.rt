@@ -2,8 +2,6 @@
 #![tactic(auto)]
 
 mod record;
-#[cfg(test)]
-mod tests;
 mod writing;
 
 pub use record::Record;

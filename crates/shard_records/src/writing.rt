@@ -4,10 +4,11 @@
 
 ghost use Rattle.std.specs.Prelude.{◌≡◌, ◌<◌, ◌^◌, ◌++◌, ◌∷◌, [], length, take, FitsSigned, OnErr, OnOk};
 ghost use Rattle.std.specs.Int.{cast_unsigned, w64};
-ghost use Rattle.document_model.specs.Spelling.{written};
-ghost use Rattle.record_model.specs.Spelled.{AreSoundWords, IsSound, IsSoundKey, IsSoundNumber, IsSoundOutcome, IsSoundSession, IsSpellable, eight, four, key_document, spelled, spelled_creation, spelled_entry, spelled_key, spelled_number, spelled_outcome, spelled_session, spelled_text, spelled_words};
+ghost use Rattle.bson_values.specs.Spelling.{written};
+ghost use Rattle.record_model.specs.Spelled.{AreSoundWords, IsSound, IsSoundKey, IsSoundNumber, IsSoundOutcome, IsSoundSession, IsSpellable, eight, four, key_document, spelled, spelled_creation, spelled_entry, spelled_key, spelled_number, spelled_outcome, spelled_session, spelled_string, spelled_words};
 ghost use Rattle.shard_records.specs.Meanings.{entry_meant, number_meant, outcome_meant, record_meant, session_meant, words_meant};
-ghost use Rattle.shard_records.specs.Sizes.{AreWritable, IsWritable, IsWritableKey, IsWritableRecord};
+ghost use Rattle.shard_records.specs.Sizes.{AreWritable, IsWritableKey, IsWritableRecord};
+ghost use Rattle.bson_values.specs.Limits.{IsWritable};
 
 use crate::record::Record;
 use bson_values::{Document, Memory, Name, write};
@@ -69,7 +70,7 @@ fn put_u64(n: u64, out: &mut Vec<u8>) -> Result<(), Memory>
 
 /// Puts a namespace: the number of its bytes, and its bytes.
 fn put_namespace(namespace: &Namespace, out: &mut Vec<u8>) -> Result<(), Memory>
-    ensures ok { OnOk result (out.new.items ≡ out.old.items ++ spelled_text namespace.now) }
+    ensures ok { OnOk result (out.new.items ≡ out.old.items ++ spelled_string namespace.now) }
     ensures kept { take (length out.old.items) out.new.items ≡ out.old.items }
     ensures short { length namespace.now < 2 ^ 31 }
 {

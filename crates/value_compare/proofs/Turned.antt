@@ -1,9 +1,9 @@
 -- The order from the other side.
 use Rattle.std.proofs.Common.{◌≡◌, refl, ap, ◌∙◌, Ordering, Less, Equal, Greater}
 use Rattle.std.specs.Ordering.{is_gt, is_lt, ordering_reverse}
-use Rattle.document_model.specs.Tree.{Datum}
-use Rattle.value_order.specs.Order.{order}
-use Rattle.value_order.proofs.Flat.{order_total}
+use Rattle.value_model.specs.Tree.{Datum}
+use Rattle.value_model.specs.Order.{order}
+use Rattle.value_model.proofs.Flat.{order_total}
 
 reversed : (o : Ordering) → is_gt (ordering_reverse o) ≡ is_lt o
 reversed Less = refl

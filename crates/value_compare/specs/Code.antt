@@ -1,16 +1,16 @@
 -- How a value is told from others: as the document that holds it alone. And so bounds and ranges.
 use Rattle.std.specs.Prelude.{◌≡◌, ℕ, [], refl, ◌==◌, if◌then◌else◌}
 use Rattle.std.specs.Coded.{Coded, code_by, coded×, coded_ℕ}
-use Rattle.document_model.specs.Tree.{Datum, null_value, Members, no_members, member}
-use Rattle.value_order.specs.Keys.{Bound, min_bound, key_bound, max_bound, Range}
-use Rattle.bson_values.specs.Code.{members_code}
+use Rattle.value_model.specs.Tree.{Datum, null_value, Fields, no_fields, field}
+use Rattle.value_model.specs.Keys.{Bound, min_bound, key_bound, max_bound, Range}
+use Rattle.bson_values.specs.Code.{fields_code}
 
-abbrev pub first_value : Members → Datum
-first_value no_members = null_value
-first_value (member name d ms) = d
+abbrev pub first_value : Fields → Datum
+first_value no_fields = null_value
+first_value (field name d ms) = d
 
 abbrev pub datum_code : Coded Datum
-datum_code = code_by Members members_code (λ d. member [] d no_members) (λ ms. first_value ms) (λ d. refl)
+datum_code = code_by Fields fields_code (λ d. field [] d no_fields) (λ ms. first_value ms) (λ d. refl)
 
 -- a bound as its place and the key there, if any
 abbrev pub bound_parts : Bound → ℕ × Datum

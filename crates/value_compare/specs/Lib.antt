@@ -1,3 +1,5 @@
 pub mod Code
 pub mod Bounds
 pub mod Spans
+pub use Rattle.value_model.specs.Keys
+pub use Rattle.value_model.specs.Order

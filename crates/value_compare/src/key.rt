@@ -5,11 +5,11 @@ ghost use Rattle.std.proofs.Common.{refl};
 ghost use Rattle.std.specs.Cmp.{partial_equiv_from_equiv, partial_order_from_agreeing_total};
 ghost use Rattle.std.specs.Ordering.{as_partial_cmp};
 ghost use Rattle.bson_values.specs.View.{datum_of};
-ghost use Rattle.value_order.specs.Keys.{absent_key, is_key, valid_key, wrong_kind};
-ghost use Rattle.value_order.specs.Order.{order, same_value};
+ghost use Rattle.value_model.specs.Keys.{absent_key, is_key, valid_key, wrong_kind};
+ghost use Rattle.value_model.specs.Order.{order, same_value};
 ghost use Rattle.value_compare.specs.declared.key.KeyFault.TheVariants.{Absent, Kind, Memory};
-ghost use Rattle.value_order.proofs.Flat.{order_total};
-ghost use Rattle.value_order.proofs.Spans.{same_value_equivalence};
+ghost use Rattle.value_model.proofs.Flat.{order_total};
+ghost use Rattle.value_model.proofs.Spans.{same_value_equivalence};
 
 use crate::order::compare;
 use bson_values::{Document, Memory, Value};
@@ -25,7 +25,7 @@ pub struct Key {
 }
 
 impl Model for Key {
-    ghost use Rattle.document_model.specs.Tree.{Datum};
+    ghost use Rattle.value_model.specs.Tree.{Datum};
     ghost use Rattle.value_compare.specs.Code.{datum_code};
 
     ghost Value = { Datum };
@@ -34,7 +34,7 @@ impl Model for Key {
 
     ghost use Rattle.bson_values.specs.View.{datum_of};
     ghost use Rattle.std.specs.Prelude.{IsTrue};
-    ghost use Rattle.value_order.specs.Keys.{is_key};
+    ghost use Rattle.value_model.specs.Keys.{is_key};
 
     ghost view = { λ k. datum_of k.value };
 
@@ -122,7 +122,7 @@ impl Key {
 /// Why a document can't be kept under a key.
 #[derive(Clone, Copy, Debug, PartialEq, Eq)]
 pub enum KeyFault {
-    /// It has no member `_id`.
+    /// It has no field `_id`.
     Absent,
     /// Its first `_id` is of a kind that no key is.
     Kind,

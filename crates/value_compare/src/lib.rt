@@ -5,8 +5,6 @@
 mod key;
 mod order;
 mod span;
-#[cfg(test)]
-mod tests;
 mod words;
 
 pub use key::{Key, KeyFault, key_of};

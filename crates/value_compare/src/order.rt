@@ -1,12 +1,13 @@
 //! Which of two values is less. Nothing here takes memory.
 
-ghost use Rattle.std.specs.Prelude.{◌≡◌};
-ghost use Rattle.std.specs.Ordering.{ordering_then};
-ghost use Rattle.document_model.specs.Tree.{member, Members};
+ghost use Rattle.std.specs.Prelude.{◌≡◌, ◌∷◌, length};
+ghost use Rattle.std.specs.Cmp.Lexicographic.{slice_cmp};
+ghost use Rattle.std.specs.Ordering.{nat_cmp, ordering_then};
+ghost use Rattle.value_model.specs.Tree.{field, Fields};
 ghost use Rattle.bson_values.specs.View.{datum_of};
-ghost use Rattle.value_order.specs.Order.{class_of, order, order_items, order_members, order_within};
+ghost use Rattle.value_model.specs.Order.{class_of, order, order_items, order_fields, order_scalars, order_within, scalar_of};
 
-use bson_values::{Array, Document, Member, Value};
+use bson_values::{Array, Document, Field, Value};
 use std::cmp::Ordering;
 
 /// The class of a value, from 0 for the least: values of two classes compare by them alone (MongoDB manual,
@@ -30,8 +31,8 @@ pub fn class(value: &Value) -> u8
     }
 }
 
-/// Which of two values is less, by class and then within it (MongoDB manual, "Comparison/Sort Order"). Documents compare member
-/// by member, by the value's class, the name and then the value.
+/// Which of two values is less, by class and then within it (MongoDB manual, "Comparison/Sort Order"). Documents compare field
+/// by field, by the value's class, the name and then the value.
 #[cycle(order)]
 pub fn compare(a: &Value, b: &Value) -> Ordering
     ensures { result ≡ order (datum_of a.now) (datum_of b.now) }
@@ -49,27 +50,30 @@ fn compare_within(a: &Value, b: &Value) -> Ordering
     ensures { result ≡ order_within (datum_of a.now) (datum_of b.now) }
 {
     match (a, b) {
+        (Value::Doc(a), Value::Doc(b)) => compare_documents(a, b),
+        (Value::Array(a), Value::Array(b)) => compare_arrays(a, b),
+        _ => compare_scalars(a, b),
+    }
+}
+
+// Two values of one class, by what they are without values inside.
+fn compare_scalars(a: &Value, b: &Value) -> Ordering
+    requires { class_of (datum_of a.now) ≡ class_of (datum_of b.now) }
+    ensures { result ≡ order_scalars (scalar_of (datum_of a.now)) (scalar_of (datum_of b.now)) }
+{
+    match (a, b) {
         (Value::Int32(a), Value::Int32(b)) => a.cmp(b),
         (Value::Int32(a), Value::Int64(b)) => i64::from(*a).cmp(b),
         (Value::Int64(a), Value::Int32(b)) => a.cmp(&i64::from(*b)),
         (Value::Int64(a), Value::Int64(b)) => a.cmp(b),
         (Value::Text(a), Value::Text(b)) => a.as_str().cmp(b.as_str()),
-        (Value::Doc(a), Value::Doc(b)) => compare_documents(a, b),
-        (Value::Array(a), Value::Array(b)) => compare_arrays(a, b),
         (
             Value::Binary { subtype, bytes },
             Value::Binary {
                 subtype: other,
                 bytes: others,
             },
-        ) => {
-            let (bytes, others) = (bytes.as_slice(), others.as_slice());
-            bytes
-                .len()
-                .cmp(&others.len())
-                .then(subtype.cmp(other))
-                .then(bytes.cmp(others))
-        }
+        ) => compare_binaries(*subtype, bytes.as_slice(), *other, others.as_slice()),
         (Value::ObjectId(a), Value::ObjectId(b)) => a.as_slice().cmp(b.as_slice()),
         (Value::Bool(a), Value::Bool(b)) => a.cmp(b),
         (Value::Date(a), Value::Date(b)) => a.cmp(b),
@@ -78,17 +82,25 @@ fn compare_within(a: &Value, b: &Value) -> Ordering
     }
 }
 
-// Two documents; where the members of one begin the other, the shorter is less.
+// Two binaries, by length, subtype and bytes.
+fn compare_binaries(subtype: u8, bytes: &[u8], other: u8, others: &[u8]) -> Ordering
+    ensures { result ≡ slice_cmp nat_cmp (length bytes.now ∷ subtype ∷ bytes.now) (length others.now ∷ other ∷ others.now) }
+{
+    let of_one_length = subtype.cmp(&other).then(bytes.cmp(others));
+    bytes.len().cmp(&others.len()).then(of_one_length)
+}
+
+// Two documents; where the fields of one begin the other, the shorter is less.
 #[cycle(order)]
 fn compare_documents(a: &Document, b: &Document) -> Ordering
-    ensures { result ≡ order_members a.now b.now }
+    ensures { result ≡ order_fields a.now b.now }
 {
-    let mut others = b.members().iter();
-    for member in a.members() {
+    let mut others = b.fields().iter();
+    for field in a.fields() {
         let Some(other) = others.next() else {
             return Ordering::Greater;
         };
-        match compare_member(member, other) {
+        match compare_field(field, other) {
             Ordering::Equal => {}
             apart => return apart,
         }
@@ -100,10 +112,10 @@ fn compare_documents(a: &Document, b: &Document) -> Ordering
     }
 }
 
-// Two members, by the value's class, the name and the value.
+// Two fields, by the value's class, the name and the value.
 #[cycle(order)]
-fn compare_member(a: &Member, b: &Member) -> Ordering
-    ensures { (ms ns : Members) → order_members (member a.now.name (datum_of a.now.value) ms) (member b.now.name (datum_of b.now.value) ns) ≡ ordering_then result (order_members ms ns) }
+fn compare_field(a: &Field, b: &Field) -> Ordering
+    ensures { (ms ns : Fields) → order_fields (field a.now.name (datum_of a.now.value) ms) (field b.now.name (datum_of b.now.value) ns) ≡ ordering_then result (order_fields ms ns) }
 {
     let apart = class(&a.value)
         .cmp(&class(&b.value))

@@ -2,7 +2,7 @@
 
 ghost use Rattle.std.specs.Prelude.{◌≡◌, ◌≢◌, ◌↔◌, IfOk, IfSome, None};
 ghost use Rattle.std.specs.declared.cmp.Ordering.TheVariants.{Less};
-ghost use Rattle.value_order.specs.Keys.{IsRange, inside, key_bound, order_bounds};
+ghost use Rattle.value_model.specs.Keys.{IsRange, inside, key_bound, order_bounds};
 ghost use Rattle.value_compare.specs.Bounds.{bound_of};
 ghost use Rattle.value_compare.specs.Spans.{span_of};
 
@@ -80,7 +80,7 @@ pub struct KeyRange {
 }
 
 impl Model for KeyRange {
-    ghost use Rattle.value_order.specs.Keys.{IsRange, Range};
+    ghost use Rattle.value_model.specs.Keys.{IsRange, Range};
     ghost use Rattle.value_compare.specs.Code.{range_code};
 
     ghost Value = { Range };

@@ -1,7 +1,6 @@
 //! A disk over a file of the system.
-ghost use Rattle.std.specs.Prelude.{◌≡◌, ◌≤◌, [], length, false, Ok, IfOk, OnOk, OnErr};
-ghost use Rattle.outside.specs.Causes.{Rose};
-ghost use Rattle.outside.specs.Plan.{next_count};
+ghost use Rattle.std.specs.Prelude.{◌≡◌, ◌≤◌, [], length, false, Ok, IfOk, OnOk, OnErr, string_bytes};
+ghost use Rattle.outside.specs.Causes.{Rose, next_count};
 
 use crate::disk::Disk;
 use crate::streams::Failed;
@@ -14,6 +13,8 @@ use std::path::Path;
 /// it meets, and tells no bytes. A file that can't be opened is an error of each call.
 #[derive(Drop)]
 pub struct FileDisk<R: Files + Drop> {
+    runtime: R,
+    path: String,
     file: LazyFile<R>,
     faults: u64,
 }
@@ -21,14 +22,15 @@ pub struct FileDisk<R: Files + Drop> {
 impl<R: Files + Drop> FileDisk<R> {
     /// A disk over the file of this path, with no error met.
     pub fn new(rt: R, path: String) -> FileDisk<R>
-        ensures { result.faults ≡ 0 }
+        ensures place { string_bytes result.path ≡ string_bytes path }
+        ensures faults { result.faults ≡ 0 }
     {
-        let file = LazyFile {
+        FileDisk {
             runtime: rt,
             path,
-            file: None,
-        };
-        FileDisk { file, faults: 0 }
+            file: LazyFile { file: None },
+            faults: 0,
+        }
     }
 
     /// The answer of a call, whose error is counted.
@@ -37,6 +39,7 @@ impl<R: Files + Drop> FileDisk<R> {
         ensures fault { OnErr result (self.new.faults ≡ next_count self.old.faults) }
         ensures calm { OnOk result (self.new.faults ≡ self.old.faults) }
         ensures later { self.old.faults ≤ self.new.faults }
+        ensures path { self.new.path ≡ self.old.path }
     {
         match answer {
             Ok(x) => Ok(x),
@@ -61,19 +64,22 @@ impl<R: Files + Drop> Disk for FileDisk<R> {
 
     ghost fault_count = { λ d. d.faults };
 
+    ghost place = { λ d. string_bytes d.path };
+
     ghost counts_now = { λ _ _ _ _ _. tt };
 
     ghost only_now = { λ _ _ _. tt };
 
     fn len(&mut self) -> Result<u64, Failed>
         ensures cause { OnErr result (Rose self.old.faults self.new.faults) }
-        ensures later { self.old.faults ≤ self.new.faults }
-
-        // An error is counted, and nothing else is.
-        ensures fault { OnErr result (self.new.faults ≡ next_count self.old.faults) }
         ensures calm { OnOk result (self.new.faults ≡ self.old.faults) }
+        ensures later { self.old.faults ≤ self.new.faults }
+        ensures place { string_bytes self.new.path ≡ string_bytes self.old.path }
+
+        // An error is counted once.
+        ensures fault { OnErr result (self.new.faults ≡ next_count self.old.faults) }
     {
-        let answer = self.file.len();
+        let answer = self.file.len(&self.runtime, self.path.as_str());
         self.counted(answer)
     }
 
@@ -81,49 +87,55 @@ impl<R: Files + Drop> Disk for FileDisk<R> {
         ensures count { IfOk result (λ n. n ≤ length buf.old) }
         ensures len { length buf.new ≡ length buf.old }
         ensures cause { OnErr result (Rose self.old.faults self.new.faults) }
-        ensures later { self.old.faults ≤ self.new.faults }
-
-        // An error is counted, and nothing else is.
-        ensures fault { OnErr result (self.new.faults ≡ next_count self.old.faults) }
         ensures calm { OnOk result (self.new.faults ≡ self.old.faults) }
+        ensures later { self.old.faults ≤ self.new.faults }
+        ensures place { string_bytes self.new.path ≡ string_bytes self.old.path }
+
+        // An error is counted once.
+        ensures fault { OnErr result (self.new.faults ≡ next_count self.old.faults) }
     {
-        let answer = self.file.read(at, buf);
+        let answer = self.file.read(&self.runtime, self.path.as_str(), at, buf);
         self.counted(answer)
     }
 
     fn write_at(&mut self, at: u64, piece: &[u8]) -> Result<(), Failed>
         ensures cause { OnErr result (Rose self.old.faults self.new.faults) }
-        ensures later { self.old.faults ≤ self.new.faults }
-
-        // An error is counted, and nothing else is.
-        ensures fault { OnErr result (self.new.faults ≡ next_count self.old.faults) }
         ensures calm { OnOk result (self.new.faults ≡ self.old.faults) }
+        ensures later { self.old.faults ≤ self.new.faults }
+        ensures place { string_bytes self.new.path ≡ string_bytes self.old.path }
+
+        // An error is counted once.
+        ensures fault { OnErr result (self.new.faults ≡ next_count self.old.faults) }
     {
-        let answer = self.file.write_at(at, piece);
+        let answer = self
+            .file
+            .write_at(&self.runtime, self.path.as_str(), at, piece);
         self.counted(answer)
     }
 
     fn cut(&mut self, len: u64) -> Result<(), Failed>
         ensures cause { OnErr result (Rose self.old.faults self.new.faults) }
-        ensures later { self.old.faults ≤ self.new.faults }
-
-        // An error is counted, and nothing else is.
-        ensures fault { OnErr result (self.new.faults ≡ next_count self.old.faults) }
         ensures calm { OnOk result (self.new.faults ≡ self.old.faults) }
+        ensures later { self.old.faults ≤ self.new.faults }
+        ensures place { string_bytes self.new.path ≡ string_bytes self.old.path }
+
+        // An error is counted once.
+        ensures fault { OnErr result (self.new.faults ≡ next_count self.old.faults) }
     {
-        let answer = self.file.cut(len);
+        let answer = self.file.cut(&self.runtime, self.path.as_str(), len);
         self.counted(answer)
     }
 
     fn sync(&mut self) -> Result<(), Failed>
         ensures cause { OnErr result (Rose self.old.faults self.new.faults) }
-        ensures later { self.old.faults ≤ self.new.faults }
-
-        // An error is counted, and nothing else is.
-        ensures fault { OnErr result (self.new.faults ≡ next_count self.old.faults) }
         ensures calm { OnOk result (self.new.faults ≡ self.old.faults) }
+        ensures later { self.old.faults ≤ self.new.faults }
+        ensures place { string_bytes self.new.path ≡ string_bytes self.old.path }
+
+        // An error is counted once.
+        ensures fault { OnErr result (self.new.faults ≡ next_count self.old.faults) }
     {
-        let answer = self.file.sync();
+        let answer = self.file.sync(&self.runtime, self.path.as_str());
         self.counted(answer)
     }
 
@@ -137,22 +149,20 @@ impl<R: Files + Drop> Disk for FileDisk<R> {
 /// A file that is opened where it is first used.
 #[derive(Drop)]
 struct LazyFile<R: Files + Drop> {
-    runtime: R,
-    path: String,
     file: Option<R::File>,
 }
 
 impl<R: Files + Drop> LazyFile<R> {
-    /// The open file. Where it was not open, it is opened, or made, and its folder is synced, so that its name stays.
-    fn open(&mut self) -> io::Result<&mut R::File> {
+    /// The open file. Where it was not open, the file of this path is opened, or made, and its folder is synced, so that its
+    /// name stays.
+    fn open(&mut self, runtime: &R, path: &str) -> io::Result<&mut R::File> {
         if self.file.is_none() {
-            let path = self.path.as_str();
             let file = OpenOptions::new()
                 .read(true)
                 .write(true)
                 .create(true)
-                .open(&self.runtime, path)?;
-            File::open(&self.runtime, folder_of(path))?.sync_all()?;
+                .open(runtime, path)?;
+            File::open(runtime, folder_of(path))?.sync_all()?;
             self.file = Some(file);
         }
         match &mut self.file {
@@ -162,30 +172,30 @@ impl<R: Files + Drop> LazyFile<R> {
     }
 
     /// The file's length in bytes.
-    fn len(&mut self) -> io::Result<u64> {
-        Ok(self.open()?.metadata()?.len())
+    fn len(&mut self, runtime: &R, path: &str) -> io::Result<u64> {
+        Ok(self.open(runtime, path)?.metadata()?.len())
     }
 
-    /// Reads bytes from the place `at` on into the front of `buf`, and gives their number.
-    fn read(&mut self, at: u64, buf: &mut [u8]) -> io::Result<usize>
+    /// Reads bytes from the offset `at` on into the front of `buf`, and gives their number.
+    fn read(&mut self, runtime: &R, path: &str, at: u64, buf: &mut [u8]) -> io::Result<usize>
         ensures count { IfOk result (λ n. n ≤ length buf.old) }
         ensures len { length buf.new ≡ length buf.old }
     {
-        let file = self.open()?;
+        let file = self.open(runtime, path)?;
         file.seek(SeekFrom::Start(at))?;
         file.read(buf)
     }
 
-    /// Writes the piece from the place `at` on.
-    fn write_at(&mut self, at: u64, piece: &[u8]) -> io::Result<()> {
-        let file = self.open()?;
+    /// Writes the piece from the offset `at` on.
+    fn write_at(&mut self, runtime: &R, path: &str, at: u64, piece: &[u8]) -> io::Result<()> {
+        let file = self.open(runtime, path)?;
         file.seek(SeekFrom::Start(at))?;
         file.write_all(piece)
     }
 
     /// Cuts the file to `len` bytes, if it is longer.
-    fn cut(&mut self, len: u64) -> io::Result<()> {
-        let file = self.open()?;
+    fn cut(&mut self, runtime: &R, path: &str, len: u64) -> io::Result<()> {
+        let file = self.open(runtime, path)?;
         if len < file.metadata()?.len() {
             file.set_len(len)?;
         }
@@ -193,8 +203,8 @@ impl<R: Files + Drop> LazyFile<R> {
     }
 
     /// Makes the file stay as it is.
-    fn sync(&mut self) -> io::Result<()> {
-        self.open()?.sync_all()
+    fn sync(&mut self, runtime: &R, path: &str) -> io::Result<()> {
+        self.open(runtime, path)?.sync_all()
     }
 }
 

@@ -27,29 +27,29 @@ read_items-items-preserved t c =
           (items_goes_on c.args.total _ c.args.room c.args.bytes.now c.items.array c.items.space c.items.left.now _ _ gives c.in_ok-value.ensures.rest.0 c.items.invariant.read);
     }
 
-pub read_member-of-requires : goal.read_member-of-requires
-read_member-of-requires t c = named_no_zero _ _ _ _ c.in_ok-name.ensures.gives
+pub read_field-of-requires : goal.read_field-of-requires
+read_field-of-requires t c = named_no_zero _ _ _ _ c.in_ok-name.ensures.gives
 
-pub read_members-returns-in_err-member-clause-gives :
-    goal.read_members-returns-in_err-member-clause-gives
-read_members-returns-in_err-member-clause-gives t c =
+pub read_fields-returns-in_err-field-clause-gives :
+    goal.read_fields-returns-in_err-field-clause-gives
+read_fields-returns-in_err-field-clause-gives t c =
     let p = err_from_is_err_and c.from_residual.result c.from_residual.ensures.1 in
     rw (p.1, p.2)
-    (passes_on _ _ _ (λ h. fails c.args.total _ c.args.room c.args.bytes.now c.members.document c.members.space c.members.left.now _ h c.members.invariant.read) c.in_err-member.ensures.gives)
+    (passes_on _ _ _ (λ h. fails c.args.total _ c.args.room c.args.bytes.now c.fields.document c.fields.space c.fields.left.now _ h c.fields.invariant.read) c.in_err-field.ensures.gives)
 
-pub read_members-returns-in_default-clause-gives :
-    goal.read_members-returns-in_default-clause-gives
-read_members-returns-in_default-clause-gives t c =
-    let gives = rw c.in_default.is at c.in_ok-member.ensures.gives in
-    ends c.args.total _ c.args.room c.args.bytes.now c.members.document c.members.space c.members.left.now _ gives c.members.invariant.read
+pub read_fields-returns-in_default-clause-gives :
+    goal.read_fields-returns-in_default-clause-gives
+read_fields-returns-in_default-clause-gives t c =
+    let gives = rw c.in_default.is at c.in_ok-field.ensures.gives in
+    ends c.args.total _ c.args.room c.args.bytes.now c.fields.document c.fields.space c.fields.left.now _ gives c.fields.invariant.read
 
-pub read_members-members-preserved : goal.read_members-members-preserved
-read_members-members-preserved t c =
-    let gives = rw c.in-Some.is at c.in_ok-member.ensures.gives in
+pub read_fields-fields-preserved : goal.read_fields-fields-preserved
+read_fields-fields-preserved t c =
+    let gives = rw c.in-Some.is at c.in_ok-field.ensures.gives in
     record {
-      below = omega (arith, c.in_ok-member.ensures.rest);
-      used = omega (arith, c.in_ok-member.ensures.rest);
+      below = omega (arith, c.in_ok-field.ensures.rest);
+      used = omega (arith, c.in_ok-field.ensures.rest);
       read =
           rw c.in_ok-push.ensures.ok
-          (goes_on c.args.total _ c.args.room c.args.bytes.now c.members.document c.members.space c.members.left.now _ _ _ gives c.in_ok-member.ensures.rest.0 c.members.invariant.read);
+          (goes_on c.args.total _ c.args.room c.args.bytes.now c.fields.document c.fields.space c.fields.left.now _ _ _ gives c.in_ok-field.ensures.rest.0 c.fields.invariant.read);
     }

@@ -1,5 +1,5 @@
 use Rattle.bson_values.specs.View.{datum_of}
-use Rattle.bson_values.proofs.Copies.{copied_member, copied_members, copied_item, copied_items}
+use Rattle.bson_values.proofs.Copies.{copied_field, copied_fields, copied_item, copied_items}
 use Rattle.bson_values.proofs.value.+copy.Goals as goal
 
 pub Array::copy-loop-value-preserved : goal.Array::copy-loop-value-preserved
@@ -10,10 +10,10 @@ pub Array::copy-returns : goal.Array::copy-returns
 Array::copy-returns t c =
     copied_items c.args.self.now c.loop-value.copy c.deref-value-items.result.now c.loop-value.value-index c.loop-value.invariant c.loop-value-test.false
 
-pub Document::copy-loop-member-preserved : goal.Document::copy-loop-member-preserved
-Document::copy-loop-member-preserved t c =
-    copied_member c.args.self.now c.loop-member.copy c.push.new.self c.deref-member-items.result.now c.loop-member.member-index c.member-item.result c.in_ok-copy.field-0 (datum_of c.in_ok-copy-2.field-0) c.loop-member.invariant c.loop-member-test.true c.member-item.is c.in_ok-copy.ensures c.in_ok-copy-2.ensures c.in_ok-push.ensures.ok
+pub Document::copy-loop-field-preserved : goal.Document::copy-loop-field-preserved
+Document::copy-loop-field-preserved t c =
+    copied_field c.args.self.now c.loop-field.copy c.push.new.self c.deref-field-items.result.now c.loop-field.field-index c.field-item.result c.in_ok-copy.field-0 (datum_of c.in_ok-copy-2.field-0) c.loop-field.invariant c.loop-field-test.true c.field-item.is c.in_ok-copy.ensures c.in_ok-copy-2.ensures c.in_ok-push.ensures.ok
 
 pub Document::copy-returns : goal.Document::copy-returns
 Document::copy-returns t c =
-    copied_members c.args.self.now c.loop-member.copy c.deref-member-items.result.now c.loop-member.member-index c.loop-member.invariant c.loop-member-test.false
+    copied_fields c.args.self.now c.loop-field.copy c.deref-field-items.result.now c.loop-field.field-index c.loop-field.invariant c.loop-field-test.false

@@ -1,6 +1,6 @@
 use Rattle.std.proofs.Common.{◌↔◌, drop}
 use Rattle.std.specs.List.{AllByRecursion}
-use Rattle.history_model.specs.Names.{IsCollectionByte}
+use Rattle.base_model.specs.Names.{IsCollectionByte}
 use Rattle.cluster_base.proofs.namespace.has_collection_bytes.Given as goal
 
 -- the bytes so far are such bytes

@@ -1,6 +1,6 @@
 use Rattle.std.proofs.Common.{◌↔◌, drop}
 use Rattle.std.specs.List.{AllByRecursion}
-use Rattle.history_model.specs.Names.{IsDatabaseByte}
+use Rattle.base_model.specs.Names.{IsDatabaseByte}
 use Rattle.cluster_base.proofs.namespace.has_database_bytes.Given as goal
 
 -- the bytes so far are such bytes

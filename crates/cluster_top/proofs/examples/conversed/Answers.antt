@@ -1,13 +1,14 @@
 use Rattle.std.proofs.Common.{◌≡◌, ℕ, ◌+◌, List, [], ◌∷◌, ◌++◌, take, refl, sym, ap, subst, arith}
 use Rattle.std.specs.Prelude.{None, Some, Option}
-use Rattle.frame_model.specs.Frames.{Frames, FramesFrom, ends, fails, goes_on}
-use Rattle.frame_model.specs.Outline.{FrameFault, bad_length}
-use Rattle.frame_model.specs.Requests.{Request}
+use Rattle.opmsg_frames.specs.Frames.{Frames, FramesFrom, ends, fails, goes_on}
+use Rattle.opmsg_frames.specs.Outline.{FrameFault, bad_length}
+use Rattle.opmsg_frames.specs.Requests.{Request}
 use Rattle.opmsg_frames.proofs.OneReading.{one_reading}
-use Rattle.service_model.specs.Exchange.{Exchange, InTurn}
-use Rattle.service_model.specs.Examples.{first}
-use Rattle.cluster_top.specs.Examples.{no_request_bytes, reply_bytes, request_bytes}
+use Rattle.plain_store_model.specs.Exchange.{Exchange, InTurn}
+use Rattle.plain_store_model.specs.SampleExchanges.{first}
+use Rattle.cluster_top.specs.SampleRuns.{no_request_bytes, reply_bytes, request_bytes}
 use Rattle.cluster_top.specs.Headline.{AllAnswered, Cause, input_ended, no_request}
+use Rattle.cluster_top.specs.declared.status.Status.TheVariants as statuses
 use Rattle.cluster_top.proofs.Sample.{all_put, bytes_length, faulty_are_bytes, is_first}
 use Rattle.cluster_top.proofs.examples.conversed.Goals as goal
 
@@ -26,11 +27,11 @@ with_fault =
     goes_on 0 (request_bytes ++ no_request_bytes) no_request_bytes first.request [] no_request_bytes (Some (bad_length, 94)) (is_first no_request_bytes)
     (subst (λ (size : ℕ). FramesFrom (0 + size) no_request_bytes [] no_request_bytes (Some (bad_length, 94))) (sym bytes_length) (fails 94 no_request_bytes bad_length refl))
 
--- status 0 tells of no fault
-no_fault : {limit : ℕ} {at_end source_failed sink_failed disk_failed : Type 0} {taken put : List ℕ} {said : List Exchange} {requests : List Request} {fault : Option (FrameFault × ℕ)} → Cause limit at_end source_failed sink_failed disk_failed taken put said requests fault 0 → fault ≡ None
+-- the end of the input tells of no fault
+no_fault : {limit : ℕ} {at_end : Type 0} {taken put : List ℕ} {said : List Exchange} {requests : List Request} {fault : Option (FrameFault × ℕ)} → Cause limit at_end taken put said requests fault statuses.InputEnded → fault ≡ None
 no_fault (input_ended at_end below none all) = none
 
-none_put : {limit : ℕ} {at_end source_failed sink_failed disk_failed : Type 0} {taken put : List ℕ} {said : List Exchange} {requests : List Request} {fault : Option (FrameFault × ℕ)} → Cause limit at_end source_failed sink_failed disk_failed taken put said requests fault 0 → AllAnswered put said requests
+none_put : {limit : ℕ} {at_end : Type 0} {taken put : List ℕ} {said : List Exchange} {requests : List Request} {fault : Option (FrameFault × ℕ)} → Cause limit at_end taken put said requests fault statuses.InputEnded → AllAnswered put said requests
 none_put (input_ended at_end below none all) = all
 
 pub returns-clause-whole : goal.returns-clause-whole
@@ -81,14 +82,14 @@ returns-clause-unnoticed c said =
     let none : said.fault ≡ None = no_fault said.cause in
     cc
 
-pub returns-clause-place : goal.returns-clause-place
-returns-clause-place c = with_fault
+pub returns-clause-offset : goal.returns-clause-offset
+returns-clause-offset c = with_fault
 
 abbrev place_of : Option (FrameFault × ℕ) → ℕ
 place_of None = 0
 place_of (Some found) = found.1
 
-pub returns-clause-other_place : goal.returns-clause-other_place
-returns-clause-other_place c frames =
+pub returns-clause-other_offset : goal.returns-clause-other_offset
+returns-clause-other_offset c frames =
     let same : Some (bad_length, 94) ≡ Some (bad_length, 0) = (one_reading 0 (request_bytes ++ no_request_bytes) _ _ _ _ _ _ faulty_are_bytes with_fault frames).fault_is in
     omega (arith, ap place_of same)

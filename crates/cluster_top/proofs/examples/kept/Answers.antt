@@ -1,9 +1,9 @@
 use Rattle.std.proofs.Common.{◌≡◌, [], ◌∷◌, refl, inl, rules, arith}
-use Rattle.history_model.specs.Examples.{creation}
-use Rattle.record_model.specs.Records.{create_record, record_of}
-use Rattle.record_model.specs.Spelled.{IsSound}
-use Rattle.service_model.specs.Examples.{first_entry}
-use Rattle.cluster_top.specs.Examples.{catalogue_file, shard_file}
+use Rattle.plain_store_model.specs.SampleCollections.{creation}
+use Rattle.shard_records.specs.Records.{create_record, record_of}
+use Rattle.shard_records.specs.Spelled.{IsSound}
+use Rattle.plain_store_model.specs.SampleExchanges.{first_entry}
+use Rattle.cluster_top.specs.SampleRuns.{catalogue_file, shard_file}
 use Rattle.cluster_top.specs.Journals.{AreJournals, IsJournal, Tell}
 use Rattle.cluster_top.proofs.OneReading.{one_history}
 use Rattle.cluster_top.proofs.Sample.{key_reads}

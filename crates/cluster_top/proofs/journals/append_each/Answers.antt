@@ -1,5 +1,5 @@
 use Rattle.std.proofs.Common.{◌∙◌, arith}
-use Rattle.cluster_top.proofs.Opened.{all_open, left_in_part, on_any_err, open_more}
+use Rattle.cluster_top.proofs.OpenJournals.{all_open, left_in_part, on_any_err, open_more}
 use Rattle.cluster_top.proofs.journals.append_each.Goals as goal
 
 pub returns-in_err-append-clause-failed : goal.returns-in_err-append-clause-failed
@@ -16,7 +16,8 @@ loop-piece-preserved g c = record {
       open_more g.D.Disk.tells g.D.Disk.content g.D.Disk.may_leave records more c.args.pieces.now c.loop-piece.piece-index c.as_slice.result.now c.piece-item.result c.loop-piece.journal c.append.new.self spells c.loop-piece-test.true (c.as_slice.ensures ∙ c.piece-item.is)
       (c.loop-piece.invariant.appended records more spells was)
       c.in_ok-append.ensures.appended c.in_ok-append.ensures.«open» c.in_ok-append.ensures.kept c.in_ok-append.ensures.durable;
-  later = omega (arith, c.loop-piece.invariant.later, c.in_ok-append.ensures.later);
+  calm = c.in_ok-append.ensures.calm ∙ c.loop-piece.invariant.calm;
+  place = c.append.ensures.place ∙ c.loop-piece.invariant.place;
 }
 
 pub returns-clause-appended : goal.returns-clause-appended

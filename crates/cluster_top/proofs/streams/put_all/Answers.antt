@@ -1,4 +1,4 @@
-use Rattle.std.proofs.Common.{Bool, ℕ, ◌+◌, ◌-◌, List, length, take, drop, arith}
+use Rattle.std.proofs.Common.{Bool, ℕ, ◌+◌, ◌-◌, List, length, take, drop, ◌∙◌, arith}
 use Rattle.std.proofs.lemmas.List.{take_rest}
 use Rattle.std.proofs.Math.Seq.{take-add}
 use Rattle.outside.specs.Streams.{Put}
@@ -13,5 +13,5 @@ pub loop-at-preserved : goal.loop-at-preserved
 loop-at-preserved g c = record {
   within = omega (arith, c.in_ok-at.ensures.count, c.loop-at.invariant.within);
   put = put_more g.K.Sink.tells _ _ _ c.args.piece.now c.loop-at.at c.in_ok-at.field-0 c.loop-at.invariant.put c.in_ok-at.ensures.put;
-  later = omega (arith, c.in_ok-at.ensures.later);
+  calm = c.in_ok-at.ensures.calm ∙ c.loop-at.invariant.calm;
 }

@@ -1,4 +1,4 @@
-use Rattle.std.proofs.Common.{◌-◌, ◌≤◌, length, take}
+use Rattle.std.proofs.Common.{◌≡◌, ◌-◌, ◌≤◌, length, take}
 use Rattle.outside.specs.Streams.{Put}
 use Rattle.cluster_top.proofs.streams.put_all.Given as goal
 
@@ -10,5 +10,5 @@ abbrev pub invariant-loop-at : goal.invariant-loop-at
 invariant-loop-at g l = record {
   within : l.at ≤ length l.piece;
   put : Put g.K.Sink.tells (g.K.Sink.held l.fn.out) (take l.at l.piece) (g.K.Sink.held l.out);
-  later : g.K.Sink.fault_count l.fn.out ≤ g.K.Sink.fault_count l.out;
+  calm : g.K.Sink.fault_count l.out ≡ g.K.Sink.fault_count l.fn.out;
 }

@@ -1,5 +1,5 @@
 -- Each entry follows all before it.
-use Rattle.history_model.proofs.Standing.{times_rise, not_before_itself, no_statement_twice}
+use Rattle.history_model.proofs.LegalHistories.{times_rise, not_before_itself, no_statement_twice}
 use Rattle.history_model.proofs.laws.no_entry_twice.Goals as goal
 
 pub returns-clause-rises : goal.returns-clause-rises

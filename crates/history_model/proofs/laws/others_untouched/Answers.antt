@@ -1,5 +1,5 @@
 -- By what one more entry leaves.
-use Rattle.history_model.proofs.Standing.{others_untouched}
+use Rattle.history_model.proofs.LegalHistories.{others_untouched}
 use Rattle.history_model.proofs.laws.others_untouched.Goals as goal
 
 pub returns : goal.returns

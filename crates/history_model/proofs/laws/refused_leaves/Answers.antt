@@ -1,5 +1,5 @@
 -- By cases on the operation and the document.
-use Rattle.history_model.proofs.Standing.{refused_leaves}
+use Rattle.history_model.proofs.LegalHistories.{refused_leaves}
 use Rattle.history_model.proofs.laws.refused_leaves.Goals as goal
 
 pub returns : goal.returns

@@ -1,5 +1,5 @@
 -- The first insert leaves a document, which stands until the second.
-use Rattle.history_model.proofs.Standing.{second_insert_is_refused}
+use Rattle.history_model.proofs.LegalHistories.{second_insert_is_refused}
 use Rattle.history_model.proofs.laws.second_insert_is_refused.Goals as goal
 
 pub returns : goal.returns

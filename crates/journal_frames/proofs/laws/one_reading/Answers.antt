@@ -1,11 +1,11 @@
-use Rattle.journal_frames.proofs.Unique.{not_both, one_list, one_place}
+use Rattle.journal_frames.proofs.Unique.{not_both, one_list, one_offset}
 use Rattle.journal_frames.proofs.laws.one_reading.Goals as goal
 
 pub returns-clause-records : goal.returns-clause-records
 returns-clause-records c = one_list
 
 pub returns-clause-damage : goal.returns-clause-damage
-returns-clause-damage c = one_place
+returns-clause-damage c = one_offset
 
 pub returns-clause-apart : goal.returns-clause-apart
 returns-clause-apart c = not_both

@@ -1,6 +1,6 @@
 use Rattle.std.proofs.Common.{◌≡◌, ℕ, List, length}
 use Rattle.std.specs.List.{AllByRecursion, concat}
-use Rattle.frame_model.specs.Sections.{IsStated}
+use Rattle.opmsg_model.specs.Sections.{IsStated}
 use Rattle.opmsg_frames.proofs.DocumentReads.{Left}
 use Rattle.opmsg_frames.proofs.documents.read_documents.Given as goal
 

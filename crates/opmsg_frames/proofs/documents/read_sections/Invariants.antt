@@ -1,6 +1,6 @@
 use Rattle.std.proofs.Common.{◌≡◌, ◌<◌, ◌^◌, List, length}
 use Rattle.std.specs.List.{AllByRecursion, flat_map}
-use Rattle.frame_model.specs.Sections.{Section, IsSection, bodies, section_bytes}
+use Rattle.opmsg_model.specs.Sections.{Section, IsSection, bodies, section_bytes}
 use Rattle.opmsg_frames.proofs.SectionReads.{Left}
 use Rattle.opmsg_frames.proofs.documents.read_sections.Given as goal
 

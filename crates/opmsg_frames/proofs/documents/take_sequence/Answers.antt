@@ -1,5 +1,5 @@
 use Rattle.std.proofs.lemmas.Result.{err_from_is_err_and}
-use Rattle.opmsg_frames.proofs.SectionFronts.{parts_read, some_parts}
+use Rattle.opmsg_frames.proofs.SectionPrefixes.{parts_read, some_parts}
 use Rattle.opmsg_frames.proofs.documents.take_sequence.Goals as goal
 
 pub returns-in_err-documents-in-Some : goal.returns-in_err-documents-in-Some

@@ -1,8 +1,8 @@
 use Rattle.opmsg_frames.proofs.Cuttings as cut
 use Rattle.opmsg_frames.proofs.laws.every_cutting.Goals as goal
 
-pub returns-clause-front : goal.returns-clause-front
-returns-clause-front c = cut.a_front
+pub returns-clause-prefix : goal.returns-clause-prefix
+returns-clause-prefix c = cut.a_prefix
 
 pub returns-clause-all : goal.returns-clause-all
 returns-clause-all c = cut.all_given

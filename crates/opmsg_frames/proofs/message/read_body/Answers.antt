@@ -1,5 +1,5 @@
 use Rattle.std.proofs.Common.{refl}
-use Rattle.frame_model.specs.Requests.{read_body}
+use Rattle.opmsg_model.specs.Requests.{read_body}
 use Rattle.opmsg_frames.proofs.Bodies.{told}
 use Rattle.opmsg_frames.proofs.message.read_body.Goals as goal
 

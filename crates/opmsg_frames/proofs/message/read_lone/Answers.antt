@@ -1,6 +1,6 @@
 use Rattle.std.proofs.Common.{refl, inl, [], ◌∷◌}
-use Rattle.frame_model.specs.Requests.{read_body}
-use Rattle.frame_model.specs.Sections.{body_section}
+use Rattle.opmsg_model.specs.Requests.{read_body}
+use Rattle.opmsg_model.specs.Sections.{body_section}
 use Rattle.opmsg_frames.proofs.Bodies.{told}
 use Rattle.opmsg_frames.proofs.message.read_lone.Goals as goal
 

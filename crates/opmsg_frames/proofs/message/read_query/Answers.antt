@@ -1,7 +1,7 @@
 use Rattle.std.proofs.Common.{arith, refl}
-use Rattle.document_model.specs.Faults.{short_fault}
-use Rattle.frame_model.specs.Messages.{number_at}
-use Rattle.frame_model.specs.Requests.{faulty_body}
+use Rattle.opmsg_model.specs.Faults.{short_fault}
+use Rattle.opmsg_model.specs.Messages.{number_at}
+use Rattle.opmsg_model.specs.Requests.{faulty_body}
 use Rattle.opmsg_frames.proofs.Bodies.{signed_back}
 use Rattle.opmsg_frames.proofs.Bytes.{number_fits}
 use Rattle.opmsg_frames.proofs.Queries.{is_sound}

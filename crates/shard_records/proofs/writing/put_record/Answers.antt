@@ -1,6 +1,6 @@
 use Rattle.std.specs.Prelude.{[], ◌∷◌, ◌++◌}
 use Rattle.std.proofs.lemmas.Result.{on_ok_weaker}
-use Rattle.record_model.specs.Spelled.{eight, spelled_text, spelled_number, spelled_words, spelled_outcome}
+use Rattle.record_model.specs.Spelled.{eight, spelled_string, spelled_number, spelled_words, spelled_outcome}
 use Rattle.shard_records.specs.Meanings.{number_meant, words_meant, outcome_meant}
 use Rattle.shard_records.proofs.Puts.{then}
 use Rattle.shard_records.proofs.writing.put_record.Goals as goal
@@ -9,7 +9,7 @@ pub returns-in_ok-put_words-in-Entry-clause-ok : goal.returns-in_ok-put_words-in
 returns-in_ok-put_words-in-Entry-clause-ok c =
     let e = c.in-Entry in
     let time = eight e.time.0 in
-    let namespace = spelled_text e.namespace in
+    let namespace = spelled_string e.namespace in
     let number = spelled_number (number_meant e.statement) in
     let words = spelled_words (words_meant e.op) in
     let outcome = spelled_outcome (outcome_meant e.reply) in
@@ -25,7 +25,7 @@ returns-in_ok-put_words-in-Entry-clause-ok c =
 pub returns-in_ok-put_u64-in-Create-clause-ok : goal.returns-in_ok-put_u64-in-Create-clause-ok
 returns-in_ok-put_u64-in-Create-clause-ok c =
     let e = c.in-Create in
-    let namespace = spelled_text e.namespace in
+    let namespace = spelled_string e.namespace in
     rw c.in-Create.is
     (on_ok_weaker c.put_u64-in-Create-2.result
     (λ last. then c.args.out.now.items (1 ∷ 0x20 ∷ []) (namespace ++ (eight e.epoch ++ eight e.at.0)) c.in_ok-put-in-Create.ensures.ok

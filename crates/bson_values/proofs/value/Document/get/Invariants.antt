@@ -1,7 +1,7 @@
 use Rattle.std.proofs.Common.{◌≡◌, drop}
-use Rattle.document_model.specs.Tree.{get}
-use Rattle.bson_values.specs.View.{members_of}
+use Rattle.bson_model.specs.Tree.{get}
+use Rattle.bson_values.specs.View.{fields_of}
 use Rattle.bson_values.proofs.value.Document.get.Given as goal
 
-abbrev pub invariant-loop-member : goal.invariant-loop-member
-invariant-loop-member l = get l.name (members_of (drop l.member-index l.member-items)) ≡ get l.name l.self
+abbrev pub invariant-loop-field : goal.invariant-loop-field
+invariant-loop-field l = get l.name (fields_of (drop l.field-index l.field-items)) ≡ get l.name l.self

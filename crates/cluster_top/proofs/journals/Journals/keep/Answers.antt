@@ -1,4 +1,4 @@
-use Rattle.cluster_top.proofs.Opened.{journal_of, on_any_err, part_of_catalogue, part_of_shard}
+use Rattle.cluster_top.proofs.OpenJournals.{journal_of, on_any_err, part_of_catalogue, part_of_shard}
 use Rattle.cluster_top.proofs.journals.Journals.keep.Goals as goal
 
 pub returns-in_err-append_each-clause-failed : goal.returns-in_err-append_each-clause-failed

@@ -1,6 +1,6 @@
 use Rattle.std.proofs.Common.{refl, ◌∙◌, arith}
 use Rattle.bson_values.specs.View.{datum_of}
-use Rattle.history_model.proofs.Standing.{not_large, too_long}
+use Rattle.plain_store_model.proofs.LegalHistories.{not_large, too_long}
 use Rattle.command_store.proofs.Entered.{entered_again, entered_large, entered_new, found_some, kept_by, keys_kept, small_kept}
 use Rattle.command_store.proofs.store.Store.put.Goals as goal
 

@@ -1,8 +1,8 @@
 use Rattle.std.proofs.Common.{◌≡◌, ◌+◌, ◌≤◌, drop, true}
 use Rattle.std.specs.List.{AllByRecursion}
-use Rattle.command_model.specs.Sizes.{IsKeepable}
+use Rattle.command_words.specs.CommandSizes.{IsKeepable}
 use Rattle.document_store.specs.Collections.{is_created}
-use Rattle.service_model.specs.Machine as machine
+use Rattle.plain_store_model.specs.PlainStore as plain_store
 use Rattle.command_store.specs.Kept.{Represents}
 use Rattle.command_store.specs.Telling.{IsSmallTold}
 use Rattle.command_store.proofs.UnderWay.{IsUnderWay}
@@ -15,5 +15,5 @@ invariant-loop-i l = record {
   told_later : l.told.time.0 ≤ l.before.0 + l.i;
   keepable : AllByRecursion IsKeepable (drop l.i l.documents);
   small : IsSmallTold l.told l.i;
-  way : (plain : machine.Store) → Represents l.initial.self plain → IsUnderWay plain l.before.0 l.ordered l.count l.namespace l.documents l.i l.self l.told;
+  way : (plain : plain_store.PlainStore) → Represents l.initial.self plain → IsUnderWay plain l.before.0 l.ordered l.count l.namespace l.documents l.i l.self l.told;
 }

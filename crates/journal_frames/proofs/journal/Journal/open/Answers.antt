@@ -5,10 +5,10 @@ use Rattle.journal_frames.proofs.Unique.{not_both}
 use Rattle.journal_frames.proofs.journal.Journal.open.Goals as goal
 
 pub returns-in-Ok-settle-clause-only : goal.returns-in-Ok-settle-clause-only
-returns-in-Ok-settle-clause-only g c place tells damaged =
+returns-in-Ok-settle-clause-only g c offset tells damaged =
     let is = c.deref.ensures.value ∙ c.in-Ok.ensures.file tells in
     let stands = subst (λ f. Stands f c.in-Ok-scan.found.0) is c.in-Ok-scan.ensures.found.0 in
-    absurd (not_both (g.D.Disk.content c.args.disk) c.in-Ok-scan.found.0 place stands damaged)
+    absurd (not_both (g.D.Disk.content c.args.disk) c.in-Ok-scan.found.0 offset stands damaged)
 
 pub returns-in-Ok-settle-clause-same : goal.returns-in-Ok-settle-clause-same
 returns-in-Ok-settle-clause-same g c records tells before =

@@ -1,0 +1,3 @@
+pub use Rattle.base_model.proofs.Lengths
+pub use Rattle.base_model.proofs.OneDocument
+pub use Rattle.base_model.proofs.Parts

@@ -1,0 +1,34 @@
+-- What a start says of the disks that it leaves.
+use Rattle.std.specs.Prelude.{◌≡◌, ◌≢◌, ◌⊎◌, ℕ, Bool, IsTrue, List, map}
+use Rattle.std.specs.List.{AllByRecursion}
+use Rattle.outside.specs.Devices.{NoneFell, SinkCall, SinkIsUntouched, SourceCall, SourceIsUntouched, disks_call}
+use Rattle.cluster_top.specs.Counts.{OneRoseWhere}
+use Rattle.cluster_top.specs.Disks.{AreNoWorse, IsEmptyAll, SomeFile}
+use Rattle.cluster_top.specs.Headline.{AsPlainStore, Headline, most_taken}
+use Rattle.cluster_top.specs.OpenJournals.{IsDurable}
+use Rattle.cluster_top.specs.Statuses.{OfStatus}
+
+-- Nothing was taken or put, the files are as they were, a crash leaves no more of them than before, and the status is 6, or 5 for
+-- a fault.
+abbrev pub IsNotServed : {D : Type 0} → (status : ℕ) → SourceCall → SinkCall → (D → List ℕ) → (D → List ℕ → Type 0) → (before left : List D) → Type 0
+IsNotServed status source sink content may_leave before left =
+    SourceIsUntouched source × SinkIsUntouched sink × (map content left ≡ map content before) × AreNoWorse may_leave before left
+    × ((status ≡ 6) ⊎ (status ≡ 5))
+
+-- A start that ended with this status left these disks, and so many bytes after the last whole request. `started` says that its
+-- arguments start nodes.
+pub record IsLeft {D : Type 0} (status : ℕ) (started : Type 0) (source : SourceCall) (sink : SinkCall) (gives : ℕ → Type 0) (tells : Bool) (content : D → List ℕ) (may_leave : D → List ℕ → Type 0) (place : D → List ℕ) (fault_count : D → ℕ) (before left : List D) (rest : ℕ) : Type 0 where
+  -- each is in its place, and the status is 5 exactly by a fault of one
+  pub places : map place left ≡ map place before
+  pub disk_fault : OneRoseWhere (status ≡ 5) (map fault_count before) (map fault_count left)
+  pub none_fell : NoneFell (map fault_count before) (map fault_count left)
+  -- where no nodes start they are as they were, and where a file had bytes nothing is served
+  pub refused : ¬ started → left ≡ before
+  pub untouched : (status ≡ 2) ⊎ (status ≡ 6) → rest ≡ 0
+  pub six : status ≡ 6 → IsTrue tells → SomeFile (map content before)
+  pub not_empty : started → IsTrue tells → SomeFile (map content before) → (rest ≡ 0) × IsNotServed status source sink content may_leave before left
+  -- on empty files the replies, their times and the records are those of one plain store, and of one legal history
+  pub plain_store : status ≢ 2 → IsEmptyAll tells (map content before) → status ≢ 6 → OfStatus status (λ s. AsPlainStore source sink (disks_call tells content place fault_count before left) gives most_taken s rest)
+  pub headline : status ≢ 2 → IsEmptyAll tells (map content before) → status ≢ 6 → OfStatus status (λ s. Headline source sink (disks_call tells content place fault_count before left) gives most_taken s rest)
+  -- but where a disk failed or memory ended, a crash takes none of the records
+  pub durable : status ≢ 2 → IsTrue tells → IsEmptyAll tells (map content before) → status ≢ 5 → status ≢ 7 → AllByRecursion (IsDurable content may_leave) left

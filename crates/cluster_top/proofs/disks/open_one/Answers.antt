@@ -1,0 +1,30 @@
+use Rattle.std.proofs.Common.{[]}
+use Rattle.journal_frames.specs.Files.{Stands}
+use Rattle.cluster_top.specs.Stops.{at_opening_fault, at_damage, at_opening_memory}
+use Rattle.cluster_top.proofs.OpenJournals.{disk_of_fault, never_damaged, nothing, open_fresh, place_of_damage}
+use Rattle.cluster_top.proofs.disks.open_one.Goals as goal
+
+pub returns-in-Ok-clause-opened : goal.returns-in-Ok-clause-opened
+returns-in-Ok-clause-opened g c = λ empty.
+    open_fresh g.D.Disk.tells g.D.Disk.content g.D.Disk.may_leave (g.D.Disk.content c.args.disk) c.in-Ok.journal c.in-Ok.ensures.open empty c.in-Ok.ensures.found c.in-Ok.ensures.same c.in-Ok.ensures.kept
+
+pub returns-in-Err-Disk-clause-kept : goal.returns-in-Err-Disk-clause-kept
+returns-in-Err-Disk-clause-kept g c = λ empty told.
+    record { stands = disk_of_fault (λ disk. Stands (g.D.Disk.content disk) []) _ _ c.in-Err-Disk.field-0-is (c.in-Err-Disk.ensures.same [] told (nothing _ (empty told))); sound = tt }
+
+pub returns-in-Err-Damaged-clause-damaged : goal.returns-in-Err-Damaged-clause-damaged
+returns-in-Err-Damaged-clause-damaged g c = λ empty is told.
+    never_damaged _ _ (empty told) (place_of_damage _ _ _ _ c.in-Err-Damaged.field-0-is c.in-Err-Damaged.ensures.damaged told).0
+
+pub returns-in-Err-Memory-clause-kept : goal.returns-in-Err-Memory-clause-kept
+returns-in-Err-Memory-clause-kept g c = λ empty told.
+    record { stands = disk_of_fault (λ disk. Stands (g.D.Disk.content disk) []) _ _ c.in-Err-Memory.field-0-is (c.in-Err-Memory.ensures.same [] told (nothing _ (empty told))); sound = tt }
+
+pub returns-in-Err-Disk-clause-stops : goal.returns-in-Err-Disk-clause-stops
+returns-in-Err-Disk-clause-stops g c = at_opening_fault
+
+pub returns-in-Err-Damaged-clause-stops : goal.returns-in-Err-Damaged-clause-stops
+returns-in-Err-Damaged-clause-stops g c = at_damage
+
+pub returns-in-Err-Memory-clause-stops : goal.returns-in-Err-Memory-clause-stops
+returns-in-Err-Memory-clause-stops g c = at_opening_memory

@@ -1,7 +1,0 @@
-use Rattle.std.proofs.Common.{arith}
-use Rattle.command_model.specs.Command.{names_of}
-use Rattle.command_words.proofs.Sequences.{two_known}
-use Rattle.command_words.proofs.reading.check_insert_sequences.Goals as goal
-
-pub returns-in-None : goal.returns-in-None
-returns-in-None c = two_known (names_of c.args.document.now) c.args.sequences.now c.first-item-2.result (omega (arith, c.in-len2-up.len_at_least)) c.first-item-2.is c.in-None.ensures

@@ -1,0 +1,171 @@
+//! The form of a command, and the one order in which its checks come.
+
+ghost use Rattle.std.specs.Prelude.{◌≡◌, ℕ, List, [], ◌∷◌, Some, codes};
+ghost use Rattle.bson_values.specs.Tree.{Datum, Fields, get, field};
+ghost use Rattle.command_model.specs.Errors.{invalid_namespace};
+ghost use Rattle.command_model.specs.Names.{full_name, is_open_namespace};
+ghost use Rattle.bson_values.specs.View.{datum_of};
+ghost use Rattle.opmsg_frames.specs.Lists.{pairs_of};
+ghost use Rattle.opmsg_frames.specs.RequestMeanings.{form_meant};
+ghost use Rattle.command_model.specs.Checks.{is_one_of, unless_passes};
+ghost use Rattle.command_model.specs.Command as commands;
+ghost use Rattle.command_model.specs.Forms as model;
+ghost use Rattle.command_model.specs.Fields as fields;
+ghost use Rattle.command_words.specs.Commands.{Tells};
+ghost use Rattle.command_words.specs.Given.{NamesCollection};
+ghost use Rattle.command_words.specs.Verdicts.{ReadsBy, verdict_meant};
+
+use crate::checks::{string_needed, text_in};
+use crate::command::Command;
+use crate::refusal::CheckFault;
+use bson_values::{Document, Value};
+use cluster_base::{Code, NameFault, Namespace, is_reserved_database};
+use opmsg_frames::{Form, Sequence};
+use std::alloc::Global;
+
+/// The form of a command: what is checked of each part of a request, and the command that it asks for.
+pub(crate) trait CommandForm {
+    /// What the command's own field is read as.
+    type Own: Drop;
+
+    // The form.
+    ghost form: { Self → model.CommandForm commands.Command };
+
+    // What was read of a database and the value of the own field.
+    ghost is_read: { Self → Self.Own → List ℕ → Datum → Type 0 };
+
+    /// Reads the command's own field.
+    fn read_own(&self, alloc: Global, database: &str, own: &Value) -> Result<Self::Own, CheckFault>
+        ensures { ReadsBy (λ x. is_read self.now x database.now (datum_of own.now)) result ((form self.now).check_own database.now (datum_of own.now)) };
+
+    /// Checks the fields behind it.
+    fn check_inner_fields(&self, document: &Document) -> Option<Code>
+        ensures { (own : List ℕ) (value : Datum) (others : Fields) → document.now ≡ field own value others → verdict_meant result ≡ fields.check_fields (form self.now).unlisted (form self.now).rules (own ∷ []) others };
+
+    /// Checks a document sequence; `given`: a field or a sequence of its identifier stands before it.
+    fn check_sequence(&self, given: bool, sequence: &Sequence) -> Option<Code>
+        ensures { verdict_meant result ≡ model.check_sequence (form self.now).sequence given (sequence.now.identifier, sequence.now.documents) };
+
+    /// Checks that there is what is needed.
+    fn check_needed(&self, document: &Document, sequences: &[Sequence]) -> Option<Code>
+        ensures { verdict_meant result ≡ (form self.now).check_needed document.now (pairs_of sequences.now) };
+
+    /// The command, unless what is judged last fails.
+    fn finish(
+        &self,
+        alloc: Global,
+        own: Self::Own,
+        value: &Value,
+        document: &Document,
+        sequences: &[Sequence],
+    ) -> Result<Command, CheckFault>
+        ensures { (database : List ℕ) → is_read self.now own database (datum_of value.now) →
+            Tells result (commands.by_verdict ((form self.now).check_last document.now (pairs_of sequences.now)) ((form self.now).command database (datum_of value.now) document.now (pairs_of sequences.now))) };
+}
+
+// The database has to be named by a text, but in OP_QUERY.
+fn check_database(sent: Form, document: &Document) -> Option<Code>
+    ensures { verdict_meant result ≡ model.check_database (form_meant sent) (get (codes "$db") document.now) }
+{
+    match document.get("$db") {
+        Some(value) => string_needed(value),
+        None => match sent {
+            Form::Msg => Some(Code::FailedToParse),
+            Form::Query => None,
+        },
+    }
+}
+
+// The database; of OP_QUERY it is `admin`.
+fn database_of(sent: Form, document: &Document) -> &str
+    ensures { result.now ≡ model.database_of (form_meant sent) document.now }
+{
+    match sent {
+        Form::Query => "admin",
+        Form::Msg => match document.get("$db") {
+            Some(value) => text_in(value),
+            None => "",
+        },
+    }
+}
+
+// The namespace that these texts make, if clients may use it.
+fn namespace_of(alloc: Global, database: &str, collection: &str) -> Result<Namespace, CheckFault>
+    ensures { ReadsBy (λ n. n ≡ full_name database.now collection.now) result (unless_passes (is_open_namespace database.now collection.now) invalid_namespace) }
+{
+    if is_reserved_database(database) {
+        return Err(CheckFault::Refused(Code::InvalidNamespace));
+    }
+    match Namespace::of_parts(alloc, database, collection) {
+        Ok(namespace) => Ok(namespace),
+        Err(NameFault::Form) => Err(CheckFault::Refused(Code::InvalidNamespace)),
+        Err(NameFault::Memory) => Err(CheckFault::Memory),
+    }
+}
+
+/// The namespace of the collection that a command's own field names.
+pub(crate) fn collection_of(
+    alloc: Global,
+    database: &str,
+    own: &Value,
+) -> Result<Namespace, CheckFault>
+    ensures { ReadsBy (λ n. NamesCollection n database.now (datum_of own.now)) result (model.check_collection database.now (datum_of own.now)) }
+{
+    match own {
+        Value::Text(collection) => namespace_of(alloc, database, collection.as_str()),
+        _ => Err(CheckFault::Refused(Code::TypeMismatch)),
+    }
+}
+
+// The first sequence.
+fn check_first<F: CommandForm>(form: &F, document: &Document, first: &Sequence) -> Option<Code>
+    ensures { verdict_meant result ≡ model.check_sequence (F.form form.now).sequence (is_one_of first.now.identifier (fields.names_of document.now)) (first.now.identifier, first.now.documents) }
+{
+    let given = document.get(first.identifier.as_str()).is_some();
+    form.check_sequence(given, first)
+}
+
+// The sequences; a second one has an identifier that is given, or one that the command does not have.
+fn check_sequences<F: CommandForm>(
+    form: &F,
+    document: &Document,
+    sequences: &[Sequence],
+) -> Option<Code>
+    ensures { verdict_meant result ≡ model.check_sequences (F.form form.now).sequence (fields.names_of document.now) (pairs_of sequences.now) }
+{
+    match sequences {
+        [] => None,
+        [first] => check_first(form, document, first),
+        [first, _, ..] => match check_first(form, document, first) {
+            Some(code) => Some(code),
+            None => Some(Code::FailedToParse),
+        },
+    }
+}
+
+/// The command of that form, or the first error, in the one order; `own` is the value of the document's first field.
+pub(crate) fn read_by<F: CommandForm>(
+    form: &F,
+    alloc: Global,
+    sent: Form,
+    own: &Value,
+    document: &Document,
+    sequences: &[Sequence],
+) -> Result<Command, CheckFault>
+    ensures { (name : List ℕ) (others : Fields) → document.now ≡ field name (datum_of own.now) others → Tells result (commands.by_form (Some (F.form form.now)) (form_meant sent) name (datum_of own.now) others (pairs_of sequences.now)) }
+{
+    if let Some(code) = check_database(sent, document) {
+        return Err(CheckFault::Refused(code));
+    }
+    let read = form.read_own(alloc, database_of(sent, document), own)?;
+    if let Some(code) = form.check_inner_fields(document) {
+        return Err(CheckFault::Refused(code));
+    }
+    if let Some(code) = check_sequences(form, document, sequences) {
+        return Err(CheckFault::Refused(code));
+    }
+    if let Some(code) = form.check_needed(document, sequences) {
+        return Err(CheckFault::Refused(code));
+    }
+    form.finish(alloc, read, own, document, sequences)
+}

@@ -1,0 +1,339 @@
+//! `insert` (MongoDB manual, "insert").
+
+ghost use Rattle.std.specs.Prelude.{◌≡◌, [], IfOk, None, Some, codes};
+ghost use Rattle.std.specs.Option.{is_some, option_map};
+ghost use Rattle.bson_values.specs.Tree.{no_fields, field};
+ghost use Rattle.command_model.specs.Errors.{bad_value, failed_to_parse};
+ghost use Rattle.command_model.specs.ReplyParts as replies;
+ghost use Rattle.command_model.specs.Keys.{is_key};
+ghost use Rattle.bson_values.specs.View.{datum_of, items_of};
+ghost use Rattle.opmsg_frames.specs.Lists.{pairs_of};
+ghost use Rattle.command_model.specs.Checks.{unless_passes};
+ghost use Rattle.command_model.specs.Command.{insert_command};
+ghost use Rattle.command_model.specs.Forms.{made_into};
+ghost use Rattle.command_model.specs.Insert as model;
+ghost use Rattle.command_model.specs.Insert.{insert_form, insert_rules};
+ghost use Rattle.command_model.specs.Shown as shown;
+ghost use Rattle.command_words.specs.Given.{NamesCollection};
+ghost use Rattle.command_words.specs.Refusals.{refusal_meant};
+ghost use Rattle.command_words.specs.Errors.{errors_meant};
+ghost use Rattle.command_words.specs.Verdicts.{verdict_meant};
+
+use crate::answer::{MOST_STATEMENTS, WriteError};
+use crate::checks::{boolean_needed, boolean_or, document_needed, unless_passes};
+use crate::command::Command;
+use crate::forms::{CommandForm, collection_of};
+use crate::parts::{add, add_end, add_number, add_text};
+use crate::refusal::{CheckFault, add_evidence};
+use crate::rules::{Rules, check_behind_own, common_ruling};
+use bson_values::{Array, Document, Memory, Value};
+use cluster_base::{Code, Namespace, Time};
+use opmsg_frames::Sequence;
+use std::alloc::Global;
+
+/// To insert the documents, in order; `ordered`: the first error ends it.
+#[derive(Drop)]
+pub struct Insert {
+    pub namespace: Namespace,
+    pub documents: Vec<Document>,
+    pub ordered: bool,
+}
+
+// Whether all values are documents.
+fn are_documents(values: &[Value]) -> bool
+    ensures { result ≡ is_some (model.documents_in (items_of values.now)) }
+{
+    for value in values {
+        let Value::Doc(_) = value else {
+            return false;
+        };
+    }
+    true
+}
+
+// So many statements as a command may have.
+fn check_count(count: usize) -> Option<Code>
+    ensures { verdict_meant result ≡ unless_passes (model.is_statement_count count) bad_value }
+{
+    unless_passes(
+        1 <= count && count <= MOST_STATEMENTS as usize,
+        Code::BadValue,
+    )
+}
+
+// The documents of an insert, by their field.
+fn documents_needed(value: &Value) -> Option<Code>
+    ensures { verdict_meant result ≡ model.documents_needed (datum_of value.now) }
+{
+    match value {
+        Value::Array(array) => {
+            let values = array.values();
+            if are_documents(values) {
+                check_count(array.len())
+            } else {
+                Some(Code::TypeMismatch)
+            }
+        }
+        _ => Some(Code::TypeMismatch),
+    }
+}
+
+// Whether a value may be a key.
+fn is_key(value: &Value) -> bool
+    ensures { result ≡ is_key (datum_of value.now) }
+{
+    !matches!(
+        value,
+        Value::Doc(_) | Value::Array(_) | Value::MinKey | Value::MaxKey
+    )
+}
+
+// A document that is to be kept.
+fn check_statement(document: &Document) -> Option<Code>
+    ensures { verdict_meant result ≡ model.check_statement document.now }
+{
+    match document.get("_id") {
+        Some(key) => unless_passes(is_key(key), Code::BadValue),
+        None => Some(Code::ShardKeyNotFound),
+    }
+}
+
+// All documents that are to be kept, in order.
+fn check_statements(documents: &[Document]) -> Option<Code>
+    ensures { verdict_meant result ≡ model.check_statements documents.now }
+{
+    for document in documents {
+        if let Some(code) = check_statement(document) {
+            return Some(code);
+        }
+    }
+    None
+}
+
+// The documents of an array, copied; none where a value is no document.
+fn documents_in(alloc: Global, values: &[Value]) -> Result<Option<Vec<Document>>, Memory>
+    ensures { IfOk result (λ o. option_map (λ v. v.items) o ≡ model.documents_in (items_of values.now)) }
+{
+    let mut documents = Vec::new(alloc);
+    for value in values {
+        let Value::Doc(document) = value else {
+            return Ok(None);
+        };
+        documents.push(document.copy()?)?;
+    }
+    Ok(Some(documents))
+}
+
+// Copies of documents.
+fn copies_of(alloc: Global, documents: &[Document]) -> Result<Vec<Document>, Memory>
+    ensures { IfOk result (λ v. v.items ≡ documents.now) }
+{
+    let mut copies = Vec::new(alloc);
+    for document in documents {
+        copies.push(document.copy()?)?;
+    }
+    Ok(copies)
+}
+
+// The documents of an insert by its field.
+fn documents_of_value(alloc: Global, value: &Value) -> Result<Option<Vec<Document>>, Memory>
+    ensures { IfOk result (λ o. option_map (λ v. v.items) o ≡ model.documents_of_value (datum_of value.now)) }
+{
+    match value {
+        Value::Array(array) => documents_in(alloc, array.values()),
+        _ => Ok(None),
+    }
+}
+
+// The documents of an insert, by its field or by its sequence.
+fn documents_asked(
+    alloc: Global,
+    document: &Document,
+    sequences: &[Sequence],
+) -> Result<Option<Vec<Document>>, Memory>
+    ensures { IfOk result (λ o. option_map (λ v. v.items) o ≡ model.documents_asked document.now (pairs_of sequences.now)) }
+{
+    match document.get("documents") {
+        Some(value) => documents_of_value(alloc, value),
+        None => match sequences {
+            [] => Ok(None),
+            [first, ..] => {
+                let documents = copies_of(alloc, first.documents.as_slice())?;
+                Ok(Some(documents))
+            }
+        },
+    }
+}
+
+// Whether there are documents, in the field or in a sequence.
+fn has_documents(document: &Document, sequences: &[Sequence]) -> bool
+    ensures { result ≡ is_some (model.documents_asked document.now (pairs_of sequences.now)) }
+{
+    match document.get("documents") {
+        Some(value) => match value {
+            Value::Array(array) => are_documents(array.values()),
+            _ => false,
+        },
+        None => match sequences {
+            [] => false,
+            [_, ..] => true,
+        },
+    }
+}
+
+// The documents of an insert that has some; else none.
+fn documents_or_none(
+    alloc: Global,
+    document: &Document,
+    sequences: &[Sequence],
+) -> Result<Vec<Document>, Memory>
+    ensures { IfOk result (λ v. v.items ≡ model.or_documents (model.documents_asked document.now (pairs_of sequences.now))) }
+{
+    match documents_asked(alloc, document, sequences)? {
+        Some(documents) => Ok(documents),
+        None => Ok(Vec::new(alloc)),
+    }
+}
+
+/// The form of `insert`.
+#[derive(Clone, Copy)]
+pub(crate) struct InsertForm;
+
+impl Rules for InsertForm {
+    ghost rules = { λ _. insert_rules };
+
+    ghost unlisted_verdict = { λ _. Some failed_to_parse };
+
+    fn ruling(&self, name: &str, value: &Value) -> Option<Option<Code>> {
+        if "documents" == name {
+            Some(documents_needed(value))
+        } else if "ordered" == name {
+            Some(boolean_needed(value))
+        } else if "writeConcern" == name {
+            Some(document_needed(value))
+        } else if "bypassDocumentValidation" == name {
+            Some(boolean_needed(value))
+        } else {
+            common_ruling(name, value)
+        }
+    }
+
+    fn unlisted(&self) -> Option<Code> {
+        Some(Code::FailedToParse)
+    }
+}
+
+impl CommandForm for InsertForm {
+    type Own = Namespace;
+
+    ghost form = { λ _. made_into insert_command insert_form };
+
+    ghost is_read = { λ _ namespace database value. NamesCollection namespace database value };
+
+    fn read_own(
+        &self,
+        alloc: Global,
+        database: &str,
+        own: &Value,
+    ) -> Result<Namespace, CheckFault> {
+        collection_of(alloc, database, own)
+    }
+
+    fn check_inner_fields(&self, document: &Document) -> Option<Code> {
+        check_behind_own(self, document)
+    }
+
+    fn check_sequence(&self, given: bool, sequence: &Sequence) -> Option<Code> {
+        if given || sequence.identifier.as_str() != "documents" {
+            Some(Code::FailedToParse)
+        } else {
+            check_count(sequence.documents.as_slice().len())
+        }
+    }
+
+    fn check_needed(&self, document: &Document, sequences: &[Sequence]) -> Option<Code> {
+        unless_passes(has_documents(document, sequences), Code::FailedToParse)
+    }
+
+    fn finish(
+        &self,
+        alloc: Global,
+        own: Namespace,
+        _value: &Value,
+        document: &Document,
+        sequences: &[Sequence],
+    ) -> Result<Command, CheckFault> {
+        let documents = documents_or_none(alloc, document, sequences)?;
+        if let Some(code) = check_statements(&documents) {
+            return Err(CheckFault::Refused(code));
+        }
+        Ok(Command::Insert(Insert {
+            namespace: own,
+            documents,
+            ordered: boolean_or(true, document, "ordered"),
+        }))
+    }
+}
+
+// A count, in 64 bits where 32 do not hold it.
+fn count_shown(count: u32) -> Value
+    ensures { datum_of result ≡ shown.count count }
+{
+    if count < 1 << 31 {
+        Value::Int32(count as i32)
+    } else {
+        Value::Int64(i64::from(count))
+    }
+}
+
+// The document of one write error.
+fn write_error(alloc: Global, error: &WriteError) -> Result<Document, Memory>
+    ensures { IfOk result (λ d. d ≡ replies.write_error error.now.index (refusal_meant error.now.refusal)) }
+{
+    let code = error.refusal.code;
+    let mut document = Document::new(alloc);
+    add_number(&mut document, alloc, "index", error.index.number() as i32)?;
+    add_number(&mut document, alloc, "code", code.number())?;
+    add_text(&mut document, alloc, "errmsg", code.name())?;
+    add_evidence(&mut document, alloc, error.refusal.evidence)?;
+    Ok(document)
+}
+
+// The documents of all write errors.
+fn write_errors(alloc: Global, errors: &[WriteError]) -> Result<Array, Memory>
+    ensures { IfOk result (λ a. a ≡ model.write_error_items (errors_meant errors.now)) }
+{
+    let mut items = Array::new(alloc);
+    for error in errors {
+        items.push(Value::Doc(write_error(alloc, error)?))?;
+    }
+    Ok(items)
+}
+
+// What an insert's answer begins with: the count, and the errors, if any.
+fn inserted(alloc: Global, count: u32, errors: &[WriteError]) -> Result<Document, Memory>
+    ensures { IfOk result (λ d. d ≡ field (codes "n") (shown.count count) (model.write_errors_shown (errors_meant errors.now) no_fields)) }
+{
+    let mut answer = Document::new(alloc);
+    add(&mut answer, alloc, "n", count_shown(count))?;
+    if errors.is_empty() {
+        return Ok(answer);
+    }
+    let errors = write_errors(alloc, errors)?;
+    add(&mut answer, alloc, "writeErrors", Value::Array(errors))?;
+    Ok(answer)
+}
+
+/// The answer to an insert: how many documents were inserted, the errors, and the operation's time. Fails for want of memory.
+pub(crate) fn insert_document(
+    alloc: Global,
+    count: u32,
+    errors: &[WriteError],
+    time: Time,
+) -> Result<Document, Memory>
+    ensures { IfOk result (λ d. d ≡ model.insert_document count (errors_meant errors.now) time.0) }
+{
+    let mut answer = inserted(alloc, count, errors)?;
+    add_end(&mut answer, alloc, time)?;
+    Ok(answer)
+}

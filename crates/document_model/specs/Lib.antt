@@ -1,4 +1,0 @@
-pub mod Tree
-pub mod Spelling
-pub mod Grammar
-pub mod Faults

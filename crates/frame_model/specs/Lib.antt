@@ -1,7 +1,0 @@
-pub mod Messages
-pub mod Sections
-pub mod Requests
-pub mod Outline
-pub mod Frames
-pub mod Replies
-pub mod Examples

@@ -1,0 +1,79 @@
+//! Opens the files of journals that stand in the lines of `files.txt`, and prints each line that says otherwise than what was
+//! found. A line is `records N:` or `damage N:`, the number of records or the offset of the damage, and then the file's
+//! bytes in hexadecimal.
+#![tactic(auto)]
+
+use journal_frames::{Journal, OpenFault};
+use outside_memory::MemDisk;
+use std::alloc::{AllocError, Global};
+use std::{fs, io};
+
+/// What stands in a file.
+#[derive(Drop)]
+enum Found {
+    /// So many records.
+    Records(usize),
+    /// Damage at this offset, and the file stayed as it was.
+    Damage(u64),
+    /// Neither.
+    Neither,
+}
+
+/// Damage at an offset, where the file stayed as it was.
+fn damage_at(offset: u64, stayed: bool) -> Found {
+    if stayed {
+        Found::Damage(offset)
+    } else {
+        Found::Neither
+    }
+}
+
+/// What an opening finds in a file.
+fn found_in(alloc: Global, file: &[u8]) -> Result<Found, AllocError> {
+    let disk = MemDisk::new(Vec::from_slice(alloc, file)?, Vec::new(alloc));
+    match Journal::open(alloc, disk) {
+        Ok(journal) => Ok(Found::Records(journal.records().as_slice().len())),
+        Err(OpenFault::Damaged { place, disk }) => Ok(damage_at(place, disk.bytes() == file)),
+        Err(OpenFault::Disk(_) | OpenFault::Memory(_)) => Ok(Found::Neither),
+    }
+}
+
+/// What was found, in words.
+fn words_of(alloc: Global, found: &Found) -> Result<String, AllocError> {
+    match found {
+        Found::Records(count) => format!(in alloc; "records {count}"),
+        Found::Damage(offset) => format!(in alloc; "damage {offset}"),
+        Found::Neither => String::from_str(alloc, "neither"),
+    }
+}
+
+/// Whether what an opening finds in a file is what the words say.
+fn is_found(alloc: Global, wanted: &str, file: &[u8]) -> Result<bool, AllocError> {
+    let found = found_in(alloc, file)?;
+    let words = words_of(alloc, &found)?;
+    Ok(words.as_str() == wanted)
+}
+
+/// Whether a line says what an opening finds.
+fn is_right(alloc: Global, line: &str) -> Result<bool, AllocError> {
+    let Some((wanted, digits)) = line.split_once(':') else {
+        return Ok(false);
+    };
+    match hex::decode(alloc, digits.trim()) {
+        Ok(file) => is_found(alloc, wanted, file.as_slice()),
+        Err(_) => Ok(false),
+    }
+}
+
+fn main(rt: HostRuntime) -> io::Result<()> {
+    let lines = fs::read_to_string(&rt, "files.txt")?;
+    let mut right = 0u64;
+    for line in lines.as_str().lines() {
+        if is_right(rt.alloc(), line)? {
+            right = right.saturating_add(1);
+        } else {
+            println!(rt; "not so: {line}")?;
+        }
+    }
+    println!(rt; "{right} files hold what their lines say")
+}

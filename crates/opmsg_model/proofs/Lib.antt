@@ -1,0 +1,2 @@
+pub use Rattle.bson_model.proofs.Lengths
+pub use Rattle.bson_model.proofs.WalkEnds

@@ -1,0 +1,80 @@
+//! A sink in memory.
+ghost use Rattle.std.specs.Prelude.{◌≡◌, ◌+◌, ◌<◌, ◌≤◌, ◌++◌, ◌⊎◌, length, take, true, IsTrue, IsErr, IsOk, IfOk, OnOk, OnErr, if◌then◌else◌};
+ghost use Rattle.std.specs.Bool.{OnTrue};
+ghost use Rattle.outside.specs.Causes.{Rose};
+ghost use Rattle.outside_memory.specs.Plan.{fails_now, after_call, after_fault};
+ghost use Rattle.outside_memory.specs.Memory.{fresh_sink};
+
+use super::plan::Plan;
+use outside::streams::{Failed, Sink};
+use std::marker::Model;
+
+/// A sink that holds in memory what is put.
+#[derive(Drop)]
+pub struct MemSink {
+    bytes: Vec<u8>,
+    plan: Plan,
+}
+
+impl Model for MemSink {
+    ghost use Rattle.std.specs.Prelude.{vec_capacity};
+    ghost use Rattle.outside_memory.specs.Memory.{SinkState};
+
+    ghost Value = { SinkState };
+
+    ghost view = { λ s. record { held = s.bytes.items; room = vec_capacity s.bytes; plan = s.plan } };
+}
+
+impl MemSink {
+    /// An empty sink. `failing` holds the numbers, from 0, of the calls that fail, and its allocator is the sink's.
+    pub fn new(failing: Vec<u64>) -> MemSink
+        ensures { result ≡ fresh_sink failing.items }
+    {
+        let alloc = *failing.allocator();
+        MemSink {
+            bytes: Vec::new(alloc),
+            plan: Plan::new(failing),
+        }
+    }
+
+    /// The bytes that were put.
+    pub fn bytes(&self) -> &[u8]
+        ensures { result.now ≡ self.now.held }
+    {
+        self.bytes.as_slice()
+    }
+}
+
+impl Sink for MemSink {
+    ghost tells = { true };
+
+    ghost held = { λ s. s.held };
+
+    ghost fault_count = { λ s. s.plan.faults };
+
+    fn put(&mut self, piece: &[u8]) -> Result<usize, Failed>
+        ensures count { IfOk result (λ n. n ≡ length piece.now) }
+        ensures put { OnOk result (self.new.held ≡ self.old.held ++ piece.now) }
+        ensures nothing { OnErr result (self.new.held ≡ self.old.held) }
+        ensures cause { OnErr result (Rose self.old.plan.faults self.new.plan.faults) }
+        ensures calm { OnOk result (self.new.plan.faults ≡ self.old.plan.faults) }
+        ensures later { self.old.plan.faults ≤ self.new.plan.faults }
+
+        // It fails exactly where the plan says so, or where it has no room and finds no memory.
+        ensures planned { IsTrue (fails_now self.old.plan) → IsErr result }
+        ensures only { OnErr result (IsTrue (fails_now self.old.plan)
+            ⊎ (self.old.room < length self.old.held + length piece.now)) }
+        ensures plan { OnOk result (self.new.plan ≡ after_call self.old.plan) }
+        ensures fault { OnErr result (self.new.plan ≡ after_fault self.old.plan) }
+        ensures room { self.old.room ≤ self.new.room }
+    {
+        if self.plan.fails() {
+            return Err(Failed);
+        }
+        if self.bytes.extend_from_slice(piece).is_err() {
+            self.plan.fault();
+            return Err(Failed);
+        }
+        Ok(piece.len())
+    }
+}

@@ -1,0 +1,12 @@
+pub mod RisingTimes
+pub mod LaterHistories
+pub mod StatementEntries
+pub mod ServedExchanges
+pub mod PlacedEntries
+pub mod Runs
+pub mod OneRun
+pub mod WholeRuns
+pub mod RunEnds
+pub use Rattle.reply_model.proofs.LegalHistories
+pub use Rattle.reply_model.proofs.Lists
+pub use Rattle.reply_model.proofs.Stores

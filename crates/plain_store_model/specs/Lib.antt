@@ -1,0 +1,11 @@
+pub mod Statements
+pub mod PlainStore
+pub mod SamplePlainStores
+pub use Rattle.reply_model.specs.Catalogue
+pub use Rattle.reply_model.specs.Exchange
+pub use Rattle.reply_model.specs.History
+pub use Rattle.reply_model.specs.Outcomes
+pub use Rattle.reply_model.specs.Placed
+pub use Rattle.reply_model.specs.Right
+pub use Rattle.reply_model.specs.SampleCollections
+pub use Rattle.reply_model.specs.SampleExchanges

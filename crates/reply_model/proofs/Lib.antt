@@ -1,0 +1,11 @@
+pub mod Turns
+pub mod ReplyTimes
+pub mod CommandDocuments
+pub mod Freshness
+pub mod WholeInserts
+pub mod MissedReads
+pub mod Sample
+pub use Rattle.history_model.proofs.LegalHistories
+pub use Rattle.history_model.proofs.Lists
+pub use Rattle.history_model.proofs.Stores
+pub use Rattle.command_model.proofs.Taken

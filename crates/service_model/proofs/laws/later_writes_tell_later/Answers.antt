@@ -1,6 +1,0 @@
--- The later insert's first entry is fresh.
-use Rattle.service_model.proofs.Standing.{later_writes_tell_later}
-use Rattle.service_model.proofs.laws.later_writes_tell_later.Goals as goal
-
-pub returns : goal.returns
-returns c = later_writes_tell_later

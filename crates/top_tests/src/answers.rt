@@ -1,0 +1,109 @@
+//! Answers against their documents, spelled by hand: those that no short connection gets.
+
+use bson_values::{Document, Text, Value, read};
+use cluster_base::{Code, Time};
+use command_words::{Answer, Evidence, Refusal, StatementIndex, WriteError, write_answer};
+use std::alloc::Global;
+use std::cmp::Ordering;
+use std::test::Fail;
+use value_compare::compare;
+
+const TIME: Time = Time(4_294_967_296_002);
+
+/// `{n: 2147483648L, ok: 1, operationTime: Timestamp(1000, 2)}`.
+const MANY: &str =
+    "2f000000126e000000008000000000106f6b0001000000116f7065726174696f6e54696d650002000000e803000000";
+
+/// `{n: 1, writeErrors: [{index: 1, code: 11000, errmsg: "DuplicateKey"}, {index: 3, code: 2, errmsg: "BadValue"}], ok: 1,
+/// operationTime: Timestamp(1000, 2)}`.
+const ERRORS: &str =
+    "a5000000106e00010000000477726974654572726f7273006d0000000330003300000010696e646578000100000010636f646500f82a0000026572726d7367000d0000004475706c69636174654b657900000331002f00000010696e646578000300000010636f64650002000000026572726d7367000900000042616456616c7565000000106f6b0001000000116f7065726174696f6e54696d650002000000e803000000";
+
+/// `{cursor: {id: 0L, ns: "d.c", firstBatch: [{_id: 1}, {_id: 2}], atClusterTime: Timestamp(1000, 2)}, ok: 1,
+/// operationTime: Timestamp(1000, 2)}`.
+const FOUND: &str =
+    "9300000003637572736f720067000000126964000000000000000000026e730004000000642e6300046669727374426174636800270000000330000e000000105f69640001000000000331000e000000105f696400020000000000116174436c757374657254696d650002000000e803000000106f6b0001000000116f7065726174696f6e54696d650002000000e803000000";
+
+/// `{_id: 1}` and `{_id: 2}`.
+const IDS: [&[u8]; 2] = [
+    b"\x0e\0\0\0\x10_id\0\x01\0\0\0\0",
+    b"\x0e\0\0\0\x10_id\0\x02\0\0\0\0",
+];
+
+/// The document that the bytes begin with.
+fn document_of(alloc: Global, bytes: &[u8]) -> Result<Document, Fail> {
+    let (document, _length) = read(alloc, bytes)?;
+    Ok(document)
+}
+
+/// Whether the documents are equal and have as many bytes: numbers of two widths differ in these.
+fn is_same(told: Document, wanted: Document) -> bool {
+    told.size() == wanted.size()
+        && compare(&Value::Doc(told), &Value::Doc(wanted)) == Ordering::Equal
+}
+
+/// Whether the answer's document is this one.
+fn is_spelled(alloc: Global, answer: &Answer, digits: &str) -> Result<bool, Fail> {
+    let bytes = hex::decode(alloc, digits)?;
+    let wanted = document_of(alloc, &bytes)?;
+    Ok(is_same(write_answer(alloc, answer)?, wanted))
+}
+
+/// The error of the statement with that number.
+fn error(index: u32, code: Code) -> Option<WriteError> {
+    let index = StatementIndex::of(index)?;
+    let refusal = Refusal {
+        code,
+        evidence: Evidence::Nothing,
+    };
+    Some(WriteError { index, refusal })
+}
+
+/// The answer of an insert.
+fn inserted(count: u32, errors: Vec<WriteError>) -> Answer {
+    Answer::Insert {
+        count,
+        errors,
+        time: TIME,
+    }
+}
+
+#[test]
+fn many_are_counted_in_64_bits(rt: HostRuntime) -> Result<(), Fail> {
+    let many = inserted(1 << 31, Vec::new(rt.alloc()));
+    assert!(rt; is_spelled(rt.alloc(), &many, MANY)?);
+    Ok(())
+}
+
+#[test]
+fn errors_stand_in_order(rt: HostRuntime) -> Result<(), Fail> {
+    let mut errors = Vec::new(rt.alloc());
+    errors.push(error(1, Code::DuplicateKey).ok_or("no index")?)?;
+    errors.push(error(3, Code::BadValue).ok_or("no index")?)?;
+    assert!(rt; is_spelled(rt.alloc(), &inserted(1, errors), ERRORS)?);
+    Ok(())
+}
+
+#[test]
+fn index_of_a_statement_has_a_limit(rt: HostRuntime) {
+    assert!(rt; StatementIndex::of(100_000).is_none());
+}
+
+/// The documents of `IDS`.
+fn two_documents(alloc: Global) -> Result<Vec<Document>, Fail> {
+    let mut documents = Vec::new(alloc);
+    documents.push(document_of(alloc, IDS[0])?)?;
+    documents.push(document_of(alloc, IDS[1])?)?;
+    Ok(documents)
+}
+
+#[test]
+fn two_are_found(rt: HostRuntime) -> Result<(), Fail> {
+    let found = Answer::Find {
+        namespace: Text::of(rt.alloc(), "d.c")?,
+        documents: two_documents(rt.alloc())?,
+        time: TIME,
+    };
+    assert!(rt; is_spelled(rt.alloc(), &found, FOUND)?);
+    Ok(())
+}

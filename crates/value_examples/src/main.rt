@@ -1,0 +1,45 @@
+//! Checks rows of data about values: the bytes of documents, the order of values, keys and spans. For each file it prints how many
+//! rows hold, and each row that does not.
+#![tactic(auto)]
+
+mod built;
+mod documents;
+mod keys;
+mod large;
+mod order;
+mod spans;
+
+use crate::built::Built;
+use crate::documents::{Documents, Prefixes};
+use crate::keys::{KeyTypes, Keys};
+use crate::large::{compare_deep, compare_long};
+use crate::order::{Classes, Sorted};
+use crate::spans::{Bounds, Spans};
+use bson_values::{one_fault, one_spelling};
+use fixtures::check_file;
+use std::io;
+
+fn main(rt: HostRuntime) -> io::Result<()> {
+    one_spelling();
+    one_fault();
+    check_documents(&rt)?;
+    check_order(&rt)?;
+    compare_long(&rt)?;
+    compare_deep(&rt)
+}
+
+fn check_documents(rt: &HostRuntime) -> io::Result<()> {
+    check_file(rt, "documents.txt", &mut Documents)?;
+    check_file(rt, "faults.txt", &mut Documents)?;
+    check_file(rt, "prefixes.txt", &mut Prefixes)?;
+    check_file(rt, "built.txt", &mut Built)
+}
+
+fn check_order(rt: &HostRuntime) -> io::Result<()> {
+    check_file(rt, "classes.txt", &mut Classes)?;
+    check_file(rt, "sorted.txt", &mut Sorted::new(rt.alloc()))?;
+    check_file(rt, "keys.txt", &mut Keys)?;
+    check_file(rt, "key_types.txt", &mut KeyTypes)?;
+    check_file(rt, "bounds.txt", &mut Bounds::new(rt.alloc()))?;
+    check_file(rt, "spans.txt", &mut Spans)
+}

@@ -1,0 +1,105 @@
+//! What a run left on the disks.
+
+use crate::faults::RowFault;
+use crate::plans::DiskPlan;
+use crate::row::Row;
+use bson_values::Blob;
+use journal_frames::Journal;
+use outside_memory::MemDisk;
+use std::alloc::Global;
+
+/// A disk of these bytes.
+pub fn disk_of(alloc: Global, bytes: &[u8], failing: &[u64]) -> Result<MemDisk, RowFault> {
+    let failing = Vec::from_slice(alloc, failing)?;
+    Ok(MemDisk::new(Vec::from_slice(alloc, bytes)?, failing))
+}
+
+/// Whether the disk holds as many bytes as it has to.
+fn is_sized(plan: &DiskPlan, disk: &MemDisk) -> bool {
+    let size = disk.bytes().len() as u64;
+    plan.size.unwrap_or(size) == size
+}
+
+/// Whether the disk holds the file that it has to.
+fn is_kept(plan: &DiskPlan, disk: &MemDisk) -> bool {
+    match &plan.kept {
+        Some(bytes) => disk.bytes() == bytes.as_slice(),
+        None => true,
+    }
+}
+
+/// Whether the disk holds the file of the start, and no call changed it or made it stay.
+fn is_untouched(plan: &DiskPlan, disk: &MemDisk) -> bool {
+    disk.bytes() == plan.file.as_slice() && disk.calls().is_empty()
+}
+
+/// Whether each disk holds what it has to.
+fn are_kept(row: &Row, disks: &[MemDisk]) -> bool {
+    for (plan, disk) in row.disks.iter().zip(disks) {
+        let is_right = is_kept(plan, disk) && is_sized(plan, disk);
+        if !is_right || row.is_untouched && !is_untouched(plan, disk) {
+            return false;
+        }
+    }
+    true
+}
+
+/// Whether these are the first of the records.
+fn are_first(found: &[Blob], records: &[Vec<u8>]) -> bool {
+    if records.len() < found.len() {
+        return false;
+    }
+    for (bytes, record) in found.iter().zip(records) {
+        if bytes.as_slice() != record.as_slice() {
+            return false;
+        }
+    }
+    true
+}
+
+/// How many records an opening of the disk's journal finds, if they are the first of the row's.
+fn found_in(alloc: Global, plan: &DiskPlan, disk: &MemDisk) -> Result<Option<u64>, RowFault> {
+    let copy = disk_of(alloc, disk.bytes(), &[])?;
+    let Ok(journal) = Journal::open(alloc, copy) else {
+        return Ok(None);
+    };
+    let found = journal.records().as_slice();
+    if !are_first(found, &plan.records) {
+        return Ok(None);
+    }
+    Ok(Some(found.len() as u64))
+}
+
+/// How many records an opening of each disk's journal finds, in order, of those where that holds.
+fn found_in_all(alloc: Global, row: &Row, disks: &[MemDisk]) -> Result<Vec<u64>, RowFault> {
+    let mut counts = Vec::new(alloc);
+    for (plan, disk) in row.disks.iter().zip(disks) {
+        if let Some(count) = found_in(alloc, plan, disk)? {
+            counts.push(count)?;
+        }
+    }
+    Ok(counts)
+}
+
+/// Whether the journals hold at least so many entries, as many creations or more, and at most so many of these; and the
+/// router's none.
+fn are_between(counts: &[u64], least: u64, most: u64) -> bool {
+    match counts {
+        [creations, entries, 0] => least <= *entries && entries <= creations && *creations <= most,
+        _ => false,
+    }
+}
+
+/// Whether the disks hold what the row says.
+pub fn are_left(alloc: Global, row: &Row, disks: &[MemDisk]) -> Result<bool, RowFault> {
+    if disks.len() != 3 || !are_kept(row, disks) {
+        return Ok(false);
+    }
+    match row.journals {
+        Some((least, most)) => {
+            let counts = found_in_all(alloc, row, disks)?;
+            Ok(are_between(&counts, least, most))
+        }
+        None => Ok(true),
+    }
+}

@@ -1,0 +1,198 @@
+//! What the framer makes of bytes, in lines.
+
+use crate::commands::put_command;
+use crate::faults::RowFault;
+use crate::pieces::Cutting;
+use crate::row::put_line;
+use bson_values::BsonFault;
+use opmsg_frames::{Body, Form, FrameFault, Framer, Malformed, Request};
+use std::alloc::Global;
+
+/// What the framer gave.
+#[derive(Clone, Copy, Debug, PartialEq, Eq)]
+enum Next {
+    Request,
+    Nothing,
+    Fault,
+}
+
+/// The least request.
+const LEAST: &[u8] = b"\x1a\0\0\0\x01\0\0\0\0\0\0\0\xdd\x07\0\0\0\0\0\0\0\x05\0\0\0\0";
+
+fn malformed_word(fault: Malformed) -> &'static str {
+    match fault {
+        Malformed::BadLength => "bad-length",
+        Malformed::TooLong => "too-long",
+        Malformed::BadOpcode => "bad-opcode",
+        Malformed::BadFlags => "bad-flags",
+        Malformed::BadKind => "bad-kind",
+        Malformed::BadSection => "bad-section",
+        Malformed::TwoBodies => "two-bodies",
+        Malformed::NoBody => "no-body",
+        Malformed::BadQuery => "bad-query",
+    }
+}
+
+fn document_word(fault: &BsonFault) -> &'static str {
+    match fault {
+        BsonFault::Short { .. } => "short",
+        BsonFault::BadLength { .. } => "bad-length",
+        BsonFault::BadType { .. } => "bad-type",
+        BsonFault::BadText { .. } => "bad-text",
+        BsonFault::BadBool { .. } => "bad-bool",
+        BsonFault::Deep { .. } => "deep",
+        BsonFault::Trailing { .. } => "trailing",
+        BsonFault::Memory => "memory",
+    }
+}
+
+/// The type that is none, of a fault that tells one.
+fn type_byte(fault: &BsonFault) -> u8 {
+    match fault {
+        BsonFault::BadType { byte, .. } => *byte,
+        _ => 0,
+    }
+}
+
+/// Puts the fault of a document: its word, its offset and the type that is none, or 0.
+fn put_fault(alloc: Global, line: &mut String, fault: &BsonFault) -> Result<(), RowFault> {
+    let word = document_word(fault);
+    let offset = fault.place().unwrap_or(0);
+    let byte = type_byte(fault);
+    line.push_str(format!(in alloc; " {word} {offset} {byte}")?.as_str())?;
+    Ok(())
+}
+
+fn form_word(form: Form) -> &'static str {
+    match form {
+        Form::Msg => "msg",
+        Form::Query => "query",
+    }
+}
+
+/// Puts what the request is before its command.
+fn put_head(alloc: Global, line: &mut String, request: &Request) -> Result<(), RowFault> {
+    let id = request.id;
+    let form = form_word(request.form);
+    let more = if request.more { " more" } else { "" };
+    line.push_str(format!(in alloc; "{id} {form}{more}")?.as_str())?;
+    match &request.body {
+        Body::Read { .. } => Ok(()),
+        Body::Faulty(fault) => put_fault(alloc, line, fault),
+    }
+}
+
+/// Puts the line of a request.
+fn put_request(alloc: Global, told: &mut String, request: &Request) -> Result<(), RowFault> {
+    let mut line = String::new(alloc);
+    put_head(alloc, &mut line, request)?;
+    line.push_str(" = ")?;
+    put_command(alloc, &mut line, request)?;
+    put_line(told, line.as_str())
+}
+
+/// Puts the line of bytes that are no request, if there are any.
+fn put_rest(alloc: Global, told: &mut String, count: usize) -> Result<(), RowFault> {
+    if count == 0 {
+        return Ok(());
+    }
+    put_line(told, format!(in alloc; "rest {count}")?.as_str())
+}
+
+/// Puts the line of a fault; another one where the framer forgets it, as more bytes come.
+fn put_malformed(
+    alloc: Global,
+    told: &mut String,
+    framer: &mut Framer,
+    fault: FrameFault,
+) -> Result<(), RowFault> {
+    let FrameFault::Malformed { fault: why, place } = fault else {
+        return Err(RowFault::Memory);
+    };
+    let word = malformed_word(why);
+    put_line(told, format!(in alloc; "fault {word} {place}")?.as_str())?;
+    framer.feed(LEAST)?;
+    if framer.next().err() != Some(fault) {
+        put_line(told, "forgotten")?;
+    }
+    Ok(())
+}
+
+/// Puts the line of what the framer gives next, if it gives a request or a fault. Gives whether it was a request.
+fn put_next(
+    alloc: Global,
+    told: &mut String,
+    framer: &mut Framer,
+    as_query: bool,
+) -> Result<Next, RowFault> {
+    match framer.next() {
+        Ok(Some(request)) => {
+            let mut request = request;
+            if as_query {
+                request.form = Form::Query;
+            }
+            put_request(alloc, told, &request)?;
+            Ok(Next::Request)
+        }
+        Ok(None) => Ok(Next::Nothing),
+        Err(fault) => {
+            put_malformed(alloc, told, framer, fault)?;
+            Ok(Next::Fault)
+        }
+    }
+}
+
+/// Puts the lines of all that the framer gives once it has the piece. Gives whether no fault was met.
+fn put_piece(
+    alloc: Global,
+    told: &mut String,
+    framer: &mut Framer,
+    piece: &[u8],
+    as_query: bool,
+) -> Result<bool, RowFault> {
+    framer.feed(piece)?;
+    for _ in 0..u64::MAX {
+        match put_next(alloc, told, framer, as_query)? {
+            Next::Request => {}
+            Next::Nothing => return Ok(true),
+            Next::Fault => return Ok(false),
+        }
+    }
+    Ok(true)
+}
+
+/// Puts the lines of the bytes, in pieces of at most so many. Gives whether no fault was met.
+fn put_pieces(
+    alloc: Global,
+    told: &mut String,
+    framer: &mut Framer,
+    bytes: &[u8],
+    most: usize,
+    as_query: bool,
+) -> Result<bool, RowFault> {
+    for piece in bytes.chunks(most.max(1)) {
+        if !put_piece(alloc, told, framer, piece, as_query)? {
+            return Ok(false);
+        }
+    }
+    Ok(true)
+}
+
+/// What the framer and the commands make of the bytes in these pieces, a line for each request and for what stands behind
+/// them; `as_query`: as if each request came in an OP_QUERY.
+pub fn told_of(
+    alloc: Global,
+    bytes: &[u8],
+    cutting: Cutting,
+    as_query: bool,
+) -> Result<String, RowFault> {
+    let mut told = String::new(alloc);
+    let mut framer = Framer::new(alloc);
+    let (prefix, back) = bytes.split_at(cutting.first.min(bytes.len()));
+    if put_piece(alloc, &mut told, &mut framer, prefix, as_query)?
+        && put_pieces(alloc, &mut told, &mut framer, back, cutting.later, as_query)?
+    {
+        put_rest(alloc, &mut told, framer.rest().len())?;
+    }
+    Ok(told)
+}

@@ -1,0 +1,56 @@
+//! Connections of the wire, from the bytes that come in to the bytes of the replies: what the framer makes of them, what
+//! commands they are or why they are refused, and what a run answers. Their rows stand in the files of data/, whose lines
+//! begin with a word:
+//!
+//! - `#` and the name of the row that begins; `note` and a remark;
+//! - `clock` and the moments at which the first requests are served, in milliseconds; each later one is served at 1000000;
+//! - `ask` and bytes that come in, in hexadecimal; `3*05` stands for `050505`;
+//! - `is` and what the framer and the commands make of them: a request, a fault with its offset, or the number of bytes left;
+//! - `gets` and bytes of replies;
+//! - `cut`: in each cutting in two and byte by byte the same comes of it;
+//! - `fail` and `take`, `put` or a disk (0 the catalogue's, 1 the shard's, 2 the router's), and the number of a call that fails;
+//! - `narrow` and the most bytes that a put takes;
+//! - `file`, a disk and its bytes at the start; `keeps`, a disk and its bytes at the end; `size`, a disk and the number of
+//!   these; `untouched`: the bytes of the start, and no call that changed the disk or made it stay;
+//! - `untaken` and how many bytes were left to take;
+//! - `record`, a disk and a record, and `journals` with the least of the entries and the most of the creations: an opening of the
+//!   journals on what the disks hold finds the first of the records, so many, and of entries as many as of creations or fewer;
+//! - `unserved`: asked as if it came in an OP_QUERY, and the row ends;
+//! - `ends`, the status of the run and how many bytes stood behind the last whole request, and the row ends.
+//!
+//! For each file a line tells how many rows held; a row that did not is named before it.
+#![tactic(auto)]
+
+mod commands;
+mod disks;
+mod faults;
+mod files;
+mod frames;
+mod numbers;
+mod pieces;
+mod plans;
+mod row;
+mod serving;
+
+use crate::faults::RowFault;
+use crate::files::check_files;
+use std::io::Print;
+use std::process::ExitCode;
+
+/// Prints why the rows could not be checked.
+fn told<R: Print>(rt: &R, fault: RowFault) -> ExitCode {
+    let word = match fault {
+        RowFault::Memory => "no memory",
+        RowFault::BadLine => "a line is none of a row",
+        RowFault::Failed => "a file can't be read",
+    };
+    let _ = rt.println(word);
+    ExitCode::FAILURE
+}
+
+fn main(rt: HostRuntime) -> ExitCode {
+    match check_files(&rt, rt.alloc()) {
+        Ok(()) => ExitCode::SUCCESS,
+        Err(fault) => told(&rt, fault),
+    }
+}

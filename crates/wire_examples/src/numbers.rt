@@ -1,0 +1,44 @@
+//! Numbers and bytes in lines.
+
+use crate::faults::RowFault;
+use std::alloc::Global;
+
+/// The number that the digits spell.
+pub fn number(digits: &str) -> Result<u64, RowFault> {
+    digits.parse::<u64>().map_err(|_| RowFault::BadLine)
+}
+
+/// Puts the number that the digits spell behind the others.
+pub fn put_number(numbers: &mut Vec<u64>, digits: &str) -> Result<(), RowFault> {
+    numbers.push(number(digits)?)?;
+    Ok(())
+}
+
+/// What stands before the first space, and behind it.
+pub fn split(line: &str) -> Result<(&str, &str), RowFault> {
+    line.split_once(' ').ok_or(RowFault::BadLine)
+}
+
+/// Puts bytes in hexadecimal; `3*05` stands for `050505`.
+pub fn put_pieces(alloc: Global, bytes: &mut Vec<u8>, pieces: &str) -> Result<(), RowFault> {
+    for piece in pieces.split(' ') {
+        put_piece(alloc, bytes, piece)?;
+    }
+    Ok(())
+}
+
+fn put_piece(alloc: Global, bytes: &mut Vec<u8>, piece: &str) -> Result<(), RowFault> {
+    let (times, digits) = match piece.split_once('*') {
+        Some((times, digits)) => (number(times)?, digits),
+        None => (1, piece),
+    };
+    let piece = hex::decode(alloc, digits)?;
+    put_times(bytes, times, &piece)
+}
+
+fn put_times(bytes: &mut Vec<u8>, times: u64, piece: &[u8]) -> Result<(), RowFault> {
+    for _ in 0..times {
+        bytes.extend_from_slice(piece)?;
+    }
+    Ok(())
+}

@@ -1,0 +1,150 @@
+//! Rows of the data.
+
+use crate::faults::RowFault;
+use crate::numbers::{number, put_number, put_pieces, split};
+use crate::plans::DiskPlan;
+use std::alloc::Global;
+
+/// A connection, and what has to come of it.
+#[derive(Drop)]
+pub struct Row {
+    pub name: String,
+    /// The moments at which the first requests are served.
+    pub moments: Vec<u64>,
+    /// The bytes that come in.
+    pub asked: Vec<u8>,
+    /// The numbers of the takes and of the puts that fail.
+    pub failing_takes: Vec<u64>,
+    pub failing_puts: Vec<u64>,
+    /// The most bytes that a put takes.
+    pub most_put: u64,
+    /// The disks of the catalogue, the shard and the router.
+    pub disks: Vec<DiskPlan>,
+    /// What the framer and the commands make of the bytes, a line for each request and for what stands behind them.
+    pub told: String,
+    /// The bytes of the replies.
+    pub replies: Vec<u8>,
+    /// How many bytes were not taken, if the row says so.
+    pub untaken: Option<u64>,
+    /// The least of the entries and the most of the creations that an opening of the journals finds, if the row says so.
+    pub journals: Option<(u64, u64)>,
+    /// Whether no disk was changed or made to stay.
+    pub is_untouched: bool,
+    /// Whether it is tried in each cutting.
+    pub is_cut: bool,
+}
+
+/// Three disks of which the row says nothing.
+fn fresh_plans(alloc: Global) -> Result<Vec<DiskPlan>, RowFault> {
+    let mut disks = Vec::new(alloc);
+    for _ in 0..3_u8 {
+        disks.push(DiskPlan::new(alloc))?;
+    }
+    Ok(disks)
+}
+
+impl Row {
+    /// A row without lines. Fails for want of memory.
+    pub fn new(alloc: Global) -> Result<Row, RowFault> {
+        let disks = fresh_plans(alloc)?;
+        Ok(Row {
+            name: String::new(alloc),
+            moments: Vec::new(alloc),
+            asked: Vec::new(alloc),
+            failing_takes: Vec::new(alloc),
+            failing_puts: Vec::new(alloc),
+            most_put: u64::MAX,
+            disks,
+            told: String::new(alloc),
+            replies: Vec::new(alloc),
+            untaken: None,
+            journals: None,
+            is_untouched: false,
+            is_cut: false,
+        })
+    }
+
+    /// Takes a line: its first word, and what stands behind that. Fails for want of memory, and where no line begins so.
+    pub fn take(&mut self, alloc: Global, word: &str, rest: &str) -> Result<(), RowFault> {
+        if word == "#" {
+            put_line(&mut self.name, rest)
+        } else if word == "note" {
+            Ok(())
+        } else if word == "ask" {
+            put_pieces(alloc, &mut self.asked, rest)
+        } else if word == "is" {
+            put_line(&mut self.told, rest)
+        } else if word == "gets" {
+            put_pieces(alloc, &mut self.replies, rest)
+        } else {
+            self.take_plan(alloc, word, rest)
+        }
+    }
+
+    /// Takes a line of how the row is tried.
+    fn take_plan(&mut self, alloc: Global, word: &str, rest: &str) -> Result<(), RowFault> {
+        if word == "clock" {
+            put_moments(&mut self.moments, rest)
+        } else if word == "fail" {
+            self.take_failing(rest)
+        } else if word == "narrow" {
+            self.most_put = number(rest)?;
+            Ok(())
+        } else if word == "cut" {
+            self.is_cut = true;
+            Ok(())
+        } else {
+            self.take_disk(alloc, word, rest)
+        }
+    }
+
+    /// Takes the number of a call that fails: of a take, a put or a call of a disk.
+    fn take_failing(&mut self, rest: &str) -> Result<(), RowFault> {
+        let (device, call) = split(rest)?;
+        if device == "take" {
+            put_number(&mut self.failing_takes, call)
+        } else if device == "put" {
+            put_number(&mut self.failing_puts, call)
+        } else {
+            put_number(&mut disk_of(&mut self.disks, device)?.failing, call)
+        }
+    }
+
+    /// Takes a line of what is left at the end, or of a disk.
+    fn take_disk(&mut self, alloc: Global, word: &str, rest: &str) -> Result<(), RowFault> {
+        if word == "untaken" {
+            self.untaken = Some(number(rest)?);
+            Ok(())
+        } else if word == "journals" {
+            let (least, most) = split(rest)?;
+            self.journals = Some((number(least)?, number(most)?));
+            Ok(())
+        } else if word == "untouched" {
+            self.is_untouched = true;
+            Ok(())
+        } else {
+            let (disk, pieces) = split(rest)?;
+            disk_of(&mut self.disks, disk)?.take(alloc, word, pieces)
+        }
+    }
+}
+
+/// The disk of that number.
+fn disk_of<'a>(disks: &'a mut Vec<DiskPlan>, digits: &str) -> Result<&'a mut DiskPlan, RowFault> {
+    let index = number(digits)?;
+    disks.get_mut(index as usize).ok_or(RowFault::BadLine)
+}
+
+/// Puts a line behind the others.
+pub fn put_line(lines: &mut String, line: &str) -> Result<(), RowFault> {
+    lines.push_str(line)?;
+    lines.push('\n')?;
+    Ok(())
+}
+
+fn put_moments(moments: &mut Vec<u64>, all: &str) -> Result<(), RowFault> {
+    for digits in all.split(' ') {
+        put_number(moments, digits)?;
+    }
+    Ok(())
+}
