@@ -1,0 +1,10 @@
+//! Paths into documents, and what stands at them (MongoDB manual, "Dot Notation", "Query an Array of Embedded Documents").
+#![tactic(auto)]
+
+mod path;
+mod values;
+mod walk;
+
+pub use path::{MOST_PARTS, ParseFault, Path, PathFault};
+pub use values::values_at;
+pub use walk::{Visitor, any_at, gap_at};

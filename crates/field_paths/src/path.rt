@@ -1,0 +1,172 @@
+//! Paths: the names between the dots.
+
+ghost use Rattle.std.specs.Prelude.{◌≡◌, ◌<◌, ◌↔◌, Err, IfOk, None, Ok, Some, if◌then◌else◌, length, nat_lt, option_map};
+ghost use Rattle.std.specs.Result.{result_err};
+ghost use Rattle.std.specs.Str.{all_ascii_digits};
+ghost use Rattle.field_paths.specs.Faults.{shown_as};
+ghost use Rattle.field_paths.specs.declared.path.PathFault.TheVariants.{Digits, Dollar, Empty, Long, Memory};
+ghost use Rattle.query_model.specs.Paths.{IsPath, digits_part, dollar_part, empty_part, most_parts, part_fault, parts_of, read_path, too_long};
+
+use bson_values::{Memory, Text};
+use std::alloc::Global;
+use std::marker::Model;
+
+/// The most parts that a path has.
+pub const MOST_PARTS: usize = 100;
+
+/// Why a name is no path.
+#[derive(Clone, Copy, Debug, PartialEq, Eq)]
+pub enum PathFault {
+    /// The name or a part is empty.
+    Empty,
+    /// A part has digits and nothing else.
+    Digits,
+    /// A part begins with `$`.
+    Dollar,
+    /// It has more than 100 parts, none of which is at fault.
+    Long,
+    /// Want of memory.
+    Memory,
+}
+
+impl From<Memory> for PathFault {
+    ghost from_gives = { λ _ e. e ≡ Memory };
+
+    fn from(_e: Memory) -> PathFault {
+        PathFault::Memory
+    }
+}
+
+/// Why a document is no filter, no change and no other expression.
+#[derive(Clone, Copy, Debug, PartialEq, Eq)]
+pub enum ParseFault {
+    /// A name that begins with `$` is no operator where it stands.
+    UnknownOperator,
+    /// An operand is not of the form that its operator takes.
+    BadOperand,
+    /// A name is no path.
+    Path(PathFault),
+    /// Expressions are nested in more than 100 levels.
+    Deep,
+    /// Want of memory.
+    Memory,
+}
+
+/// A path: the names of the fields to go through, outermost first.
+#[derive(Drop)]
+pub struct Path {
+    parts: Vec<Text>,
+}
+
+impl Model for Path {
+    ghost use Rattle.std.specs.Prelude.{List, ℕ};
+
+    ghost Value = { List (List ℕ) };
+
+    ghost view = { λ p. p.parts.items };
+
+    ghost use Rattle.query_model.specs.Paths.{IsPath};
+
+    ghost invariant = { λ p. IsPath p.parts.items };
+}
+
+impl Path {
+    /// The path that a name is. Fails with `Empty`, `Digits` and `Dollar` for the first part that is at fault so, with `Long` where
+    /// none is and there are more than 100, and for want of memory.
+    pub fn parse(alloc: Global, name: &str) -> Result<Path, PathFault>
+        ensures path { IfOk result (λ p. read_path name.now ≡ Ok p) }
+        ensures empty { (result ≡ Err Empty) ↔ (read_path name.now ≡ Err empty_part) }
+        ensures digits { (result ≡ Err Digits) ↔ (read_path name.now ≡ Err digits_part) }
+        ensures dollar { (result ≡ Err Dollar) ↔ (read_path name.now ≡ Err dollar_part) }
+        ensures long { (result ≡ Err Long) ↔ (read_path name.now ≡ Err too_long) }
+    {
+        if let Some(fault) = fault_of(name) {
+            return Err(fault);
+        }
+        let parts = split(alloc, name)?;
+        Ok(Path { parts })
+    }
+
+    /// The parts, outermost first. There is one at least.
+    #[tactic(auto, using(query_model::proofs::Names::path_not_empty))]
+    pub fn parts(&self) -> &[Text]
+        ensures parts { result.now ≡ self.now }
+        ensures read { IsPath self.now }
+        ensures some { 0 < length self.now }
+    {
+        self.parts.as_slice()
+    }
+}
+
+// Whether each byte is a digit.
+fn has_digits_only(bytes: &[u8]) -> bool
+    ensures { result ≡ all_ascii_digits bytes.now }
+{
+    for b in bytes {
+        if !b.is_ascii_digit() {
+            return false;
+        }
+    }
+    true
+}
+
+// The fault of one part.
+fn part_fault(part: &str) -> Option<PathFault>
+    ensures { result ≡ option_map shown_as (part_fault part.now) }
+{
+    let bytes = part.as_bytes();
+    let Some(first) = bytes.first() else {
+        return Some(PathFault::Empty);
+    };
+    if has_digits_only(bytes) {
+        Some(PathFault::Digits)
+    } else if *first == b'$' {
+        Some(PathFault::Dollar)
+    } else {
+        None
+    }
+}
+
+// Why a name is no path, if it is none. It takes no memory.
+fn fault_of(name: &str) -> Option<PathFault>
+    ensures { result ≡ option_map shown_as (result_err (read_path name.now)) }
+{
+    let mut rest = name;
+    let mut dots = 0usize;
+    'parts: while let Some((part, others)) = rest.split_once('.') {
+        if let Some(fault) = part_fault(part) {
+            return Some(fault);
+        }
+        dots += 1;
+        rest = others;
+    }
+    match part_fault(rest) {
+        Some(fault) => Some(fault),
+        None => length_fault(dots),
+    }
+}
+
+// The fault of a path with so many dots.
+fn length_fault(dots: usize) -> Option<PathFault>
+    ensures { result ≡ (if nat_lt dots most_parts then None else Some Long) }
+{
+    if dots < MOST_PARTS {
+        None
+    } else {
+        Some(PathFault::Long)
+    }
+}
+
+// The parts of a name.
+fn split(alloc: Global, name: &str) -> Result<Vec<Text>, Memory>
+    ensures { IfOk result (λ parts. parts.items ≡ parts_of name.now) }
+{
+    let mut parts = Vec::new(alloc);
+    let mut rest = name;
+    'parts: while let Some((part, others)) = rest.split_once('.') {
+        parts.push(Text::of(alloc, part)?)?;
+        rest = others;
+    }
+    parts.push(Text::of(alloc, rest)?)?;
+    Ok(parts)
+}

@@ -1,0 +1,47 @@
+//! Names that are paths, and names that are none.
+
+use field_paths::{Path, PathFault};
+use fixtures::{RowFault, Rows, field};
+use std::alloc::Global;
+
+/// The path of a name. Fails with `Form` where it is none, and for want of memory.
+pub fn path_of(alloc: Global, name: &str) -> Result<Path, RowFault> {
+    match Path::parse(alloc, name) {
+        Ok(path) => Ok(path),
+        Err(PathFault::Memory) => Err(RowFault::Memory),
+        Err(_fault) => Err(RowFault::Form),
+    }
+}
+
+/// `NAME | path`, or in place of `path` the fault: `empty`, `digits`, `dollar` or `long`.
+#[derive(Drop)]
+pub struct Paths;
+
+impl Rows for Paths {
+    fn holds(&mut self, alloc: Global, row: &str) -> Result<bool, RowFault> {
+        let (name, wanted) = field(row);
+        match wanted {
+            "path" => Ok(is_path(alloc, name)),
+            "empty" => Ok(is_refused(alloc, name, PathFault::Empty)),
+            "digits" => Ok(is_refused(alloc, name, PathFault::Digits)),
+            "dollar" => Ok(is_refused(alloc, name, PathFault::Dollar)),
+            "long" => Ok(is_refused(alloc, name, PathFault::Long)),
+            _ => Err(RowFault::Form),
+        }
+    }
+}
+
+// Whether the name is a path, of so many parts as dots and one.
+fn is_path(alloc: Global, name: &str) -> bool {
+    match Path::parse(alloc, name) {
+        Ok(path) => path.parts().len() == name.split('.').count(),
+        Err(_fault) => false,
+    }
+}
+
+fn is_refused(alloc: Global, name: &str, wanted: PathFault) -> bool {
+    match Path::parse(alloc, name) {
+        Ok(_path) => false,
+        Err(fault) => fault == wanted,
+    }
+}

@@ -1,0 +1,3 @@
+pub mod KeysAsked
+pub mod Levels
+pub mod Names

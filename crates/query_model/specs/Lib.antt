@@ -1,0 +1,9 @@
+pub mod Paths
+pub mod Queries
+pub mod Reading
+pub mod Holds
+pub mod KeySpans
+pub mod SampleQueries
+pub use Rattle.value_model.specs.Keys
+pub use Rattle.value_model.specs.Order
+pub use Rattle.value_model.specs.Tree
