@@ -8,7 +8,7 @@ ghost use Rattle.field_paths.specs.declared.path.PathFault.TheVariants.{Digits, 
 ghost use Rattle.query_model.specs.Paths.{IsPath, digits_part, dollar_part, empty_part, most_parts, part_fault, parts_of, read_path, too_long};
 
 use bson_values::{Memory, Text};
-use std::alloc::Global;
+use std::alloc::{AllocFailed, Global};
 use std::marker::Model;
 
 /// The most parts that a path has.
@@ -50,6 +50,26 @@ pub enum ParseFault {
     Deep,
     /// Want of memory.
     Memory,
+}
+
+impl From<Memory> for ParseFault {
+    ghost use Rattle.field_paths.specs.declared.path.ParseFault.TheVariants as faults;
+
+    ghost from_gives = { λ _ e. e ≡ faults.Memory };
+
+    fn from(_e: Memory) -> ParseFault {
+        ParseFault::Memory
+    }
+}
+
+impl<T: Drop> From<AllocFailed<T>> for ParseFault {
+    ghost use Rattle.field_paths.specs.declared.path.ParseFault.TheVariants as faults;
+
+    ghost from_gives = { λ _ e. e ≡ faults.Memory };
+
+    fn from(_e: AllocFailed<T>) -> ParseFault {
+        ParseFault::Memory
+    }
 }
 
 /// A path: the names of the fields to go through, outermost first.

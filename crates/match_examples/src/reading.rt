@@ -1,0 +1,93 @@
+//! Documents that are filters, and documents that are none.
+
+use bson_values::{Document, Name, Value, read};
+use field_paths::{ParseFault, PathFault};
+use fixtures::{RowFault, Rows, bytes_of, field, number};
+use match_expr::Expr;
+use std::alloc::Global;
+
+/// The document that words spell. Fails where they spell none, and for want of memory.
+pub fn document_of(alloc: Global, words: &str) -> Result<Document, RowFault> {
+    let bytes = bytes_of(alloc, words)?;
+    let (document, _length) = read(alloc, &bytes)?;
+    Ok(document)
+}
+
+/// The filter that words spell. Fails with `Form` where they spell none, and for want of memory.
+pub fn filter_of(alloc: Global, words: &str) -> Result<Expr, RowFault> {
+    let document = document_of(alloc, words)?;
+    match Expr::parse(alloc, &document) {
+        Ok(filter) => Ok(filter),
+        Err(ParseFault::Memory) => Err(RowFault::Memory),
+        Err(_fault) => Err(RowFault::Form),
+    }
+}
+
+// What a document reads as, in a word.
+fn word_of(alloc: Global, document: &Document) -> &'static str {
+    match Expr::parse(alloc, document) {
+        Ok(_filter) => "filter",
+        Err(ParseFault::UnknownOperator) => "operator",
+        Err(ParseFault::BadOperand) => "operand",
+        Err(ParseFault::Path(PathFault::Empty)) => "empty",
+        Err(ParseFault::Path(PathFault::Digits)) => "digits",
+        Err(ParseFault::Path(PathFault::Dollar)) => "dollar",
+        Err(ParseFault::Path(PathFault::Long)) => "long",
+        Err(ParseFault::Path(PathFault::Memory)) => "memory",
+        Err(ParseFault::Deep) => "deep",
+        Err(ParseFault::Memory) => "memory",
+    }
+}
+
+/// `DOCUMENT | filter`, or in place of `filter` its first fault, in a word.
+#[derive(Drop)]
+pub struct Faults;
+
+impl Rows for Faults {
+    fn holds(&mut self, alloc: Global, row: &str) -> Result<bool, RowFault> {
+        let (words, wanted) = field(row);
+        let document = document_of(alloc, words)?;
+        Ok(word_of(alloc, &document) == wanted)
+    }
+}
+
+/// `N | filter`, or `N | deep`: `{a: ..}` with an operator document within so many `$not`.
+#[derive(Drop)]
+pub struct Levels;
+
+impl Rows for Levels {
+    fn holds(&mut self, alloc: Global, row: &str) -> Result<bool, RowFault> {
+        let (count, wanted) = field(row);
+        let count = number::<u32>(count)?;
+        let operand = negated(alloc, count)?;
+        let document = single(alloc, "a", Value::Doc(operand))?;
+        Ok(word_of(alloc, &document) == wanted)
+    }
+}
+
+// `{$exists: true}` within so many `$not`.
+fn negated(alloc: Global, count: u32) -> Result<Document, RowFault> {
+    let mut document = single(alloc, "$exists", Value::Bool(true))?;
+    for _ in 0..count {
+        document = single(alloc, "$not", Value::Doc(document))?;
+    }
+    Ok(document)
+}
+
+// The document with this one field.
+fn single(alloc: Global, name: &'static str, value: Value) -> Result<Document, RowFault> {
+    let mut document = Document::new(alloc);
+    if let Some(name) = name_of(alloc, name)? {
+        document.push(name, value)?;
+    }
+    Ok(document)
+}
+
+fn name_of(alloc: Global, name: &str) -> Result<Option<Name>, RowFault> {
+    if bson_values::is_name(name) {
+        let name = Name::of(alloc, name)?;
+        Ok(Some(name))
+    } else {
+        Ok(None)
+    }
+}

@@ -1,0 +1,5 @@
+pub mod Candidates
+pub mod Elemental
+pub mod Operands
+pub mod ReadLoops
+pub mod Views

@@ -1,0 +1,9 @@
+pub mod Code
+pub mod Elements
+pub mod Falls
+pub mod FieldTests
+pub mod Looks
+pub mod OperatorNames
+pub mod ReadFaults
+pub mod Sizes
+pub mod View

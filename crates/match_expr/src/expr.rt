@@ -1,0 +1,102 @@
+//! Filters.
+
+ghost use Rattle.std.specs.Prelude.{◌≡◌, IfErr, IfOk, Ok, option_map};
+ghost use Rattle.query_model.specs.Holds.{holds};
+ghost use Rattle.query_model.specs.KeySpans as asked;
+ghost use Rattle.query_model.specs.KeySpans.{key_equal};
+ghost use Rattle.query_model.specs.Reading.{read_query};
+ghost use Rattle.value_compare.specs.Spans.{span_of};
+ghost use Rattle.value_compare.specs.Keys.{range_span};
+ghost use Rattle.match_expr.specs.ReadFaults.{Fails};
+
+use crate::holding::query_holds;
+use crate::keys::{as_key, key_asked};
+use crate::parsing::parse_within;
+use crate::tree::Clauses;
+use bson_values::{Document, Memory};
+use field_paths::ParseFault;
+use std::alloc::Global;
+use std::marker::Model;
+use value_compare::{Bound, Key, KeyRange, Span};
+
+/// The most levels of queries and of operator documents in one another, the outermost query being level 1.
+pub const MOST_LEVELS: usize = 100;
+
+/// A filter, seen as the query that it is.
+#[derive(Drop)]
+pub struct Expr {
+    query: Clauses,
+    key: Option<Key>,
+}
+
+impl Model for Expr {
+    ghost use Rattle.std.specs.Prelude.{◌≡◌};
+    ghost use Rattle.query_model.specs.Queries.{Query};
+    ghost use Rattle.query_model.specs.KeySpans.{key_equal};
+    ghost use Rattle.match_expr.specs.Code.{query_code};
+
+    ghost Value = { Query };
+
+    ghost coded = { query_code };
+
+    ghost view = { λ e. e.query };
+
+    ghost invariant = { λ e. e.key ≡ key_equal e.query };
+}
+
+impl Expr {
+    /// The filter that a document is. Fails where it is none, with its first fault: fields from the left, and of each first its
+    /// name (`UnknownOperator`, `Path`), then its operand by itself (`BadOperand`), then how deep the query or the operator document
+    /// in it is (`Deep`), then what that has. Fails with `Memory` for want of memory.
+    pub fn parse(alloc: Global, document: &Document) -> Result<Expr, ParseFault>
+        // A filter is what the document reads as.
+        ensures query { IfOk result (λ e. read_query document.now ≡ Ok e) }
+        // A fault is the first, unless memory ran out.
+        ensures fault { IfErr result (λ e. Fails e (read_query document.now)) }
+    {
+        let query = parse_within(alloc, MOST_LEVELS, document)?;
+        let key = key_of(&query)?;
+        Ok(Expr { query, key })
+    }
+}
+
+// The key that a query asks for. Fails for want of memory.
+fn key_of(query: &Clauses) -> Result<Option<Key>, Memory>
+    ensures { IfOk result (λ k. k ≡ key_equal query.now) }
+{
+    match key_asked(query) {
+        Some(value) => as_key(value),
+        None => Ok(None),
+    }
+}
+
+/// Whether the filter holds of the document. Takes no memory.
+pub fn holds(e: &Expr, document: &Document) -> bool
+    ensures { result ≡ holds e.now document.now }
+{
+    query_holds(&e.query, document)
+}
+
+/// The key that the first equality on `_id` at the top asks for; none where its value is no key.
+pub fn key_equal(e: &Expr) -> Option<&Key>
+    ensures { option_map (λ k. k.now) result ≡ key_equal e.now }
+{
+    e.key.as_ref()
+}
+
+// From below all keys to above all keys.
+fn everything() -> KeyRange
+    ensures { range_span result ≡ asked.whole_span }
+{
+    KeyRange::new(Bound::MinKey, Bound::MaxKey).unwrap()
+}
+
+/// A span outside which the filter holds of no document: the key that it asks for, or else everything. Fails for want of memory.
+pub fn key_span(_alloc: Global, e: &Expr) -> Result<Span, Memory>
+    ensures { IfOk result (λ s. span_of s ≡ asked.span_of e.now) }
+{
+    match key_equal(e) {
+        Some(key) => Ok(Span::Point(key.copy()?)),
+        None => Ok(Span::Range(everything())),
+    }
+}

@@ -1,0 +1,73 @@
+//! The key that a filter asks for (MongoDB manual, "Targeted Operations vs. Broadcast Operations").
+
+ghost use Rattle.std.specs.Prelude.{◌≡◌, IfOk, None, Some, if◌then◌else◌, option_map};
+ghost use Rattle.bson_values.specs.View.{datum_of};
+ghost use Rattle.query_model.specs.KeySpans.{equality_in, is_id, key_asked};
+ghost use Rattle.query_model.specs.Queries as queries;
+ghost use Rattle.value_compare.specs.Keys.{is_key};
+ghost use Rattle.match_expr.specs.View.{clause_of};
+
+use crate::tree::{Clause, Clauses, Test, Tests};
+use bson_values::{Memory, Value};
+use field_paths::Path;
+use value_compare::Key;
+
+// Whether a path is `_id`.
+fn is_id(path: &Path) -> bool
+    ensures { result ≡ is_id path.now }
+{
+    match path.parts().split_first() {
+        Some((part, others)) => others.is_empty() && part.as_str() == "_id",
+        None => false,
+    }
+}
+
+// The operand of the first `$eq`.
+fn equality_in(tests: &Tests) -> Option<&Value>
+    ensures { option_map (λ v. datum_of v.now) result ≡ equality_in tests.now }
+{
+    for test in tests.tests() {
+        if let Test::Eq(operand) = test {
+            return Some(operand);
+        }
+    }
+    None
+}
+
+// What a clause asks of `_id`: the operand of its first equality.
+fn asked_by(clause: &Clause) -> Option<&Value>
+    ensures { option_map (λ v. datum_of v.now) result ≡ key_asked (queries.clause (clause_of clause.now) queries.no_clauses) }
+{
+    match clause {
+        Clause::At { path, tests } => {
+            if is_id(path) {
+                equality_in(tests)
+            } else {
+                None
+            }
+        }
+        Clause::Joined { .. } => None,
+    }
+}
+
+/// The operand of the first equality on `_id` at the top of a query.
+pub fn key_asked(query: &Clauses) -> Option<&Value>
+    ensures { option_map (λ v. datum_of v.now) result ≡ key_asked query.now }
+{
+    for clause in query.clauses() {
+        if let Some(operand) = asked_by(clause) {
+            return Some(operand);
+        }
+    }
+    None
+}
+
+/// A copy of a value as a key; none where it is no key. Fails for want of memory.
+pub fn as_key(value: &Value) -> Result<Option<Key>, Memory>
+    ensures { IfOk result (λ k. k ≡ (if is_key (datum_of value.now) then Some (datum_of value.now) else None)) }
+{
+    match Key::of(value.copy()?) {
+        Ok(key) => Ok(Some(key)),
+        Err(_) => Ok(None),
+    }
+}

@@ -1,0 +1,183 @@
+//! The names of operators, and the operands of those that hold no queries and no tests.
+
+ghost use Rattle.std.specs.Prelude.{◌≡◌, Result, filter_map, is_some, option_map};
+ghost use Rattle.bson_values.specs.View.{datum_of};
+ghost use Rattle.bson_values.specs.Tree.{Fields};
+ghost use Rattle.query_model.specs.Paths.{as_document, begins_with_dollar, elements};
+ghost use Rattle.query_model.specs.Queries as queries;
+ghost use Rattle.query_model.specs.Queries.{Query, QueryFault, connectives, named, operators};
+ghost use Rattle.query_model.specs.Reading.{all_documents, is_operator_document, read_test, some_documents};
+ghost use Rattle.match_expr.specs.OperatorNames.{operator_of, plain_of};
+ghost use Rattle.match_expr.specs.ReadFaults.{Gives};
+ghost use Rattle.match_expr.specs.View.{connective_of, test_of};
+
+use crate::tree::{Connective, Test};
+use bson_values::{Array, Document, Value};
+use field_paths::ParseFault;
+
+/// An operator whose operand holds no queries and no tests.
+#[derive(Clone, Copy)]
+pub enum Plain {
+    Eq,
+    Ne,
+    Gt,
+    Gte,
+    Lt,
+    Lte,
+    In,
+    Nin,
+    All,
+    Size,
+    Exists,
+}
+
+/// An operator whose operand is a query or an operator document.
+#[derive(Clone, Copy)]
+pub enum Nested {
+    ElemMatch,
+    Not,
+}
+
+/// An operator of an operator document.
+#[derive(Clone, Copy)]
+pub enum Operator {
+    Plain(Plain),
+    Nested(Nested),
+}
+
+/// The operator of that name.
+pub fn operator_named(name: &str) -> Option<Operator>
+    ensures { option_map operator_of result ≡ named operators name.now }
+{
+    let operator = if "$eq" == name {
+        Operator::Plain(Plain::Eq)
+    } else if "$ne" == name {
+        Operator::Plain(Plain::Ne)
+    } else if "$gt" == name {
+        Operator::Plain(Plain::Gt)
+    } else if "$gte" == name {
+        Operator::Plain(Plain::Gte)
+    } else if "$lt" == name {
+        Operator::Plain(Plain::Lt)
+    } else if "$lte" == name {
+        Operator::Plain(Plain::Lte)
+    } else if "$in" == name {
+        Operator::Plain(Plain::In)
+    } else if "$nin" == name {
+        Operator::Plain(Plain::Nin)
+    } else if "$all" == name {
+        Operator::Plain(Plain::All)
+    } else if "$size" == name {
+        Operator::Plain(Plain::Size)
+    } else if "$exists" == name {
+        Operator::Plain(Plain::Exists)
+    } else if "$elemMatch" == name {
+        Operator::Nested(Nested::ElemMatch)
+    } else if "$not" == name {
+        Operator::Nested(Nested::Not)
+    } else {
+        return None;
+    };
+    Some(operator)
+}
+
+/// The connective of that name.
+pub fn connective_named(name: &str) -> Option<Connective>
+    ensures { option_map connective_of result ≡ named connectives name.now }
+{
+    if "$and" == name {
+        Some(Connective::And)
+    } else if "$or" == name {
+        Some(Connective::Or)
+    } else if "$nor" == name {
+        Some(Connective::Nor)
+    } else {
+        None
+    }
+}
+
+/// Whether a name begins with `$`.
+pub fn begins_with_dollar(name: &str) -> bool
+    ensures { result ≡ begins_with_dollar name.now }
+{
+    match name.as_bytes().first() {
+        Some(first) => *first == b'$',
+        None => false,
+    }
+}
+
+/// Whether the first name of a document begins with `$`.
+pub fn is_operator_document(document: &Document) -> bool
+    ensures { result ≡ is_operator_document document.now }
+{
+    match document.fields().first() {
+        Some(field) => begins_with_dollar(field.name.as_str()),
+        None => false,
+    }
+}
+
+// Whether each value of an array is a document.
+fn has_documents_only(array: &Array) -> bool
+    ensures { result ≡ is_some (all_documents (elements array.now)) }
+{
+    for value in array.values() {
+        let Value::Doc(_) = value else {
+            return false;
+        };
+    }
+    true
+}
+
+/// The array of documents, with at least one, that a value is.
+#[tactic(auto, using(crate::proofs::Operands::documents_alone))]
+pub fn some_documents(value: &Value) -> Option<&Array>
+    ensures { option_map (λ a. filter_map as_document (elements a.now)) result ≡ some_documents (datum_of value.now) }
+{
+    match value {
+        Value::Array(array) => {
+            if !array.is_empty() && has_documents_only(array) {
+                Some(array)
+            } else {
+                None
+            }
+        }
+        _ => None,
+    }
+}
+
+/// The test by an operator that holds no queries and no tests. Fails with `BadOperand` where it takes no such operand, and for want
+/// of memory.
+pub fn plain_test(operator: Plain, value: &Value) -> Result<Test, ParseFault>
+    ensures gives { (inner : Fields → Result Query QueryFault) (tests : Fields → Result queries.Tests QueryFault) →
+        Gives test_of result (read_test inner tests (plain_of operator) (datum_of value.now)) }
+{
+    match operator {
+        Plain::Eq => Ok(Test::Eq(value.copy()?)),
+        Plain::Ne => Ok(Test::Ne(value.copy()?)),
+        Plain::Gt => Ok(Test::Gt(value.copy()?)),
+        Plain::Gte => Ok(Test::Gte(value.copy()?)),
+        Plain::Lt => Ok(Test::Lt(value.copy()?)),
+        Plain::Lte => Ok(Test::Lte(value.copy()?)),
+        Plain::In => match value {
+            Value::Array(array) => Ok(Test::In(array.copy()?)),
+            _ => Err(ParseFault::BadOperand),
+        },
+        Plain::Nin => match value {
+            Value::Array(array) => Ok(Test::Nin(array.copy()?)),
+            _ => Err(ParseFault::BadOperand),
+        },
+        Plain::All => match value {
+            Value::Array(array) => Ok(Test::All(array.copy()?)),
+            _ => Err(ParseFault::BadOperand),
+        },
+        Plain::Size => match value {
+            Value::Int32(n) => Ok(Test::Size(i64::from(*n))),
+            Value::Int64(n) => Ok(Test::Size(*n)),
+            _ => Err(ParseFault::BadOperand),
+        },
+        Plain::Exists => match value {
+            Value::Bool(b) => Ok(Test::Exists(*b)),
+            _ => Err(ParseFault::BadOperand),
+        },
+    }
+}
