@@ -1,6 +1,6 @@
--- What one more field or value changes: how deeply a document or an array is nested, and how long its spelling is.
-use Rattle.std.proofs.Common.{◌≡◌, ℕ, suc, ◌+◌, max, List, length, arith, length-append}
-use Rattle.bson_model.specs.Tree.{Datum, value_depth, document_depth, Fields, no_fields, field, joined}
+-- How deeply documents and arrays are nested, and what one more field changes: that, and how long the spelling is.
+use Rattle.std.proofs.Common.{◌≡◌, ◌≤◌, ℕ, suc, ◌+◌, max, List, length, arith, length-append}
+use Rattle.bson_model.specs.Tree.{Datum, value_depth, array_depth, document_depth, Items, no_items, item, Fields, no_fields, field, joined}
 use Rattle.bson_model.specs.Spelling.{type_byte_of, element, written_value, written_fields}
 use Rattle.bson_model.proofs.Lengths.{length-element}
 
@@ -13,3 +13,12 @@ written_pushed no_fields name d =
     omega (arith, length-element (type_byte_of d) name (written_value d), length-append (element (type_byte_of d) name (written_value d)) (written_fields no_fields))
 written_pushed (field first value ms) name d =
     omega (arith, written_pushed ms name d, length-append (element (type_byte_of value) first (written_value value)) (written_fields ms), length-append (element (type_byte_of value) first (written_value value)) (written_fields (joined ms (field name d no_fields))))
+
+-- a document and an array are a level themselves
+pub document_depth_some : (ms : Fields) → 1 ≤ document_depth ms
+document_depth_some no_fields = omega arith
+document_depth_some (field name d ms) = omega (arith, document_depth_some ms)
+
+pub array_depth_some : (ds : Items) → 1 ≤ array_depth ds
+array_depth_some no_items = omega arith
+array_depth_some (item d ds) = omega (arith, array_depth_some ds)

@@ -9,8 +9,8 @@ use Rattle.bson_model.proofs.Walks.{one_outcome}
 use Rattle.bson_values.specs.declared.fault.BsonFault.{BsonFault}
 use Rattle.bson_values.specs.declared.fault.BsonFault.TheVariants.{Short, BadLength, BadType, BadText, BadBool, Deep, Trailing, Memory}
 use Rattle.bson_values.specs.ReadFaults.{Fails, Gives, fault_from}
-use Rattle.bson_values.specs.Reading.{whole_at}
-use Rattle.bson_values.proofs.Walking.{stop, Goes}
+use Rattle.bson_values.specs.Readers.{whole_at}
+use Rattle.bson_values.proofs.ReaderWalks.{stop, Goes}
 use Rattle.bson_values.proofs.WalkedValues.{whole_goes}
 use Rattle.bson_values.proofs.Whole.{whole_takes, whole_again}
 

@@ -17,7 +17,7 @@ use Rattle.bson_values.specs.declared.fault.BsonFault.{BsonFault}
 use Rattle.bson_values.specs.declared.fault.BsonFault.TheVariants.{Short, BadLength, BadText, Trailing}
 use Rattle.bson_values.specs.ReadFaults.{◌>>=◌}
 use Rattle.bson_values.specs.Names.{has_no_zero}
-use Rattle.bson_values.specs.Reading.{length_within, length_at, fixed_at, utf8_at, text_at, string_at, name_from, room_at, index_at, name_at}
+use Rattle.bson_values.specs.Readers.{length_within, length_at, fixed_at, utf8_at, text_at, string_at, name_from, room_at, index_at, name_at}
 use Rattle.bson_values.proofs.NameTests.{test-from_HasNoZero}
 use Rattle.bson_values.proofs.Steps.{bind_ok, guard_ok, guard_true, chosen, ok_is}
 

@@ -1,5 +1,5 @@
 pub mod Again
-pub mod Copies
+pub mod CopySteps
 pub mod FirstFault
 pub mod TypeTests
 pub mod Leaves
@@ -8,14 +8,14 @@ pub mod Depth
 pub mod NameScan
 pub mod NameTests
 pub mod Puts
-pub mod ReadLoop
-pub mod Spelled
+pub mod ReaderLoops
+pub mod Spells
 pub mod Steps
 pub mod Takes
 pub mod Utf8Tests
 pub mod Views
 pub mod WalkedLeaves
 pub mod WalkedValues
-pub mod Walking
+pub mod ReaderWalks
 pub mod Whole
 pub use Rattle.bson_model.proofs.Joined

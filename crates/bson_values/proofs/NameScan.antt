@@ -7,7 +7,7 @@ use Rattle.std.proofs.Math.Seq.{take-suc}
 use Rattle.bson_values.specs.declared.fault.BsonFault.{BsonFault}
 use Rattle.bson_values.specs.declared.fault.BsonFault.TheVariants.{Short, BadText}
 use Rattle.bson_values.specs.ReadFaults.{◌>>=◌}
-use Rattle.bson_values.specs.Reading.{name_from}
+use Rattle.bson_values.specs.Readers.{name_from}
 
 -- what was passed before, and what is still found
 abbrev pub after : List ℕ → Result (List ℕ × List ℕ) BsonFault → Result (List ℕ × List ℕ) BsonFault

@@ -20,7 +20,7 @@ use Rattle.bson_values.specs.declared.element_type.ElementType.{ElementType}
 use Rattle.bson_values.specs.declared.element_type.ElementType.TheVariants as types
 use Rattle.bson_values.specs.ReadFaults.{◌>>=◌}
 use Rattle.bson_values.specs.Types.{type_from, type_of}
-use Rattle.bson_values.specs.Reading.{Reader, length_at, fixed_at, string_at, content_at, binary_at, boolean_at, deep_at, scalar_at, index_at, name_at, checked_type, type_at, field_behind, field_at, item_behind, item_at, fields_behind, fields_with, items_behind, items_with, document_with, array_with, value_at}
+use Rattle.bson_values.specs.Readers.{Reader, length_at, fixed_at, string_at, content_at, binary_at, boolean_at, deep_at, scalar_at, index_at, name_at, checked_type, type_at, field_behind, field_at, item_behind, item_at, fields_behind, fields_with, items_behind, items_with, document_with, array_with, value_at}
 use Rattle.bson_values.proofs.TypeTests.{byte_of, type_byte_of-type, byte_from-type_byte}
 use Rattle.bson_values.proofs.Leaves.{AreBytes-take, AreBytes-rest, length_takes, fixed_takes, string_takes, PassesName, index_takes, named_takes}
 use Rattle.bson_values.proofs.Steps.{bind_ok, guard_ok, guard_true, chosen, done, ok_is}

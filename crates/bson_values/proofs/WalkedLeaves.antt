@@ -12,9 +12,9 @@ use Rattle.bson_model.specs.Faults.{Holder, last, Step, goes_on, faulty, length_
 use Rattle.bson_values.specs.declared.fault.BsonFault.{BsonFault}
 use Rattle.bson_values.specs.declared.fault.BsonFault.TheVariants.{Short, BadLength, BadText}
 use Rattle.bson_values.specs.ReadFaults.{◌>>=◌}
-use Rattle.bson_values.specs.Reading.{length_within, length_at, fixed_at, utf8_at, text_at, content_at, boolean_at, deep_unless, deep_at, name_from, room_at, index_at, name_at}
+use Rattle.bson_values.specs.Readers.{length_within, length_at, fixed_at, utf8_at, text_at, content_at, boolean_at, deep_unless, deep_at, name_from, room_at, index_at, name_at}
 use Rattle.bson_values.proofs.Leaves.{TakesName, name_takes}
-use Rattle.bson_values.proofs.Walking.{Leads, stop, Goes, same_leads, goes_bind, split, lt_same, Stands, stands_at, byte_at, byte_here}
+use Rattle.bson_values.proofs.ReaderWalks.{Leads, stop, Goes, same_leads, goes_bind, split, lt_same, Stands, stands_at, byte_at, byte_here}
 
 -- what follows is read behind the bytes
 abbrev pub on_behind : {A : Type 0} → List ℕ → Holder → List Holder → A × List ℕ → Step

@@ -15,11 +15,11 @@ use Rattle.bson_values.specs.declared.element_type.ElementType.{ElementType}
 use Rattle.bson_values.specs.declared.element_type.ElementType.TheVariants as types
 use Rattle.bson_values.specs.ReadFaults.{◌>>=◌}
 use Rattle.bson_values.specs.Types.{type_from}
-use Rattle.bson_values.specs.Reading.{Reader, length_at, fixed_at, string_at, text_at, binary_at, content_at, deep_at, scalar_at, name_at, index_at, checked_type, type_at, field_behind, field_at, item_behind, item_at, fields_behind, fields_with, items_behind, items_with, document_with, array_with, value_at, depth_inside, document_at, whole_at}
+use Rattle.bson_values.specs.Readers.{Reader, length_at, fixed_at, string_at, text_at, binary_at, content_at, deep_at, scalar_at, name_at, index_at, checked_type, type_at, field_behind, field_at, item_behind, item_at, fields_behind, fields_with, items_behind, items_with, document_with, array_with, value_at, depth_inside, document_at, whole_at}
 use Rattle.bson_values.proofs.TypeTests.{byte_of}
 use Rattle.bson_values.proofs.Leaves.{AreBytes-rest, length_takes, TakesLength, named_takes, index_takes}
 use Rattle.bson_values.proofs.Takes.{TakesType, type_takes, TakesField, TakesItem, IsSound, field_takes, item_takes, value_takes}
-use Rattle.bson_values.proofs.Walking.{Goes, same_leads, leads_goes, goes_bind, split, skip, take_it, Stands, stands_behind, stands_at, byte_here}
+use Rattle.bson_values.proofs.ReaderWalks.{Goes, same_leads, leads_goes, goes_bind, split, skip, take_it, Stands, stands_behind, stands_at, byte_here}
 use Rattle.bson_values.proofs.WalkedLeaves.{on_behind, fixed_goes, length_goes, deep_leads, boolean_goes, text_goes, content_goes, named_goes, index_goes}
 
 -- ---- types

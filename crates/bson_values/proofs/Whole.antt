@@ -9,7 +9,7 @@ use Rattle.bson_model.specs.Limits.{length_limit, most_depth_kept}
 use Rattle.bson_model.proofs.Lengths.{length-framed}
 use Rattle.bson_values.specs.declared.fault.BsonFault.{BsonFault}
 use Rattle.bson_values.specs.ReadFaults.{◌>>=◌, Gives}
-use Rattle.bson_values.specs.Reading.{document_with, value_at, depth_inside, document_at, whole_at}
+use Rattle.bson_values.specs.Readers.{document_with, value_at, depth_inside, document_at, whole_at}
 use Rattle.bson_values.proofs.Steps.{bind_ok, ok_is}
 use Rattle.bson_values.proofs.Takes.{document_takes, value_takes}
 use Rattle.bson_values.proofs.Again.{document_again}

@@ -3,7 +3,7 @@ pub mod Falls
 pub mod ReadFaults
 pub mod Types
 pub mod Names
-pub mod Reading
+pub mod Readers
 pub mod Rests
 pub mod Sizes
 pub mod Sound

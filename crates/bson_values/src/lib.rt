@@ -1,19 +1,22 @@
 //! BSON documents (BSON 1.1, "Specification") of the thirteen kept types: as values, from bytes and to bytes.
 #![tactic(auto)]
 
-mod copying;
+mod copies;
 mod element_type;
+mod equality;
 mod fault;
+mod levels;
 mod limits;
-mod reading;
+mod reader;
 mod scan;
+mod sizes;
 mod text;
 mod value;
-mod writing;
+mod writer;
 
 pub use fault::BsonFault;
 pub use limits::{LENGTH_LIMIT, MOST_BYTES_KEPT, MOST_DEPTH_KEPT};
-pub use reading::{document_or_fault, one_fault, one_spelling, read};
+pub use reader::{document_or_fault, one_fault, one_spelling, read};
 pub use text::{Blob, Memory, Name, Text, is_name};
 pub use value::{Array, Document, Field, Value};
-pub use writing::write;
+pub use writer::write;

@@ -5,7 +5,7 @@
 
 ghost use Rattle.std.specs.Prelude.{◌≡◌, ◌≢◌, ◌+◌, ◌<◌, ◌≤◌, length, IfOk, IfErr, IfNone};
 ghost use Rattle.bson_values.specs.ReadFaults.{Gives};
-ghost use Rattle.bson_values.specs.Reading.{length_within, length_at, fixed_at, utf8_at, text_at, string_at, name_from, room_at, index_at, name_at, type_at};
+ghost use Rattle.bson_values.specs.Readers.{length_within, length_at, fixed_at, utf8_at, text_at, string_at, name_from, room_at, index_at, name_at, type_at};
 ghost use Rattle.bson_values.specs.Rests.{IsRest};
 
 use crate::element_type::ElementType;
@@ -15,7 +15,7 @@ use byteorder::{ByteOrder, LittleEndian};
 use std::str;
 
 /// Judges a length that stands at an offset, and gives it with what stands behind it.
-#[tactic(auto, unfolding(crate::specs::Reading::length_within))]
+#[tactic(auto, unfolding(crate::specs::Readers::length_within))]
 fn check_length(
     least: usize,
     beside: usize,
@@ -37,7 +37,7 @@ fn check_length(
 }
 
 /// Reads a length that is at least so much, and has so many bytes beside those that it counts.
-#[tactic(auto, unfolding(crate::specs::Reading::length_at))]
+#[tactic(auto, unfolding(crate::specs::Readers::length_at))]
 pub fn read_length(
     total: usize,
     least: usize,
@@ -68,7 +68,7 @@ pub fn read_length(
 }
 
 /// Reads so many bytes.
-#[tactic(auto, unfolding(crate::specs::Reading::fixed_at))]
+#[tactic(auto, unfolding(crate::specs::Readers::fixed_at))]
 pub fn read_fixed(
     total: usize,
     count: usize,
@@ -95,7 +95,7 @@ pub fn read_fixed(
 }
 
 /// The text that the bytes are.
-#[tactic(auto, unfolding(crate::specs::Reading::utf8_at), using(crate::proofs::Utf8Tests::utf8_tests))]
+#[tactic(auto, unfolding(crate::specs::Readers::utf8_at), using(crate::proofs::Utf8Tests::utf8_tests))]
 pub fn read_utf8(offset: usize, bytes: &[u8]) -> Result<&str, BsonFault>
     ensures gives { Gives (λ s. s.now) result (utf8_at offset bytes.now) }
     ensures same { IfOk result (λ s. s.now ≡ bytes.now) }
@@ -107,7 +107,7 @@ pub fn read_utf8(offset: usize, bytes: &[u8]) -> Result<&str, BsonFault>
 }
 
 /// Reads a text whose length with its final 00 is known.
-#[tactic(auto, unfolding(crate::specs::Reading::text_at))]
+#[tactic(auto, unfolding(crate::specs::Readers::text_at))]
 pub fn read_text(total: usize, count: usize, bytes: &[u8]) -> Result<(&str, &[u8]), BsonFault>
     requires total { length bytes.now ≤ total }
     requires count { 0 < count }
@@ -128,7 +128,7 @@ pub fn read_text(total: usize, count: usize, bytes: &[u8]) -> Result<(&str, &[u8
 }
 
 /// Reads a string with its length (BSON 1.1, `string`).
-#[tactic(auto, unfolding(crate::specs::Reading::string_at))]
+#[tactic(auto, unfolding(crate::specs::Readers::string_at))]
 pub fn read_string(total: usize, room: usize, bytes: &[u8]) -> Result<(&str, &[u8]), BsonFault>
     requires total { length bytes.now ≤ total }
     ensures gives { Gives (λ x. (x.0.now, x.1.now)) result (string_at total room bytes.now) }
@@ -164,7 +164,7 @@ pub fn scan_name(
 }
 
 /// What room is left behind a name, which is some.
-#[tactic(auto, unfolding(crate::specs::Reading::room_at))]
+#[tactic(auto, unfolding(crate::specs::Readers::room_at))]
 pub fn check_room(total: usize, room: usize, rest: &[u8]) -> Result<usize, BsonFault>
     requires total { length rest.now < total }
     ensures gives { Gives (λ x. x) result (room_at total room rest.now) }
@@ -179,7 +179,7 @@ pub fn check_room(total: usize, room: usize, rest: &[u8]) -> Result<usize, BsonF
 }
 
 /// Passes a name in an array, and gives the room and the bytes behind it.
-#[tactic(auto, unfolding(crate::specs::Reading::index_at))]
+#[tactic(auto, unfolding(crate::specs::Readers::index_at))]
 pub fn skip_name(total: usize, room: usize, bytes: &[u8]) -> Result<(usize, &[u8]), BsonFault>
     requires total { length bytes.now ≤ total }
     ensures gives { Gives (λ x. (x.0, x.1.now)) result (index_at total room bytes.now) }
@@ -192,7 +192,7 @@ pub fn skip_name(total: usize, room: usize, bytes: &[u8]) -> Result<(usize, &[u8
 }
 
 /// Reads a name in a document, and gives its text, and the room and the bytes behind it.
-#[tactic(auto, unfolding(crate::specs::Reading::name_at))]
+#[tactic(auto, unfolding(crate::specs::Readers::name_at))]
 pub fn read_name(total: usize, room: usize, bytes: &[u8]) -> Result<(&str, usize, &[u8]), BsonFault>
     requires total { length bytes.now ≤ total }
     ensures gives { Gives (λ x. (x.0.now, x.1, x.2.now)) result (name_at total room bytes.now) }
@@ -207,7 +207,7 @@ pub fn read_name(total: usize, room: usize, bytes: &[u8]) -> Result<(&str, usize
 }
 
 /// Reads the type of the next element. There is none at the 00 that ends the document.
-#[tactic(auto, unfolding(crate::specs::Reading::type_at, crate::specs::Reading::checked_type))]
+#[tactic(auto, unfolding(crate::specs::Readers::type_at, crate::specs::Readers::checked_type))]
 pub fn read_type(
     total: usize,
     room: usize,

@@ -1,7 +1,8 @@
 //! Values, and the documents and arrays that hold them.
 
 ghost use Rattle.std.specs.Prelude.{◌≡◌, ◌≤◌, ◌==◌, length, All, OnOk, OnErr};
-ghost use Rattle.bson_model.specs.Tree.{no_items, item, joined_items, no_fields, field, joined};
+ghost use Rattle.std.specs.Option.{option_map};
+ghost use Rattle.bson_model.specs.Tree.{no_items, item, joined_items, no_fields, field, get, joined};
 ghost use Rattle.bson_values.specs.Sizes.{datum_size, items_count, items_size, fields_count, fields_size};
 ghost use Rattle.bson_values.specs.Sound.{IsDatum, AreItems, AreFields};
 ghost use Rattle.bson_values.specs.View.{datum_of, items_of, fields_of};
@@ -203,6 +204,18 @@ impl Document {
         ensures sound { AreFields self.now }
     {
         self.fields.as_slice()
+    }
+
+    /// The value of the first field of that name.
+    pub fn get(&self, name: &str) -> Option<&Value>
+        ensures { option_map (λ v. datum_of v.now) result ≡ get name.now self.now }
+    {
+        for field in &self.fields {
+            if field.name.as_str() == name {
+                return Some(&field.value);
+            }
+        }
+        None
     }
 }
 

@@ -1,5 +1,9 @@
 pub mod Catalogue
+pub mod Versions
+pub mod Tables
+pub mod Verdicts
 pub mod SampleCollections
+pub mod SampleTables
 pub use Rattle.base_model.specs.Errors
 pub use Rattle.base_model.specs.Grammar
 pub use Rattle.base_model.specs.SampleDocuments

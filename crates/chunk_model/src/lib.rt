@@ -1,2 +1,8 @@
-//! The catalogue: which collections began. Definitions, which the crates above cite in their contracts.
+//! The catalogue: which collections began, and which shard has which of their keys. Definitions, and the laws between them: a law is
+//! a function that does nothing, whose contract is the law.
 #![tactic(auto)]
+
+pub mod examples;
+mod laws;
+
+pub use laws::{first_tables, own_table_fits};

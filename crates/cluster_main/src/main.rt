@@ -11,14 +11,14 @@ mod laws;
 mod line;
 mod locks;
 mod places;
-mod serving;
+mod status;
 
 use crate::arguments::arguments_of;
 use crate::journals::file_disks;
 use crate::line::told;
 use crate::locks::{NoLocks, journal_count, lock_journals};
 use crate::places::hold_places;
-use crate::serving::serve;
+use crate::status::serve;
 use cluster_top::Status;
 use outside::standard::{StdSink, StdSource, WallClock};
 use std::env;

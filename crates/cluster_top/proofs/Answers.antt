@@ -3,8 +3,8 @@ use Rattle.std.specs.Prelude.{◌≡◌, ℕ, ◌+◌, Result}
 use Rattle.opmsg_frames.specs.Requests.{Request}
 use Rattle.command_store.specs.Refusals.{Refusal}
 use Rattle.command_words.specs.Command.{Command, command_of}
-use Rattle.command_store.specs.Served.{IsServed}
-use Rattle.command_store.specs.declared.served.Served.{Served}
+use Rattle.command_store.specs.Service.{IsServed}
+use Rattle.command_store.specs.declared.service.Served.{Served}
 use Rattle.command_store.specs.declared.store.Store.{Store}
 use Rattle.plain_store_model.specs.PlainStore as plain_store
 use Rattle.cluster_top.specs.Answers.{IsAnswered, reply_for}

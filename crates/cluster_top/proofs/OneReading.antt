@@ -8,7 +8,7 @@ use Rattle.shard_records.specs.Records.{Record}
 use Rattle.shard_records.specs.Kept.{creates_of, KeepEntries}
 use Rattle.shard_records.specs.Spelled.{spelled, IsSound}
 use Rattle.shard_records.proofs.Entries.{one_list}
-use Rattle.shard_records.proofs.Prefixes.{one_record}
+use Rattle.shard_records.proofs.OneRecord.{one_record}
 use Rattle.journal_frames.specs.Files.{Stands}
 use Rattle.journal_frames.proofs.Unique as unique
 use Rattle.cluster_top.specs.Journals.{IsJournal, Tell}

@@ -15,7 +15,7 @@ use Rattle.journal_frames.specs.Openings.{disk_left, IfDamaged}
 use Rattle.journal_frames.specs.declared.journal.OpenFault.{OpenFault}
 use Rattle.journal_frames.specs.declared.journal.OpenFault.TheVariants.{Damaged}
 use Rattle.journal_frames.specs.Views.{JournalView}
-use Rattle.command_store.specs.Served.{AreSpelled}
+use Rattle.command_store.specs.Service.{AreSpelled}
 use Rattle.cluster_top.specs.Journals.{IsJournal}
 use Rattle.journal_frames.specs.Files.{IsDamaged, Stands}
 use Rattle.journal_frames.proofs.Unique.{one_list, not_both}
@@ -56,12 +56,12 @@ all_open tells content may_leave records more pieces count journal spells enough
     subst (λ (rs : List Record). IsOpen tells content may_leave (records ++ rs) journal) (take_all count more (omega (arith, enough, size))) was
 
 -- a record more stands in an open journal
-pub open_more : {D : Type 0} (tells : Bool) (content : D → List ℕ) (may_leave : D → List ℕ → Type 0) (records more : List Record) (pieces : List (List ℕ)) (count : ℕ) (bytes other : List ℕ) (old new : JournalView D) → AreSpelled more pieces → count < length pieces → bytes ≡ get_or pieces count other → IsOpen tells content may_leave (records ++ take count more) old → new.records ≡ old.records ++ bytes ∷ [] → IsTrue new.is_open → (IsTrue tells → Stands (content new.disk) new.records) → (IsTrue tells → (file : List ℕ) → may_leave new.disk file → Stands file new.records) → IsOpen tells content may_leave (records ++ take (count + 1) more) new
+pub open_more : {D : Type 0} (tells : Bool) (content : D → List ℕ) (may_leave : D → List ℕ → Type 0) (records more : List Record) (pieces : List (List ℕ)) (count : ℕ) (bytes other : List ℕ) (old new : JournalView D) → AreSpelled more pieces → count < length pieces → bytes ≡ get_or pieces count other → IsOpen tells content may_leave (records ++ take count more) old → (IsTrue tells → new.records ≡ old.records ++ bytes ∷ []) → IsTrue new.is_open → (IsTrue tells → Stands (content new.disk) new.records) → (IsTrue tells → (file : List ℕ) → may_leave new.disk file → Stands file new.records) → IsOpen tells content may_leave (records ++ take (count + 1) more) new
 open_more tells content may_leave records more pieces count bytes other old new spells fits at was appended ready file durable =
     let next = next_record more pieces count bytes other spells.each spells.sound fits at in
     subst (λ (rs : List Record). IsOpen tells content may_leave rs new) (one_more records more count bytes next.0 next.1) (record {
       ready = ready;
-      list = λ told. appended ∙ list_more _ next.0 old.records bytes (was.list told) next.1.piece;
+      list = λ told. appended told ∙ list_more _ next.0 old.records bytes (was.list told) next.1.piece;
       sound = sound_more _ next.0 was.sound next.1.sound;
       file = file;
       durable = durable;
@@ -154,7 +154,7 @@ on_any_err (Ok x) p = tt
 on_any_err (Err e) p = p
 
 -- What an append that failed left: a prefix of the records.
-pub left_in_part : {D : Type 0} (tells : Bool) (content : D → List ℕ) (may_leave : D → List ℕ → Type 0) (e : LogFault) (records more : List Record) (pieces : List (List ℕ)) (count : ℕ) (bytes other : List ℕ) (old new : JournalView D) → AreSpelled more pieces → count < length pieces → bytes ≡ get_or pieces count other → IsOpen tells content may_leave (records ++ take count more) old → ByFault e (λ faults. WithOrWithout (λ rs. IsTrue tells → Stands (content new.disk) rs) old.records bytes) (new ≡ old) → HasInPart tells (content new.disk) records more
+pub left_in_part : {D : Type 0} (tells : Bool) (content : D → List ℕ) (may_leave : D → List ℕ → Type 0) (e : LogFault) (records more : List Record) (pieces : List (List ℕ)) (count : ℕ) (bytes other : List ℕ) (old new : JournalView D) → AreSpelled more pieces → count < length pieces → bytes ≡ get_or pieces count other → IsOpen tells content may_leave (records ++ take count more) old → ByFault e (λ faults. WithOrWithout (λ rs. IsTrue tells → Stands (content new.disk) rs) old.records (bytes ∷ [])) (new ≡ old) → HasInPart tells (content new.disk) records more
 left_in_part tells content may_leave (Disk faults) records more pieces count bytes other old new spells fits at is failed told =
     left_at (content new.disk) records more pieces count bytes other old.records spells fits at (is.list told) is.sound (told_of tells told failed)
 left_in_part {D = D} tells content may_leave Memory records more pieces count bytes other old new spells fits at is same told =
@@ -165,13 +165,13 @@ pub nothing : (file : List ℕ) → file ≡ [] → Stands file []
 nothing file empty = record { rest = file; fits = tt; split = refl; shut = inr empty }
 
 -- a journal that was opened on an empty file has no records
-pub open_fresh : {D : Type 0} (tells : Bool) (content : D → List ℕ) (may_leave : D → List ℕ → Type 0) (before : List ℕ) (journal : JournalView D) → IsTrue journal.is_open → IsEmpty tells before → (IsTrue tells → Stands before journal.records) → ((records : List (List ℕ)) → IsTrue tells → Stands before records → Stands (content journal.disk) records) → (IsTrue tells → (file : List ℕ) → may_leave journal.disk file → Stands file journal.records) → IsOpen tells content may_leave [] journal
-open_fresh tells content may_leave before journal ready empty found same durable = record {
+pub open_fresh : {D : Type 0} (tells : Bool) (content : D → List ℕ) (may_leave : D → List ℕ → Type 0) (before : List ℕ) (journal : JournalView D) (found : List (List ℕ)) → IsTrue journal.is_open → IsEmpty tells before → (IsTrue tells → Stands before found) → (IsTrue tells → journal.records ≡ found) → ((records : List (List ℕ)) → IsTrue tells → Stands before records → Stands (content journal.disk) records) → (IsTrue tells → (file : List ℕ) → may_leave journal.disk file → Stands file found) → IsOpen tells content may_leave [] journal
+open_fresh tells content may_leave before journal found ready empty stands listed same durable = record {
   ready = ready;
-  list = λ told. one_list before journal.records [] (found told) (nothing before (empty told));
+  list = λ told. listed told ∙ one_list before found [] (stands told) (nothing before (empty told));
   sound = tt;
-  file = λ told. same journal.records told (found told);
-  durable = durable;
+  file = λ told. subst (λ (rs : List (List ℕ)). Stands (content journal.disk) rs) (sym (listed told)) (same found told (stands told));
+  durable = λ told file may. subst (λ (rs : List (List ℕ)). Stands file rs) (sym (listed told)) (durable told file may);
 }
 
 pub never_damaged : (file : List ℕ) (place : ℕ) → file ≡ [] → ¬ IsDamaged file place

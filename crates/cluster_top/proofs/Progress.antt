@@ -11,13 +11,13 @@ use Rattle.plain_store_model.specs.Catalogue.{Creation}
 use Rattle.command_store.specs.Refusals.{Refusal}
 use Rattle.plain_store_model.specs.History.{Entry}
 use Rattle.command_words.specs.Command.{Command, hello_command, legacy_command, ping_command, end_sessions_command, insert_command, find_command, command_of}
-use Rattle.command_words.specs.Answers.{answer_document}
+use Rattle.command_answers.specs.Answers.{answer_document}
 use Rattle.plain_store_model.specs.Exchange.{Exchange, answered, spoken, InTurn, reply_if}
 use Rattle.plain_store_model.specs.PlainStore.{PlainStore, has_collection, risen, answer_to, store_after, begun_by, written_by, Leaves, leaves_all, leaves_nothing, leaves_some}
 use Rattle.plain_store_model.proofs.RunEnds.{runs_push, answered_push, answered_silence, spoken_more, spoken_silence}
 use Rattle.outside.specs.Streams.{Put}
 use Rattle.outside.proofs.Relations.{put_then}
-use Rattle.command_store.specs.Served.{own_number}
+use Rattle.command_store.specs.Service.{own_number}
 use Rattle.cluster_top.specs.Answers.{IsAnswered, reply_for, replies_after}
 use Rattle.cluster_top.specs.Headline.{requests_of, IsReplied}
 use Rattle.cluster_top.specs.OpenJournals.{AreLeft, AreLeftInPart}

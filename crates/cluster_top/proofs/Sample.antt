@@ -11,7 +11,7 @@ use Rattle.opmsg_frames.specs.Outline.{outline, message_outline}
 use Rattle.opmsg_frames.specs.Requests.{IsMsg, IsRequest, msg_bytes}
 use Rattle.opmsg_frames.specs.Sections.{IsStated, body_section}
 use Rattle.bson_values.specs.Sound.{AreFields}
-use Rattle.bson_values.proofs.Spelled.{written_spelled}
+use Rattle.bson_values.proofs.Spells.{written_spelled}
 use Rattle.opmsg_frames.proofs.Stays.{whole_stays}
 use Rattle.opmsg_frames.proofs.SpelledOutlines.{spelled_outline}
 use Rattle.plain_store_model.specs.SampleExchanges.{first, five, insert_body, with_id}

@@ -5,13 +5,13 @@ use Rattle.opmsg_frames.specs.Requests.{Request, IsRequest}
 use Rattle.opmsg_frames.specs.Replies.{reply_bytes}
 use Rattle.opmsg_frames.specs.RequestMeanings.{IsMeant}
 use Rattle.opmsg_frames.specs.declared.request.Request as frames
-use Rattle.command_words.specs.Answers.{answer_document}
+use Rattle.command_answers.specs.Answers.{answer_document}
 use Rattle.command_words.specs.Command.{command_of}
 use Rattle.plain_store_model.specs.PlainStore as plain_store
 use Rattle.plain_store_model.specs.PlainStore.{answer_to, begun_by, written_by, store_after}
 use Rattle.shard_records.specs.Records.{create_record, record_of}
 use Rattle.command_store.specs.Kept.{Represents}
-use Rattle.command_store.specs.Served.{AreSpelled, own_number}
+use Rattle.command_store.specs.Service.{AreSpelled, own_number}
 use Rattle.cluster_top.specs.declared.server.Server.{Server}
 use Rattle.cluster_top.specs.declared.server.Answer.{Answer}
 

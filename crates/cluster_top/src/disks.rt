@@ -15,6 +15,7 @@ use crate::journals::Journals;
 use crate::status::Status;
 use journal_frames::{Journal, OpenFault};
 use outside::disk::Disk;
+use outside::log::RecordList;
 use outside::streams::Failed;
 use std::alloc::Global;
 
@@ -112,6 +113,13 @@ impl<D: Disk> Disks<D> {
     }
 }
 
+/// The journal that was opened; its records are let go.
+fn journal_of<D: Disk>(opened: (Journal<D>, RecordList)) -> Journal<D>
+    ensures { result ≡ opened.0 }
+{
+    opened.0
+}
+
 /// Opens the journal on a disk whose file is empty.
 fn open_one<D: Disk>(alloc: Global, disk: D) -> Result<Journal<D>, Unopened<D>>
     ensures opened { IsEmpty D.tells (D.content disk) → IfOk result (λ journal. IsOpen D.tells D.content D.may_leave [] journal) }
@@ -127,7 +135,7 @@ fn open_one<D: Disk>(alloc: Global, disk: D) -> Result<Journal<D>, Unopened<D>>
     ensures later_err { IfErr result (λ u. D.fault_count disk ≤ D.fault_count u.disk) }
 {
     match Journal::open(alloc, disk) {
-        Ok(journal) => Ok(journal),
+        Ok(opened) => Ok(journal_of(opened)),
         Err(OpenFault::Disk(disk)) => Err(Unopened {
             status: Status::DiskFailed,
             disk,

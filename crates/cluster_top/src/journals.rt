@@ -7,7 +7,7 @@ ghost use Rattle.outside.specs.Logs.{ByFault};
 ghost use Rattle.plain_store_model.specs.Catalogue.{Creation};
 ghost use Rattle.plain_store_model.specs.History.{Entry};
 ghost use Rattle.shard_records.specs.Records.{Record, create_record, record_of};
-ghost use Rattle.command_store.specs.Served.{AreSpelled};
+ghost use Rattle.command_store.specs.Service.{AreSpelled};
 ghost use Rattle.cluster_top.specs.OpenJournals.{AreLeftInPart, AreOpen, IsOpen, HasInPart, disks_of};
 
 use bson_values::Blob;

@@ -13,8 +13,9 @@ ghost use Rattle.cluster_top.specs.Answers.{Answers, IsRead, replies_after, repl
 ghost use Rattle.bson_values.specs.Limits.{most_bytes_written, most_depth_written};
 
 use bson_values::{Blob, Document, Memory};
+use command_answers::Refusal;
 use command_store::Store;
-use command_words::{Command, CommandFault, Refusal};
+use command_words::{Command, CommandFault};
 use opmsg_frames::{Request, write_reply};
 use std::alloc::Global;
 

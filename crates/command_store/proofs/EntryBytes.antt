@@ -7,7 +7,7 @@ use Rattle.plain_store_model.specs.History.{Entry, StatementNumber, insert_opera
 use Rattle.plain_store_model.specs.Statements.{entry_of}
 use Rattle.shard_records.specs.Records.{Record, OutcomeWords, entry_record, insert_words, outcome_words, record_of}
 use Rattle.shard_records.specs.Spelled.{spelled, IsSound}
-use Rattle.command_store.specs.Served.{own_number}
+use Rattle.command_store.specs.Service.{own_number}
 use Rattle.command_store.specs.Telling.{outcome_meant, IsEntry}
 use Rattle.command_store.specs.declared.statements.Outcome.{Outcome}
 

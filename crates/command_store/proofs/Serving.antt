@@ -3,8 +3,8 @@ use Rattle.std.proofs.Common.{◌≡◌, ℕ, List, [], ◌++◌, Option, Some, 
 use Rattle.std.specs.Prelude.{Result, Ok, Err, IfOk}
 use Rattle.bson_values.specs.Tree.{Datum, Fields}
 use Rattle.command_words.specs.Command.{insert_command, find_command}
-use Rattle.command_words.specs.Answers as model
-use Rattle.command_words.specs.Answers.{answer_document, insert_answer}
+use Rattle.command_answers.specs.Answers as model
+use Rattle.command_answers.specs.Answers.{answer_document, insert_answer}
 use Rattle.command_words.specs.MessageSizes.{IsWithin}
 use Rattle.plain_store_model.specs.History.{Entry}
 use Rattle.plain_store_model.specs.PlainStore as plain_store
@@ -12,15 +12,15 @@ use Rattle.plain_store_model.specs.PlainStore.{risen, answer_find, time_before_w
 use Rattle.plain_store_model.specs.Outcomes.{answer_of}
 use Rattle.plain_store_model.specs.Statements.{entries_of}
 use Rattle.shard_records.specs.Records.{create_record, record_of}
-use Rattle.command_words.specs.Errors.{errors_meant}
+use Rattle.command_answers.specs.Errors.{errors_meant}
 use Rattle.command_store.specs.Kept.{Represents}
-use Rattle.command_store.specs.Served.{AreSpelled, IsServed, own_number}
+use Rattle.command_store.specs.Service.{AreSpelled, IsServed, own_number}
 use Rattle.command_store.specs.Steps.{raised, creations_for, begun, with_entries}
 use Rattle.command_store.specs.Telling.{Tells, AreServed, IsSmallTold}
-use Rattle.command_store.specs.declared.served.Served.{Served}
+use Rattle.command_store.specs.declared.service.Served.{Served}
 use Rattle.command_store.specs.declared.statements.Told.{Told}
 use Rattle.command_store.specs.declared.store.Store.{Store}
-use Rattle.command_words.proofs.SmallAnswers.{answer_small}
+use Rattle.command_answers.proofs.SmallAnswers.{answer_small}
 
 -- the answer to all statements
 told_answer : (told : Told) (entries : List Entry) → Tells told entries → insert_answer told.count (errors_meant told.errors.items) told.time.0 ≡ answer_of entries

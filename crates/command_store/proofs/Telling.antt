@@ -7,14 +7,14 @@ use Rattle.plain_store_model.specs.History.{Entry}
 use Rattle.cluster_base.specs.Errors.{ErrorCode, object_too_large, duplicate_key}
 use Rattle.plain_store_model.proofs.Lists.{all_append}
 use Rattle.cluster_base.specs.Refusals.{without_evidence}
-use Rattle.command_words.specs.Insert as model
+use Rattle.command_answers.specs.Insert as model
 use Rattle.command_words.specs.CommandSizes.{IsSmallError}
 use Rattle.plain_store_model.specs.Outcomes.{sum_of, errors_of, time_of}
 use Rattle.shard_records.specs.Records.{Record, record_of}
 use Rattle.shard_records.specs.Spelled.{spelled, IsSound}
-use Rattle.command_words.specs.declared.answer.WriteError.{WriteError}
-use Rattle.command_words.specs.Errors.{error_meant, errors_meant}
-use Rattle.command_store.specs.Served.{AreSpelled}
+use Rattle.command_answers.specs.declared.answer.WriteError.{WriteError}
+use Rattle.command_answers.specs.Errors.{error_meant, errors_meant}
+use Rattle.command_store.specs.Service.{AreSpelled}
 use Rattle.command_store.specs.Telling.{outcome_meant, error_at, Tells, IsEntry, IsSmallTold}
 use Rattle.command_store.specs.declared.statements.Outcome.{Outcome}
 use Rattle.command_store.specs.declared.statements.Outcome.TheVariants.{Inserted, Duplicate, TooLarge}

@@ -9,7 +9,7 @@ use Rattle.plain_store_model.specs.PlainStore.{last_time}
 use Rattle.plain_store_model.specs.Outcomes.{fails}
 use Rattle.plain_store_model.specs.Statements.{entry_of, entries_of}
 use Rattle.command_store.specs.Kept.{Represents}
-use Rattle.command_store.specs.Served.{own_number}
+use Rattle.command_store.specs.Service.{own_number}
 use Rattle.command_store.specs.Steps.{with_entries}
 use Rattle.command_store.specs.Telling.{Tells, AreServed}
 use Rattle.command_store.specs.declared.store.Store.{Store}

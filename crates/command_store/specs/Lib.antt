@@ -1,6 +1,6 @@
 pub mod Wanted
 pub mod Kept
-pub mod Served
+pub mod Service
 pub mod Steps
 pub mod Telling
 pub use Rattle.cluster_base.specs.Errors

@@ -6,16 +6,16 @@ use Rattle.cluster_base.specs.Errors.{ErrorCode, object_too_large, duplicate_key
 use Rattle.plain_store_model.specs.History as history
 use Rattle.plain_store_model.specs.History.{Entry, done, fails_with}
 use Rattle.cluster_base.specs.Refusals.{without_evidence}
-use Rattle.command_words.specs.Insert.{WriteError}
+use Rattle.command_answers.specs.Insert.{WriteError}
 use Rattle.command_words.specs.CommandSizes.{IsSmallError}
 use Rattle.plain_store_model.specs.PlainStore as plain_store
 use Rattle.plain_store_model.specs.Outcomes.{sum_of, errors_of, time_of}
 use Rattle.plain_store_model.specs.Statements.{entries_of}
 use Rattle.shard_records.specs.Records.{record_of}
 use Rattle.shard_records.specs.Spelled.{spelled, IsSound}
-use Rattle.command_words.specs.Errors.{errors_meant}
+use Rattle.command_answers.specs.Errors.{errors_meant}
 use Rattle.command_store.specs.Kept.{Represents}
-use Rattle.command_store.specs.Served.{AreSpelled, own_number}
+use Rattle.command_store.specs.Service.{AreSpelled, own_number}
 use Rattle.command_store.specs.Steps.{with_entries}
 use Rattle.command_store.specs.declared.statements.Outcome.{Outcome}
 use Rattle.command_store.specs.declared.statements.Outcome.TheVariants.{Inserted, Duplicate, TooLarge}

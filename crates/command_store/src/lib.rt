@@ -2,11 +2,11 @@
 //! in the journals.
 #![tactic(auto)]
 
-mod finding;
 mod records;
-mod served;
+mod refusals;
+mod service;
 mod statements;
 mod store;
 
-pub use served::Served;
+pub use service::Served;
 pub use store::Store;

@@ -8,7 +8,7 @@ ghost use Rattle.shard_records.specs.Records.{create_record, outcome_words};
 ghost use Rattle.shard_records.specs.Spelled.{spelled, IsSound};
 ghost use Rattle.shard_records.specs.Meanings.{outcome_meant as words_told, record_meant};
 ghost use Rattle.shard_records.specs.Sizes.{IsWritableRecord};
-ghost use Rattle.command_store.specs.Served.{own_number};
+ghost use Rattle.command_store.specs.Service.{own_number};
 ghost use Rattle.command_store.specs.Telling.{outcome_meant, IsEntry};
 
 use crate::statements::{Outcome, Place};

@@ -5,7 +5,7 @@ ghost use Rattle.plain_store_model.specs.History.{Entry};
 
 use bson_values::{Blob, Memory};
 use cluster_base::{Code, Time};
-use command_words::{Evidence, Refusal, StatementIndex, WriteError};
+use command_answers::{Evidence, Refusal, StatementIndex, WriteError};
 use std::alloc::Global;
 
 /// What one statement is told.
@@ -53,7 +53,7 @@ pub struct Told {
 
 impl Told {
     ghost use Rattle.cluster_base.specs.Codes.{meaning_of};
-    ghost use Rattle.command_words.specs.Errors.{errors_meant};
+    ghost use Rattle.command_answers.specs.Errors.{errors_meant};
     ghost use Rattle.command_store.specs.Telling.{error_at, outcome_meant, Tells, IsEntry, IsSmallTold};
 
     /// No statement.

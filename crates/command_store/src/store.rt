@@ -11,7 +11,7 @@ ghost use Rattle.plain_store_model.specs.History.{Entry, StatementNumber};
 ghost use Rattle.command_words.specs.MessageSizes.{IsSmall};
 ghost use Rattle.command_words.specs.Command.{insert_command};
 ghost use Rattle.command_words.specs.CommandSizes.{IsKeepable, IsSmallAnswer, IsTaken};
-ghost use Rattle.command_words.specs.AnswerMeanings.{answer_meant};
+ghost use Rattle.command_answers.specs.AnswerMeanings.{answer_meant};
 ghost use Rattle.document_store.specs.Collections.{is_created, kept_under};
 ghost use Rattle.shard_records.specs.Records.{create_record};
 ghost use Rattle.plain_store_model.specs.PlainStore as plain_store;
@@ -20,13 +20,14 @@ ghost use Rattle.command_store.specs.Steps.{begun, creations_for, raised, with_e
 ghost use Rattle.command_store.specs.Wanted.{wanted_meant};
 ghost use Rattle.bson_values.specs.Limits.{most_bytes_written, most_depth_written};
 
-use crate::finding::time_ahead;
 use crate::records::{creation_bytes, entry_bytes};
-use crate::served::{Served, unwritten};
+use crate::refusals::time_ahead;
+use crate::service::{Served, unwritten};
 use crate::statements::{Outcome, Place, Told};
 use bson_values::{Blob, Document, Memory, Text, Value};
 use cluster_base::{Namespace, Time, moment_time};
-use command_words::{Answer, Command, Find, Insert, Refusal, write_answer};
+use command_answers::{Answer, Refusal, write_answer};
+use command_words::{Command, Find, Insert};
 use document_store::Collections;
 use std::alloc::Global;
 use value_compare::{Key, key_of};
@@ -55,7 +56,7 @@ struct Begun {
 
 impl Store {
     ghost use Rattle.command_store.specs.Kept.{Represents, seen_at, time_of};
-    ghost use Rattle.command_store.specs.Served.{AreSpelled, IsServed, own_number};
+    ghost use Rattle.command_store.specs.Service.{AreSpelled, IsServed, own_number};
     ghost use Rattle.command_store.specs.Telling.{AreServed, IsSmallTold, Tells, outcome_meant};
 
     /// The store without documents, at time 0.

@@ -10,7 +10,7 @@ use Rattle.command_model.specs.Forms.{CommandForm, Sequences}
 use Rattle.command_model.specs.Command.{Command, by_form, command_asked, form_of}
 use Rattle.command_words.specs.Commands.{Tells}
 use Rattle.command_words.specs.declared.command.Command as program
-use Rattle.command_words.specs.declared.refusal.CheckFault.{CheckFault}
+use Rattle.command_words.specs.declared.fault.CheckFault.{CheckFault}
 
 asked_so : (form : Option (CommandForm Command)) (sent : Form) (first : Field) (rest : List Field) (sequences : Sequences) → form ≡ form_of first.name → by_form form sent first.name (datum_of first.value) (fields_of rest) sequences ≡ command_asked sent (fields_of (first ∷ rest)) sequences
 asked_so form sent first rest sequences found = ap (λ f. by_form f sent first.name (datum_of first.value) (fields_of rest) sequences) found

@@ -1,8 +1,6 @@
 mod Asked
-mod Batches
 mod Copied
 mod Filters
 mod Rulings
 mod Sequences
-pub use Rattle.command_model.proofs.SmallAnswers
 pub use Rattle.command_model.proofs.Taken

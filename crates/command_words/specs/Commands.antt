@@ -15,11 +15,11 @@ use Rattle.command_words.specs.declared.insert.Insert as program_inserts
 use Rattle.command_words.specs.declared.find.Find as program_finds
 use Rattle.command_words.specs.declared.command.Command.{Command}
 use Rattle.command_words.specs.declared.command.Command.TheVariants.{Hello, Legacy, Ping, EndSessions, Insert, Find}
-use Rattle.command_words.specs.declared.refusal.CommandFault.{CommandFault}
-use Rattle.command_words.specs.declared.refusal.CommandFault.TheVariants as faults
-use Rattle.command_words.specs.declared.refusal.CheckFault.{CheckFault}
-use Rattle.command_words.specs.declared.refusal.CheckFault.TheVariants.{Refused, Memory}
-use Rattle.command_words.specs.Refusals.{refusal_meant}
+use Rattle.command_words.specs.declared.fault.CommandFault.{CommandFault}
+use Rattle.command_words.specs.declared.fault.CommandFault.TheVariants as faults
+use Rattle.command_words.specs.declared.fault.CheckFault.{CheckFault}
+use Rattle.command_words.specs.declared.fault.CheckFault.TheVariants.{Refused, Memory}
+use Rattle.command_answers.specs.Refusals.{refusal_meant}
 
 abbrev pub legacy_meant : legacies.Legacy → handshakes.Legacy
 legacy_meant legacy = record { shows_hello_ok = legacy.shows_hello_ok }

@@ -1,13 +1,8 @@
-pub mod AnswerMeanings
 pub mod Commands
-pub mod Errors
 pub mod Given
 pub mod Handshakes
-pub mod Refusals
 pub mod Rows
 pub mod Verdicts
-pub use Rattle.command_model.specs.Answers
 pub use Rattle.command_model.specs.Command
 pub use Rattle.command_model.specs.CommandSizes
-pub use Rattle.command_model.specs.Insert
 pub use Rattle.command_model.specs.MessageSizes

@@ -4,8 +4,8 @@ use Rattle.std.specs.Option.{option_map}
 use Rattle.cluster_base.specs.Codes.{meaning_of}
 use Rattle.cluster_base.specs.declared.code.Code.{Code}
 use Rattle.command_model.specs.Checks.{Verdict}
-use Rattle.command_words.specs.declared.refusal.CheckFault.{CheckFault}
-use Rattle.command_words.specs.declared.refusal.CheckFault.TheVariants.{Refused, Memory}
+use Rattle.command_words.specs.declared.fault.CheckFault.{CheckFault}
+use Rattle.command_words.specs.declared.fault.CheckFault.TheVariants.{Refused, Memory}
 
 abbrev pub verdict_meant : Option Code → Verdict
 verdict_meant verdict = option_map meaning_of verdict

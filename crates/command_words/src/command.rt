@@ -10,16 +10,17 @@ ghost use Rattle.opmsg_frames.specs.Lists.{pairs_of};
 ghost use Rattle.opmsg_frames.specs.RequestMeanings.{IsMeant, form_meant};
 ghost use Rattle.command_model.specs.Command as model;
 ghost use Rattle.command_words.specs.Commands.{Answers, Tells};
-ghost use Rattle.command_words.specs.Refusals.{refusal_meant};
+ghost use Rattle.command_answers.specs.Refusals.{refusal_meant};
 ghost use Rattle.command_words.specs.Rows.{row_meant};
 
+use crate::fault::{CheckFault, CommandFault};
 use crate::find::{Find, FindForm};
 use crate::forms::read_by;
 use crate::handshake::{HandshakeForm, Legacy};
 use crate::insert::{Insert, InsertForm};
-use crate::refusal::{CheckFault, CommandFault, Evidence, Refusal};
 use bson_values::{BsonFault, Document};
 use cluster_base::Code;
+use command_answers::{Evidence, Refusal};
 use opmsg_frames::{Body, Form, Request, Sequence};
 use std::alloc::Global;
 

@@ -8,20 +8,18 @@ ghost use Rattle.bson_values.specs.View.{datum_of};
 ghost use Rattle.command_model.specs.Checks as checks;
 ghost use Rattle.command_model.specs.Command.{find_command};
 ghost use Rattle.command_model.specs.Find as model;
-ghost use Rattle.command_model.specs.Find.{concern_rules, cursor, find_form, find_rules};
+ghost use Rattle.command_model.specs.Find.{concern_rules, find_form, find_rules};
 ghost use Rattle.command_model.specs.Forms.{made_into};
 ghost use Rattle.command_model.specs.Fields as fields;
-ghost use Rattle.command_model.specs.Shown.{document_items};
 ghost use Rattle.command_words.specs.Given.{NamesCollection};
 ghost use Rattle.command_words.specs.Verdicts.{verdict_meant};
 
 use crate::checks::unless_passes;
 use crate::command::Command;
+use crate::fault::CheckFault;
 use crate::forms::{CommandForm, collection_of};
-use crate::parts::{add, add_end};
-use crate::refusal::CheckFault;
 use crate::rules::{Rules, check_behind_own, check_fields, common_ruling};
-use bson_values::{Array, Document, Memory, Text, Value};
+use bson_values::{Document, Memory, Value};
 use cluster_base::{Code, Namespace, Time};
 use opmsg_frames::Sequence;
 use std::alloc::Global;
@@ -270,54 +268,4 @@ impl CommandForm for FindForm {
             at: time_named(document),
         }))
     }
-}
-
-// Copies of the documents, as the values of an array.
-fn batch(alloc: Global, documents: &[Document]) -> Result<Array, Memory>
-    ensures { IfOk result (λ a. a ≡ document_items documents.now) }
-{
-    let mut items = Array::new(alloc);
-    for document in documents {
-        items.push(Value::Doc(document.copy()?))?;
-    }
-    Ok(items)
-}
-
-// A cursor with all documents in its first batch.
-fn cursor_of(
-    alloc: Global,
-    namespace: &Text,
-    documents: &[Document],
-    time: Time,
-) -> Result<Document, Memory>
-    ensures { IfOk result (λ d. d ≡ cursor namespace.now documents.now time.0) }
-{
-    let mut shown = Document::new(alloc);
-    add(&mut shown, alloc, "id", Value::Int64(0))?;
-    add(&mut shown, alloc, "ns", Value::Text(namespace.copy()?))?;
-    add(
-        &mut shown,
-        alloc,
-        "firstBatch",
-        Value::Array(batch(alloc, documents)?),
-    )?;
-    add(&mut shown, alloc, "atClusterTime", Value::Timestamp(time.0))?;
-    Ok(shown)
-}
-
-/// The answer to a find: a cursor of the namespace with the documents, and the time that they were read at. Fails for want of
-/// memory.
-pub(crate) fn find_document(
-    alloc: Global,
-    namespace: &Text,
-    documents: &[Document],
-    time: Time,
-) -> Result<Document, Memory>
-    ensures { IfOk result (λ d. d ≡ model.find_document namespace.now documents.now time.0) }
-{
-    let cursor = cursor_of(alloc, namespace, documents, time)?;
-    let mut answer = Document::new(alloc);
-    add(&mut answer, alloc, "cursor", Value::Doc(cursor))?;
-    add_end(&mut answer, alloc, time)?;
-    Ok(answer)
 }

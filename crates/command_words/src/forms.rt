@@ -17,7 +17,7 @@ ghost use Rattle.command_words.specs.Verdicts.{ReadsBy, verdict_meant};
 
 use crate::checks::{string_needed, text_in};
 use crate::command::Command;
-use crate::refusal::CheckFault;
+use crate::fault::CheckFault;
 use bson_values::{Document, Value};
 use cluster_base::{Code, NameFault, Namespace, is_reserved_database};
 use opmsg_frames::{Form, Sequence};

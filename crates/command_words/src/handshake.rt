@@ -1,21 +1,17 @@
 //! The commands that look at `$db` and `helloOk` alone: `hello`, `isMaster`, `ping` and `endSessions` (MongoDB manual,
 //! "hello", "ping", "endSessions").
 
-ghost use Rattle.std.specs.Prelude.{◌≡◌, IfOk, IsTrue, None, true, codes};
-ghost use Rattle.bson_values.specs.Tree.{boolean_value, no_fields, field};
-ghost use Rattle.bson_values.specs.Names.{has_no_zero};
+ghost use Rattle.std.specs.Prelude.{◌≡◌, None};
 ghost use Rattle.bson_values.specs.View.{datum_of};
-ghost use Rattle.command_model.specs.Handshake.{done_document, handshake, handshake_rules, hello_document, hello_ok, legacy_document};
-ghost use Rattle.command_model.specs.Shown as shown;
+ghost use Rattle.command_model.specs.Handshake.{handshake_rules};
 ghost use Rattle.command_words.specs.Handshakes.{handshake_meant};
 
 use crate::checks::{boolean_needed, boolean_or, string_needed};
 use crate::command::Command;
+use crate::fault::CheckFault;
 use crate::forms::CommandForm;
-use crate::parts::{add, add_boolean, add_number, add_text};
-use crate::refusal::CheckFault;
 use crate::rules::{Rules, check_behind_own};
-use bson_values::{Document, Memory, Value};
+use bson_values::{Document, Value};
 use cluster_base::Code;
 use opmsg_frames::Sequence;
 use std::alloc::Global;
@@ -95,97 +91,4 @@ impl CommandForm for HandshakeForm {
             HandshakeForm::EndSessions => Ok(Command::EndSessions),
         }
     }
-}
-
-/// The greatest BSON document, in bytes.
-const MOST_DOCUMENT_BYTES: i32 = 16_777_216;
-
-/// The greatest message, in bytes.
-const MOST_MESSAGE_BYTES: i32 = 48_000_000;
-
-/// The most statements of one command.
-const MOST_STATEMENTS: i32 = 100_000;
-
-/// How long a session lives without a request.
-const SESSION_MINUTES: i32 = 30;
-
-/// The last version of the wire protocol that is spoken.
-const LAST_WIRE_VERSION: i32 = 17;
-
-// A moment as a date; the greatest date tells of those behind it too.
-fn moment_shown(moment: u64) -> Value
-    ensures { datum_of result ≡ shown.moment_shown moment }
-{
-    if moment < 1 << 63 {
-        Value::Date(moment as i64)
-    } else {
-        Value::Date(i64::MAX)
-    }
-}
-
-// A handshake, whose first field, which says that writes are taken, has that name.
-fn handshake_of(alloc: Global, writable: &str, moment: u64) -> Result<Document, Memory>
-    requires { IsTrue (has_no_zero writable.now) }
-    ensures { IfOk result (λ d. d ≡ field writable.now (boolean_value true) (handshake moment no_fields)) }
-{
-    let mut answer = Document::new(alloc);
-    add_boolean(&mut answer, alloc, writable, true)?;
-    add_text(&mut answer, alloc, "msg", "isdbgrid")?;
-    add_number(&mut answer, alloc, "maxBsonObjectSize", MOST_DOCUMENT_BYTES)?;
-    add_number(
-        &mut answer,
-        alloc,
-        "maxMessageSizeBytes",
-        MOST_MESSAGE_BYTES,
-    )?;
-    add_number(&mut answer, alloc, "maxWriteBatchSize", MOST_STATEMENTS)?;
-    add(&mut answer, alloc, "localTime", moment_shown(moment))?;
-    add_number(
-        &mut answer,
-        alloc,
-        "logicalSessionTimeoutMinutes",
-        SESSION_MINUTES,
-    )?;
-    add_number(&mut answer, alloc, "minWireVersion", 0)?;
-    add_number(&mut answer, alloc, "maxWireVersion", LAST_WIRE_VERSION)?;
-    add_boolean(&mut answer, alloc, "readOnly", false)?;
-    Ok(answer)
-}
-
-/// The answer to `hello` at a moment. Fails for want of memory.
-pub(crate) fn hello_answer(alloc: Global, moment: u64) -> Result<Document, Memory>
-    ensures { IfOk result (λ d. d ≡ hello_document moment) }
-{
-    let mut answer = handshake_of(alloc, "isWritablePrimary", moment)?;
-    add_number(&mut answer, alloc, "ok", 1)?;
-    Ok(answer)
-}
-
-// The handshake in the old words, and `helloOk`, if it is shown.
-fn old_handshake(alloc: Global, moment: u64, shown: bool) -> Result<Document, Memory>
-    ensures { IfOk result (λ d. d ≡ field (codes "ismaster") (boolean_value true) (handshake moment (hello_ok shown no_fields))) }
-{
-    let mut answer = handshake_of(alloc, "ismaster", moment)?;
-    if shown {
-        add_boolean(&mut answer, alloc, "helloOk", true)?;
-    }
-    Ok(answer)
-}
-
-/// The answer to `isMaster` at a moment. Fails for want of memory.
-pub(crate) fn legacy_answer(alloc: Global, moment: u64, shown: bool) -> Result<Document, Memory>
-    ensures { IfOk result (λ d. d ≡ legacy_document moment shown) }
-{
-    let mut answer = old_handshake(alloc, moment, shown)?;
-    add_number(&mut answer, alloc, "ok", 1)?;
-    Ok(answer)
-}
-
-/// The answer to `ping` and `endSessions`. Fails for want of memory.
-pub(crate) fn done_answer(alloc: Global) -> Result<Document, Memory>
-    ensures { IfOk result (λ d. d ≡ done_document) }
-{
-    let mut answer = Document::new(alloc);
-    add_number(&mut answer, alloc, "ok", 1)?;
-    Ok(answer)
 }

@@ -2,9 +2,7 @@
 
 ghost use Rattle.std.specs.Prelude.{◌≡◌, [], IfOk, None, Some, codes};
 ghost use Rattle.std.specs.Option.{is_some, option_map};
-ghost use Rattle.bson_values.specs.Tree.{no_fields, field};
 ghost use Rattle.command_model.specs.Errors.{bad_value, failed_to_parse};
-ghost use Rattle.command_model.specs.ReplyParts as replies;
 ghost use Rattle.command_model.specs.Keys.{is_key};
 ghost use Rattle.bson_values.specs.View.{datum_of, items_of};
 ghost use Rattle.opmsg_frames.specs.Lists.{pairs_of};
@@ -13,21 +11,17 @@ ghost use Rattle.command_model.specs.Command.{insert_command};
 ghost use Rattle.command_model.specs.Forms.{made_into};
 ghost use Rattle.command_model.specs.Insert as model;
 ghost use Rattle.command_model.specs.Insert.{insert_form, insert_rules};
-ghost use Rattle.command_model.specs.Shown as shown;
 ghost use Rattle.command_words.specs.Given.{NamesCollection};
-ghost use Rattle.command_words.specs.Refusals.{refusal_meant};
-ghost use Rattle.command_words.specs.Errors.{errors_meant};
 ghost use Rattle.command_words.specs.Verdicts.{verdict_meant};
 
-use crate::answer::{MOST_STATEMENTS, WriteError};
 use crate::checks::{boolean_needed, boolean_or, document_needed, unless_passes};
 use crate::command::Command;
+use crate::fault::CheckFault;
 use crate::forms::{CommandForm, collection_of};
-use crate::parts::{add, add_end, add_number, add_text};
-use crate::refusal::{CheckFault, add_evidence};
 use crate::rules::{Rules, check_behind_own, common_ruling};
-use bson_values::{Array, Document, Memory, Value};
-use cluster_base::{Code, Namespace, Time};
+use bson_values::{Document, Memory, Value};
+use cluster_base::{Code, Namespace};
+use command_answers::MOST_STATEMENTS;
 use opmsg_frames::Sequence;
 use std::alloc::Global;
 
@@ -273,67 +267,4 @@ impl CommandForm for InsertForm {
             ordered: boolean_or(true, document, "ordered"),
         }))
     }
-}
-
-// A count, in 64 bits where 32 do not hold it.
-fn count_shown(count: u32) -> Value
-    ensures { datum_of result ≡ shown.count count }
-{
-    if count < 1 << 31 {
-        Value::Int32(count as i32)
-    } else {
-        Value::Int64(i64::from(count))
-    }
-}
-
-// The document of one write error.
-fn write_error(alloc: Global, error: &WriteError) -> Result<Document, Memory>
-    ensures { IfOk result (λ d. d ≡ replies.write_error error.now.index (refusal_meant error.now.refusal)) }
-{
-    let code = error.refusal.code;
-    let mut document = Document::new(alloc);
-    add_number(&mut document, alloc, "index", error.index.number() as i32)?;
-    add_number(&mut document, alloc, "code", code.number())?;
-    add_text(&mut document, alloc, "errmsg", code.name())?;
-    add_evidence(&mut document, alloc, error.refusal.evidence)?;
-    Ok(document)
-}
-
-// The documents of all write errors.
-fn write_errors(alloc: Global, errors: &[WriteError]) -> Result<Array, Memory>
-    ensures { IfOk result (λ a. a ≡ model.write_error_items (errors_meant errors.now)) }
-{
-    let mut items = Array::new(alloc);
-    for error in errors {
-        items.push(Value::Doc(write_error(alloc, error)?))?;
-    }
-    Ok(items)
-}
-
-// What an insert's answer begins with: the count, and the errors, if any.
-fn inserted(alloc: Global, count: u32, errors: &[WriteError]) -> Result<Document, Memory>
-    ensures { IfOk result (λ d. d ≡ field (codes "n") (shown.count count) (model.write_errors_shown (errors_meant errors.now) no_fields)) }
-{
-    let mut answer = Document::new(alloc);
-    add(&mut answer, alloc, "n", count_shown(count))?;
-    if errors.is_empty() {
-        return Ok(answer);
-    }
-    let errors = write_errors(alloc, errors)?;
-    add(&mut answer, alloc, "writeErrors", Value::Array(errors))?;
-    Ok(answer)
-}
-
-/// The answer to an insert: how many documents were inserted, the errors, and the operation's time. Fails for want of memory.
-pub(crate) fn insert_document(
-    alloc: Global,
-    count: u32,
-    errors: &[WriteError],
-    time: Time,
-) -> Result<Document, Memory>
-    ensures { IfOk result (λ d. d ≡ model.insert_document count (errors_meant errors.now) time.0) }
-{
-    let mut answer = inserted(alloc, count, errors)?;
-    add_end(&mut answer, alloc, time)?;
-    Ok(answer)
 }

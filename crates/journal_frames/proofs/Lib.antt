@@ -9,3 +9,6 @@ pub mod Loads
 pub mod Unique
 pub mod Opened
 pub mod Worked
+pub mod Listed
+pub mod Appended
+pub mod Journals

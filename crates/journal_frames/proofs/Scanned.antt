@@ -17,6 +17,11 @@ pub fit_push : (records : List (List ℕ)) (bytes : List ℕ) → Fit records �
 fit_push [] bytes fits fit = (fit, tt)
 fit_push (r ∷ records) bytes fits fit = (fits.0, fit_push records bytes fits.1 fit)
 
+pub blocks-append : (records more : List (List ℕ)) (rest : List ℕ) → blocks (records ++ more) ++ rest ≡ blocks records ++ (blocks more ++ rest)
+blocks-append [] more rest = refl
+blocks-append (r ∷ records) more rest =
+    ap (λ (l : List ℕ). 1 ∷ l) (append_assoc (body r) (blocks (records ++ more)) rest ∙ ap (λ (l : List ℕ). body r ++ l) (blocks-append records more rest) ∙ sym (append_assoc (body r) (blocks records) (blocks more ++ rest)))
+
 pub begins : (file : List ℕ) → IsScanned file [] file
 begins file = record { split = refl; fits = tt; none = λ e. e }
 

@@ -1,7 +1,7 @@
 -- Which records stand in the file of a journal (own format). A record is a gate, its length in 8 bytes, little-endian,
 -- and its bytes; the gate of the next record follows. A gate is open where it is 01 and not the file's last byte.
-use Rattle.std.specs.Prelude.{◌≡◌, ◌≢◌, ◌⊎◌, ℕ, ◌<◌, ◌^◌, List, [], ◌∷◌, ◌++◌, length}
-use Rattle.std.specs.Int.{w64, to_le_bytes}
+use Rattle.std.specs.Prelude.{◌≡◌, ◌≢◌, ◌⊎◌, ℕ, zero, suc, ◌+◌, ◌<◌, ◌^◌, List, [], ◌∷◌, ◌++◌, length, take, drop}
+use Rattle.std.specs.Int.{w64, to_le_bytes, from_le_bytes}
 use Rattle.std.specs.List.{AllByRecursion}
 
 -- the length and the bytes of a record
@@ -49,9 +49,23 @@ pub record IsDamaged (file : List ℕ) (offset : ℕ) : Type 0 where
   pub no_record : ¬ BeginsRecord rest
   pub at : offset ≡ length (blocks records)
 
--- the file has just these records, with or without one more
-abbrev pub StandsWithOrWithout : List (List ℕ) → List ℕ → List ℕ → Type 0
-StandsWithOrWithout records bytes file = Stands file records ⊎ Stands file (records ++ bytes ∷ [])
+-- the file has just these records, or these with all that were to be appended
+abbrev pub StandsWithOrWithout : List (List ℕ) → (more : List (List ℕ)) → List ℕ → Type 0
+StandsWithOrWithout records more file = Stands file records ⊎ Stands file (records ++ more)
+
+-- the length that the bytes behind a gate state
+abbrev pub stated : List ℕ → ℕ
+stated rest = from_le_bytes w64 (take 8 rest)
+
+-- the first records of a file, at most n: those from the front whose gates are open
+unfoldable pub records_from : ℕ → List ℕ → List (List ℕ)
+records_from (suc n) (suc zero ∷ b ∷ rest) =
+    take (stated (b ∷ rest)) (drop 8 (b ∷ rest)) ∷ records_from n (drop (8 + stated (b ∷ rest)) (b ∷ rest))
+records_from n file = []
+
+-- the list of records that stands in a file, if there is one
+unfoldable pub records_in : List ℕ → List (List ℕ)
+records_in file = records_from (length file) file
 
 -- the same records stand in both files
 abbrev pub HaveSameRecords : List ℕ → List ℕ → Type 0

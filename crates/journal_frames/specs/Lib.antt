@@ -1,5 +1,5 @@
 pub mod Files
 pub mod Views
 pub mod Scan
-pub mod Loading
+pub mod LoadFaults
 pub mod Openings

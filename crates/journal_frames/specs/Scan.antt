@@ -1,10 +1,10 @@
 -- What a look at the bytes from a gate on tells.
 use Rattle.std.specs.Prelude.{◌≡◌, ◌⊎◌, ℕ, ◌<◌, ◌^◌, List, [], ◌∷◌, ◌++◌, length}
 use Rattle.journal_frames.specs.Files.{BeginsRecord, IsDamaged, IsShut, body}
-use Rattle.journal_frames.specs.declared.scanning.Next.{Next}
-use Rattle.journal_frames.specs.declared.scanning.ScanFault.{ScanFault}
-use Rattle.journal_frames.specs.declared.scanning.ScanFault.TheVariants as faults
-use Rattle.journal_frames.specs.declared.scanning.Next.TheVariants.{Shut, Whole, Damage}
+use Rattle.journal_frames.specs.declared.records.Next.{Next}
+use Rattle.journal_frames.specs.declared.records.ScanFault.{ScanFault}
+use Rattle.journal_frames.specs.declared.records.ScanFault.TheVariants as faults
+use Rattle.journal_frames.specs.declared.records.Next.TheVariants.{Shut, Whole, Damage}
 
 -- an open gate with no record behind it
 pub record IsBroken (file : List ℕ) : Type 0 where

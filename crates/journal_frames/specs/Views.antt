@@ -1,10 +1,10 @@
 -- What contracts see of a journal.
-use Rattle.std.specs.Prelude.{◌≡◌, ℕ, ◌<◌, ◌^◌, List, [], ◌∷◌, ◌++◌, length, Bool, IsTrue, refl}
+use Rattle.std.specs.Prelude.{◌≡◌, ℕ, List, [], ◌∷◌, ◌++◌, length, Bool, IsTrue, refl}
 use Rattle.std.specs.Coded.{Coded, code_by, coded×, coded_list, coded_ℕ, coded_bool}
 use Rattle.outside.specs.Disks.{LeavesOnly, Only, Outcomes, Within}
-use Rattle.journal_frames.specs.Files.{Fit, Stands, blocks, body}
+use Rattle.journal_frames.specs.Files.{Fit, Stands, blocks}
 
--- a disk with the records that stand on it, and whether more can be appended
+-- a disk with the records that stand on it, where it tells its file, and whether more can be appended
 pub record JournalView (D : Type 0) : Type 0 where
   pub disk : D
   pub records : List (List ℕ)
@@ -27,11 +27,11 @@ pub record IsAtRest (tells : Bool) (content : List ℕ) (may_leave : Outcomes) (
   pub file : IsTrue tells → content ≡ at_rest records
   pub durable : IsTrue tells → Only (at_rest records) may_leave
 
--- A record can be put behind those that stand: the piece is its length, its bytes and a closed gate.
-pub record IsReady (tells : Bool) (content : List ℕ) (may_leave : Outcomes) (records : List (List ℕ)) (end : ℕ) (bytes piece : List ℕ) : Type 0 where
+-- Records can be put behind those that stand: the piece is theirs but for the first gate, and a closed gate behind.
+pub record IsReady (tells : Bool) (content : List ℕ) (may_leave : Outcomes) (records : List (List ℕ)) (end : ℕ) (more : List (List ℕ)) (piece : List ℕ) : Type 0 where
   pub rest : IsAtRest tells content may_leave records end
-  pub fits : length bytes < 2 ^ 64
-  pub piece_is : piece ≡ body bytes ++ 0 ∷ []
+  pub fits : Fit more
+  pub piece_is : 1 ∷ piece ≡ at_rest more
 
 -- These records were found in the file, all of which is on the disk, and `end` is the offset of the first gate that is not
 -- open.

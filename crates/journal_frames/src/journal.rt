@@ -5,11 +5,11 @@ ghost use Rattle.outside.specs.Disks.{LeavesOnly};
 ghost use Rattle.outside.specs.Logs.{ByFault, WithOrWithout};
 ghost use Rattle.journal_frames.specs.Files.{HaveSameRecords, IsDamaged, Stands, StandsWithOrWithout, body};
 ghost use Rattle.journal_frames.specs.Openings.{IfDamaged, IfDiskFailed, UnlessDiskFailed, disk_left};
-ghost use Rattle.journal_frames.specs.Views.{IsAtRest, IsFound};
+ghost use Rattle.journal_frames.specs.Views.{IsAtRest, IsFound, at_rest};
 
-use crate::loading::{LoadFault, load};
-use crate::putting::{close_end, put_record, write_first_gate};
-use crate::scanning::{ScanFault, scan};
+use crate::file::{LoadFault, load};
+use crate::gates::{close_end, put_records, write_first_gate};
+use crate::records::{ScanFault, scan};
 use bson_values::{Blob, Memory};
 use byteorder::{ByteOrder, LittleEndian};
 use outside::disk::Disk;
@@ -21,18 +21,18 @@ use std::marker::Model;
 // A journal of more bytes is not written.
 const MOST_BYTES: u64 = 1 << 63;
 
-/// The records that stand on a disk, to which more can be appended.
+/// A disk with the records that stand on it, to which more can be appended. It keeps none of them in memory.
 #[derive(Drop)]
 pub struct Journal<D: Disk> {
     alloc: Global,
     disk: D,
-    records: RecordList,
     // The offset of the closed gate behind the records.
     end: u64,
     is_open: bool,
 }
 
 impl<D: Disk> Model for Journal<D> {
+    ghost use Rattle.journal_frames.specs.Files.{records_in};
     ghost use Rattle.journal_frames.specs.Views.{IsAtRest, JournalView, journal_code};
     ghost use Rattle.std.specs.Prelude.{IsTrue};
 
@@ -40,9 +40,10 @@ impl<D: Disk> Model for Journal<D> {
 
     ghost coded = { journal_code D.code };
 
-    ghost view = { λ j. record { disk = j.disk; records = j.records; is_open = j.is_open } };
+    ghost view = { λ j. record { disk = j.disk; records = records_in (D.content j.disk); is_open = j.is_open } };
 
-    ghost invariant = { λ j. IsTrue j.is_open → IsAtRest D.tells (D.content j.disk) (D.may_leave j.disk) j.records j.end };
+    ghost invariant = { λ j. IsTrue j.is_open → IsTrue D.tells →
+        IsAtRest D.tells (D.content j.disk) (D.may_leave j.disk) (records_in (D.content j.disk)) j.end };
 }
 
 /// Why a journal was not opened. Each hands the disk back, whose records stand as before.
@@ -56,17 +57,28 @@ pub enum OpenFault<D: Disk> {
     Memory(D),
 }
 
-/// The bytes that are put behind the gate of a record: its length, its bytes and the closed gate of the next.
-fn piece_of(alloc: Global, bytes: &[u8]) -> Result<Vec<u8>, Memory>
-    ensures { IfOk result (λ piece. piece.items ≡ body bytes.now ++ 0 ∷ []) }
+/// Puts a record with an open gate behind others.
+fn push_block(blocks: &mut Vec<u8>, bytes: &[u8]) -> Result<(), Memory>
+    ensures { OnOk result (blocks.new.items ≡ blocks.old.items ++ 1 ∷ body bytes.now) }
 {
     let mut length = [0; 8];
     LittleEndian::write_u64(&mut length, bytes.len() as u64);
-    let mut piece = Vec::new(alloc);
-    piece.extend_from_slice(&length)?;
-    piece.extend_from_slice(bytes)?;
-    piece.push(0)?;
-    Ok(piece)
+    blocks.push(1)?;
+    blocks.extend_from_slice(&length)?;
+    blocks.extend_from_slice(bytes)?;
+    Ok(())
+}
+
+/// The bytes of records with open gates, and a closed gate behind them.
+fn blocks_of(alloc: Global, bodies: &[Blob]) -> Result<Vec<u8>, Memory>
+    ensures { IfOk result (λ blocks. blocks.items ≡ at_rest bodies.now) }
+{
+    let mut blocks = Vec::new(alloc);
+    for bytes in bodies {
+        push_block(&mut blocks, bytes.as_slice())?;
+    }
+    blocks.push(0)?;
+    Ok(blocks)
 }
 
 /// Closes the gate behind the records that were found in a file of `len` bytes, and leaves nothing behind it.
@@ -104,18 +116,18 @@ fn settle<D: Disk>(disk: &mut D, len: usize, end: usize) -> Result<(), Failed>
 impl<D: Disk> Journal<D> {
     /// Opens the journal on a disk: the records are those from the front of its file whose gates are open. The disk is
     /// synced, asked for its length and read; then an empty file gets a closed gate, and another one is cut behind the
-    /// first gate that is not open, which is then closed, each step synced.
+    /// first gate that is not open, which is then closed, each step synced. The records are handed out beside the journal.
     ///
     /// # Errors
     /// - `OpenFault::Disk` only if the disk met a fault. With each other answer it met none.
     /// - `OpenFault::Damaged` if an open gate stands before bytes that are no whole record, unless the disk met a fault or memory
     ///   was wanted before that was seen, and only if such a gate stands there; the file is as before.
     /// - `OpenFault::Memory` for want of memory.
-    pub fn open(alloc: Global, disk: D) -> Result<Journal<D>, OpenFault<D>>
-        ensures found { IfOk result (λ journal. IsTrue D.tells → Stands (D.content disk) journal.records) }
-        ensures open { IfOk result (λ journal. IsTrue journal.is_open) }
-        ensures kept { IfOk result (λ journal. IsTrue D.tells →
-            (c : List ℕ) → D.may_leave journal.disk c → Stands c journal.records) }
+    pub fn open(alloc: Global, disk: D) -> Result<(Journal<D>, RecordList), OpenFault<D>>
+        ensures found { IfOk result (λ x. IsTrue D.tells → Stands (D.content disk) x.1) }
+        ensures list { IfOk result (λ x. IsTrue D.tells → x.0.records ≡ x.1) }
+        ensures open { IfOk result (λ x. IsTrue x.0.is_open) }
+        ensures kept { IfOk result (λ x. IsTrue D.tells → (c : List ℕ) → D.may_leave x.0.disk c → Stands c x.1) }
         ensures damaged { IfDamaged result (λ offset. IsTrue D.tells →
             IsDamaged (D.content disk) offset × (D.content (disk_left result) ≡ D.content disk)) }
         ensures only { (offset : ℕ) → IsTrue D.tells → IsDamaged (D.content disk) offset → IsErr result }
@@ -148,22 +160,17 @@ impl<D: Disk> Journal<D> {
             Err(ScanFault::Memory) => return Err(OpenFault::Memory(disk)),
         };
         match settle(&mut disk, file.len(), end) {
-            Ok(()) => Ok(Journal {
-                alloc,
-                disk,
-                records,
-                end: end as u64,
-                is_open: true,
-            }),
+            Ok(()) => {
+                let journal = Journal {
+                    alloc,
+                    disk,
+                    end: end as u64,
+                    is_open: true,
+                };
+                Ok((journal, records))
+            }
             Err(Failed) => Err(OpenFault::Disk(disk)),
         }
-    }
-
-    /// The records, in order.
-    pub fn records(&self) -> &RecordList
-        ensures { result.now ≡ self.now.records }
-    {
-        &self.records
     }
 
     /// The disk.
@@ -175,24 +182,32 @@ impl<D: Disk> Journal<D> {
 }
 
 impl<D: Disk> Log for Journal<D> {
+    ghost tells = { D.tells };
+
     ghost records = { λ j. j.records };
 
     ghost is_open = { λ j. j.is_open };
 
     ghost holds = { λ j records. IsTrue D.tells → Stands (D.content j.disk) records };
 
+    ghost finds = { λ file records. Stands file records };
+
+    ghost moment = { λ j. D.moment j.disk };
+
+    ghost left_since = { λ j t file. D.left_since j.disk t file };
+
     ghost fault_count = { λ j. D.fault_count j.disk };
 
     ghost place = { λ j. D.place j.disk };
 
-    /// Appends a record: its piece is written behind the closed gate and synced, and then the gate is opened and synced.
+    /// Appends a record, as `append_all` does.
     fn append(&mut self, bytes: &[u8]) -> Result<(), LogFault>
         requires { IsTrue self.old.is_open }
-        ensures appended { OnOk result (self.new.records ≡ self.old.records ++ bytes.now ∷ []) }
+        ensures appended { OnOk result (IsTrue D.tells → self.new.records ≡ self.old.records ++ bytes.now ∷ []) }
         ensures open { OnOk result (IsTrue self.new.is_open) }
         ensures kept { OnOk result (IsTrue D.tells → Stands (D.content self.new.disk) self.new.records) }
         ensures failed { IfErr result (λ e. ByFault e
-            (λ faults. WithOrWithout (λ records. IsTrue D.tells → Stands (D.content self.new.disk) records) self.old.records bytes.now)
+            (λ faults. WithOrWithout (λ records. IsTrue D.tells → Stands (D.content self.new.disk) records) self.old.records (bytes.now ∷ []))
             (self.new ≡ self.old)) }
         ensures cause { IfErr result (λ e. ByFault e
             (λ faults. (faults ≡ D.fault_count self.new.disk)
@@ -206,36 +221,66 @@ impl<D: Disk> Log for Journal<D> {
         // one or without.
         ensures durable { OnOk result (IsTrue D.tells →
             (c : List ℕ) → D.may_leave self.new.disk c → Stands c self.new.records) }
-        ensures any_moment { IsTrue D.tells → LeavesOnly D.moment D.left_since self.old.disk self.new.disk
-            (StandsWithOrWithout self.old.records bytes.now) }
+        ensures any_moment { IsTrue D.tells → LeavesOnly (λ j. D.moment j.disk) (λ j t file. D.left_since j.disk t file) self.old self.new
+            (λ file. WithOrWithout (λ records. Stands file records) self.old.records (bytes.now ∷ [])) }
     {
-        let Ok(piece) = piece_of(self.alloc, bytes) else {
+        let Ok(body) = Blob::of(self.alloc, bytes) else {
             return Err(LogFault::Memory);
         };
-        let Ok(record) = Blob::of(self.alloc, bytes) else {
+        match self.append_all(&[body]) {
+            Ok(()) => Ok(()),
+            Err(e) => Err(e),
+        }
+    }
+
+    /// Appends records, in order, all at once: they are written behind the closed gate, all their gates but the first open, and
+    /// synced; and then the first gate is opened and synced. Where there is none to append the disk is left alone.
+    fn append_all(&mut self, bodies: &[Blob]) -> Result<(), LogFault>
+        requires { IsTrue self.old.is_open }
+        ensures appended { OnOk result (IsTrue D.tells → self.new.records ≡ self.old.records ++ bodies.now) }
+        ensures nothing { bodies.now ≡ [] → self.new ≡ self.old }
+        ensures open { OnOk result (IsTrue self.new.is_open) }
+        ensures kept { OnOk result (IsTrue D.tells → Stands (D.content self.new.disk) self.new.records) }
+        ensures failed { IfErr result (λ e. ByFault e
+            (λ faults. WithOrWithout (λ records. IsTrue D.tells → Stands (D.content self.new.disk) records) self.old.records bodies.now)
+            (self.new ≡ self.old)) }
+        ensures cause { IfErr result (λ e. ByFault e
+            (λ faults. (faults ≡ D.fault_count self.new.disk)
+            × Rose (D.fault_count self.old.disk) (D.fault_count self.new.disk))
+            (Unit {0})) }
+        ensures calm { OnOk result (D.fault_count self.new.disk ≡ D.fault_count self.old.disk) }
+        ensures later { D.fault_count self.old.disk ≤ D.fault_count self.new.disk }
+        ensures place { D.place self.new.disk ≡ D.place self.old.disk }
+
+        // After it every crash leaves all records, and a crash at any moment of it left the earlier ones, with all of the
+        // new ones or without.
+        ensures durable { OnOk result (IsTrue D.tells →
+            (c : List ℕ) → D.may_leave self.new.disk c → Stands c self.new.records) }
+        ensures any_moment { IsTrue D.tells → LeavesOnly (λ j. D.moment j.disk) (λ j t file. D.left_since j.disk t file) self.old self.new
+            (λ file. WithOrWithout (λ records. Stands file records) self.old.records bodies.now) }
+    {
+        let at = self.end;
+        if bodies.is_empty() {
+            return Ok(());
+        }
+        let Ok(blocks) = blocks_of(self.alloc, bodies) else {
             return Err(LogFault::Memory);
         };
-        let end = self.end.saturating_add(piece.len() as u64);
+        let piece = &blocks[1..];
+        let end = at.saturating_add(piece.len() as u64);
         if end >= MOST_BYTES {
             return Err(LogFault::Memory);
         }
-        let count = self.records.as_slice().len();
-        let Ok(()) = self.records.push(record) else {
-            return Err(LogFault::Memory);
-        };
         self.is_open = false;
-        match put_record(&mut self.disk, self.end, &piece) {
+        match put_records(&mut self.disk, at, piece) {
             Ok(()) => {
                 self.end = end;
                 self.is_open = true;
                 Ok(())
             }
-            Err(Failed) => {
-                self.records.truncate(count);
-                Err(LogFault::Disk {
-                    faults: self.disk.faults(),
-                })
-            }
+            Err(Failed) => Err(LogFault::Disk {
+                faults: self.disk.faults(),
+            }),
         }
     }
 }

@@ -1,11 +1,12 @@
 //! The laws of the format.
 ghost use Rattle.std.specs.Prelude.{◌≡◌, ℕ, ◌++◌, ◌∷◌, [], List};
-ghost use Rattle.journal_frames.specs.Files.{Fit, IsDamaged, Stands, blocks, body};
+ghost use Rattle.journal_frames.specs.Files.{IsDamaged, Stands, records_in};
 
 /// A file has one reading: one list of records, or damage at one offset, and not both.
 pub fn one_reading()
     ensures records { (file : List ℕ) (records others : List (List ℕ)) → Stands file records → Stands file others → records ≡ others }
     ensures damage { (file : List ℕ) (offset other : ℕ) → IsDamaged file offset → IsDamaged file other → offset ≡ other }
+    ensures list { (file : List ℕ) (records : List (List ℕ)) → Stands file records → records_in file ≡ records }
     ensures apart { (file : List ℕ) (records : List (List ℕ)) (offset : ℕ) → Stands file records → IsDamaged file offset → ⊥ }
 {}
 

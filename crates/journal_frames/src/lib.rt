@@ -2,11 +2,11 @@
 //! newest. A record is a gate, its length and its bytes; the gate is opened once the rest is on the disk.
 #![tactic(auto)]
 
+mod changes;
+mod file;
+mod gates;
 mod journal;
 pub mod laws;
-mod loading;
-mod putting;
-mod scanning;
-mod synced;
+mod records;
 
 pub use journal::{Journal, OpenFault};

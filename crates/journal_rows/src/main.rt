@@ -32,7 +32,7 @@ fn damage_at(offset: u64, stayed: bool) -> Found {
 fn found_in(alloc: Global, file: &[u8]) -> Result<Found, AllocError> {
     let disk = MemDisk::new(Vec::from_slice(alloc, file)?, Vec::new(alloc));
     match Journal::open(alloc, disk) {
-        Ok(journal) => Ok(Found::Records(journal.records().as_slice().len())),
+        Ok((_, records)) => Ok(Found::Records(records.as_slice().len())),
         Err(OpenFault::Damaged { place, disk }) => Ok(damage_at(place, disk.bytes() == file)),
         Err(OpenFault::Disk(_) | OpenFault::Memory(_)) => Ok(Found::Neither),
     }

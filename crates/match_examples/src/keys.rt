@@ -1,12 +1,12 @@
 //! The keys that filters ask for.
 
-use crate::reading::filter_of;
+use crate::documents::filter_of;
 use bson_values::Value;
 use fixtures::{RowFault, Rows, field, spelled_value};
 use match_expr::{Expr, key_equal, key_span};
 use std::alloc::Global;
 use std::cmp::Ordering;
-use value_compare::{Key, Span, compare, inside};
+use value_compare::{Span, compare, inside};
 
 /// `FILTER | KEY`, or `none` in place of the key.
 #[derive(Drop)]
@@ -18,18 +18,20 @@ impl Rows for Keys {
         let filter = filter_of(alloc, words)?;
         let span = key_span(alloc, &filter)?;
         if wanted == "none" {
-            let key = key_of(spelled_value(alloc, "07000000000000000000000000")?)?;
-            return Ok(key_equal(&filter).is_none() && inside(&span, &key));
+            let has_zeros = has_zeros(alloc, &span)?;
+            return Ok(key_equal(&filter).is_none() && has_zeros);
         }
         let value = spelled_value(alloc, wanted)?;
-        Ok(is_key(&filter, &value) && is_point(&span, value)?)
+        Ok(is_key(&filter, &value) && is_point(&span, &value))
     }
 }
 
-fn key_of(value: Value) -> Result<Key, RowFault> {
-    match Key::of(value) {
-        Ok(key) => Ok(key),
-        Err(_value) => Err(RowFault::Form),
+// Whether the span has the ObjectId of zeros, a key that no other filter asks for.
+fn has_zeros(alloc: Global, span: &Span) -> Result<bool, RowFault> {
+    let filter = filter_of(alloc, "16000000075f696400 00*12 00")?;
+    match key_equal(&filter) {
+        Some(key) => Ok(inside(span, key)),
+        None => Err(RowFault::Form),
     }
 }
 
@@ -42,10 +44,9 @@ fn is_key(filter: &Expr, value: &Value) -> bool {
 }
 
 // Whether the span is this key alone.
-fn is_point(span: &Span, value: Value) -> Result<bool, RowFault> {
-    let key = key_of(value)?;
+fn is_point(span: &Span, value: &Value) -> bool {
     match span {
-        Span::Point(point) => Ok(*point == key),
-        Span::Range(_range) => Ok(false),
+        Span::Point(point) => compare(point.value(), value) == Ordering::Equal,
+        Span::Range(_range) => false,
     }
 }

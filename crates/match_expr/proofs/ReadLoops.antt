@@ -36,7 +36,7 @@ passes_on faults.Memory r s on h = tt
 next_field : (ms : List Field) (i : ℕ) (m : Field) → i < length ms → m ≡ get_or ms i m → drop i ms ≡ m ∷ drop (i + 1) ms
 next_field ms i m less is = rw add-one (drop-cons ms i m less ∙ ap (λ (x : Field). x ∷ drop (suc i) ms) (sym is))
 
-next_value : (vs : List Value) (i : ℕ) (v : Value) → i < length vs → v ≡ get_or vs i v → drop i vs ≡ v ∷ drop (i + 1) vs
+pub next_value : (vs : List Value) (i : ℕ) (v : Value) → i < length vs → v ≡ get_or vs i v → drop i vs ≡ v ∷ drop (i + 1) vs
 next_value vs i v less is = rw add-one (drop-cons vs i v less ∙ ap (λ (x : Value). x ∷ drop (suc i) vs) (sym is))
 
 -- what was read before, and what is still read

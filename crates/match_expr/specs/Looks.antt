@@ -4,10 +4,10 @@ use Rattle.std.specs.List.{list_any}
 use Rattle.std.specs.declared.cmp.Ordering.{Ordering}
 use Rattle.std.specs.Ordering.{is_lt, is_le, is_gt, is_ge}
 use Rattle.bson_values.specs.View.{datum_of}
-use Rattle.bson_values.specs.Tree.{Datum}
-use Rattle.value_compare.specs.Order.{class_of, order}
+use Rattle.bson_values.specs.Tree.{Datum, Items}
+use Rattle.value_compare.specs.Order.{class_of, order, same_value}
 use Rattle.query_model.specs.Holds.{Found, found_at, alone, is_end}
-use Rattle.query_model.specs.Paths.{elements_of}
+use Rattle.query_model.specs.Paths.{elements, elements_of}
 use Rattle.match_expr.specs.declared.tests.Place.{Place}
 use Rattle.match_expr.specs.declared.tests.Place.TheVariants.{At, Alone}
 use Rattle.match_expr.specs.declared.tests.Comparison.{Comparison}
@@ -26,6 +26,10 @@ passes LessOrEqual = is_le
 -- a value of the operand's class that compares so with it
 abbrev pub is_ordered : Comparison → Datum → Datum → Bool
 is_ordered comparison x d = (is_end x || class_of d == class_of x) && passes comparison (order d x)
+
+-- a value that equals one of the operands
+abbrev pub is_listed : Items → Datum → Bool
+is_listed xs d = list_any (λ x. same_value x d) (elements xs)
 
 -- a value, or an element of it, that passes
 abbrev pub with_elements : (Datum → Bool) → Datum → Bool

@@ -1,19 +1,21 @@
 //! Filters.
 
 ghost use Rattle.std.specs.Prelude.{◌≡◌, IfErr, IfOk, Ok, option_map};
+ghost use Rattle.bson_values.specs.View.{datum_of};
 ghost use Rattle.query_model.specs.Holds.{holds};
 ghost use Rattle.query_model.specs.KeySpans as asked;
-ghost use Rattle.query_model.specs.KeySpans.{key_equal};
+ghost use Rattle.query_model.specs.KeySpans.{key_asked, key_equal};
 ghost use Rattle.query_model.specs.Reading.{read_query};
 ghost use Rattle.value_compare.specs.Spans.{span_of};
 ghost use Rattle.value_compare.specs.Keys.{range_span};
 ghost use Rattle.match_expr.specs.ReadFaults.{Fails};
 
-use crate::holding::query_holds;
-use crate::keys::{as_key, key_asked};
-use crate::parsing::parse_within;
+use crate::keys;
+use crate::keys::as_key;
+use crate::matcher::query_holds;
+use crate::parser::parse_within;
 use crate::tree::Clauses;
-use bson_values::{Document, Memory};
+use bson_values::{Document, Memory, Value};
 use field_paths::ParseFault;
 use std::alloc::Global;
 use std::marker::Model;
@@ -64,7 +66,7 @@ impl Expr {
 fn key_of(query: &Clauses) -> Result<Option<Key>, Memory>
     ensures { IfOk result (λ k. k ≡ key_equal query.now) }
 {
-    match key_asked(query) {
+    match keys::key_asked(query) {
         Some(value) => as_key(value),
         None => Ok(None),
     }
@@ -75,6 +77,13 @@ pub fn holds(e: &Expr, document: &Document) -> bool
     ensures { result ≡ holds e.now document.now }
 {
     query_holds(&e.query, document)
+}
+
+/// The operand of the first equality on `_id` at the top, whether it may be a key or not.
+pub fn key_asked(e: &Expr) -> Option<&Value>
+    ensures { option_map (λ v. datum_of v.now) result ≡ key_asked e.now }
+{
+    keys::key_asked(&e.query)
 }
 
 /// The key that the first equality on `_id` at the top asks for; none where its value is no key.

@@ -1,12 +1,15 @@
 //! Filters: which documents they hold of (MongoDB manual, "Query and Projection Operators").
 #![tactic(auto)]
 
+mod document_keys;
 mod expr;
-mod holding;
 mod keys;
+mod matcher;
+mod operand_list;
 mod operators;
-mod parsing;
+mod parser;
 mod tests;
 mod tree;
 
-pub use expr::{Expr, MOST_LEVELS, holds, key_equal, key_span};
+pub use document_keys::key_asked_in;
+pub use expr::{Expr, MOST_LEVELS, holds, key_asked, key_equal, key_span};

@@ -11,9 +11,11 @@ ghost use Rattle.match_expr.specs.OperatorNames.{operator_of, plain_of};
 ghost use Rattle.match_expr.specs.ReadFaults.{Gives};
 ghost use Rattle.match_expr.specs.View.{connective_of, test_of};
 
+use crate::operand_list::OperandList;
 use crate::tree::{Connective, Test};
 use bson_values::{Array, Document, Value};
 use field_paths::ParseFault;
+use std::alloc::Global;
 
 /// An operator whose operand holds no queries and no tests.
 #[derive(Clone, Copy)]
@@ -147,7 +149,7 @@ pub fn some_documents(value: &Value) -> Option<&Array>
 
 /// The test by an operator that holds no queries and no tests. Fails with `BadOperand` where it takes no such operand, and for want
 /// of memory.
-pub fn plain_test(operator: Plain, value: &Value) -> Result<Test, ParseFault>
+pub fn plain_test(alloc: Global, operator: Plain, value: &Value) -> Result<Test, ParseFault>
     ensures gives { (inner : Fields → Result Query QueryFault) (tests : Fields → Result queries.Tests QueryFault) →
         Gives test_of result (read_test inner tests (plain_of operator) (datum_of value.now)) }
 {
@@ -159,11 +161,11 @@ pub fn plain_test(operator: Plain, value: &Value) -> Result<Test, ParseFault>
         Plain::Lt => Ok(Test::Lt(value.copy()?)),
         Plain::Lte => Ok(Test::Lte(value.copy()?)),
         Plain::In => match value {
-            Value::Array(array) => Ok(Test::In(array.copy()?)),
+            Value::Array(array) => Ok(Test::In(OperandList::of(alloc, array)?)),
             _ => Err(ParseFault::BadOperand),
         },
         Plain::Nin => match value {
-            Value::Array(array) => Ok(Test::Nin(array.copy()?)),
+            Value::Array(array) => Ok(Test::Nin(OperandList::of(alloc, array)?)),
             _ => Err(ParseFault::BadOperand),
         },
         Plain::All => match value {

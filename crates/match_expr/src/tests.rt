@@ -3,12 +3,14 @@
 ghost use Rattle.std.specs.Prelude.{◌≡◌, ◌||◌, ◌&&◌, length, if◌then◌else◌, nat_lt, not, pos, true};
 ghost use Rattle.std.specs.Ordering.{int_eq};
 ghost use Rattle.std.specs.List.{list_all, list_any};
+ghost use Rattle.bson_values.specs.Tree.{null_value};
 ghost use Rattle.bson_values.specs.View.{datum_of};
 ghost use Rattle.query_model.specs.Holds.{compares, has_size, is_end, is_equal, is_there, null_in_gap};
 ghost use Rattle.query_model.specs.Paths.{elements};
 ghost use Rattle.value_compare.specs.Order.{same_value};
-ghost use Rattle.match_expr.specs.Looks.{found_of, is_ordered, passes, with_elements};
+ghost use Rattle.match_expr.specs.Looks.{found_of, is_listed, is_ordered, passes, with_elements};
 
+use crate::operand_list::OperandList;
 use bson_values::{Array, Document, Value};
 use field_paths::{Path, Visitor, any_at, gap_at};
 use std::cmp::Ordering;
@@ -200,16 +202,59 @@ pub fn compares_or_null(comparison: Comparison, operand: &Value, place: &Place) 
     compares(comparison, operand, place) || null_in_gap(operand, place)
 }
 
-/// Whether what is there equals one of the values.
-pub fn equals_one(operands: &Array, place: &Place) -> bool
-    ensures { result ≡ list_any (λ x. is_equal x (found_of place.now)) (elements operands.now) }
+// Whether an element equals one of the operands.
+fn has_listed(operands: &OperandList, array: &Array) -> bool
+    ensures { result ≡ list_any (is_listed operands.now) (elements array.now) }
 {
-    for operand in operands.values() {
-        if is_equal(operand, place) {
+    for value in array.values() {
+        if operands.contains(value) {
             return true;
         }
     }
     false
+}
+
+// Whether a value, or an element of it, equals one of the operands.
+#[derive(Drop)]
+struct Listed<'a> {
+    operands: &'a OperandList,
+}
+
+impl<'a> Visitor for Listed<'a> {
+    ghost accepts = { λ s d. with_elements (is_listed s.operands.now) d };
+
+    fn meets(&self, value: &Value) -> bool {
+        self.operands.contains(value)
+            || match value {
+                Value::Array(array) => has_listed(self.operands, array),
+                _ => false,
+            }
+    }
+}
+
+// Whether a candidate equals one of the operands.
+#[tactic(auto, using(crate::proofs::Candidates::at_path, crate::proofs::Candidates::or_false))]
+fn any_listed(operands: &OperandList, place: &Place) -> bool
+    ensures { result ≡ list_any (is_listed operands.now) (found_of place.now).candidates }
+{
+    match place {
+        Place::At { path, document } => any_at(path, document, &Listed { operands }),
+        Place::Alone(value) => operands.contains(value),
+    }
+}
+
+// Whether null is one of the operands and there is a gap.
+fn null_listed_in_gap(operands: &OperandList, place: &Place) -> bool
+    ensures { result ≡ (is_listed operands.now null_value && (found_of place.now).gap) }
+{
+    operands.contains(&Value::Null) && has_gap(place)
+}
+
+/// Whether what is there equals one of the values. Each candidate is looked for among them by halving.
+pub fn equals_one(operands: &OperandList, place: &Place) -> bool
+    ensures { result ≡ list_any (λ x. is_equal x (found_of place.now)) (elements operands.now) }
+{
+    any_listed(operands, place) || null_listed_in_gap(operands, place)
 }
 
 /// Whether what is there equals each of the values, of which there is one at least.

@@ -5,6 +5,7 @@ ghost use Rattle.query_model.specs.Queries.{no_clauses, no_queries, no_tests};
 ghost use Rattle.match_expr.specs.Sizes.{clause_size, queries_size, query_size, test_size, tests_size};
 ghost use Rattle.match_expr.specs.View.{clause_of, queries_before, query_before, test_of, tests_before};
 
+use crate::operand_list::OperandList;
 use bson_values::{Array, Value};
 use field_paths::Path;
 use std::marker::Model;
@@ -64,8 +65,8 @@ pub enum Test {
     Gte(Value),
     Lt(Value),
     Lte(Value),
-    In(Array),
-    Nin(Array),
+    In(OperandList),
+    Nin(OperandList),
     All(Array),
     Size(i64),
     Exists(bool),

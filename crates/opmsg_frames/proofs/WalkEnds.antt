@@ -4,10 +4,10 @@ use Rattle.opmsg_model.specs.Tree.{Fields}
 use Rattle.opmsg_model.specs.Faults.{Fault, ends_at, first_step, walks_to_end, HasFirstFault}
 use Rattle.bson_values.specs.declared.fault.BsonFault.{BsonFault}
 use Rattle.bson_values.specs.declared.fault.BsonFault.TheVariants.{Short, BadLength, BadType, BadText, BadBool, Deep, Trailing, Memory}
-use Rattle.bson_values.specs.Reading.{whole_at}
+use Rattle.bson_values.specs.Readers.{whole_at}
 use Rattle.bson_values.proofs.FirstFault.{is_first}
 use Rattle.bson_values.proofs.WalkedValues.{whole_goes}
-use Rattle.bson_values.proofs.Walking.{Goes}
+use Rattle.bson_values.proofs.ReaderWalks.{Goes}
 use Rattle.bson_values.proofs.Whole.{whole_takes}
 use Rattle.opmsg_model.specs.Sections.{IsStated}
 use Rattle.opmsg_model.specs.Requests.{IsReadable}

@@ -1,12 +1,14 @@
 -- What the outline of a whole message says.
 use Rattle.std.proofs.Common.{◌≡◌, ℕ, ◌+◌, ◌-◌, ◌++◌, ◌≤◌, ◌⊎◌, inl, inr, Bool, true, false, Option, Some, None, List, length, take, drop, refl, sym, ap, ◌∙◌, arith}
-use Rattle.std.specs.Prelude.{◌||◌, ◌==◌, ◌^◌, nat_lt, nat_le, if◌then◌else◌}
+use Rattle.std.specs.Prelude.{◌||◌, ◌==◌, ◌^◌, nat_lt, nat_le, if◌then◌else◌, Result, Ok, Err, IfOk}
 use Rattle.std.proofs.lemmas.Bool.Decides.{nat_tests}
 use Rattle.opmsg_model.specs.Messages.{number_at, stated_length, opcode, op_msg, op_query, most_bytes}
 use Rattle.std.specs.Int.{w32, from_le_bytes}
 use Rattle.std.proofs.lemmas.List.{length-take-le, take-append-drop, drop-take, take-take}
 use Rattle.opmsg_model.specs.Frames.{IsFirst}
 use Rattle.opmsg_model.specs.Requests.{Request, IsRequest}
+use Rattle.opmsg_frames.specs.declared.request.Content.{Content}
+use Rattle.opmsg_frames.specs.RequestMeanings.{IsContent}
 use Rattle.opmsg_model.specs.Outline.{FrameFault, bad_length, too_long, bad_opcode, bad_query, bad_flags, Outline, partial_outline, message_outline, faulty_outline, outline, headed_outline, whole_outline, header_fault, message_fault, msg_fault, is_query, takes_flags, sections_fault}
 
 pub record IsWhole (n : ℕ) (bytes : List ℕ) : Type 0 where
@@ -113,3 +115,12 @@ is_first n bytes meant o e is =
       },
       l,
     )
+
+-- a message that was read is the request that stands first
+pub first_read : {E : Type 0} (n : ℕ) (bytes message : List ℕ) (read : Result Content E) → outline bytes ≡ message_outline n → message ≡ take n bytes →
+    IfOk read (λ c. (meant : Request) × IsContent c meant × (meant.bytes ≡ message) × IsRequest meant) →
+    IfOk read (λ c. (meant : Request) × IsContent c meant × IsFirst bytes meant (drop n bytes) × (meant.bytes ≡ take n bytes) × (length meant.bytes ≡ n))
+first_read n bytes message (Ok c) o e (meant, is, whole, reads) =
+    let f = is_first n bytes meant o (whole ∙ e) reads in
+    (meant, is, f.0, whole ∙ e, f.1)
+first_read n bytes message (Err m) o e h = tt

@@ -9,6 +9,7 @@ use Rattle.opmsg_frames.specs.declared.request.Form.{Form}
 use Rattle.opmsg_frames.specs.declared.request.Form.TheVariants.{Msg, Query}
 use Rattle.opmsg_frames.specs.declared.request.Body.{Body}
 use Rattle.opmsg_frames.specs.declared.request.Body.TheVariants.{Read, Faulty}
+use Rattle.opmsg_frames.specs.declared.request.Content.{Content}
 use Rattle.opmsg_frames.specs.declared.request.Request.{Request}
 
 abbrev pub form_meant : Form → wire.Form
@@ -25,6 +26,14 @@ pub record IsMeant (request : Request) (meant : wire.Request) : Type 0 where
   pub more : meant.more ≡ request.more
   pub form : meant.form ≡ form_meant request.form
   pub body : IsBody request.body meant.body
+  pub bytes : meant.bytes ≡ request.bytes
+
+-- the same but for its bytes
+pub record IsContent (content : Content) (meant : wire.Request) : Type 0 where
+  pub id : meant.id ≡ content.id
+  pub more : meant.more ≡ content.more
+  pub form : meant.form ≡ form_meant content.form
+  pub body : IsBody content.body meant.body
 
 -- what was read, or a fault; unless memory ran out
 abbrev pub ReadOutcome : {X : Type 0} → (X → Type 0) → (Fault → ℕ → Type 0) → Result X BsonFault → Type 0

@@ -114,19 +114,19 @@ impl Framer {
         }
     }
 
-    /// Gives the request that the first `count` bytes are, and drops them.
+    /// Gives the request that the first `count` bytes are, and hands these over to it.
     fn take_message(&mut self, count: usize) -> Result<Option<Request>, FrameFault>
         requires whole { outline self.old.bytes ≡ message_outline count }
         requires fault { self.old.fault ≡ None }
         ensures { IsNext self.old self.new result }
     {
-        match read_prefix(self.alloc, self.bytes.as_slice(), count) {
-            Ok(request) => {
-                self.bytes.advance(count);
-                self.offset += count as u64;
-                Ok(Some(request))
-            }
-            Err(Memory) => Err(FrameFault::Memory),
-        }
+        let Ok(content) = read_prefix(self.alloc, self.bytes.as_slice(), count) else {
+            return Err(FrameFault::Memory);
+        };
+        let Ok(bytes) = self.bytes.freeze_to(count) else {
+            return Err(FrameFault::Memory);
+        };
+        self.offset += count as u64;
+        Ok(Some(content.with_bytes(bytes)))
     }
 }

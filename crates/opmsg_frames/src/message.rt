@@ -1,6 +1,6 @@
 //! Reading a whole message whose outline is right.
 
-ghost use Rattle.std.specs.Prelude.{◌≡◌, ◌≢◌, ◌⊎◌, ◌<◌, ◌≤◌, ◌^◌, ◌∷◌, [], List, None, true, drop, length, IfOk};
+ghost use Rattle.std.specs.Prelude.{◌≡◌, ◌≢◌, ◌⊎◌, ◌<◌, ◌≤◌, ◌^◌, ◌∷◌, [], List, None, true, drop, take, length, IfOk};
 ghost use Rattle.std.specs.Int.{w32, cast_signed};
 ghost use Rattle.std.specs.List.{AllByRecursion, flat_map};
 ghost use Rattle.opmsg_model.specs.Frames.{IsFirst};
@@ -8,12 +8,12 @@ ghost use Rattle.opmsg_model.specs.Messages.{header_length, most_bytes, number_a
 ghost use Rattle.opmsg_model.specs.Outline.{is_query, message_fault, message_outline, msg_fault, outline};
 ghost use Rattle.opmsg_model.specs.Requests as wire;
 ghost use Rattle.opmsg_model.specs.Sections.{IsSection, IsStated, Section, bodies, body_section, section_bytes};
-ghost use Rattle.opmsg_frames.specs.RequestMeanings.{IsBody, IsMeant};
+ghost use Rattle.opmsg_frames.specs.RequestMeanings.{IsBody, IsContent};
 
 use crate::documents::{read_sections, read_whole};
 use crate::lists::SequenceList;
 use crate::outline::SECTIONS_OFFSET;
-use crate::request::{Body, Form, Request};
+use crate::request::{Body, Content, Form};
 use crate::sections::number_at;
 use bson_values::{BsonFault, Memory};
 use std::alloc::Global;
@@ -59,17 +59,17 @@ fn read_body(alloc: Global, bytes: &[u8]) -> Result<Body, Memory>
 }
 
 /// Reads a whole message of OP_MSG.
-fn read_msg(alloc: Global, bytes: &[u8]) -> Result<Request, Memory>
+fn read_msg(alloc: Global, bytes: &[u8]) -> Result<Content, Memory>
     requires least { sections_offset ≤ length bytes.now }
     requires most { length bytes.now ≤ most_bytes }
     requires stated { number_at 0 bytes.now ≡ length bytes.now }
     requires opcode { opcode bytes.now ≡ op_msg }
     requires sound { msg_fault bytes.now ≡ None }
-    ensures { IfOk result (λ r. (meant : wire.Request) × IsMeant r meant × (meant.bytes ≡ bytes.now) × wire.IsRequest meant) }
+    ensures { IfOk result (λ c. (meant : wire.Request) × IsContent c meant × (meant.bytes ≡ bytes.now) × wire.IsRequest meant) }
 {
     let (_, sections) = bytes.split_at(SECTIONS_OFFSET);
     let body = read_body(alloc, sections)?;
-    Ok(Request {
+    Ok(Content {
         id: request_id(bytes),
         more: is_more(bytes),
         form: Form::Msg,
@@ -92,17 +92,17 @@ fn read_lone(alloc: Global, bytes: &[u8]) -> Result<Body, Memory>
 }
 
 /// Reads a whole message of OP_QUERY.
-fn read_query(alloc: Global, bytes: &[u8]) -> Result<Request, Memory>
+fn read_query(alloc: Global, bytes: &[u8]) -> Result<Content, Memory>
     requires least { 44 ≤ length bytes.now }
     requires most { length bytes.now ≤ most_bytes }
     requires stated { number_at 0 bytes.now ≡ length bytes.now }
     requires opcode { opcode bytes.now ≡ op_query }
     requires sound { is_query bytes.now ≡ true }
-    ensures { IfOk result (λ r. (meant : wire.Request) × IsMeant r meant × (meant.bytes ≡ bytes.now) × wire.IsRequest meant) }
+    ensures { IfOk result (λ c. (meant : wire.Request) × IsContent c meant × (meant.bytes ≡ bytes.now) × wire.IsRequest meant) }
 {
     let (_, document) = bytes.split_at(39);
     let body = read_lone(alloc, document)?;
-    Ok(Request {
+    Ok(Content {
         id: request_id(bytes),
         more: false,
         form: Form::Query,
@@ -111,13 +111,13 @@ fn read_query(alloc: Global, bytes: &[u8]) -> Result<Request, Memory>
 }
 
 /// Reads a whole message whose outline is right.
-pub(crate) fn read_message(alloc: Global, bytes: &[u8]) -> Result<Request, Memory>
+pub(crate) fn read_message(alloc: Global, bytes: &[u8]) -> Result<Content, Memory>
     requires least { header_length ≤ length bytes.now }
     requires most { length bytes.now ≤ most_bytes }
     requires stated { number_at 0 bytes.now ≡ length bytes.now }
     requires opcode { (opcode bytes.now ≡ op_msg) ⊎ (opcode bytes.now ≡ op_query) }
     requires sound { message_fault bytes.now ≡ None }
-    ensures { IfOk result (λ r. (meant : wire.Request) × IsMeant r meant × (meant.bytes ≡ bytes.now) × wire.IsRequest meant) }
+    ensures { IfOk result (λ c. (meant : wire.Request) × IsContent c meant × (meant.bytes ≡ bytes.now) × wire.IsRequest meant) }
 {
     if number_at(bytes, 12) == OP_MSG {
         read_msg(alloc, bytes)
@@ -127,9 +127,10 @@ pub(crate) fn read_message(alloc: Global, bytes: &[u8]) -> Result<Request, Memor
 }
 
 /// Reads the whole message of `count` bytes that begins the bytes.
-pub(crate) fn read_prefix(alloc: Global, bytes: &[u8], count: usize) -> Result<Request, Memory>
+pub(crate) fn read_prefix(alloc: Global, bytes: &[u8], count: usize) -> Result<Content, Memory>
     requires { outline bytes.now ≡ message_outline count }
-    ensures { IfOk result (λ r. (meant : wire.Request) × IsMeant r meant × IsFirst bytes.now meant (drop count bytes.now) × (length meant.bytes ≡ count)) }
+    ensures { IfOk result (λ c. (meant : wire.Request) × IsContent c meant × IsFirst bytes.now meant (drop count bytes.now)
+        × (meant.bytes ≡ take count bytes.now) × (length meant.bytes ≡ count)) }
 {
     let (message, _) = bytes.split_at(count);
     read_message(alloc, message)

@@ -1,7 +1,12 @@
 //! Requests.
 
+ghost use Rattle.std.specs.Prelude.{◌≡◌};
+ghost use Rattle.opmsg_model.specs.Requests as wire;
+ghost use Rattle.opmsg_frames.specs.RequestMeanings.{IsContent, IsMeant};
+
 use crate::lists::SequenceList;
 use bson_values::{BsonFault, Document};
+use bytes::Bytes;
 
 /// In which message a request came.
 #[derive(Clone, Copy, Debug, PartialEq, Eq)]
@@ -33,4 +38,38 @@ pub struct Request {
     pub more: bool,
     pub form: Form,
     pub body: Body,
+    pub(crate) bytes: Bytes,
+}
+
+impl Request {
+    /// The whole message that it came in, its header included.
+    pub fn bytes(&self) -> &[u8]
+        ensures { result.now ≡ self.now.bytes }
+    {
+        self.bytes.as_slice()
+    }
+}
+
+/// What a message says: the request, but for its bytes.
+#[derive(Drop)]
+pub(crate) struct Content {
+    pub id: i32,
+    pub more: bool,
+    pub form: Form,
+    pub body: Body,
+}
+
+impl Content {
+    /// The request that came in these bytes.
+    pub(crate) fn with_bytes(self, bytes: Bytes) -> Request
+        ensures { (meant : wire.Request) → IsContent self meant → meant.bytes ≡ bytes → IsMeant result meant }
+    {
+        Request {
+            id: self.id,
+            more: self.more,
+            form: self.form,
+            body: self.body,
+            bytes,
+        }
+    }
 }

@@ -1,5 +1,5 @@
 -- What a log answers.
-use Rattle.std.specs.Prelude.{ℕ, List, ◌⊎◌, ◌++◌, ◌∷◌, []}
+use Rattle.std.specs.Prelude.{ℕ, List, ◌⊎◌, ◌++◌}
 use Rattle.outside.specs.declared.log.LogFault.{LogFault}
 use Rattle.outside.specs.declared.log.LogFault.TheVariants.{Disk, Memory}
 
@@ -8,6 +8,6 @@ abbrev pub ByFault : LogFault → (ℕ → Type 0) → Type 0 → Type 0
 ByFault (Disk faults) failed wanted = failed faults
 ByFault Memory failed wanted = wanted
 
--- these records, or these with one more
-abbrev pub WithOrWithout : (List (List ℕ) → Type 0) → List (List ℕ) → List ℕ → Type 0
-WithOrWithout holds records record' = holds records ⊎ holds (records ++ record' ∷ [])
+-- these records, or these with all that were to be appended
+abbrev pub WithOrWithout : (List (List ℕ) → Type 0) → List (List ℕ) → (more : List (List ℕ)) → Type 0
+WithOrWithout holds records more = holds records ⊎ holds (records ++ more)

@@ -91,11 +91,11 @@ pub fn each_moment()
     ensures not_leaves { LeavesOnly (λ (n : ℕ). n) (λ _ _ c. c ≡ []) 0 1 (λ c. c ≡ 1 ∷ []) → ⊥ }
 {}
 
-/// What a log answers where its disk failed, and where memory was wanted; a record that stands, and one that does not.
+/// What a log answers where its disk failed, and where memory was wanted; two records of which both stand, none, or one alone.
 pub fn logged()
     ensures failed { ByFault (DiskFault 3) (λ n. n ≡ 3) ⊥ × (ByFault (DiskFault 3) (λ n. n ≡ 4) (Unit {0}) → ⊥) }
     ensures wanted { ByFault Memory (λ _. ⊥) (Unit {0}) × (ByFault Memory (λ _. Unit {0}) ⊥ → ⊥) }
-    ensures with { WithOrWithout (λ rs. rs ≡ (1 ∷ []) ∷ []) [] (1 ∷ []) }
-    ensures without { WithOrWithout (λ rs. rs ≡ []) [] (1 ∷ []) }
-    ensures other { WithOrWithout (λ rs. rs ≡ (2 ∷ []) ∷ []) [] (1 ∷ []) → ⊥ }
+    ensures with { WithOrWithout (λ rs. rs ≡ (1 ∷ []) ∷ (2 ∷ []) ∷ []) [] ((1 ∷ []) ∷ (2 ∷ []) ∷ []) }
+    ensures without { WithOrWithout (λ rs. rs ≡ []) [] ((1 ∷ []) ∷ (2 ∷ []) ∷ []) }
+    ensures one_of_two { WithOrWithout (λ rs. rs ≡ (1 ∷ []) ∷ []) [] ((1 ∷ []) ∷ (2 ∷ []) ∷ []) → ⊥ }
 {}

@@ -2,9 +2,11 @@
 //! does not.
 #![tactic(auto)]
 
+mod bytes;
 mod paths;
 mod values;
 
+use crate::bytes::Bytes;
 use crate::paths::Paths;
 use crate::values::Values;
 use fixtures::check_file;
@@ -12,5 +14,6 @@ use std::io;
 
 fn main(rt: HostRuntime) -> io::Result<()> {
     check_file(&rt, "paths.txt", &mut Paths)?;
+    check_file(&rt, "bytes.txt", &mut Bytes)?;
     check_file(&rt, "values.txt", &mut Values)
 }

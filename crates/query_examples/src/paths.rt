@@ -20,14 +20,20 @@ pub struct Paths;
 impl Rows for Paths {
     fn holds(&mut self, alloc: Global, row: &str) -> Result<bool, RowFault> {
         let (name, wanted) = field(row);
-        match wanted {
-            "path" => Ok(is_path(alloc, name)),
-            "empty" => Ok(is_refused(alloc, name, PathFault::Empty)),
-            "digits" => Ok(is_refused(alloc, name, PathFault::Digits)),
-            "dollar" => Ok(is_refused(alloc, name, PathFault::Dollar)),
-            "long" => Ok(is_refused(alloc, name, PathFault::Long)),
-            _ => Err(RowFault::Form),
-        }
+        is_read_so(alloc, name, wanted)
+    }
+}
+
+/// Whether a name is a path, where `path` is wanted, or is refused with the fault that is wanted. Fails with `Form` where the word is
+/// neither.
+pub fn is_read_so(alloc: Global, name: &str, wanted: &str) -> Result<bool, RowFault> {
+    match wanted {
+        "path" => Ok(is_path(alloc, name)),
+        "empty" => Ok(is_refused(alloc, name, PathFault::Empty)),
+        "digits" => Ok(is_refused(alloc, name, PathFault::Digits)),
+        "dollar" => Ok(is_refused(alloc, name, PathFault::Dollar)),
+        "long" => Ok(is_refused(alloc, name, PathFault::Long)),
+        _ => Err(RowFault::Form),
     }
 }
 

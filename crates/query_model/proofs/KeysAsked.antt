@@ -46,7 +46,7 @@ no_elements key e = refl
 found_key : (document : Fields) (key : Datum) → get (codes "_id") document ≡ Some key → is_key key ≡ true → found_at (codes "_id" ∷ []) document ≡ alone key
 found_key document key e k = rw (e, no_elements key k) refl
 
-id_path : (path : Path) → is_id path ≡ true → path ≡ codes "_id" ∷ []
+pub id_path : (path : Path) → is_id path ≡ true → path ≡ codes "_id" ∷ []
 id_path [] e = absurd cc
 id_path (part ∷ []) e = ap (λ (p : List ℕ). p ∷ []) ((bytes_eq-Decides part (codes "_id")).0 e)
 id_path (part ∷ other ∷ parts) e = absurd cc

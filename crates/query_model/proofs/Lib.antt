@@ -1,3 +1,4 @@
+pub mod DocumentKeys
 pub mod KeysAsked
 pub mod Levels
 pub mod Names

@@ -3,6 +3,7 @@ pub mod Queries
 pub mod Reading
 pub mod Holds
 pub mod KeySpans
+pub mod DocumentKeys
 pub mod SampleQueries
 pub use Rattle.value_model.specs.Keys
 pub use Rattle.value_model.specs.Order

@@ -4,6 +4,7 @@ ghost use Rattle.std.specs.Prelude.{◌≡◌, [], ◌∷◌, codes, false, is_o
 ghost use Rattle.bson_model.specs.Tree.{document_value, int64_value, min_key_value, no_fields, null_value, string_value};
 ghost use Rattle.value_model.specs.Keys.{point_span};
 ghost use Rattle.query_model.specs.Paths.{candidates_at, digits_part, dollar_part, empty_part, has_gap, read_path, too_long, values_at};
+ghost use Rattle.query_model.specs.DocumentKeys.{key_asked_in};
 ghost use Rattle.query_model.specs.KeySpans.{whole_span};
 ghost use Rattle.query_model.specs.SampleQueries.{answer, array, asked_of, dotted, equal_of, inner, number, one, span_of_filter, two};
 
@@ -100,4 +101,25 @@ pub fn keys()
     ensures spans { (span_of_filter (one "_id" (number 5)) ≡ Ok (point_span (number 5)))
         × (span_of_filter (one "_id" (inner "$in" (array (number 5 ∷ [])))) ≡ Ok whole_span)
         × (span_of_filter (one "_id" (array (number 5 ∷ []))) ≡ Ok whole_span) }
+{}
+
+/// A document asks for a key whatever else it has, also where it is no query.
+pub fn keys_in_documents()
+    ensures plain { (key_asked_in (one "_id" (number 5)) ≡ Some (number 5))
+        × (key_asked_in (two "$foo" (number 1) "_id" (number 5)) ≡ Some (number 5))
+        × (key_asked_in (one "_id" (document_value no_fields)) ≡ Some (document_value no_fields))
+        × (key_asked_in (one "_id" (inner "a" (number 1))) ≡ Some (inner "a" (number 1)))
+        × (key_asked_in (one "_id" (document_value (two "a" (number 1) "$eq" (number 5)))) ≡ Some (document_value (two "a" (number 1) "$eq" (number 5)))) }
+    ensures beside { (key_asked_in (one "_id" (document_value (two "$eq" (number 5) "$foo" (number 3)))) ≡ Some (number 5))
+        × (key_asked_in (one "_id" (document_value (two "$foo" (number 3) "$eq" (number 5)))) ≡ Some (number 5))
+        × (key_asked_in (one "_id" (document_value (two "$eq" (number 5) "$eq" (number 6)))) ≡ Some (number 5)) }
+    ensures first { (key_asked_in (two "_id" (array []) "_id" (number 6)) ≡ Some (array []))
+        × (key_asked_in (two "_id" (inner "$foo" (number 3)) "_id" (number 6)) ≡ Some (number 6)) }
+    ensures none { (key_asked_in no_fields ≡ None)
+        × (key_asked_in (one "_id" (inner "$foo" (number 1))) ≡ None)
+        × (key_asked_in (one "_id" (inner "$in" (array (number 5 ∷ [])))) ≡ None)
+        × (key_asked_in (one "_id" (inner "$not" (inner "$eq" (number 5)))) ≡ None)
+        × (key_asked_in (one "$and" (array (inner "_id" (number 5) ∷ []))) ≡ None)
+        × (key_asked_in (one "_id.a" (number 5)) ≡ None)
+        × (key_asked_in (one "$eq" (number 5)) ≡ None) }
 {}

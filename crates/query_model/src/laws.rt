@@ -9,12 +9,18 @@ ghost use Rattle.query_model.specs.Paths.{Path, read_path};
 ghost use Rattle.query_model.specs.Queries.{Query, too_deep};
 ghost use Rattle.query_model.specs.Reading.{read_query};
 ghost use Rattle.query_model.specs.Holds.{holds};
-ghost use Rattle.query_model.specs.KeySpans.{span_of};
+ghost use Rattle.query_model.specs.DocumentKeys.{key_asked_in};
+ghost use Rattle.query_model.specs.KeySpans.{key_asked, span_of};
 
 /// A document with a key of which a query holds has its key inside the query's span.
 pub fn keys_in_span()
     ensures { (asked : Query) (document : Fields) (key : Datum) → valid_key document ≡ Ok key
         → holds asked document ≡ true → inside (span_of asked) key ≡ true }
+{}
+
+/// A document that reads as a query asks for the key that the query asks for.
+pub fn keys_of_documents()
+    ensures { (document : Fields) (asked : Query) → read_query document ≡ Ok asked → key_asked_in document ≡ key_asked asked }
 {}
 
 /// The parts of a path, with a dot between each two, are the name that it was read from. So two names are not one path.

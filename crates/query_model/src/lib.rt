@@ -7,4 +7,4 @@ mod laws;
 pub mod refused;
 pub mod tables;
 
-pub use laws::{keys_in_span, names_of_paths, never_too_deep};
+pub use laws::{keys_in_span, keys_of_documents, names_of_paths, never_too_deep};

@@ -5,7 +5,7 @@ use Rattle.std.specs.List.{AllByRecursion}
 use Rattle.chunk_model.specs.Tree.{Fields}
 use Rattle.history_model.specs.History.{Operation, insert_operation, is_too_large, effect, Entry}
 use Rattle.history_model.proofs.LegalHistories.{put_in}
-use Rattle.record_model.specs.Records.{EntryWords, Record, entry_record, create_record, words_of, record_of}
+use Rattle.record_model.specs.Records.{EntryWords, Record, entry_record, words_of, record_of}
 use Rattle.record_model.specs.Kept.{IsKnown, Keeps, KeepEntries}
 
 same_operation : (a b : Operation) → words_of a ≡ words_of b → a ≡ b
@@ -14,7 +14,7 @@ same_operation (insert_operation d) (insert_operation f) e = cc
 -- what an entry record says
 abbrev said : Record → EntryWords → EntryWords
 said (entry_record w) other = w
-said (create_record c) other = other
+said r other = other
 
 one_entry : (shard : ℕ) (w : EntryWords) (a b : Entry) → Keeps shard w a → Keeps shard w b → a ≡ b
 one_entry shard w a b p q =
@@ -39,11 +39,11 @@ one_entry shard w a b p q =
 
 pub one_list : (shard : ℕ) (records : List Record) (entries others : List Entry) → KeepEntries shard records entries → KeepEntries shard records others → entries ≡ others
 one_list shard [] entries others p q = p ∙ sym q
-one_list shard (create_record c ∷ records) entries others p q = one_list shard records entries others p q
 one_list shard (entry_record w ∷ records) entries others p q =
     let first = one_entry shard w p.0 q.0 p.3 q.3 in
     let later = one_list shard records p.1 q.1 p.4 q.4 in
     p.2 ∙ ap (λ e. e ∷ p.1) first ∙ ap (λ es. q.0 ∷ es) later ∙ sym q.2
+one_list shard (r ∷ records) entries others p q = one_list shard records entries others p q
 
 -- the records of a shard's entries keep these
 pub own_entries : (shard : ℕ) (entries : List Entry) → AllByRecursion (λ e. (e.shard ≡ shard) × IsKnown e.outcome.error) entries → KeepEntries shard (map record_of entries) entries
@@ -53,9 +53,9 @@ own_entries shard (e ∷ entries) all =
 
 pub in_parts : (shard : ℕ) (prefix back : List Record) (entries later : List Entry) → KeepEntries shard prefix entries → KeepEntries shard back later → KeepEntries shard (prefix ++ back) (entries ++ later)
 in_parts shard [] back entries later p q = rw p q
-in_parts shard (create_record c ∷ prefix) back entries later p q = in_parts shard prefix back entries later p q
 in_parts shard (entry_record w ∷ prefix) back entries later p q =
     (p.0, p.1 ++ later, ap (λ (es : List Entry). es ++ later) p.2, p.3, in_parts shard prefix back p.1 later p.4 q)
+in_parts shard (r ∷ prefix) back entries later p q = in_parts shard prefix back entries later p q
 
 -- what an operation tells
 pub known_effect : (operation : Operation) (before : Option Fields) → IsKnown (effect operation before).1.error

@@ -1,2 +1,4 @@
 pub mod Prefixes
+pub mod TablePrefixes
+pub mod OneRecord
 pub mod Entries

@@ -16,21 +16,21 @@ use Rattle.record_model.specs.Spelled.{four, eight, spelled_string, key_document
 use Rattle.chunk_model.proofs.Lengths.{length-framed}
 use Rattle.chunk_model.proofs.Parts.{same_prefix, same_boolean}
 
-first_byte : (b c : ℕ) (xs ys : List ℕ) → b ∷ xs ≡ c ∷ ys → b ≡ c
+pub first_byte : (b c : ℕ) (xs ys : List ℕ) → b ∷ xs ≡ c ∷ ys → b ≡ c
 first_byte b c xs ys e = cc
 
-behind : (b c : ℕ) (xs ys : List ℕ) → b ∷ xs ≡ c ∷ ys → xs ≡ ys
+pub behind : (b c : ℕ) (xs ys : List ℕ) → b ∷ xs ≡ c ∷ ys → xs ≡ ys
 behind b c xs ys e = cc
 
-regroup : (a b xs c d ys : List ℕ) → (a ++ b) ++ xs ≡ (c ++ d) ++ ys → a ++ (b ++ xs) ≡ c ++ (d ++ ys)
+pub regroup : (a b xs c d ys : List ℕ) → (a ++ b) ++ xs ≡ (c ++ d) ++ ys → a ++ (b ++ xs) ≡ c ++ (d ++ ys)
 regroup a b xs c d ys e = sym (append_assoc a b xs) ∙ e ∙ append_assoc c d ys
 
-same_four : (n m : ℕ) (xs ys : List ℕ) → n < 2 ^ 32 → m < 2 ^ 32 → four n ++ xs ≡ four m ++ ys → (n ≡ m) × (xs ≡ ys)
+pub same_four : (n m : ℕ) (xs ys : List ℕ) → n < 2 ^ 32 → m < 2 ^ 32 → four n ++ xs ≡ four m ++ ys → (n ≡ m) × (xs ≡ ys)
 same_four n m xs ys p q e =
     let prefix = same_prefix (four n) (four m) xs ys refl e in
     (sym (from_le_bytes-to_le_bytes_4 n p) ∙ ap (λ (l : List ℕ). from_le_bytes w32 l) prefix.0 ∙ from_le_bytes-to_le_bytes_4 m q, prefix.1)
 
-same_eight : (n m : ℕ) (xs ys : List ℕ) → n < 2 ^ 64 → m < 2 ^ 64 → eight n ++ xs ≡ eight m ++ ys → (n ≡ m) × (xs ≡ ys)
+pub same_eight : (n m : ℕ) (xs ys : List ℕ) → n < 2 ^ 64 → m < 2 ^ 64 → eight n ++ xs ≡ eight m ++ ys → (n ≡ m) × (xs ≡ ys)
 same_eight n m xs ys p q e =
     let prefix = same_prefix (eight n) (eight m) xs ys refl e in
     (sym (from_le_bytes-to_le_bytes_8 n p) ∙ ap (λ (l : List ℕ). from_le_bytes w64 l) prefix.0 ∙ from_le_bytes-to_le_bytes_8 m q, prefix.1)
@@ -45,7 +45,7 @@ same_transaction n m xs ys p q e =
     let prefix = same_eight (cast_unsigned w64 n) (cast_unsigned w64 m) xs ys (Fits-of_z p).fits (Fits-of_z q).fits e in
     (sym (to_z-of_z w64 n p) ∙ ap (λ (k : ℕ). cast_signed w64 k) prefix.0 ∙ to_z-of_z w64 m q, prefix.1)
 
-same_text : (s t xs ys : List ℕ) → length s < 2 ^ 31 → length t < 2 ^ 31 → spelled_string s ++ xs ≡ spelled_string t ++ ys → (s ≡ t) × (xs ≡ ys)
+pub same_text : (s t xs ys : List ℕ) → length s < 2 ^ 31 → length t < 2 ^ 31 → spelled_string s ++ xs ≡ spelled_string t ++ ys → (s ≡ t) × (xs ≡ ys)
 same_text s t xs ys p q e =
     let number = same_four (length s) (length t) (s ++ xs) (t ++ ys) (omega arith) (omega arith) e in
     same_prefix s t xs ys number.0 number.1
@@ -57,14 +57,14 @@ short ms p =
     omega (arith, same, length-framed (written_fields ms), length-framed p.0, p.2)
 
 -- a document's first four bytes are its length
-same_document : (a b : Fields) (xs ys : List ℕ) → IsSpellable a → IsSpellable b → written a ++ xs ≡ written b ++ ys → (a ≡ b) × (xs ≡ ys)
+pub same_document : (a b : Fields) (xs ys : List ℕ) → IsSpellable a → IsSpellable b → written a ++ xs ≡ written b ++ ys → (a ≡ b) × (xs ≡ ys)
 same_document a b xs ys p q e =
     let n = same_four (length (written_fields a) + 5) (length (written_fields b) + 5) ((written_fields a ++ 0 ∷ []) ++ xs) ((written_fields b ++ 0 ∷ []) ++ ys) (short a p) (short b q) e in
     let size : length (written a) ≡ length (written b) = length-framed (written_fields a) ∙ n.0 ∙ sym (length-framed (written_fields b)) in
     let prefix = same_prefix (written a) (written b) xs ys size e in
     (one_document (written a) a b p (subst (λ (l : List ℕ). ReadsAs l b) (sym prefix.0) q), prefix.1)
 
-key_in : (a b : Datum) → key_document a ≡ key_document b → a ≡ b
+pub key_in : (a b : Datum) → key_document a ≡ key_document b → a ≡ b
 key_in a b e = cc
 
 same_key : (a b : Option Datum) (xs ys : List ℕ) → IsSoundKey a → IsSoundKey b → spelled_key a ++ xs ≡ spelled_key b ++ ys → (a ≡ b) × (xs ≡ ys)
@@ -145,7 +145,7 @@ same_outcome a b xs ys p q e =
     let k = same_code a.code b.code xs ys p.code q.code u.1 in
     (λ i. record { count = c.0 i; modified = m.0 i; upserted = u.0 i; code = k.0 i }, k.1)
 
-same_entry : (a b : EntryWords) → IsSoundEntry a → IsSoundEntry b → spelled_entry a ≡ spelled_entry b → a ≡ b
+pub same_entry : (a b : EntryWords) → IsSoundEntry a → IsSoundEntry b → spelled_entry a ≡ spelled_entry b → a ≡ b
 same_entry a b p q e =
     let a_told : List ℕ = spelled_words a.words ++ spelled_outcome a.outcome in
     let b_told : List ℕ = spelled_words b.words ++ spelled_outcome b.outcome in
@@ -156,20 +156,9 @@ same_entry a b p q e =
     let o = same_outcome a.outcome b.outcome [] [] p.outcome q.outcome (ap (λ (l : List ℕ). l ++ []) w.1) in
     λ i. record { time = t.0 i; namespace = n.0 i; number = s.0 i; words = w.0 i; outcome = o.0 i }
 
-same_creation : (a b : Creation) → IsSoundCreation a → IsSoundCreation b → spelled_creation a ≡ spelled_creation b → a ≡ b
+pub same_creation : (a b : Creation) → IsSoundCreation a → IsSoundCreation b → spelled_creation a ≡ spelled_creation b → a ≡ b
 same_creation a b p q e =
     let n = same_text a.namespace b.namespace (eight a.epoch ++ eight a.at) (eight b.epoch ++ eight b.at) p.namespace q.namespace e in
     let k = same_eight a.epoch b.epoch (eight a.at) (eight b.at) p.epoch q.epoch n.1 in
     let t = same_eight a.at b.at [] [] p.at q.at (ap (λ (l : List ℕ). l ++ []) k.1) in
     λ i. record { namespace = n.0 i; epoch = k.0 i; at = t.0 i }
-
--- bytes spell one record
-pub one_record : (a b : Record) → IsSound a → IsSound b → spelled 1 a ≡ spelled 1 b → a ≡ b
-one_record (entry_record a) (entry_record b) p q e =
-    ap entry_record (same_entry a b p q (behind 2 2 _ _ (behind 1 1 _ _ e)))
-one_record (create_record a) (create_record b) p q e =
-    ap create_record (same_creation a b p q (behind 0x20 0x20 _ _ (behind 1 1 _ _ e)))
-one_record (entry_record a) (create_record b) p q e =
-    absurd (omega (arith, first_byte 0x02 0x20 _ _ (behind 1 1 _ _ e)))
-one_record (create_record a) (entry_record b) p q e =
-    absurd (omega (arith, first_byte 0x20 0x02 _ _ (behind 1 1 _ _ e)))

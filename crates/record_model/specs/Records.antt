@@ -1,10 +1,11 @@
--- What a node of a shard keeps in its journal. The records are own; an entry's words are those of the client (MongoDB
--- manual, "insert", "update" and "delete").
+-- What a node keeps in its journal. The records are own; an entry's words are those of the client (MongoDB manual, "insert",
+-- "update" and "delete").
 use Rattle.std.specs.Prelude.{ℕ, ℤ, pos, List, Bool, Option, Some, None}
 use Rattle.chunk_model.specs.Tree.{Datum, Fields}
 use Rattle.chunk_model.specs.Errors.{ErrorCode}
 use Rattle.history_model.specs.History.{StatementNumber, Operation, insert_operation, Outcome, Entry}
 use Rattle.chunk_model.specs.Catalogue.{Creation}
+use Rattle.chunk_model.specs.Tables.{Table}
 
 -- what a statement does
 pub data OperationWords : Type 0 where
@@ -30,8 +31,14 @@ pub record EntryWords : Type 0 where
   pub outcome : OutcomeWords
 
 pub data Record : Type 0 where
+  -- a shard's table of a collection, whole
+  table_record : Table → Record
   entry_record : EntryWords → Record
   create_record : Creation → Record
+  -- a life of a router begins, with this number
+  life_record : ℕ → Record
+  -- a router takes a block of cursor numbers, with this number
+  block_record : ℕ → Record
 
 abbrev pub words_of : Operation → OperationWords
 words_of (insert_operation document) = insert_words document

@@ -3,12 +3,16 @@
 -- are.
 use Rattle.std.specs.Prelude.{◌≡◌, ℕ, ◌<◌, ◌^◌, List, [], ◌∷◌, ◌++◌, length, codes, Option, Some, None, FitsSigned}
 use Rattle.std.specs.Int.{w32, w64, to_le_bytes, cast_unsigned}
+use Rattle.std.specs.List.{AllByRecursion, flat_map}
 use Rattle.chunk_model.specs.Tree.{Datum, Fields, no_fields, field}
 use Rattle.chunk_model.specs.Spelling.{written, boolean_byte}
 use Rattle.chunk_model.specs.Grammar.{ReadsAs}
 use Rattle.history_model.specs.History.{Session, client_session, router_session, StatementNumber}
+use Rattle.value_model.specs.Keys.{Bound, min_bound, key_bound, max_bound, Range}
 use Rattle.chunk_model.specs.Catalogue.{Creation}
-use Rattle.record_model.specs.Records.{OperationWords, insert_words, update_words, delete_words, OutcomeWords, EntryWords, Record, entry_record, create_record}
+use Rattle.chunk_model.specs.Versions.{Version}
+use Rattle.chunk_model.specs.Tables.{Owned, Chunk, Table}
+use Rattle.record_model.specs.Records.{OperationWords, insert_words, update_words, delete_words, OutcomeWords, EntryWords, Record, table_record, entry_record, create_record, life_record, block_record}
 
 -- a number of four bytes, and one of eight
 abbrev pub four : ℕ → List ℕ
@@ -52,10 +56,35 @@ spelled_entry e = eight e.time ++ (spelled_string e.namespace ++ (spelled_number
 abbrev pub spelled_creation : Creation → List ℕ
 spelled_creation c = spelled_string c.namespace ++ (eight c.epoch ++ eight c.at)
 
+-- how many items, and the items
+abbrev pub spelled_list : {X : Type 0} → (X → List ℕ) → List X → List ℕ
+spelled_list spelled_item items = four (length items) ++ flat_map spelled_item items
+
+-- 00 below all keys; 01 and the key; 02 above all keys
+abbrev pub spelled_bound : Bound → List ℕ
+spelled_bound min_bound = 0 ∷ []
+spelled_bound (key_bound key) = 1 ∷ written (key_document key)
+spelled_bound max_bound = 2 ∷ []
+
+abbrev pub spelled_version : Version → List ℕ
+spelled_version v = eight v.epoch ++ (eight v.major ++ eight v.minor)
+
+abbrev pub spelled_owned : Owned → List ℕ
+spelled_owned o = eight o.since ++ four o.shard
+
+abbrev pub spelled_chunk : Chunk → List ℕ
+spelled_chunk c = spelled_bound c.range.min ++ (spelled_bound c.range.max ++ (spelled_version c.version ++ spelled_list spelled_owned c.owners))
+
+abbrev pub spelled_table : Table → List ℕ
+spelled_table t = spelled_string t.namespace ++ (eight t.epoch ++ (eight t.changes ++ (eight t.oldest ++ spelled_list spelled_chunk t.chunks)))
+
 -- a record in a format
 abbrev pub spelled : ℕ → Record → List ℕ
+spelled format (table_record t) = format ∷ 0x01 ∷ spelled_table t
 spelled format (entry_record e) = format ∷ 0x02 ∷ spelled_entry e
 spelled format (create_record c) = format ∷ 0x20 ∷ spelled_creation c
+spelled format (life_record n) = format ∷ 0x30 ∷ eight n
+spelled format (block_record n) = format ∷ 0x31 ∷ eight n
 
 -- a document's spelling spells it
 abbrev pub IsSpellable : Fields → Type 0
@@ -97,7 +126,38 @@ pub record IsSoundCreation (c : Creation) : Type 0 where
   pub epoch : c.epoch < 2 ^ 64
   pub at : c.at < 2 ^ 64
 
+abbrev pub IsSoundBound : Bound → Type 0
+IsSoundBound min_bound = Unit {0}
+IsSoundBound (key_bound key) = IsSpellable (key_document key)
+IsSoundBound max_bound = Unit {0}
+
+pub record IsSoundVersion (v : Version) : Type 0 where
+  pub epoch : v.epoch < 2 ^ 64
+  pub major : v.major < 2 ^ 64
+  pub minor : v.minor < 2 ^ 64
+
+abbrev pub IsSoundOwned : Owned → Type 0
+IsSoundOwned o = (o.since < 2 ^ 64) × (o.shard < 2 ^ 32)
+
+pub record IsSoundChunk (c : Chunk) : Type 0 where
+  pub min : IsSoundBound c.range.min
+  pub max : IsSoundBound c.range.max
+  pub version : IsSoundVersion c.version
+  pub count : length c.owners < 2 ^ 32
+  pub owners : AllByRecursion IsSoundOwned c.owners
+
+pub record IsSoundTable (t : Table) : Type 0 where
+  pub namespace : length t.namespace < 2 ^ 31
+  pub epoch : t.epoch < 2 ^ 64
+  pub changes : t.changes < 2 ^ 64
+  pub oldest : t.oldest < 2 ^ 64
+  pub count : length t.chunks < 2 ^ 32
+  pub chunks : AllByRecursion IsSoundChunk t.chunks
+
 -- numbers fit their bytes, and documents are spelled by theirs
 abbrev pub IsSound : Record → Type 0
+IsSound (table_record t) = IsSoundTable t
 IsSound (entry_record e) = IsSoundEntry e
 IsSound (create_record c) = IsSoundCreation c
+IsSound (life_record n) = n < 2 ^ 64
+IsSound (block_record n) = n < 2 ^ 64

@@ -9,7 +9,7 @@ ghost use Rattle.record_model.specs.Records.{Record, record_of};
 ghost use Rattle.record_model.specs.Spelled.{IsSound, spelled};
 
 /// Bytes spell one record at most, in the newest format.
-#[tactic(auto, using(crate::proofs::Prefixes::one_record))]
+#[tactic(auto, using(crate::proofs::OneRecord::one_record))]
 pub fn one_record()
     ensures { (a b : Record) → IsSound a → IsSound b → spelled 1 a ≡ spelled 1 b → a ≡ b }
 {}

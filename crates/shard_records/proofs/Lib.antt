@@ -1,3 +1,4 @@
+pub mod Lists
 pub mod Puts
 pub use Rattle.record_model.proofs.Entries
-pub use Rattle.record_model.proofs.Prefixes
+pub use Rattle.record_model.proofs.OneRecord

@@ -2,7 +2,7 @@
 use Rattle.std.specs.Prelude.{Option, Some, None}
 use Rattle.bson_values.specs.Tree.{Datum}
 use Rattle.bson_values.specs.Spelling.{written}
-use Rattle.record_model.specs.Records.{OperationWords, insert_words, update_words, delete_words, Record, entry_record, create_record}
+use Rattle.record_model.specs.Records.{OperationWords, insert_words, update_words, delete_words, Record, table_record, entry_record, create_record, life_record, block_record}
 use Rattle.record_model.specs.Spelled.{key_document}
 use Rattle.bson_values.specs.Limits.{IsWritable}
 
@@ -17,4 +17,8 @@ IsWritableKey (Some key) = IsWritable (key_document key)
 
 abbrev pub IsWritableRecord : Record → Type 0
 IsWritableRecord (entry_record e) = AreWritable e.words × IsWritableKey e.outcome.upserted
+-- a table's type keeps it
+IsWritableRecord (table_record t) = Unit {0}
 IsWritableRecord (create_record c) = Unit {0}
+IsWritableRecord (life_record n) = Unit {0}
+IsWritableRecord (block_record n) = Unit {0}

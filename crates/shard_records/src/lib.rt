@@ -1,8 +1,10 @@
-//! What a node of a shard keeps in its journal: records as values, and as bytes in a format that is own.
+//! What a node keeps in its journal: records as values, and as bytes in a format that is own.
 #![tactic(auto)]
 
 mod record;
+mod tables;
 mod writing;
 
-pub use record::Record;
-pub use writing::write_record;
+pub use record::{Record, WordsRef};
+pub use tables::write_table;
+pub use writing::{write_entry, write_record};

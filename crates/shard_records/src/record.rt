@@ -1,11 +1,18 @@
 //! The records of a journal as values.
 
+ghost use Rattle.std.specs.Prelude.{◌≡◌};
+ghost use Rattle.shard_records.specs.Meanings.{words_lent, words_meant};
+
+use bson_values::Document;
+use chunk_table::Table;
 use cluster_base::{Namespace, Stmt, Time};
 use value_compare::{OpWords, Reply};
 
-/// What a node of a shard keeps.
+/// What a node keeps.
 #[derive(Drop)]
 pub enum Record {
+    /// A shard's table of a collection, whole.
+    Table(Table),
     /// One write.
     Entry {
         /// When it happened.
@@ -28,4 +35,46 @@ pub enum Record {
         /// When it begins.
         at: Time,
     },
+    /// A life of a router begins, with this number, which counts from 1.
+    Life(u64),
+    /// A router takes a block of cursor numbers, with this number.
+    Block(u64),
+}
+
+/// What one write statement does, lent: so that a document is written where it stands.
+#[derive(Clone, Copy)]
+pub enum WordsRef<'a> {
+    /// Puts a document in.
+    Insert(&'a Document),
+    /// Changes the first document that meets the filter; with `upsert`, puts one in where none does.
+    Update {
+        filter: &'a Document,
+        change: &'a Document,
+        upsert: bool,
+    },
+    /// Takes out the first document that meets the filter.
+    Delete {
+        filter: &'a Document,
+    },
+}
+
+impl<'a> WordsRef<'a> {
+    /// These words, lent.
+    pub fn of(op: &'a OpWords) -> WordsRef<'a>
+        ensures { words_lent result ≡ words_meant op.now }
+    {
+        match op {
+            OpWords::Insert(document) => WordsRef::Insert(document),
+            OpWords::Update {
+                filter,
+                change,
+                upsert,
+            } => WordsRef::Update {
+                filter,
+                change,
+                upsert: *upsert,
+            },
+            OpWords::Delete { filter } => WordsRef::Delete { filter },
+        }
+    }
 }

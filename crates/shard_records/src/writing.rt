@@ -6,18 +6,20 @@ ghost use Rattle.std.specs.Prelude.{◌≡◌, ◌<◌, ◌^◌, ◌++◌, ◌�
 ghost use Rattle.std.specs.Int.{cast_unsigned, w64};
 ghost use Rattle.bson_values.specs.Spelling.{written};
 ghost use Rattle.record_model.specs.Spelled.{AreSoundWords, IsSound, IsSoundKey, IsSoundNumber, IsSoundOutcome, IsSoundSession, IsSpellable, eight, four, key_document, spelled, spelled_creation, spelled_entry, spelled_key, spelled_number, spelled_outcome, spelled_session, spelled_string, spelled_words};
-ghost use Rattle.shard_records.specs.Meanings.{entry_meant, number_meant, outcome_meant, record_meant, session_meant, words_meant};
+ghost use Rattle.record_model.specs.Records.{create_record, entry_record};
+ghost use Rattle.shard_records.specs.Meanings.{entry_meant, number_meant, outcome_meant, record_meant, session_meant, words_lent};
 ghost use Rattle.shard_records.specs.Sizes.{AreWritable, IsWritableKey, IsWritableRecord};
 ghost use Rattle.bson_values.specs.Limits.{IsWritable};
 
-use crate::record::Record;
+use crate::record::{Record, WordsRef};
+use crate::tables::put_table;
 use bson_values::{Document, Memory, Name, write};
 use byteorder::{ByteOrder, LittleEndian};
-use cluster_base::{Namespace, Session, Stmt};
-use value_compare::{Key, OpWords, Reply};
+use cluster_base::{Namespace, Session, Stmt, Time};
+use value_compare::{Key, Reply};
 
 /// The format that records are written in.
-const NEWEST_FORMAT: u8 = 0x01;
+pub(crate) const NEWEST_FORMAT: u8 = 0x01;
 
 /// Puts the record's one spelling in the newest format behind the bytes. Each document in the record has at most 104
 /// levels and 300,000,000 bytes.
@@ -33,6 +35,43 @@ pub fn write_record(kept: &Record, out: &mut Vec<u8>) -> Result<(), Memory>
 {
     let len = out.len();
     let done = put_record(kept, out);
+    cut_after_err(done, len, out)
+}
+
+/// Puts the one spelling, in the newest format, of the record of an entry of these parts behind the bytes, and copies no document.
+/// Each document in it has at most 104 levels and 300,000,000 bytes, that of a key with it.
+///
+/// # Errors
+/// `Memory` for want of memory, and then the bytes are as they were.
+pub fn write_entry(
+    time: Time,
+    namespace: &Namespace,
+    statement: &Stmt,
+    words: &WordsRef<'_>,
+    reply: &Reply,
+    out: &mut Vec<u8>,
+) -> Result<(), Memory>
+    requires words { AreWritable (words_lent words.now) }
+    requires upserted { IsWritableKey (outcome_meant reply.now).upserted }
+    ensures ok { OnOk result (out.new.items ≡ out.old.items ++ spelled 1 (entry_record (entry_meant time namespace.now statement.now (words_lent words.now) reply.now))) }
+    ensures sound { OnOk result (IsSound (entry_record (entry_meant time namespace.now statement.now (words_lent words.now) reply.now))) }
+    ensures err { OnErr result (out.new.items ≡ out.old.items) }
+{
+    let len = out.len();
+    let done = put_entry(time, namespace, statement, words, reply, out);
+    cut_after_err(done, len, out)
+}
+
+/// What was done; after an `Err` the bytes are cut to that length.
+pub(crate) fn cut_after_err(
+    done: Result<(), Memory>,
+    len: usize,
+    out: &mut Vec<u8>,
+) -> Result<(), Memory>
+    ensures same { result ≡ done }
+    ensures ok { OnOk result (out.new.items ≡ out.old.items) }
+    ensures err { OnErr result (out.new.items ≡ take len out.old.items) }
+{
     if done.is_err() {
         out.truncate(len);
     }
@@ -40,7 +79,7 @@ pub fn write_record(kept: &Record, out: &mut Vec<u8>) -> Result<(), Memory>
 }
 
 /// Puts the bytes.
-fn put(bytes: &[u8], out: &mut Vec<u8>) -> Result<(), Memory>
+pub(crate) fn put(bytes: &[u8], out: &mut Vec<u8>) -> Result<(), Memory>
     ensures ok { OnOk result (out.new.items ≡ out.old.items ++ bytes.now) }
     ensures kept { take (length out.old.items) out.new.items ≡ out.old.items }
 {
@@ -49,7 +88,7 @@ fn put(bytes: &[u8], out: &mut Vec<u8>) -> Result<(), Memory>
 }
 
 /// Puts the number's four bytes, the lowest first.
-fn put_u32(n: u32, out: &mut Vec<u8>) -> Result<(), Memory>
+pub(crate) fn put_u32(n: u32, out: &mut Vec<u8>) -> Result<(), Memory>
     ensures ok { OnOk result (out.new.items ≡ out.old.items ++ four n) }
     ensures kept { take (length out.old.items) out.new.items ≡ out.old.items }
 {
@@ -59,7 +98,7 @@ fn put_u32(n: u32, out: &mut Vec<u8>) -> Result<(), Memory>
 }
 
 /// Puts the number's eight bytes, the lowest first.
-fn put_u64(n: u64, out: &mut Vec<u8>) -> Result<(), Memory>
+pub(crate) fn put_u64(n: u64, out: &mut Vec<u8>) -> Result<(), Memory>
     ensures ok { OnOk result (out.new.items ≡ out.old.items ++ eight n) }
     ensures kept { take (length out.old.items) out.new.items ≡ out.old.items }
 {
@@ -69,7 +108,7 @@ fn put_u64(n: u64, out: &mut Vec<u8>) -> Result<(), Memory>
 }
 
 /// Puts a namespace: the number of its bytes, and its bytes.
-fn put_namespace(namespace: &Namespace, out: &mut Vec<u8>) -> Result<(), Memory>
+pub(crate) fn put_namespace(namespace: &Namespace, out: &mut Vec<u8>) -> Result<(), Memory>
     ensures ok { OnOk result (out.new.items ≡ out.old.items ++ spelled_string namespace.now) }
     ensures kept { take (length out.old.items) out.new.items ≡ out.old.items }
     ensures short { length namespace.now < 2 ^ 31 }
@@ -106,7 +145,7 @@ fn put_key(key: &Option<Key>, out: &mut Vec<u8>) -> Result<(), Memory>
 }
 
 /// Puts a key as the document that has it alone.
-fn put_some_key(key: &Key, out: &mut Vec<u8>) -> Result<(), Memory>
+pub(crate) fn put_some_key(key: &Key, out: &mut Vec<u8>) -> Result<(), Memory>
     requires { IsWritable (key_document key.now) }
     ensures ok { OnOk result (out.new.items ≡ out.old.items ++ written (key_document key.now)) }
     ensures sound { OnOk result (IsSpellable (key_document key.now)) }
@@ -163,18 +202,18 @@ fn put_statement(statement: &Stmt, out: &mut Vec<u8>) -> Result<(), Memory>
 }
 
 /// Puts what a statement does.
-fn put_words(op: &OpWords, out: &mut Vec<u8>) -> Result<(), Memory>
-    requires { AreWritable (words_meant op.now) }
-    ensures ok { OnOk result (out.new.items ≡ out.old.items ++ spelled_words (words_meant op.now)) }
-    ensures sound { OnOk result (AreSoundWords (words_meant op.now)) }
+fn put_words(words: &WordsRef<'_>, out: &mut Vec<u8>) -> Result<(), Memory>
+    requires { AreWritable (words_lent words.now) }
+    ensures ok { OnOk result (out.new.items ≡ out.old.items ++ spelled_words (words_lent words.now)) }
+    ensures sound { OnOk result (AreSoundWords (words_lent words.now)) }
     ensures kept { take (length out.old.items) out.new.items ≡ out.old.items }
 {
-    match op {
-        OpWords::Insert(document) => {
+    match words {
+        WordsRef::Insert(document) => {
             put(&[0x01], out)?;
             put_document(document, out)
         }
-        OpWords::Update {
+        WordsRef::Update {
             filter,
             change,
             upsert,
@@ -184,7 +223,7 @@ fn put_words(op: &OpWords, out: &mut Vec<u8>) -> Result<(), Memory>
             put_document(change, out)?;
             put(&[u8::from(*upsert)], out)
         }
-        OpWords::Delete { filter } => {
+        WordsRef::Delete { filter } => {
             put(&[0x03], out)?;
             put_document(filter, out)
         }
@@ -204,6 +243,46 @@ fn put_reply(reply: &Reply, out: &mut Vec<u8>) -> Result<(), Memory>
     put_u32(reply.code.cast_unsigned(), out)
 }
 
+/// Puts the record of an entry of these parts.
+fn put_entry(
+    time: Time,
+    namespace: &Namespace,
+    statement: &Stmt,
+    words: &WordsRef<'_>,
+    reply: &Reply,
+    out: &mut Vec<u8>,
+) -> Result<(), Memory>
+    requires words { AreWritable (words_lent words.now) }
+    requires upserted { IsWritableKey (outcome_meant reply.now).upserted }
+    ensures ok { OnOk result (out.new.items ≡ out.old.items ++ spelled 1 (entry_record (entry_meant time namespace.now statement.now (words_lent words.now) reply.now))) }
+    ensures sound { OnOk result (IsSound (entry_record (entry_meant time namespace.now statement.now (words_lent words.now) reply.now))) }
+    ensures kept { take (length out.old.items) out.new.items ≡ out.old.items }
+{
+    put(&[NEWEST_FORMAT, 0x02], out)?;
+    put_u64(time.0, out)?;
+    put_namespace(namespace, out)?;
+    put_statement(statement, out)?;
+    put_words(words, out)?;
+    put_reply(reply, out)
+}
+
+/// Puts the record of a collection that begins.
+fn put_creation(
+    namespace: &Namespace,
+    epoch: u64,
+    at: Time,
+    out: &mut Vec<u8>,
+) -> Result<(), Memory>
+    ensures ok { OnOk result (out.new.items ≡ out.old.items ++ spelled 1 (create_record (record { namespace = namespace.now; epoch = epoch; at = at.0 }))) }
+    ensures sound { OnOk result (IsSound (create_record (record { namespace = namespace.now; epoch = epoch; at = at.0 }))) }
+    ensures kept { take (length out.old.items) out.new.items ≡ out.old.items }
+{
+    put(&[NEWEST_FORMAT, 0x20], out)?;
+    put_namespace(namespace, out)?;
+    put_u64(epoch, out)?;
+    put_u64(at.0, out)
+}
+
 /// Puts a record.
 fn put_record(kept: &Record, out: &mut Vec<u8>) -> Result<(), Memory>
     requires { IsWritableRecord (record_meant kept.now) }
@@ -212,29 +291,26 @@ fn put_record(kept: &Record, out: &mut Vec<u8>) -> Result<(), Memory>
     ensures kept { take (length out.old.items) out.new.items ≡ out.old.items }
 {
     match kept {
+        Record::Table(table) => put_table(table, out),
         Record::Entry {
             time,
             namespace,
             statement,
             op,
             reply,
-        } => {
-            put(&[NEWEST_FORMAT, 0x02], out)?;
-            put_u64(time.0, out)?;
-            put_namespace(namespace, out)?;
-            put_statement(statement, out)?;
-            put_words(op, out)?;
-            put_reply(reply, out)
-        }
+        } => put_entry(*time, namespace, statement, &WordsRef::of(op), reply, out),
         Record::Create {
             namespace,
             epoch,
             at,
-        } => {
-            put(&[NEWEST_FORMAT, 0x20], out)?;
-            put_namespace(namespace, out)?;
-            put_u64(*epoch, out)?;
-            put_u64(at.0, out)
+        } => put_creation(namespace, *epoch, *at, out),
+        Record::Life(number) => {
+            put(&[NEWEST_FORMAT, 0x30], out)?;
+            put_u64(*number, out)
+        }
+        Record::Block(number) => {
+            put(&[NEWEST_FORMAT, 0x31], out)?;
+            put_u64(*number, out)
         }
     }
 }

@@ -3,12 +3,13 @@
 ghost use Rattle.std.specs.Prelude.{◌≤◌, IfOk, length};
 ghost use Rattle.std.specs.List.{AllByRecursion};
 ghost use Rattle.command_words.specs.CommandSizes.{IsKeepable, IsSmallRefusal, IsTaken};
-ghost use Rattle.command_words.specs.Refusals.{refusal_meant};
+ghost use Rattle.command_answers.specs.Refusals.{refusal_meant};
 ghost use Rattle.command_store.specs.Wanted.{wanted_meant};
 
 use bson_values::{Document, read};
 use cluster_base::{Code, NameFault, Namespace, Time};
-use command_words::{Command, Evidence, Find, Insert, Legacy, Refusal};
+use command_answers::{Evidence, Refusal};
+use command_words::{Command, Find, Insert, Legacy};
 use fixtures::{RowFault, bytes_of, number, spelled_value};
 use std::alloc::Global;
 use value_compare::key_of;

@@ -7,8 +7,9 @@ ghost use Rattle.command_store.specs.Wanted.{wanted_meant};
 
 use crate::commands::wanted_of;
 use bson_values::{Blob, Document, Value};
+use command_answers::Refusal;
 use command_store::{Served, Store};
-use command_words::{Command, Refusal};
+use command_words::Command;
 use fixtures::{RowFault, Rows, bytes_of, field, number};
 use std::alloc::{AllocError, Global};
 

@@ -2,7 +2,7 @@
 
 use bson_values::{Document, Text, Value, read};
 use cluster_base::{Code, Time};
-use command_words::{Answer, Evidence, Refusal, StatementIndex, WriteError, write_answer};
+use command_answers::{Answer, Evidence, Refusal, StatementIndex, WriteError, write_answer};
 use std::alloc::Global;
 use std::cmp::Ordering;
 use std::test::Fail;

@@ -2,7 +2,7 @@
 
 ghost use Rattle.std.specs.Prelude.{◌≡◌, ◌≢◌, ◌↔◌, IfOk, IfSome, None};
 ghost use Rattle.std.specs.declared.cmp.Ordering.TheVariants.{Less};
-ghost use Rattle.value_model.specs.Keys.{IsRange, inside, key_bound, order_bounds};
+ghost use Rattle.value_model.specs.Keys.{IsRange, inside, key_bound, order_bounds, range_span};
 ghost use Rattle.value_compare.specs.Bounds.{bound_of};
 ghost use Rattle.value_compare.specs.Spans.{span_of};
 
@@ -123,6 +123,14 @@ impl KeyRange {
         &self.max
     }
 
+    /// Whether a key stands in the range, which holds its least bound and not its greatest. Takes no memory.
+    #[tactic(auto, using(crate::proofs::Turned::greater_is_less))]
+    pub fn contains(&self, key: &Key) -> bool
+        ensures { result ≡ inside (range_span self.now) key.now }
+    {
+        self.min.compare_to_key(key).is_le() && self.max.compare_to_key(key).is_gt()
+    }
+
     /// The same range once more. Fails for want of memory.
     pub fn copy(&self) -> Result<KeyRange, Memory>
         ensures { IfOk result (λ r. r ≡ self.now) }
@@ -155,14 +163,11 @@ impl Span {
 }
 
 /// Whether a key stands in a span: a range holds its least bound and not its greatest. Takes no memory.
-#[tactic(auto, using(crate::proofs::Turned::greater_is_less))]
 pub fn inside(span: &Span, key: &Key) -> bool
     ensures { result ≡ inside (span_of span.now) key.now }
 {
     match span {
-        Span::Range(range) => {
-            range.min().compare_to_key(key).is_le() && range.max().compare_to_key(key).is_gt()
-        }
+        Span::Range(range) => range.contains(key),
         Span::Point(point) => point == key,
     }
 }

@@ -27,7 +27,7 @@ pub fn compare_deep(rt: &HostRuntime) -> io::Result<()> {
     Ok(())
 }
 
-// Whether the first is less than the second, and each equal to itself.
+// Whether the first is less than the second and other data, and equal to itself and the same data.
 fn compare_two(
     first: Result<Value, Memory>,
     second: Result<Value, Memory>,
@@ -37,7 +37,8 @@ fn compare_two(
     let is_equal = compare(&first, &first) == Ordering::Equal;
     let is_less = compare(&first, &second) == Ordering::Less;
     let is_greater = compare(&second, &first) == Ordering::Greater;
-    Ok(is_equal && is_less && is_greater)
+    let is_other = first.same_data(&first) && !first.same_data(&second);
+    Ok(is_equal && is_less && is_greater && is_other)
 }
 
 fn long(alloc: Global, last: i64) -> Result<Value, Memory> {

@@ -1,18 +1,22 @@
-//! Checks rows of data about values: the bytes of documents, the order of values, keys and spans. For each file it prints how many
-//! rows hold, and each row that does not.
+//! Checks rows of data about values: the bytes of documents, which are the same data, their levels, the order of values, keys and
+//! spans. For each file it prints how many rows hold, and each row that does not.
 #![tactic(auto)]
 
 mod built;
 mod documents;
+mod equality;
 mod keys;
 mod large;
+mod levels;
 mod order;
 mod spans;
 
 use crate::built::Built;
 use crate::documents::{Documents, Prefixes};
+use crate::equality::Equality;
 use crate::keys::{KeyTypes, Keys};
 use crate::large::{compare_deep, compare_long};
+use crate::levels::Levels;
 use crate::order::{Classes, Sorted};
 use crate::spans::{Bounds, Spans};
 use bson_values::{one_fault, one_spelling};
@@ -32,7 +36,9 @@ fn check_documents(rt: &HostRuntime) -> io::Result<()> {
     check_file(rt, "documents.txt", &mut Documents)?;
     check_file(rt, "faults.txt", &mut Documents)?;
     check_file(rt, "prefixes.txt", &mut Prefixes)?;
-    check_file(rt, "built.txt", &mut Built)
+    check_file(rt, "built.txt", &mut Built)?;
+    check_file(rt, "equality.txt", &mut Equality)?;
+    check_file(rt, "levels.txt", &mut Levels)
 }
 
 fn check_order(rt: &HostRuntime) -> io::Result<()> {

@@ -2,7 +2,8 @@
 
 use crate::faults::RowFault;
 use bson_values::{Document, Value};
-use command_words::{Command, CommandFault, Evidence, Find, Insert, Legacy, Refusal};
+use command_answers::{Evidence, Refusal};
+use command_words::{Command, CommandFault, Find, Insert, Legacy};
 use opmsg_frames::{Body, Request};
 use std::alloc::Global;
 use std::cmp::Ordering;

@@ -60,14 +60,13 @@ fn are_first(found: &[Blob], records: &[Vec<u8>]) -> bool {
 /// How many records an opening of the disk's journal finds, if they are the first of the row's.
 fn found_in(alloc: Global, plan: &DiskPlan, disk: &MemDisk) -> Result<Option<u64>, RowFault> {
     let copy = disk_of(alloc, disk.bytes(), &[])?;
-    let Ok(journal) = Journal::open(alloc, copy) else {
+    let Ok((_journal, found)) = Journal::open(alloc, copy) else {
         return Ok(None);
     };
-    let found = journal.records().as_slice();
-    if !are_first(found, &plan.records) {
+    if !are_first(found.as_slice(), &plan.records) {
         return Ok(None);
     }
-    Ok(Some(found.len() as u64))
+    Ok(Some(found.as_slice().len() as u64))
 }
 
 /// How many records an opening of each disk's journal finds, in order, of those where that holds.

@@ -6,7 +6,7 @@ use crate::frames::told_of;
 use crate::numbers::{number, split};
 use crate::pieces::Cutting;
 use crate::row::Row;
-use crate::serving::served;
+use crate::runs::served;
 use std::alloc::Global;
 use std::io::Print;
 use std::rt::Files;

@@ -16,6 +16,13 @@ enum Next {
     Fault,
 }
 
+/// What the framer gave: a line for each request, and the requests' bytes, one behind another.
+#[derive(Drop)]
+struct Told {
+    lines: String,
+    bytes: Vec<u8>,
+}
+
 /// The least request.
 const LEAST: &[u8] = b"\x1a\0\0\0\x01\0\0\0\0\0\0\0\xdd\x07\0\0\0\0\0\0\0\x05\0\0\0\0";
 
@@ -121,7 +128,7 @@ fn put_malformed(
 /// Puts the line of what the framer gives next, if it gives a request or a fault. Gives whether it was a request.
 fn put_next(
     alloc: Global,
-    told: &mut String,
+    told: &mut Told,
     framer: &mut Framer,
     as_query: bool,
 ) -> Result<Next, RowFault> {
@@ -131,12 +138,13 @@ fn put_next(
             if as_query {
                 request.form = Form::Query;
             }
-            put_request(alloc, told, &request)?;
+            put_request(alloc, &mut told.lines, &request)?;
+            told.bytes.extend_from_slice(request.bytes())?;
             Ok(Next::Request)
         }
         Ok(None) => Ok(Next::Nothing),
         Err(fault) => {
-            put_malformed(alloc, told, framer, fault)?;
+            put_malformed(alloc, &mut told.lines, framer, fault)?;
             Ok(Next::Fault)
         }
     }
@@ -145,7 +153,7 @@ fn put_next(
 /// Puts the lines of all that the framer gives once it has the piece. Gives whether no fault was met.
 fn put_piece(
     alloc: Global,
-    told: &mut String,
+    told: &mut Told,
     framer: &mut Framer,
     piece: &[u8],
     as_query: bool,
@@ -164,7 +172,7 @@ fn put_piece(
 /// Puts the lines of the bytes, in pieces of at most so many. Gives whether no fault was met.
 fn put_pieces(
     alloc: Global,
-    told: &mut String,
+    told: &mut Told,
     framer: &mut Framer,
     bytes: &[u8],
     most: usize,
@@ -178,6 +186,23 @@ fn put_pieces(
     Ok(true)
 }
 
+/// Whether the bytes are the prefix and the rest.
+fn are_joined(bytes: &[u8], prefix: &[u8], rest: &[u8]) -> bool {
+    match bytes.strip_prefix(prefix) {
+        Some(behind) => behind == rest,
+        None => false,
+    }
+}
+
+/// Puts what stands behind the requests; another line where their bytes and the rest are not those that came in.
+fn put_end(alloc: Global, told: &mut Told, bytes: &[u8], rest: &[u8]) -> Result<(), RowFault> {
+    put_rest(alloc, &mut told.lines, rest.len())?;
+    if !are_joined(bytes, &told.bytes, rest) {
+        put_line(&mut told.lines, "other bytes")?;
+    }
+    Ok(())
+}
+
 /// What the framer and the commands make of the bytes in these pieces, a line for each request and for what stands behind
 /// them; `as_query`: as if each request came in an OP_QUERY.
 pub fn told_of(
@@ -186,13 +211,16 @@ pub fn told_of(
     cutting: Cutting,
     as_query: bool,
 ) -> Result<String, RowFault> {
-    let mut told = String::new(alloc);
+    let mut told = Told {
+        lines: String::new(alloc),
+        bytes: Vec::new(alloc),
+    };
     let mut framer = Framer::new(alloc);
     let (prefix, back) = bytes.split_at(cutting.first.min(bytes.len()));
     if put_piece(alloc, &mut told, &mut framer, prefix, as_query)?
         && put_pieces(alloc, &mut told, &mut framer, back, cutting.later, as_query)?
     {
-        put_rest(alloc, &mut told, framer.rest().len())?;
+        put_end(alloc, &mut told, bytes, framer.rest())?;
     }
-    Ok(told)
+    Ok(told.lines)
 }

@@ -30,7 +30,7 @@ mod numbers;
 mod pieces;
 mod plans;
 mod row;
-mod serving;
+mod runs;
 
 use crate::faults::RowFault;
 use crate::files::check_files;

@@ -1,5 +1,5 @@
 //! Crashes at each moment of a journal.
-use crate::fixtures::{NEVER, disk_of, opens_with, run_on};
+use crate::fixtures::{NEVER, bodies, disk_of, opens_with, opens_with_all, run_at_once, run_on};
 use outside::disk::Disk;
 use outside_memory::{Call, MemDisk};
 use std::alloc::Global;
@@ -86,6 +86,24 @@ fn image(alloc: Global, calls: &[Call], crash: Crash) -> Result<MemDisk, Fail> {
         crash_call(alloc, &mut disk, call, crash)?;
     }
     Ok(disk)
+}
+
+#[test]
+fn each_crash_at_once(rt: HostRuntime) -> Result<(), Fail> {
+    let alloc = rt.alloc();
+    let Ok(bodies) = bodies(alloc) else {
+        return Ok(());
+    };
+    let (_, disk) = run_at_once(alloc, disk_of(alloc, b"", NEVER)?, &bodies);
+    for moment in 0..=disk.calls().len() {
+        // Opening makes three calls that are listed, and the append four.
+        let acknowledged = moment / 7 * 3;
+        for crash in CRASHES {
+            let left = image(alloc, &disk.calls()[..moment], crash)?;
+            opens_with_all(&rt, alloc, left.bytes(), acknowledged)?;
+        }
+    }
+    Ok(())
 }
 
 #[test]

@@ -1,5 +1,5 @@
 //! Disks over files of the system, and a journal on one.
-use crate::fixtures::{WHOLE, append_all};
+use crate::fixtures::{WHOLE, append_each};
 use journal_frames::Journal;
 use outside::disk::Disk;
 use outside::standard::FileDisk;
@@ -73,11 +73,10 @@ fn file_disks(rt: HostRuntime) -> Result<(), Fail> {
 /// Appends all records to the journal on this disk, and gives how many there were before.
 fn append_on<D: Disk>(rt: &impl Abort, alloc: Global, disk: D) -> usize {
     match Journal::open(alloc, disk) {
-        Ok(journal) => {
+        Ok((journal, records)) => {
             let mut journal = journal;
-            let before = journal.records().as_slice().len();
-            assert_eq!(rt; append_all(rt, &mut journal), 3);
-            before
+            assert_eq!(rt; append_each(rt, &mut journal), 3);
+            records.as_slice().len()
         }
         Err(_fault) => {
             assert!(rt; false);

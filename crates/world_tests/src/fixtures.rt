@@ -1,6 +1,7 @@
 //! Streams, disks and journals that tests begin with, and steps that several tests take.
 ghost use Rattle.std.specs.Prelude.{IsTrue};
 
+use bson_values::{Blob, Memory};
 use journal_frames::{Journal, OpenFault};
 use outside::disk::Disk;
 use outside::log::{Log, LogFault, RecordList};
@@ -55,7 +56,7 @@ pub fn disk_back<D: Disk>(fault: OpenFault<D>) -> D {
 }
 
 /// Appends the records until a disk fails, and gives how many were acknowledged.
-pub fn append_all<D: Disk>(rt: &impl Abort, journal: &mut Journal<D>) -> usize
+pub fn append_each<D: Disk>(rt: &impl Abort, journal: &mut Journal<D>) -> usize
     requires { IsTrue journal.old.is_open }
 {
     for (i, record) in RECORDS.iter().enumerate() {
@@ -85,24 +86,66 @@ pub fn are_first(rt: &impl Abort, records: &RecordList, count: usize) {
 /// Appends the records to a journal on this disk: how many are acknowledged, and the disk.
 pub fn run_on(rt: &impl Abort, alloc: Global, disk: MemDisk) -> (usize, MemDisk) {
     match Journal::open(alloc, disk) {
-        Ok(journal) => {
+        Ok((journal, _)) => {
             let mut journal = journal;
-            let count = append_all(rt, &mut journal);
+            let count = append_each(rt, &mut journal);
             (count, journal.into_disk())
         }
         Err(fault) => (0, disk_back(fault)),
     }
 }
 
+/// The records as the parts of one step.
+pub fn bodies(alloc: Global) -> Result<Vec<Blob>, Memory> {
+    let mut bodies = Vec::new(alloc);
+    for record in RECORDS {
+        bodies.push(Blob::of(alloc, record)?)?;
+    }
+    Ok(bodies)
+}
+
+/// Appends these records at once to a journal on this disk: whether they are acknowledged, and the disk.
+pub fn run_at_once(alloc: Global, disk: MemDisk, bodies: &[Blob]) -> (bool, MemDisk) {
+    match Journal::open(alloc, disk) {
+        Ok((journal, _)) => {
+            let mut journal = journal;
+            let done = journal.append_all(bodies).is_ok();
+            (done, journal.into_disk())
+        }
+        Err(fault) => (false, disk_back(fault)),
+    }
+}
+
+/// How many records an opening of these bytes on a new disk finds: the first ones of the table.
+fn count_in(rt: &impl Abort, alloc: Global, bytes: &[u8]) -> Result<usize, Fail> {
+    match Journal::open(alloc, disk_of(alloc, bytes, NEVER)?) {
+        Ok((_journal, records)) => {
+            let count = records.as_slice().len();
+            are_first(rt, &records, count);
+            Ok(count)
+        }
+        Err(_fault) => {
+            assert!(rt; false);
+            Ok(0)
+        }
+    }
+}
+
+/// The disk's bytes, opened as a journal on a new disk, hold all records or none, and all where `least` is their number.
+pub fn opens_with_all(
+    rt: &impl Abort,
+    alloc: Global,
+    bytes: &[u8],
+    least: usize,
+) -> Result<(), Fail> {
+    let count = count_in(rt, alloc, bytes)?;
+    assert!(rt; count == RECORDS.len() || count == 0 && least == 0);
+    Ok(())
+}
+
 /// The disk's bytes, opened as a journal on a new disk, hold the first `least` records, or one more.
 pub fn opens_with(rt: &impl Abort, alloc: Global, bytes: &[u8], least: usize) -> Result<(), Fail> {
-    match Journal::open(alloc, disk_of(alloc, bytes, NEVER)?) {
-        Ok(journal) => {
-            let count = journal.records().as_slice().len();
-            assert!(rt; least <= count && count <= least + 1);
-            are_first(rt, journal.records(), count);
-        }
-        Err(_fault) => assert!(rt; false),
-    }
+    let count = count_in(rt, alloc, bytes)?;
+    assert!(rt; least <= count && count <= least.saturating_add(1));
     Ok(())
 }

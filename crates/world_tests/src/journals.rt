@@ -1,5 +1,7 @@
 //! Journals on disks in memory, whose calls fail.
-use crate::fixtures::{NEVER, WHOLE, are_first, disk_back, disk_of, opens_with, run_on};
+use crate::fixtures::{
+    NEVER, WHOLE, are_first, bodies, disk_back, disk_of, opens_with, run_at_once, run_on,
+};
 use journal_frames::{Journal, OpenFault};
 use outside::disk::Disk;
 use outside_memory::{Call, MemDisk};
@@ -19,8 +21,8 @@ fn appends(rt: HostRuntime) -> Result<(), Fail> {
 #[test]
 fn opens(rt: HostRuntime) -> Result<(), Fail> {
     match Journal::open(rt.alloc(), disk_of(rt.alloc(), WHOLE, NEVER)?) {
-        Ok(journal) => {
-            are_first(&rt, journal.records(), 3);
+        Ok((journal, records)) => {
+            are_first(&rt, &records, 3);
             assert_eq!(rt; journal.into_disk().bytes(), WHOLE);
         }
         Err(_fault) => assert!(rt; false),
@@ -53,7 +55,7 @@ fn no_call_fails(rt: HostRuntime) -> Result<(), Fail> {
 /// The disk of an opening that failed at a call.
 fn failed_disk(rt: &impl Abort, alloc: Global, disk: MemDisk) -> MemDisk {
     match Journal::open(alloc, disk) {
-        Ok(journal) => {
+        Ok((journal, _)) => {
             assert!(rt; false);
             journal.into_disk()
         }
@@ -109,10 +111,36 @@ fn calls_in_order(rt: HostRuntime) -> Result<(), Fail> {
     Ok(())
 }
 
+/// The records of one step.
+#[test]
+fn calls_at_once(rt: HostRuntime) -> Result<(), Fail> {
+    let alloc = rt.alloc();
+    let Ok(bodies) = bodies(alloc) else {
+        return Ok(());
+    };
+    let (done, disk) = run_at_once(alloc, disk_of(alloc, b"", NEVER)?, &bodies);
+    assert!(rt; done);
+    assert_eq!(rt; disk.bytes(), WHOLE);
+    assert_eq!(rt;
+        call_names(alloc, &disk)?.as_str(),
+        "sync,write 0 1,sync,write 1 30,sync,write 0 1,sync,"
+    );
+    Ok(())
+}
+
+#[test]
+fn no_call_for_no_record(rt: HostRuntime) -> Result<(), Fail> {
+    let alloc = rt.alloc();
+    let (done, disk) = run_at_once(alloc, disk_of(alloc, b"", NEVER)?, &[]);
+    assert!(rt; done);
+    assert_eq!(rt; call_names(alloc, &disk)?.as_str(), "sync,write 0 1,sync,");
+    Ok(())
+}
+
 /// The disk of a journal that was opened on these bytes.
 fn opened_disk(alloc: Global, bytes: &[u8]) -> Result<MemDisk, Fail> {
     match Journal::open(alloc, disk_of(alloc, bytes, NEVER)?) {
-        Ok(journal) => Ok(journal.into_disk()),
+        Ok((journal, _)) => Ok(journal.into_disk()),
         Err(fault) => Ok(disk_back(fault)),
     }
 }

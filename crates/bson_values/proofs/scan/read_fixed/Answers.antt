@@ -1,5 +1,5 @@
 use Rattle.std.proofs.Common.{rules}
-use Rattle.bson_values.specs.Reading.{fixed_at}
+use Rattle.bson_values.specs.Readers.{fixed_at}
 use Rattle.bson_values.proofs.scan.read_fixed.Goals as goal
 
 pub returns-then-room-count-clause-gives : goal.returns-then-room-count-clause-gives

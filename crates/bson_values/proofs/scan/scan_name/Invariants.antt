@@ -1,5 +1,5 @@
 use Rattle.std.proofs.Common.{◌≡◌, ◌-◌, ◌≤◌, take, drop}
-use Rattle.bson_values.specs.Reading.{name_from}
+use Rattle.bson_values.specs.Readers.{name_from}
 use Rattle.bson_values.proofs.NameScan.{after}
 use Rattle.bson_values.proofs.scan.scan_name.Given as goal
 

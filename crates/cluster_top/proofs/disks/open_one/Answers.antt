@@ -6,7 +6,7 @@ use Rattle.cluster_top.proofs.disks.open_one.Goals as goal
 
 pub returns-in-Ok-clause-opened : goal.returns-in-Ok-clause-opened
 returns-in-Ok-clause-opened g c = λ empty.
-    open_fresh g.D.Disk.tells g.D.Disk.content g.D.Disk.may_leave (g.D.Disk.content c.args.disk) c.in-Ok.journal c.in-Ok.ensures.open empty c.in-Ok.ensures.found c.in-Ok.ensures.same c.in-Ok.ensures.kept
+    rw c.journal_of.ensures (open_fresh g.D.Disk.tells g.D.Disk.content g.D.Disk.may_leave (g.D.Disk.content c.args.disk) c.in-Ok.opened.0 c.in-Ok.opened.1 c.in-Ok.ensures.open empty c.in-Ok.ensures.found c.in-Ok.ensures.list c.in-Ok.ensures.same c.in-Ok.ensures.kept)
 
 pub returns-in-Err-Disk-clause-kept : goal.returns-in-Err-Disk-clause-kept
 returns-in-Err-Disk-clause-kept g c = λ empty told.

@@ -1,6 +1,6 @@
 use Rattle.std.proofs.Common.{◌≡◌, IsTrue, ◌++◌, List, take}
 use Rattle.shard_records.specs.Records.{Record}
-use Rattle.command_store.specs.Served.{AreSpelled}
+use Rattle.command_store.specs.Service.{AreSpelled}
 use Rattle.cluster_top.specs.OpenJournals.{IsOpen}
 use Rattle.cluster_top.proofs.journals.append_each.Given as goal
 

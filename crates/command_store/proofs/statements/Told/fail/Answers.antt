@@ -1,7 +1,7 @@
 use Rattle.std.proofs.Common.{ℕ, ◌++◌, ◌∷◌, [], ◌∙◌, ap, sym}
 use Rattle.cluster_base.specs.Refusals.{without_evidence}
 use Rattle.cluster_base.specs.Codes.{meaning_of}
-use Rattle.command_words.specs.Errors.{errors_meant}
+use Rattle.command_answers.specs.Errors.{errors_meant}
 use Rattle.command_store.proofs.Telling.{errors_push, index_is}
 use Rattle.command_store.proofs.statements.Told.fail.Goals as goal
 

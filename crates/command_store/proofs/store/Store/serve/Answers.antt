@@ -1,7 +1,7 @@
 use Rattle.std.specs.Option.{option_map}
 use Rattle.bson_values.specs.View.{datum_of}
 use Rattle.cluster_base.specs.declared.time.Time.{Time}
-use Rattle.command_words.specs.AnswerMeanings.{answer_meant}
+use Rattle.command_answers.specs.AnswerMeanings.{answer_meant}
 use Rattle.command_store.specs.Steps.{raised}
 use Rattle.command_store.proofs.Serving.{find_served}
 use Rattle.command_store.proofs.store.Store.serve.Goals as goal

@@ -1,4 +1,4 @@
-use Rattle.command_store.specs.Served.{own_number}
+use Rattle.command_store.specs.Service.{own_number}
 use Rattle.command_store.proofs.EntryBytes.{entry_told}
 use Rattle.command_store.proofs.store.Store.statement.Goals as goal
 

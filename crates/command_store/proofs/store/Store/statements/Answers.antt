@@ -2,7 +2,7 @@ use Rattle.std.proofs.Common.{ap, arith, ◌+◌}
 use Rattle.std.proofs.lemmas.List.{drop_all}
 use Rattle.cluster_base.specs.declared.time.Time.{Time}
 use Rattle.plain_store_model.specs.Statements.{entry_of}
-use Rattle.command_store.specs.Served.{own_number}
+use Rattle.command_store.specs.Service.{own_number}
 use Rattle.command_store.specs.Steps.{with_entries}
 use Rattle.command_store.specs.Telling.{outcome_meant}
 use Rattle.command_store.proofs.Telling.{small_within}

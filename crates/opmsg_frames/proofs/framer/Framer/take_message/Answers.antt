@@ -1,5 +1,18 @@
-use Rattle.std.proofs.Common.{rules}
+use Rattle.std.proofs.Common.{arith}
 use Rattle.opmsg_frames.proofs.framer.Framer.take_message.Goals as goal
 
-pub returns-in-Ok : goal.returns-in-Ok
-returns-in-Ok c = search rules
+pub returns : goal.returns
+returns c =
+    let read = c.in-Ok.ensures in
+    let cut = c.in-Ok-freeze_to.ensures in (
+      c.requires.fault,
+      (
+        read.0,
+        record {
+          meant_is = c.with_bytes.ensures read.0 read.1 (rw (cut.front, ← c.as_slice.ensures) read.3);
+          first = rw (← c.self.view_is, cut.rest.0, ← c.as_slice.ensures) read.2;
+          offset = rw (← c.self.view_is, read.4) (omega arith);
+          fault = rw (← c.self.view_is) at c.requires.fault;
+        },
+      ),
+    )

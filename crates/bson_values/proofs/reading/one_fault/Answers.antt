@@ -1,5 +1,0 @@
-use Rattle.bson_values.proofs.FirstFault as first
-use Rattle.bson_values.proofs.reading.one_fault.Goals as goal
-
-pub returns : goal.returns
-returns c = first.one_fault

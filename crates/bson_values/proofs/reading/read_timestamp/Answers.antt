@@ -1,7 +1,0 @@
-use Rattle.std.proofs.Common.{rules}
-use Rattle.bson_values.specs.Reading.{scalar_at}
-use Rattle.bson_values.proofs.reading.read_timestamp.Goals as goal
-
-pub returns-clause-gives : goal.returns-clause-gives
-unfolding scalar_at
-returns-clause-gives c = search rules

@@ -1,0 +1,417 @@
+//! Reading values, and the document at the beginning of some bytes.
+//!
+//! `total`, `room` and offsets are as in `scan`; `level` is how many levels a value may have inside.
+
+ghost use Rattle.std.specs.Prelude.{◌≡◌, ◌≢◌, ◌+◌, ◌<◌, ◌≤◌, ◌++◌, ◌⊎◌, ℕ, List, Ok, Err, IfOk, IfErr, IfNone, length, take};
+ghost use Rattle.std.specs.Option.{option_map};
+ghost use Rattle.bson_model.specs.Faults.{Fault, HasFirstFault};
+ghost use Rattle.bson_model.specs.Tree.{Fields};
+ghost use Rattle.bson_model.specs.Grammar.{AreBytes, BeginsWith, IsWithinDepth, ReadsAs};
+ghost use Rattle.bson_values.specs.ReadFaults.{Gives, fault_from};
+ghost use Rattle.bson_values.specs.Readers.{binary_at, boolean_at, deep_at, scalar_at, value_at, field_at, item_at, fields_with, items_with, document_with, array_with, whole_at};
+ghost use Rattle.bson_values.specs.Rests.{IsRest};
+ghost use Rattle.bson_values.specs.View.{datum_of};
+
+use crate::element_type::ElementType;
+use crate::fault::BsonFault;
+use crate::limits::{LENGTH_LIMIT, MOST_DEPTH_KEPT};
+use crate::scan::{read_fixed, read_length, read_name, read_string, read_type, skip_name};
+use crate::text::{Blob, Name, Text};
+use crate::value::{Array, Document, Field, Value};
+use byteorder::{ByteOrder, LittleEndian};
+use std::alloc::Global;
+
+// How many levels there may be inside the outermost document.
+const DEPTH: u32 = MOST_DEPTH_KEPT - 1;
+
+/// The fault of a document or an array where no level is left: its length is judged first.
+#[tactic(auto, unfolding(crate::specs::Readers::deep_at, crate::specs::Readers::deep_unless))]
+fn deep_fault(total: usize, room: usize, bytes: &[u8]) -> BsonFault
+    requires { length bytes.now ≤ total }
+    ensures { result ≡ deep_at total room bytes.now }
+{
+    match read_length(total, 5, 0, room, bytes) {
+        Err(BsonFault::BadLength { place: offset }) => BsonFault::BadLength { place: offset },
+        _ => {
+            if bytes.is_empty() {
+                return BsonFault::Short { place: total };
+            }
+            BsonFault::Deep {
+                place: total - bytes.len(),
+            }
+        }
+    }
+}
+
+#[tactic(auto, unfolding(crate::specs::Readers::binary_at, crate::specs::Readers::content_at))]
+fn read_binary(
+    alloc: Global,
+    total: usize,
+    room: usize,
+    bytes: &[u8],
+) -> Result<(Value, &[u8]), BsonFault>
+    requires total { length bytes.now ≤ total }
+    ensures gives { Gives (λ x. (datum_of x.0, x.1.now)) result (binary_at total room bytes.now) }
+    ensures rest { IfOk result (λ x. IsRest bytes.now room x.1.now) }
+{
+    let (count, rest) = read_length(total, 0, 5, room, bytes)?;
+    let Some((subtype, rest)) = rest.split_first() else {
+        return Err(BsonFault::Short { place: total });
+    };
+    if rest.len() < count {
+        return Err(BsonFault::Short { place: total });
+    }
+    let (content, rest) = rest.split_at(count);
+    let bytes = Blob::of(alloc, content)?;
+    Ok((
+        Value::Binary {
+            subtype: *subtype,
+            bytes,
+        },
+        rest,
+    ))
+}
+
+#[tactic(auto, unfolding(crate::specs::Readers::boolean_at))]
+fn read_boolean(total: usize, room: usize, bytes: &[u8]) -> Result<(Value, &[u8]), BsonFault>
+    requires total { length bytes.now ≤ total }
+    requires room { 0 < room }
+    ensures gives { Gives (λ x. (datum_of x.0, x.1.now)) result (boolean_at total bytes.now) }
+    ensures rest { IfOk result (λ x. IsRest bytes.now room x.1.now) }
+{
+    match bytes {
+        [] => Err(BsonFault::Short { place: total }),
+        [0, rest @ ..] => Ok((Value::Bool(false), rest)),
+        [1, rest @ ..] => Ok((Value::Bool(true), rest)),
+        [_, ..] => Err(BsonFault::BadBool {
+            place: total - bytes.len(),
+        }),
+    }
+}
+
+#[tactic(auto, unfolding(crate::specs::Readers::scalar_at))]
+fn read_object_id(total: usize, room: usize, bytes: &[u8]) -> Result<(Value, &[u8]), BsonFault>
+    requires total { length bytes.now ≤ total }
+    requires room { 0 < room }
+    ensures gives { Gives (λ x. (datum_of x.0, x.1.now)) result (scalar_at total ElementType.ObjectId room bytes.now) }
+    ensures rest { IfOk result (λ x. IsRest bytes.now room x.1.now) }
+{
+    let (prefix, rest) = read_fixed(total, 12, room, bytes)?;
+    let mut id = [0; 12];
+    id.copy_from_slice(prefix);
+    Ok((Value::ObjectId(id), rest))
+}
+
+#[tactic(auto, unfolding(crate::specs::Readers::scalar_at))]
+fn read_date(total: usize, room: usize, bytes: &[u8]) -> Result<(Value, &[u8]), BsonFault>
+    requires total { length bytes.now ≤ total }
+    requires room { 0 < room }
+    ensures gives { Gives (λ x. (datum_of x.0, x.1.now)) result (scalar_at total ElementType.Date room bytes.now) }
+    ensures rest { IfOk result (λ x. IsRest bytes.now room x.1.now) }
+{
+    let (prefix, rest) = read_fixed(total, 8, room, bytes)?;
+    let time = LittleEndian::read_u64(prefix).cast_signed();
+    Ok((Value::Date(time), rest))
+}
+
+#[tactic(auto, unfolding(crate::specs::Readers::scalar_at))]
+fn read_int32(total: usize, room: usize, bytes: &[u8]) -> Result<(Value, &[u8]), BsonFault>
+    requires total { length bytes.now ≤ total }
+    requires room { 0 < room }
+    ensures gives { Gives (λ x. (datum_of x.0, x.1.now)) result (scalar_at total ElementType.Int32 room bytes.now) }
+    ensures rest { IfOk result (λ x. IsRest bytes.now room x.1.now) }
+{
+    let (prefix, rest) = read_fixed(total, 4, room, bytes)?;
+    let number = LittleEndian::read_u32(prefix).cast_signed();
+    Ok((Value::Int32(number), rest))
+}
+
+#[tactic(auto, unfolding(crate::specs::Readers::scalar_at))]
+fn read_timestamp(total: usize, room: usize, bytes: &[u8]) -> Result<(Value, &[u8]), BsonFault>
+    requires total { length bytes.now ≤ total }
+    requires room { 0 < room }
+    ensures gives { Gives (λ x. (datum_of x.0, x.1.now)) result (scalar_at total ElementType.Timestamp room bytes.now) }
+    ensures rest { IfOk result (λ x. IsRest bytes.now room x.1.now) }
+{
+    let (prefix, rest) = read_fixed(total, 8, room, bytes)?;
+    let time = LittleEndian::read_u64(prefix);
+    Ok((Value::Timestamp(time), rest))
+}
+
+#[tactic(auto, unfolding(crate::specs::Readers::scalar_at))]
+fn read_int64(total: usize, room: usize, bytes: &[u8]) -> Result<(Value, &[u8]), BsonFault>
+    requires total { length bytes.now ≤ total }
+    requires room { 0 < room }
+    ensures gives { Gives (λ x. (datum_of x.0, x.1.now)) result (scalar_at total ElementType.Int64 room bytes.now) }
+    ensures rest { IfOk result (λ x. IsRest bytes.now room x.1.now) }
+{
+    let (prefix, rest) = read_fixed(total, 8, room, bytes)?;
+    let number = LittleEndian::read_u64(prefix).cast_signed();
+    Ok((Value::Int64(number), rest))
+}
+
+/// Reads a value that has no values inside. A document or an array has no level left.
+#[tactic(auto, unfolding(crate::specs::Readers::scalar_at))]
+fn read_scalar(
+    alloc: Global,
+    total: usize,
+    type_byte: ElementType,
+    room: usize,
+    bytes: &[u8],
+) -> Result<(Value, &[u8]), BsonFault>
+    requires total { length bytes.now ≤ total }
+    requires room { 0 < room }
+    ensures gives { Gives (λ x. (datum_of x.0, x.1.now)) result (scalar_at total type_byte room bytes.now) }
+    ensures rest { IfOk result (λ x. IsRest bytes.now room x.1.now) }
+{
+    match type_byte {
+        ElementType::Text => {
+            let (text, rest) = read_string(total, room, bytes)?;
+            let text = Text::of(alloc, text)?;
+            Ok((Value::Text(text), rest))
+        }
+        ElementType::Doc => Err(deep_fault(total, room, bytes)),
+        ElementType::Array => Err(deep_fault(total, room, bytes)),
+        ElementType::Binary => read_binary(alloc, total, room, bytes),
+        ElementType::ObjectId => read_object_id(total, room, bytes),
+        ElementType::Bool => read_boolean(total, room, bytes),
+        ElementType::Date => read_date(total, room, bytes),
+        ElementType::Null => Ok((Value::Null, bytes)),
+        ElementType::Int32 => read_int32(total, room, bytes),
+        ElementType::Timestamp => read_timestamp(total, room, bytes),
+        ElementType::Int64 => read_int64(total, room, bytes),
+        ElementType::MinKey => Ok((Value::MinKey, bytes)),
+        ElementType::MaxKey => Ok((Value::MaxKey, bytes)),
+    }
+}
+
+#[cycle(reader)]
+#[tactic(auto, unfolding(crate::specs::Readers::value_at))]
+fn read_value(
+    alloc: Global,
+    total: usize,
+    level: u32,
+    type_byte: ElementType,
+    room: usize,
+    bytes: &[u8],
+) -> Result<(Value, &[u8]), BsonFault>
+    requires total { length bytes.now ≤ total }
+    requires room { 0 < room }
+    ensures gives { Gives (λ x. (datum_of x.0, x.1.now)) result (value_at total level type_byte room bytes.now) }
+    ensures rest { IfOk result (λ x. IsRest bytes.now room x.1.now) }
+{
+    if level == 0 {
+        return read_scalar(alloc, total, type_byte, room, bytes);
+    }
+    match type_byte {
+        ElementType::Doc => {
+            let (document, rest) = read_document(alloc, total, level - 1, room, bytes)?;
+            Ok((Value::Doc(document), rest))
+        }
+        ElementType::Array => {
+            let (array, rest) = read_array(alloc, total, level - 1, room, bytes)?;
+            Ok((Value::Array(array), rest))
+        }
+        _ => read_scalar(alloc, total, type_byte, room, bytes),
+    }
+}
+
+/// Reads the next field. There is none at the end of the document.
+#[cycle(reader)]
+#[tactic(auto, unfolding(crate::specs::Readers::field_at, crate::specs::Readers::field_behind))]
+fn read_field(
+    alloc: Global,
+    total: usize,
+    level: u32,
+    room: usize,
+    bytes: &[u8],
+) -> Result<(Option<Field>, &[u8]), BsonFault>
+    requires total { length bytes.now < total }
+    ensures gives { Gives (λ x. (option_map (λ m. (m.name, datum_of m.value)) x.0, x.1.now)) result
+        (field_at total (value_at total level) room bytes.now) }
+    ensures rest { IfOk result (λ x.
+        (length x.1.now < length bytes.now) × (length bytes.now ≤ length x.1.now + room)) }
+    ensures end { IfOk result (λ x. IfNone x.0 (length bytes.now ≡ length x.1.now + room)) }
+{
+    let (type_byte, rest) = read_type(total, room, bytes)?;
+    let Some(type_byte) = type_byte else {
+        return Ok((None, rest));
+    };
+    let (name, room, rest) = read_name(total, room - 1, rest)?;
+    let name = Name::of(alloc, name)?;
+    let (value, rest) = read_value(alloc, total, level, type_byte, room, rest)?;
+    Ok((Some(Field { name, value }), rest))
+}
+
+/// Reads the next value of an array, whatever its name. There is none at the end of the array.
+#[cycle(reader)]
+#[tactic(auto, unfolding(crate::specs::Readers::item_at, crate::specs::Readers::item_behind))]
+fn read_item(
+    alloc: Global,
+    total: usize,
+    level: u32,
+    room: usize,
+    bytes: &[u8],
+) -> Result<(Option<Value>, &[u8]), BsonFault>
+    requires total { length bytes.now < total }
+    ensures gives { Gives (λ x. (option_map (λ v. datum_of v) x.0, x.1.now)) result
+        (item_at total (value_at total level) room bytes.now) }
+    ensures rest { IfOk result (λ x.
+        (length x.1.now < length bytes.now) × (length bytes.now ≤ length x.1.now + room)) }
+    ensures end { IfOk result (λ x. IfNone x.0 (length bytes.now ≡ length x.1.now + room)) }
+{
+    let (type_byte, rest) = read_type(total, room, bytes)?;
+    let Some(type_byte) = type_byte else {
+        return Ok((None, rest));
+    };
+    let (room, rest) = skip_name(total, room - 1, rest)?;
+    let (value, rest) = read_value(alloc, total, level, type_byte, room, rest)?;
+    Ok((Some(value), rest))
+}
+
+/// Reads fields and the 00 behind them.
+#[cycle(reader)]
+fn read_fields(
+    alloc: Global,
+    total: usize,
+    level: u32,
+    room: usize,
+    bytes: &[u8],
+) -> Result<(Document, &[u8]), BsonFault>
+    requires total { length bytes.now < total }
+    ensures gives { Gives (λ x. (x.0, x.1.now)) result
+        (fields_with total (value_at total level) (length bytes.now + 1) room bytes.now) }
+    ensures rest { IfOk result (λ x. length bytes.now ≡ length x.1.now + room) }
+{
+    let mut document = Document::new(alloc);
+    let mut space = room;
+    let mut left = bytes;
+    'fields: loop {
+        let (field, rest) = read_field(alloc, total, level, space, left)?;
+        let Some(field) = field else {
+            return Ok((document, rest));
+        };
+        document.push(field.name, field.value)?;
+        space -= left.len() - rest.len();
+        left = rest;
+    }
+}
+
+/// Reads the values of an array and the 00 behind them.
+#[cycle(reader)]
+fn read_items(
+    alloc: Global,
+    total: usize,
+    level: u32,
+    room: usize,
+    bytes: &[u8],
+) -> Result<(Array, &[u8]), BsonFault>
+    requires total { length bytes.now < total }
+    ensures gives { Gives (λ x. (x.0, x.1.now)) result
+        (items_with total (value_at total level) (length bytes.now + 1) room bytes.now) }
+    ensures rest { IfOk result (λ x. length bytes.now ≡ length x.1.now + room) }
+{
+    let mut array = Array::new(alloc);
+    let mut space = room;
+    let mut left = bytes;
+    'items: loop {
+        let (value, rest) = read_item(alloc, total, level, space, left)?;
+        let Some(value) = value else {
+            return Ok((array, rest));
+        };
+        array.push(value)?;
+        space -= left.len() - rest.len();
+        left = rest;
+    }
+}
+
+/// Reads a document with its length (BSON 1.1, `document`).
+#[cycle(reader)]
+#[tactic(auto, unfolding(crate::specs::Readers::document_with))]
+fn read_document(
+    alloc: Global,
+    total: usize,
+    level: u32,
+    room: usize,
+    bytes: &[u8],
+) -> Result<(Document, &[u8]), BsonFault>
+    requires total { length bytes.now ≤ total }
+    ensures gives { Gives (λ x. (x.0, x.1.now)) result
+        (document_with total (value_at total level) room bytes.now) }
+    ensures rest { IfOk result (λ x. IsRest bytes.now room x.1.now) }
+{
+    let (count, rest) = read_length(total, 5, 0, room, bytes)?;
+    read_fields(alloc, total, level, count - 4, rest)
+}
+
+/// Reads an array with its length.
+#[cycle(reader)]
+#[tactic(auto, unfolding(crate::specs::Readers::array_with))]
+fn read_array(
+    alloc: Global,
+    total: usize,
+    level: u32,
+    room: usize,
+    bytes: &[u8],
+) -> Result<(Array, &[u8]), BsonFault>
+    requires total { length bytes.now ≤ total }
+    ensures gives { Gives (λ x. (x.0, x.1.now)) result
+        (array_with total (value_at total level) room bytes.now) }
+    ensures rest { IfOk result (λ x. IsRest bytes.now room x.1.now) }
+{
+    let (count, rest) = read_length(total, 5, 0, room, bytes)?;
+    read_items(alloc, total, level, count - 4, rest)
+}
+
+// Which document, and which fault.
+#[tactic(auto, unfolding(crate::specs::Readers::whole_at, crate::specs::Readers::document_at))]
+fn read_exactly(alloc: Global, bytes: &[u8]) -> Result<(Document, usize), BsonFault>
+    ensures exact { Gives (λ x. x) result (whole_at bytes.now) }
+{
+    let total = bytes.len();
+    let (document, rest) = read_document(alloc, total, DEPTH, LENGTH_LIMIT, bytes)?;
+    Ok((document, total - rest.len()))
+}
+
+/// Reads the document that begins the bytes, and gives it with its length in bytes; what follows is left (BSON 1.1,
+/// `document`). Fails where no prefix of the bytes spells a document within 100 levels, with the first fault in the order
+/// of the bytes and its offset, or for want of memory.
+pub fn read(alloc: Global, bytes: &[u8]) -> Result<(Document, usize), BsonFault>
+    // What is read is spelled by the bytes.
+    ensures found { IfOk result (λ x.
+        (x.1 ≤ length bytes.now) × ReadsAs (take x.1 bytes.now) x.0 × IsWithinDepth x.0) }
+    // What some prefix of the bytes spells is read, unless memory runs out.
+    ensures only { (ms : Fields) (n : ℕ) →
+        n ≤ length bytes.now → ReadsAs (take n bytes.now) ms → IsWithinDepth ms →
+        Gives (λ x. x) result (Ok (ms, n)) }
+    // An error is the first fault of the bytes, or want of memory.
+    ensures first { IfErr result (λ e. e ≢ BsonFault.Memory →
+        (fault : Fault) × (offset : ℕ) × (e ≡ fault_from fault offset) × HasFirstFault bytes.now fault offset) }
+    // The first fault of the bytes is told, unless memory runs out.
+    ensures faulty { (fault : Fault) (offset : ℕ) →
+        HasFirstFault bytes.now fault offset → Gives (λ x. x) result (Err (fault_from fault offset)) }
+{
+    read_exactly(alloc, bytes)
+}
+
+/// No spelling of a document begins another, and no bytes spell two documents: what was written is what is read,
+/// whatever follows it.
+pub fn one_spelling()
+    ensures { (a b x y : List ℕ) (ms ns : Fields) →
+        ReadsAs a ms → ReadsAs b ns → a ++ x ≡ b ++ y → (a ≡ b) × (ms ≡ ns) }
+{}
+
+/// Bytes have one first fault at most, at one offset.
+pub fn one_fault()
+    ensures { (bytes : List ℕ) (f g : Fault) (p q : ℕ) →
+        HasFirstFault bytes f p → HasFirstFault bytes g q → (f ≡ g) × (p ≡ q) }
+{}
+
+/// Bytes begin with a document within 100 levels, or they have a first fault, and never both.
+pub fn document_or_fault()
+    ensures either { (bytes : List ℕ) → AreBytes bytes →
+        ((n : ℕ) × (ms : Fields) × BeginsWith bytes n ms)
+        ⊎ ((fault : Fault) × (offset : ℕ) × HasFirstFault bytes fault offset) }
+    ensures never_both { (bytes : List ℕ) (n : ℕ) (ms : Fields) (fault : Fault) (offset : ℕ) →
+        AreBytes bytes → BeginsWith bytes n ms → HasFirstFault bytes fault offset → ⊥ }
+{}

@@ -1,0 +1,11 @@
+-- The chunk that a search comes to first.
+use Rattle.std.proofs.Common.{◌≡◌, ℕ, ◌<◌, List, length, get_or, drop, map, refl, sym, drop-cons}
+use Rattle.std.specs.Prelude.{true, Some}
+use Rattle.bson_values.specs.Tree.{Datum}
+use Rattle.value_compare.specs.Keys.{range_span, inside}
+use Rattle.chunk_model.specs.Tables.{chunk_of}
+use Rattle.chunk_table.specs.declared.chunk.Chunk.{Chunk}
+use Rattle.chunk_table.specs.Meanings.{chunk_meant}
+
+pub found_here : (key : Datum) (chunks : List Chunk) (i : ℕ) (chunk : Chunk) → i < length chunks → chunk ≡ get_or chunks i chunk → inside (range_span chunk.range) key ≡ true → chunk_of key (map chunk_meant (drop i chunks)) ≡ Some (chunk_meant chunk)
+found_here key chunks i chunk within is has = rw (drop-cons chunks i chunk within, ← is, has) refl

@@ -1,0 +1,206 @@
+//! Chunks of keys, and who has them (MongoDB manual, "Data Partitioning with Chunks"; that a chunk keeps its owners of the past is
+//! own).
+
+ghost use Rattle.std.specs.Prelude.{◌≡◌, IfOk, map};
+ghost use Rattle.std.specs.Option.{option_map};
+ghost use Rattle.chunk_model.specs.Tables.{chunk_of, chunks_on, greatest_version, is_owner, newest, owner_among};
+ghost use Rattle.chunk_table.specs.Meanings.{chunk_meant, owned_meant, version_meant};
+ghost use Rattle.chunk_table.specs.Whole.{follow_from};
+ghost use Rattle.std.specs.Ordering.{is_eq};
+ghost use Rattle.value_compare.specs.Bounds.{bound_of};
+ghost use Rattle.value_compare.specs.Keys.{min_bound, order_bounds};
+
+use crate::version::Version;
+use bson_values::Memory;
+use cluster_base::{NodeId, Time};
+use std::alloc::Global;
+use std::cmp::Ordering;
+use std::marker::Model;
+use value_compare::{Bound, Key, KeyRange};
+
+/// A shard has the keys of a chunk, from a time on.
+#[derive(Clone, Copy, Debug, PartialEq, Eq)]
+pub struct Owned {
+    /// From when on, that time being the first.
+    pub valid_after: Time,
+    /// The shard.
+    pub shard: NodeId,
+}
+
+/// The owners of a chunk, newest first.
+#[derive(Drop)]
+pub struct OwnedList {
+    owners: Vec<Owned>,
+}
+
+impl Model for OwnedList {
+    ghost use Rattle.std.specs.Prelude.{List, map};
+    ghost use Rattle.chunk_model.specs.Tables as tables;
+    ghost use Rattle.chunk_table.specs.Code.{owners_code};
+
+    ghost Value = { List tables.Owned };
+
+    ghost coded = { owners_code };
+
+    ghost use Rattle.chunk_table.specs.Meanings.{owned_meant};
+
+    ghost view = { λ list. map owned_meant list.owners.items };
+}
+
+impl OwnedList {
+    /// These owners, newest first.
+    pub fn of(owners: Vec<Owned>) -> OwnedList
+        ensures { result ≡ map owned_meant owners.items }
+    {
+        OwnedList { owners }
+    }
+
+    /// The owners, newest first.
+    pub fn as_slice(&self) -> &[Owned]
+        ensures { map owned_meant result.now ≡ self.now }
+    {
+        &self.owners
+    }
+
+    /// The newest owner.
+    pub fn newest(&self) -> Option<NodeId>
+        ensures { option_map (λ shard. shard.0) result ≡ newest self.now }
+    {
+        match self.owners.first() {
+            Some(owned) => Some(owned.shard),
+            None => None,
+        }
+    }
+
+    /// The owner at a time: the newest that is not later, if there is one.
+    pub fn at(&self, time: Time) -> Option<NodeId>
+        ensures { option_map (λ shard. shard.0) result ≡ owner_among time.0 self.now }
+    {
+        owner_among(&self.owners, time)
+    }
+
+    /// Whether the shard is the newest owner.
+    pub(crate) fn has(&self, shard: NodeId) -> bool
+        ensures { result ≡ is_owner shard.0 self.now }
+    {
+        match self.owners.first() {
+            Some(owned) => owned.shard == shard,
+            None => false,
+        }
+    }
+
+    /// The same owners once more. Fails for want of memory.
+    pub(crate) fn copy(&self, alloc: Global) -> Result<OwnedList, Memory>
+        ensures { IfOk result (λ list. list ≡ self.now) }
+    {
+        let owners = Vec::from_slice(alloc, &self.owners)?;
+        Ok(OwnedList { owners })
+    }
+}
+
+// The first of the owners that is not later than the time.
+fn owner_among(owners: &[Owned], time: Time) -> Option<NodeId>
+    ensures { option_map (λ shard. shard.0) result ≡ owner_among time.0 (map owned_meant owners.now) }
+{
+    for owned in owners {
+        if owned.valid_after.0 <= time.0 {
+            return Some(owned.shard);
+        }
+    }
+    None
+}
+
+/// The keys of a range, with their owners.
+#[derive(Drop)]
+pub struct Chunk {
+    /// The keys.
+    pub range: KeyRange,
+    /// How much of the collection's changes it has seen.
+    pub version: Version,
+    /// Its owners, newest first.
+    pub history: OwnedList,
+}
+
+impl Chunk {
+    /// The same chunk once more. Fails for want of memory.
+    pub(crate) fn copy(&self, alloc: Global) -> Result<Chunk, Memory>
+        ensures { IfOk result (λ chunk. chunk_meant chunk ≡ chunk_meant self.now) }
+    {
+        let range = self.range.copy()?;
+        let history = self.history.copy(alloc)?;
+        Ok(Chunk {
+            range,
+            version: self.version,
+            history,
+        })
+    }
+}
+
+/// The first of the chunks that has the key, if one has.
+pub(crate) fn chunk_of<'a>(chunks: &'a [Chunk], key: &Key) -> Option<&'a Chunk>
+    ensures { option_map (λ chunk. chunk_meant chunk.now) result ≡ chunk_of key.now (map chunk_meant chunks.now) }
+{
+    for chunk in chunks {
+        if chunk.range.contains(key) {
+            return Some(chunk);
+        }
+    }
+    None
+}
+
+/// The greatest of the version and those of the chunks.
+pub(crate) fn greatest_version(so_far: Version, chunks: &[Chunk]) -> Version
+    ensures { version_meant result ≡ greatest_version (version_meant so_far) (map chunk_meant chunks.now) }
+{
+    let mut greatest = so_far;
+    for chunk in chunks {
+        greatest = greatest.greater(chunk.version);
+    }
+    greatest
+}
+
+/// The greatest of the version and those of the chunks that the shard has now.
+pub(crate) fn greatest_on(shard: NodeId, so_far: Version, chunks: &[Chunk]) -> Version
+    ensures { version_meant result ≡ greatest_version (version_meant so_far) (chunks_on shard.0 (map chunk_meant chunks.now)) }
+{
+    let mut greatest = so_far;
+    for chunk in chunks {
+        if chunk.history.has(shard) {
+            greatest = greatest.greater(chunk.version);
+        }
+    }
+    greatest
+}
+
+/// The same chunks once more. Fails for want of memory.
+pub(crate) fn copy_all(alloc: Global, chunks: &[Chunk]) -> Result<Vec<Chunk>, Memory>
+    ensures { IfOk result (λ copy. map chunk_meant copy.items ≡ map chunk_meant chunks.now) }
+{
+    let mut copy = Vec::with_capacity(alloc, chunks.len())?;
+    for chunk in chunks {
+        copy.push(chunk.copy(alloc)?)?;
+    }
+    Ok(copy)
+}
+
+// Whether the two bounds are one.
+fn is_at(bound: &Bound, other: &Bound) -> bool
+    ensures { result ≡ is_eq (order_bounds (bound_of bound.now) (bound_of other.now)) }
+{
+    bound.compare(other) == Ordering::Equal
+}
+
+/// Whether the chunks follow one another from below all keys to above them, and each has an owner.
+pub(crate) fn follow(chunks: &[Chunk]) -> bool
+    ensures { result ≡ follow_from min_bound (map chunk_meant chunks.now) }
+{
+    let least = Bound::MinKey;
+    let mut start = &least;
+    for chunk in chunks {
+        if !is_at(start, chunk.range.min()) || chunk.history.newest().is_none() {
+            return false;
+        }
+        start = chunk.range.max();
+    }
+    is_at(start, &Bound::MaxKey)
+}

@@ -1,0 +1,2 @@
+mod Batches
+pub use Rattle.command_model.proofs.SmallAnswers

@@ -1,0 +1,85 @@
+//! What requests are answered.
+
+ghost use Rattle.std.specs.Prelude.{◌≡◌, ◌<◌, Some, None, nat_lt, if◌then◌else◌};
+
+use crate::refusal::Refusal;
+use bson_values::{Document, Text};
+use cluster_base::Time;
+use std::marker::Model;
+
+/// The most statements of one command (MongoDB manual, "hello", `maxWriteBatchSize`).
+pub const MOST_STATEMENTS: u32 = 100_000;
+
+/// The index of a statement in its command, from 0 on, below 100000.
+#[derive(Debug, Drop)]
+pub struct StatementIndex {
+    index: u32,
+}
+
+impl Model for StatementIndex {
+    ghost use Rattle.std.specs.Prelude.{ℕ, ◌<◌};
+
+    ghost Value = { ℕ };
+
+    ghost view = { λ i. i.index };
+
+    ghost invariant = { λ i. i.index < 100000 };
+}
+
+impl StatementIndex {
+    /// The index of that number, if a command can have so many statements.
+    pub fn of(index: u32) -> Option<StatementIndex>
+        ensures { result ≡ (if nat_lt index 100000 then Some index else None) }
+    {
+        if index < MOST_STATEMENTS {
+            Some(StatementIndex { index })
+        } else {
+            None
+        }
+    }
+
+    /// The number.
+    pub fn number(&self) -> u32
+        ensures number { result ≡ self.now }
+        ensures small { self.now < 100000 }
+    {
+        self.index
+    }
+}
+
+/// The error of one statement of a command, with its evidence (MongoDB manual, "insert", `writeErrors`).
+#[derive(Debug, Drop)]
+pub struct WriteError {
+    pub index: StatementIndex,
+    pub refusal: Refusal,
+}
+
+/// What a request is answered.
+#[derive(Drop)]
+pub enum Answer {
+    /// To `hello`: the moment, in milliseconds since 1970.
+    Hello {
+        moment: u64,
+    },
+    /// To `isMaster`: the moment, and whether `helloOk` is shown.
+    Legacy {
+        moment: u64,
+        hello_ok: bool,
+    },
+    /// To `ping` and `endSessions`.
+    Done,
+    /// To `insert`: how many documents were inserted, the errors, and the time of the operation.
+    Insert {
+        count: u32,
+        errors: Vec<WriteError>,
+        time: Time,
+    },
+    /// To `find`: the namespace, the documents, and the time that they were read at.
+    Find {
+        namespace: Text,
+        documents: Vec<Document>,
+        time: Time,
+    },
+    /// To a request that is refused.
+    Refused(Refusal),
+}

@@ -1,0 +1,35 @@
+//! The documents of answers (MongoDB manual, "Command Response").
+
+ghost use Rattle.std.specs.Prelude.{◌≡◌, IfOk};
+ghost use Rattle.command_model.specs.Answers.{answer_document};
+ghost use Rattle.command_answers.specs.AnswerMeanings.{answer_meant};
+
+use crate::answer::Answer;
+use crate::find::find_document;
+use crate::handshake::{done_answer, hello_answer, legacy_answer};
+use crate::insert::insert_document;
+use crate::refusal::refusal_document;
+use bson_values::{Document, Memory};
+use std::alloc::Global;
+
+/// The document of an answer (MongoDB manual, "Command Response"). Fails for want of memory.
+pub fn write_answer(alloc: Global, answer: &Answer) -> Result<Document, Memory>
+    ensures { IfOk result (λ d. d ≡ answer_document (answer_meant answer.now)) }
+{
+    match answer {
+        Answer::Hello { moment } => hello_answer(alloc, *moment),
+        Answer::Legacy { moment, hello_ok } => legacy_answer(alloc, *moment, *hello_ok),
+        Answer::Done => done_answer(alloc),
+        Answer::Insert {
+            count,
+            errors,
+            time,
+        } => insert_document(alloc, *count, errors, *time),
+        Answer::Find {
+            namespace,
+            documents,
+            time,
+        } => find_document(alloc, namespace, documents, *time),
+        Answer::Refused(refusal) => refusal_document(alloc, *refusal),
+    }
+}

@@ -1,0 +1,36 @@
+-- The entries are the statements' own.
+use Rattle.std.proofs.Common.{◌≡◌, List, [], ◌∷◌, refl, codes}
+use Rattle.std.specs.Prelude.{Bool, true, false}
+use Rattle.exchange_model.specs.SampleRequests.{second_fails, three}
+use Rattle.command_model.specs.Insert.{Insert}
+use Rattle.exchange_model.specs.Right.{right_insert, IsWhole}
+use Rattle.exchange_model.specs.SampleExchanges.{id_at, three_entries, two_entries}
+use Rattle.exchange_model.proofs.examples.many_statements.Goals as goal
+
+abbrev asks_three : Bool → Insert
+asks_three ordered = record { namespace = codes "d.c"; documents = three; ordered = ordered }
+
+two_whole : IsWhole two_entries (id_at 2 1) (asks_three true)
+two_whole = record {
+  part = (record { number = refl; name = refl; operation = refl }, (λ e. absurd (cc)), (record { number = refl; name = refl; operation = refl }, (λ e. refl), tt));
+  all = refl;
+}
+
+three_whole : IsWhole three_entries (id_at 2 1) (asks_three false)
+three_whole = record {
+  part = (
+    record { number = refl; name = refl; operation = refl },
+    (λ e. absurd (cc)),
+    (record { number = refl; name = refl; operation = refl }, (λ e. absurd (cc)), (record { number = refl; name = refl; operation = refl }, (λ e. refl), tt)),
+  );
+  all = refl;
+}
+
+pub returns-clause-ordered : goal.returns-clause-ordered
+returns-clause-ordered c = right_insert (asks_three true) refl two_whole refl
+
+pub returns-clause-unordered : goal.returns-clause-unordered
+returns-clause-unordered c = right_insert (asks_three false) refl three_whole refl
+
+pub returns-clause-silent : goal.returns-clause-silent
+returns-clause-silent c = right_insert (asks_three true) refl two_whole refl

@@ -1,0 +1,53 @@
+-- The requests that routers took, and what each was told.
+use Rattle.std.specs.Prelude.{ℕ, ℤ, List, [], ◌∷◌, Bool, false, ◌==◌, ◌&&◌, pos, if◌then◌else◌}
+use Rattle.command_model.specs.Tree.{Fields}
+use Rattle.command_model.specs.Requests.{Request}
+use Rattle.command_model.specs.Replies.{reply_bytes}
+use Rattle.history_model.specs.History.{Session, client_session, router_session, StatementNumber, Entry}
+
+-- which request it is: that of a router, in one of its lives, as the how many-th that it took
+pub record RequestId : Type 0 where
+  pub router : ℕ
+  pub life : ℕ
+  pub count : ℕ
+
+abbrev pub same_request : RequestId → RequestId → Bool
+same_request a b = (a.router == b.router) && ((a.life == b.life) && (a.count == b.count))
+
+-- A request that a router took: on which link, with which number for its reply, in which step; and what the router knew then: its
+-- cluster time, and the last moment that it was given (0 if none was).
+pub record Asked : Type 0 where
+  pub id : RequestId
+  pub link : ℕ
+  pub number : ℤ
+  pub came : ℕ
+  pub time : ℕ
+  pub moment : ℕ
+  pub request : Request
+
+-- What a request was told: on which link, with which number, in which step and at which time of its router.
+pub record Answered : Type 0 where
+  pub id : RequestId
+  pub link : ℕ
+  pub number : ℤ
+  pub request : Request
+  pub step : ℕ
+  pub time : ℕ
+  pub document : Fields
+
+-- The bytes that are put. A request with moreToCome is answered too, but its answer is not put.
+abbrev pub reply_put : ℤ → Request → Fields → List ℕ
+reply_put number request document = if request.more then [] else reply_bytes request.form request.id number document
+
+-- the number of a statement that the client gave none: the one with this index, from 0
+abbrev pub number_for : RequestId → ℕ → StatementNumber
+number_for id index = record { session = router_session id.router id.life id.count; transaction = pos 0; index = index }
+
+abbrev pub is_session_of : RequestId → Session → Bool
+is_session_of id (client_session name) = false
+is_session_of id (router_session node life request) = same_request (record { router = node; life = life; count = request }) id
+
+-- the entries that a request made, in the order of the history
+abbrev pub entries_by : RequestId → List Entry → List Entry
+entries_by id [] = []
+entries_by id (e ∷ history) = if is_session_of id e.number.session then e ∷ entries_by id history else entries_by id history

@@ -1,0 +1,31 @@
+//! Collections of documents, and of which of them filters hold.
+
+use crate::filters::Filters;
+use fixtures::{RowFault, Rows, field};
+use std::alloc::Global;
+
+/// `page | WHAT`: the documents that were kept are let go; else a row of [`Filters`].
+#[derive(Drop)]
+pub struct Pages {
+    filters: Filters,
+}
+
+impl Pages {
+    /// Without documents.
+    pub fn new(alloc: Global) -> Pages {
+        Pages {
+            filters: Filters::new(alloc),
+        }
+    }
+}
+
+impl Rows for Pages {
+    fn holds(&mut self, alloc: Global, row: &str) -> Result<bool, RowFault> {
+        let (word, _what) = field(row);
+        if word == "page" {
+            self.filters = Filters::new(alloc);
+            return Ok(true);
+        }
+        self.filters.holds(alloc, row)
+    }
+}

@@ -1,0 +1,219 @@
+//! Reading documents as queries. Fields are read from the left, and of each first its name, then its operand by itself, then how
+//! deep the query or the operator document is in it, then what it has.
+
+ghost use Rattle.std.specs.Prelude.{◌≡◌, Ok, filter_map, if◌then◌else◌};
+ghost use Rattle.std.specs.Result.{result_map_both};
+ghost use Rattle.bson_values.specs.Tree.{document_value};
+ghost use Rattle.bson_values.specs.View.{datum_of};
+ghost use Rattle.query_model.specs.Paths.{as_document, begins_with_dollar, elements, read_path};
+ghost use Rattle.query_model.specs.Queries.{eq_test, no_tests, path_fault, test};
+ghost use Rattle.query_model.specs.Reading.{read_asked, read_clauses, read_connective, read_path_clause, read_queries, read_test, read_tests, read_tests_within, read_within};
+ghost use Rattle.match_expr.specs.FieldTests.{read_field_test};
+ghost use Rattle.match_expr.specs.OperatorNames.{nested_of};
+ghost use Rattle.match_expr.specs.ReadFaults.{Gives};
+ghost use Rattle.match_expr.specs.View.{clause_of, test_of};
+
+use crate::operators;
+use crate::operators::{Nested, Operator};
+use crate::tree::{Clause, Clauses, Queries, Test, Tests};
+use bson_values::{Array, Document, Value};
+use field_paths::{ParseFault, Path, PathFault};
+use std::alloc::Global;
+
+// The path that a name is.
+fn parse_path(alloc: Global, name: &str) -> Result<Path, ParseFault>
+    ensures gives { Gives (λ p. p) result (result_map_both (λ path. path) path_fault (read_path name.now)) }
+{
+    match Path::parse(alloc, name) {
+        Ok(path) => Ok(path),
+        Err(PathFault::Empty) => Err(ParseFault::Path(PathFault::Empty)),
+        Err(PathFault::Digits) => Err(ParseFault::Path(PathFault::Digits)),
+        Err(PathFault::Dollar) => Err(ParseFault::Path(PathFault::Dollar)),
+        Err(PathFault::Long) => Err(ParseFault::Path(PathFault::Long)),
+        Err(PathFault::Memory) => Err(ParseFault::Memory),
+    }
+}
+
+// Equality with a value, as the one test.
+fn equality(alloc: Global, value: &Value) -> Result<Tests, ParseFault>
+    ensures gives { Gives (λ t. t) result (Ok (test (eq_test (datum_of value.now)) no_tests)) }
+{
+    let mut tests = Vec::new(alloc);
+    tests.push(Test::Eq(value.copy()?))?;
+    Ok(Tests { tests })
+}
+
+/// The query that a document is, with so many levels left for it and what is in it. Fails with its first fault, with `Deep` where
+/// no level is left, and for want of memory.
+#[cycle(parse)]
+pub fn parse_within(
+    alloc: Global,
+    levels: usize,
+    document: &Document,
+) -> Result<Clauses, ParseFault>
+    ensures gives { Gives (λ q. q) result (read_within levels document.now) }
+{
+    if levels == 0 {
+        return Err(ParseFault::Deep);
+    }
+    parse_clauses(alloc, levels - 1, document)
+}
+
+// The clauses of a query, with so many levels left for what is in them.
+#[cycle(parse)]
+fn parse_clauses(alloc: Global, levels: usize, document: &Document) -> Result<Clauses, ParseFault>
+    ensures gives { Gives (λ q. q) result (read_clauses (read_within levels) (read_tests_within levels) document.now) }
+{
+    let mut clauses = Vec::new(alloc);
+    for field in document.fields() {
+        let clause = parse_clause(alloc, levels, field.name.as_str(), &field.value)?;
+        clauses.push(clause)?;
+    }
+    Ok(Clauses { clauses })
+}
+
+// One field of a query.
+#[cycle(parse)]
+fn parse_clause(
+    alloc: Global,
+    levels: usize,
+    name: &str,
+    value: &Value,
+) -> Result<Clause, ParseFault>
+    ensures gives { Gives clause_of result
+        (if begins_with_dollar name.now then read_connective (read_within levels) (read_tests_within levels) name.now (datum_of value.now)
+        else read_path_clause (read_within levels) (read_tests_within levels) name.now (datum_of value.now)) }
+{
+    if operators::begins_with_dollar(name) {
+        return parse_connective(alloc, levels, name, value);
+    }
+    let path = parse_path(alloc, name)?;
+    let tests = parse_asked(alloc, levels, value)?;
+    Ok(Clause::At { path, tests })
+}
+
+// A field `$and`, `$or` or `$nor`.
+#[cycle(parse)]
+fn parse_connective(
+    alloc: Global,
+    levels: usize,
+    name: &str,
+    value: &Value,
+) -> Result<Clause, ParseFault>
+    ensures gives { Gives clause_of result (read_connective (read_within levels) (read_tests_within levels) name.now (datum_of value.now)) }
+{
+    let Some(connective) = operators::connective_named(name) else {
+        return Err(ParseFault::UnknownOperator);
+    };
+    let Some(documents) = operators::some_documents(value) else {
+        return Err(ParseFault::BadOperand);
+    };
+    let queries = parse_queries(alloc, levels, documents)?;
+    Ok(Clause::Joined {
+        connective,
+        queries,
+    })
+}
+
+// The queries that the documents of an array are.
+#[cycle(parse)]
+fn parse_queries(alloc: Global, levels: usize, documents: &Array) -> Result<Queries, ParseFault>
+    ensures gives { Gives (λ q. q) result
+        (read_queries (read_within levels) (read_tests_within levels) (filter_map as_document (elements documents.now))) }
+{
+    let mut queries = Vec::new(alloc);
+    for value in documents.values() {
+        let Value::Doc(document) = value else {
+            continue;
+        };
+        let query = parse_within(alloc, levels, document)?;
+        queries.push(query)?;
+    }
+    Ok(Queries { queries })
+}
+
+// What is asked of a path: the tests of an operator document, or equality with any other value.
+#[cycle(parse)]
+fn parse_asked(alloc: Global, levels: usize, value: &Value) -> Result<Tests, ParseFault>
+    ensures gives { Gives (λ t. t) result (read_asked (read_within levels) (read_tests_within levels) (datum_of value.now)) }
+{
+    match value {
+        Value::Doc(document) => {
+            if operators::is_operator_document(document) {
+                parse_tests(alloc, levels, document)
+            } else {
+                equality(alloc, value)
+            }
+        }
+        _ => equality(alloc, value),
+    }
+}
+
+// The tests of an operator document inside another, with so many levels left for it and what is in it.
+#[cycle(parse)]
+fn parse_tests_within(
+    alloc: Global,
+    levels: usize,
+    document: &Document,
+) -> Result<Tests, ParseFault>
+    ensures gives { Gives (λ t. t) result (read_tests_within levels document.now) }
+{
+    if levels == 0 {
+        return Err(ParseFault::Deep);
+    }
+    parse_tests(alloc, levels - 1, document)
+}
+
+// The tests of an operator document, with so many levels left for what is in it.
+#[cycle(parse)]
+fn parse_tests(alloc: Global, levels: usize, document: &Document) -> Result<Tests, ParseFault>
+    ensures gives { Gives (λ t. t) result (read_tests (read_within levels) (read_tests_within levels) document.now) }
+{
+    let mut tests = Vec::new(alloc);
+    for field in document.fields() {
+        let test = parse_test(alloc, levels, field.name.as_str(), &field.value)?;
+        tests.push(test)?;
+    }
+    Ok(Tests { tests })
+}
+
+// One field of an operator document.
+#[cycle(parse)]
+fn parse_test(alloc: Global, levels: usize, name: &str, value: &Value) -> Result<Test, ParseFault>
+    ensures gives { Gives test_of result (read_field_test (read_within levels) (read_tests_within levels) name.now (datum_of value.now)) }
+{
+    match operators::operator_named(name) {
+        Some(Operator::Plain(operator)) => operators::plain_test(alloc, operator, value),
+        Some(Operator::Nested(operator)) => match value {
+            Value::Doc(document) => parse_nested(alloc, levels, operator, document),
+            _ => Err(ParseFault::BadOperand),
+        },
+        None => Err(ParseFault::UnknownOperator),
+    }
+}
+
+// `$elemMatch` and `$not` of a document.
+#[cycle(parse)]
+fn parse_nested(
+    alloc: Global,
+    levels: usize,
+    operator: Nested,
+    document: &Document,
+) -> Result<Test, ParseFault>
+    ensures gives { Gives test_of result (read_test (read_within levels) (read_tests_within levels) (nested_of operator) (document_value document.now)) }
+{
+    if operators::is_operator_document(document) {
+        let tests = parse_tests_within(alloc, levels, document)?;
+        return match operator {
+            Nested::ElemMatch => Ok(Test::ElementTests(tests)),
+            Nested::Not => Ok(Test::Not(tests)),
+        };
+    }
+    match operator {
+        Nested::ElemMatch => {
+            let query = parse_within(alloc, levels, document)?;
+            Ok(Test::ElementQuery(query))
+        }
+        Nested::Not => Err(ParseFault::BadOperand),
+    }
+}

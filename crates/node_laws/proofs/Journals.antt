@@ -1,0 +1,68 @@
+-- A step makes one journal longer, and no time falls.
+use Rattle.std.proofs.Common.{◌≡◌, ◌≢◌, ℕ, zero, suc, ◌≤◌, List, [], ◌∷◌, ◌++◌, refl, sym, ap, subst, arith, append-nil}
+use Rattle.std.specs.Prelude.{Some}
+use Rattle.std.specs.List.{AllByRecursion, slice_get, slice_set}
+use Rattle.node_model.specs.Kept.{Kept}
+use Rattle.node_model.specs.States.{NodeState, time_of_node}
+use Rattle.node_model.specs.World.{Held, journal_at}
+use Rattle.node_laws.proofs.Views.{View, time_at, view_of, IsAbove, Longer, Later}
+
+abbrev pub with_more : Held → List Kept → NodeState → Held
+with_more old written new = record { state = new; kept = old.kept ++ written }
+
+pub longer_self : (time : ℕ) (kept : List Kept) → Longer time kept kept
+longer_self time kept = record { written = []; same = sym (append-nil kept); rises = tt }
+
+pub later_self : (v : View) → Later v v
+later_self v = record { longer = λ at. longer_self (v.bound at) (v.journal at); times = λ at. omega arith }
+
+longer_at : (nodes : List Held) (at : ℕ) (old : Held) (written : List Kept) (new : NodeState) → slice_get nodes at ≡ Some old → AllByRecursion (IsAbove (time_of_node old.state)) written → (p : ℕ) → Longer (time_at nodes p) (journal_at nodes p) (journal_at (slice_set nodes at (with_more old written new)) p)
+longer_at [] at old written new here rises p = longer_self 0 []
+longer_at (h ∷ nodes) zero old written new here rises zero =
+    let same : h ≡ old = cc in
+    record { written = written; same = ap (λ (x : Held). x.kept ++ written) (sym same); rises = subst (λ (x : Held). AllByRecursion (IsAbove (time_of_node x.state)) written) (sym same) rises }
+longer_at (h ∷ nodes) zero old written new here rises (suc p) = longer_self (time_at nodes p) (journal_at nodes p)
+longer_at (h ∷ nodes) (suc at) old written new here rises zero = longer_self (time_of_node h.state) h.kept
+longer_at (h ∷ nodes) (suc at) old written new here rises (suc p) = longer_at nodes at old written new here rises p
+
+times_at : (nodes : List Held) (at : ℕ) (old : Held) (written : List Kept) (new : NodeState) → slice_get nodes at ≡ Some old → time_of_node old.state ≤ time_of_node new → (p : ℕ) → time_at nodes p ≤ time_at (slice_set nodes at (with_more old written new)) p
+times_at [] at old written new here le p = omega arith
+times_at (h ∷ nodes) zero old written new here le zero =
+    let same : h ≡ old = cc in
+    subst (λ (x : Held). time_of_node x.state ≤ time_of_node new) (sym same) le
+times_at (h ∷ nodes) zero old written new here le (suc p) = omega arith
+times_at (h ∷ nodes) (suc at) old written new here le zero = omega arith
+times_at (h ∷ nodes) (suc at) old written new here le (suc p) = times_at nodes at old written new here le p
+
+pub views_later : (nodes : List Held) (at : ℕ) (old : Held) (written : List Kept) (new : NodeState) → slice_get nodes at ≡ Some old → AllByRecursion (IsAbove (time_of_node old.state)) written → time_of_node old.state ≤ time_of_node new → Later (view_of nodes) (view_of (slice_set nodes at (with_more old written new)))
+views_later nodes at old written new here rises le = record { longer = longer_at nodes at old written new here rises; times = times_at nodes at old written new here le }
+
+-- what is kept, and the time, at the place of a step
+pub journal_here : (nodes : List Held) (at : ℕ) (old new : Held) → slice_get nodes at ≡ Some old → journal_at (slice_set nodes at new) at ≡ new.kept
+journal_here [] at old new here = absurd (cc)
+journal_here (h ∷ nodes) zero old new here = refl
+journal_here (h ∷ nodes) (suc at) old new here = journal_here nodes at old new here
+
+pub time_here : (nodes : List Held) (at : ℕ) (old new : Held) → slice_get nodes at ≡ Some old → time_at (slice_set nodes at new) at ≡ time_of_node new.state
+time_here [] at old new here = absurd (cc)
+time_here (h ∷ nodes) zero old new here = refl
+time_here (h ∷ nodes) (suc at) old new here = time_here nodes at old new here
+
+-- and of a node that stands there
+pub journal_got : (nodes : List Held) (at : ℕ) (old : Held) → slice_get nodes at ≡ Some old → journal_at nodes at ≡ old.kept
+journal_got [] at old here = absurd (cc)
+journal_got (h ∷ nodes) zero old here = let same : h ≡ old = cc in ap (λ (x : Held). x.kept) same
+journal_got (h ∷ nodes) (suc at) old here = journal_got nodes at old here
+
+pub time_got : (nodes : List Held) (at : ℕ) (old : Held) → slice_get nodes at ≡ Some old → time_at nodes at ≡ time_of_node old.state
+time_got [] at old here = absurd (cc)
+time_got (h ∷ nodes) zero old here = let same : h ≡ old = cc in ap (λ (x : Held). time_of_node x.state) same
+time_got (h ∷ nodes) (suc at) old here = time_got nodes at old here
+
+-- the other journals stay
+pub journal_else : (nodes : List Held) (at : ℕ) (new : Held) (p : ℕ) → p ≢ at → journal_at (slice_set nodes at new) p ≡ journal_at nodes p
+journal_else [] at new p other = refl
+journal_else (h ∷ nodes) zero new zero other = absurd (other refl)
+journal_else (h ∷ nodes) zero new (suc p) other = refl
+journal_else (h ∷ nodes) (suc at) new zero other = refl
+journal_else (h ∷ nodes) (suc at) new (suc p) other = journal_else nodes at new p (λ e. other (ap suc e))

@@ -1,0 +1,90 @@
+-- What open requests are, at a later time of their router and with other work.
+use Rattle.std.proofs.Common.{◌≡◌, ◌⊎◌, inl, inr, ℕ, ◌<◌, ◌≤◌, List, [], ◌++◌, refl, ap, subst, ◌∙◌, arith, append-nil, Bool}
+use Rattle.std.specs.Prelude.{true, false, nat_lt}
+use Rattle.std.specs.List.{AllByRecursion}
+use Rattle.std.proofs.lemmas.Bool.{ltb-true, ltb-false}
+use Rattle.node_model.specs.Asked.{RequestId, Asked, Answered}
+use Rattle.node_model.specs.Outcomes.{Done}
+use Rattle.node_model.specs.Letters.{Letter}
+use Rattle.node_model.specs.States.{Work, writing, reading, Wait, for_time, Open, Router}
+use Rattle.node_model.specs.RouterRows.{is_ahead, with_work}
+use Rattle.node_laws.proofs.Views.{View, Later}
+use Rattle.node_laws.proofs.Facts.{LetterFits, WorkFits, AreSeen, IsOpenOf, IsBy}
+use Rattle.node_laws.proofs.Lists.{all_weaken, all_at}
+use Rattle.node_laws.proofs.Growth.{letter_grows}
+use Rattle.node_laws.proofs.Others.{open_grows}
+
+-- another state of a router, in the same life
+abbrev pub with_own : Router → Router → Router
+with_own r s = record { me = r.me; time = s.time; life = r.life; begun = s.begun; moment = s.moment; count = s.count; tables = s.tables; requests = s.requests }
+
+pub ahead_later : (a b : ℕ) (work : Work) → a ≤ b → is_ahead a work ≡ false → is_ahead b work ≡ false
+ahead_later a b (writing ordered statements answers) le not_ahead = refl
+ahead_later a b (reading at half) le not_ahead = by_test (nat_lt b at) refl
+  where
+    by_test : (t : Bool) → nat_lt b at ≡ t → nat_lt b at ≡ false
+    by_test true h =
+        let early : at ≤ a = ltb-false a at not_ahead in
+        let less : b < at = ltb-true b at h in
+        absurd (omega arith)
+    by_test false h = h
+
+pub seen_later : (a b : ℕ) (work : Work) → a ≤ b → AreSeen a work → AreSeen b work
+seen_later a b (writing ordered statements answers) le all = all_weaken (λ (d : Done). d.time ≤ a) (λ (d : Done). d.time ≤ b) answers (λ d l. omega arith) all
+seen_later a b (reading at half) le all = tt
+
+-- an open request goes on, with other work
+pub open_goes : (v : View) (asked : List Asked) (answered : List Answered) (r s : Router) (q : Open) (wait : Wait) (work : Work) → r.time ≤ s.time
+    → (o : IsOpenOf v asked answered r q)
+    → (wait ≡ for_time) ⊎ (is_ahead s.time work ≡ false) → WorkFits v o.request q.namespace work → AreSeen s.time work
+    → IsOpenOf v asked answered (with_own r s) (with_work q wait work)
+open_goes v asked answered r s q wait work later o reached fits seen = record {
+  request = o.request;
+  taken = o.taken;
+  own = o.own;
+  link = o.link;
+  number = o.number;
+  asks = o.asks;
+  past = (let p = o.past in omega arith);
+  reached = reached;
+  silent = o.silent;
+  work = fits;
+  seen = seen;
+}
+
+pub open_rises : (v : View) (asked : List Asked) (answered : List Answered) (r s : Router) (q : Open) → r.time ≤ s.time → IsOpenOf v asked answered r q
+    → IsOpenOf v asked answered (with_own r s) q
+open_rises v asked answered r s q later o = open_goes v asked answered r s q q.wait q.work later o (by_reached o.reached) o.work
+    (seen_later r.time s.time q.work later o.seen)
+  where
+    by_reached : (q.wait ≡ for_time) ⊎ (is_ahead r.time q.work ≡ false) → (q.wait ≡ for_time) ⊎ (is_ahead s.time q.work ≡ false)
+    by_reached (inl e) = inl e
+    by_reached (inr e) = inr (ahead_later r.time s.time q.work later e)
+
+-- it is one in a later view
+pub open_stays : (v w : View) (asked : List Asked) (answered : List Answered) (r : Router) (q : Open) → Later v w → IsOpenOf v asked answered r q
+    → IsOpenOf w asked answered r q
+open_stays v w asked answered r q later o =
+    subst (λ l. IsOpenOf w l answered r q) (append-nil asked)
+    (subst (λ l. IsOpenOf w (asked ++ []) l r q) (append-nil answered) (open_grows v w asked [] answered [] r q later tt o))
+
+pub letter_stays : (v w : View) (asked : List Asked) (m : Letter) → Later v w → LetterFits v asked m → LetterFits w asked m
+letter_stays v w asked m later f = subst (λ l. LetterFits w l m) (append-nil asked) (letter_grows v w asked [] m later f)
+
+-- what is said of this life and no other
+pub of_this_life : (life now : ℕ) (begun : Bool) (P : Type 0) → life ≡ now → IsBy life now begun P → (begun ≡ true) × P
+of_this_life life now begun P same (inl less) = absurd (omega arith)
+of_this_life life now begun P same (inr (e, is, p)) = (is, p)
+
+pub by_weaken : (life now : ℕ) (begun : Bool) (P Q : Type 0) → (P → Q) → IsBy life now begun P → IsBy life now begun Q
+by_weaken life now begun P Q f (inl less) = inl less
+by_weaken life now begun P Q f (inr (e, is, p)) = inr (e, is, f p)
+
+-- an open request is one of a life that did begin
+pub open_begun : (v : View) (asked : List Asked) (answered : List Answered) (at : ℕ) (r : Router) (q : Open) → r.me ≡ at
+    → AllByRecursion (λ (a : Asked). a.id.router ≡ at → IsBy a.id.life r.life r.begun (a.id.count ≤ r.count)) asked → IsOpenOf v asked answered r q
+    → r.begun ≡ true
+open_begun v asked answered at r q own counted o =
+    let by = all_at (λ (a : Asked). a.id.router ≡ at → IsBy a.id.life r.life r.begun (a.id.count ≤ r.count)) o.request asked counted o.taken
+    (ap (λ (i : RequestId). i.router) o.own ∙ own) in
+    (of_this_life o.request.id.life r.life r.begun (o.request.id.count ≤ r.count) (ap (λ (i : RequestId). i.life) o.own) by).0

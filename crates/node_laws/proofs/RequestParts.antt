@@ -1,0 +1,163 @@
+-- Where an ask to write is served, its entries are sent and placed, and of each request a prefix stands.
+use Rattle.std.proofs.Common.{◌≡◌, ◌≢◌, ℕ, zero, suc, ◌+◌, ◌<◌, List, [], ◌∷◌, ◌++◌, refl, sym, ap, subst, ◌∙◌, arith, append_assoc}
+use Rattle.std.proofs.Common.{append-nil, Bool}
+use Rattle.std.specs.Prelude.{Option, Some, None, Result, Ok, true, false, map, length, drop, if◌then◌else◌}
+use Rattle.std.specs.List.{AllByRecursion}
+use Rattle.std.proofs.lemmas.List.{length-map}
+use Rattle.chunk_model.proofs.FirstTables.{only_now, owned_at}
+use Rattle.node_model.specs.Tree.{Datum, Fields}
+use Rattle.node_model.specs.Insert.{Insert}
+use Rattle.node_model.specs.Refusals.{Refusal}
+use Rattle.node_model.specs.Command.{Command, insert_command, command_of}
+use Rattle.node_model.specs.Tables.{Table, first_table, first_shard, owner_now}
+use Rattle.node_model.specs.History.{Entry, IsIn, key_written}
+use Rattle.node_model.specs.Asked.{RequestId, same_request, Asked, is_session_of, entries_by}
+use Rattle.node_model.specs.Outcomes.{Done, done_of}
+use Rattle.node_model.specs.Right.{ends, AreStatements, IsPart, told_by}
+use Rattle.node_model.specs.OneHistory.{StandsInPart, IsPlaced, ids_asked, AreDifferent}
+use Rattle.node_model.specs.Letters.{Statement}
+use Rattle.node_model.specs.Serving.{Serves}
+use Rattle.node_model.specs.RouterRows.{statements_from, owner_of_statement}
+use Rattle.node_laws.proofs.Views.{View, creations_in}
+use Rattle.node_laws.proofs.Facts.{IsOwned, IsWriteOf}
+use Rattle.node_laws.proofs.Lists.{all_unmapped, all_within, all_prefix}
+use Rattle.node_laws.proofs.Growth.{entries_by_longer}
+use Rattle.node_model.proofs.Requests.{same_id, one_asked}
+use Rattle.node_laws.proofs.Requests.{other_made}
+use Rattle.node_laws.proofs.SeenStatements.{own_session}
+use Rattle.node_laws.proofs.ServedStatements.{AreOwn, IsEntryOf, statement_of}
+use Rattle.node_laws.proofs.ServedParts.{GoOn, front_below, behind_front, other_back, serves_stands}
+
+-- OWNERS
+
+-- the key of a statement that has an owner
+pub record HasKey (t : Table) (written : Option Datum) (shard : ℕ) : Type 0 where
+  pub key : Datum
+  pub writes : written ≡ Some key
+  pub owner : owner_now t key ≡ Some shard
+
+owned_key_by : (t : Table) (written : Option Datum) (shard : ℕ)
+    → (elim written as (λ (o : Option Datum). Option ℕ) [ None ↦ None | Some key ↦ owner_now t key ]) ≡ Some shard → HasKey t written shard
+owned_key_by t None shard e = absurd (cc)
+owned_key_by t (Some key) shard e = record { key = key; writes = refl; owner = e }
+
+pub owned_key : (t : Table) (s : Statement) (shard : ℕ) → owner_of_statement t s ≡ Some shard → HasKey t (key_written s.operation) shard
+owned_key t s shard e = owned_key_by t (key_written s.operation) shard e
+
+-- so far the first shard owns all
+pub owned_by_first : (v : View) (time : ℕ) (namespace : List ℕ) (shard : ℕ) (s : Statement) → IsOwned v time namespace shard s → shard ≡ first_shard
+owned_by_first v time namespace shard s o = let k = owned_key (first_table o.creation) s shard o.owner in only_now o.creation k.key shard k.owner
+
+-- the entry of a statement that is owned is placed
+pub owned_placed : (v : View) (time : ℕ) (namespace : List ℕ) (receiver : ℕ) (e : Entry)
+    → IsEntryOf first_shard namespace (IsOwned v time namespace receiver) e → time < e.time → IsPlaced (creations_in v) e
+owned_placed v time namespace receiver e (shard, name, o) later =
+    let k = owned_key (first_table o.creation) (statement_of e) receiver o.owner in
+    let begun = o.before in
+    record {
+      creation = o.creation;
+      key = k.key;
+      begun = o.begun;
+      name = o.name ∙ sym name;
+      before = omega arith;
+      writes = k.writes;
+      owner = owned_at o.creation k.key e.time receiver (omega arith) k.owner ∙ ap (λ n. Some n) (sym shard);
+    }
+
+-- STATEMENTS OF A REQUEST
+
+own_from : (id : RequestId) (index : ℕ) (documents : List Fields) → AreOwn id (statements_from id index documents)
+own_from id index [] = tt
+own_from id index (d ∷ documents) = (own_session id, own_from id (index + 1) documents)
+
+drop_statements : (id : RequestId) (index n : ℕ) (documents : List Fields)
+    → drop n (statements_from id index documents) ≡ statements_from id (index + n) (drop n documents)
+drop_statements id index zero documents = ap (λ k. statements_from id k documents) (omega arith)
+drop_statements id index (suc n) [] = refl
+drop_statements id index (suc n) (d ∷ documents) = drop_statements id (index + 1) n documents
+    ∙ ap (λ k. statements_from id k (drop n documents)) (omega arith)
+
+-- the statements of an ask are numbered by its request
+pub ask_own : (v : View) (asked : List Asked) (receiver time : ℕ) (id : RequestId) (ordered : Bool) (namespace : List ℕ) (statements : List Statement)
+    → IsWriteOf v asked receiver time id ordered namespace statements → AreOwn id statements
+ask_own v asked receiver time id ordered namespace statements a =
+    all_prefix (λ (s : Statement). is_session_of id s.number.session ≡ true) statements a.back
+    (subst (λ l. AreOwn id l) (sym (drop_statements id 0 (length a.front) a.insert.documents) ∙ a.next)
+    (own_from id (0 + length a.front) (drop (length a.front) a.insert.documents)))
+
+-- what some entries were told is what the first of them were told
+pub record ToldFirst (entries : List Entry) (front : List Done) : Type 0 where
+  pub ahead : List Entry
+  pub behind : List Entry
+  pub split : entries ≡ ahead ++ behind
+  pub told : map done_of ahead ≡ front
+
+told_first : (entries : List Entry) (front standing : List Done) → map done_of entries ≡ front ++ standing → ToldFirst entries front
+told_first entries [] standing e = record { ahead = []; behind = entries; split = refl; told = refl }
+told_first [] (d ∷ front) standing e = absurd (cc)
+told_first (x ∷ entries) (d ∷ front) standing e =
+    let first : done_of x ≡ d = cc in
+    let t = told_first entries front standing (cc) in
+    record { ahead = x ∷ t.ahead; behind = t.behind; split = ap (λ l. x ∷ l) t.split; told = ap (λ l. done_of x ∷ l) t.told ∙ ap (λ y. y ∷ front) first }
+
+pub request_part : (id : RequestId) (shard : ℕ) (namespace : List ℕ) (ordered : Bool) (documents : List Fields) (entries : List Entry) (time : ℕ)
+    (statements : List Statement) (dones : List Done) (made : List Entry) (last : ℕ)
+    → Serves shard namespace ordered entries time statements dones made last → (front standing : List Done) (back : List Statement)
+    → told_by id entries ≡ front ++ standing → AllByRecursion (λ d. ends ordered d ≡ false) front
+    → drop (length front) (statements_from id 0 documents) ≡ statements ++ back → AreStatements id namespace ordered 0 documents (entries_by id entries)
+    → AreStatements id namespace ordered 0 documents (entries_by id (entries ++ made))
+request_part id shard namespace ordered documents entries time statements dones made last serves front standing back told goes next part =
+    let t = told_first (entries_by id entries) front standing told in
+    let all : AreStatements id namespace ordered 0 documents (t.ahead ++ t.behind) =
+    subst (λ l. AreStatements id namespace ordered 0 documents l) t.split part in
+    let count : length t.ahead ≡ length front = sym (length-map t.ahead done_of) ∙ ap (λ (l : List Done). length l) t.told in
+    let from : statements_from id (0 + length t.ahead) (drop (length t.ahead) documents) ≡ statements ++ back =
+    sym (drop_statements id 0 (length t.ahead) documents) ∙ ap (λ n. drop n (statements_from id 0 documents)) count ∙ next in
+    let goes_on : GoOn ordered t.ahead = all_unmapped (λ d. ends ordered d ≡ false) done_of t.ahead
+    (subst (λ l. AllByRecursion (λ d. ends ordered d ≡ false) l) (sym t.told) goes) in
+    let new = serves_stands id shard namespace ordered entries time statements dones made last serves (0 + length t.ahead)
+    (drop (length t.ahead) documents) back t.ahead t.behind from
+    (record {
+      split = t.split;
+      below = front_below id namespace ordered 0 documents t.ahead t.behind all;
+      from = behind_front id namespace ordered 0 documents t.ahead t.behind all;
+    }) in
+    subst (λ l. AreStatements id namespace ordered 0 documents l)
+    (sym (entries_by_longer id entries made ∙ ap (λ l. l ++ entries_by id made) t.split ∙ append_assoc t.ahead t.behind (entries_by id made)))
+    (other_back id namespace ordered 0 documents t.ahead t.behind (t.behind ++ entries_by id made) goes_on all new)
+
+-- ALL REQUESTS
+
+none_of_other : (a b : RequestId) (made : List Entry) → a ≢ b → AllByRecursion (λ (e : Entry). is_session_of a e.number.session ≡ true) made
+    → entries_by b made ≡ []
+none_of_other a b [] other own = refl
+none_of_other a b (e ∷ made) other own = ap (λ t. if t then e ∷ entries_by b made else entries_by b made) (other_made a b e.number.session other own.0)
+    ∙ none_of_other a b made other own.1
+
+insert_is : (r : Result Command Refusal) (a b : Insert) → r ≡ Ok (insert_command a) → r ≡ Ok (insert_command b) → a ≡ b
+insert_is r a b e h = cc
+
+-- where of one request a prefix stands, and none of the others made an entry, of each a prefix stands
+pub parts_longer : (asked : List Asked) (entries made : List Entry) (own : Asked) (insert : Insert) → AreDifferent (ids_asked asked) → IsIn own asked
+    → command_of own.request ≡ Ok (insert_command insert)
+    → AllByRecursion (λ (e : Entry). is_session_of own.id e.number.session ≡ true) made → IsPart (entries ++ made) own.id insert
+    → AllByRecursion (StandsInPart entries) asked → AllByRecursion (StandsInPart (entries ++ made)) asked
+parts_longer asked entries made own insert different taken asks mine part parts =
+    all_within (StandsInPart entries) (StandsInPart (entries ++ made)) asked (λ a i p. each a i p) parts
+  where
+    by_id : (a : Asked) → IsIn a asked → StandsInPart entries a → (t : Bool) → same_request own.id a.id ≡ t → StandsInPart (entries ++ made) a
+    by_id a i old true same wanted is =
+        let one : own ≡ a = one_asked own a asked different taken i (same_id own.id a.id same) in
+        let inserts : insert ≡ wanted = insert_is (command_of own.request) insert wanted asks (ap (λ (b : Asked). command_of b.request) one ∙ is) in
+        subst (λ (b : Asked). IsPart (entries ++ made) b.id wanted) one (subst (λ n. IsPart (entries ++ made) own.id n) inserts part)
+    by_id a i old false other wanted is =
+        let different : own.id ≢ a.id = λ e. true_false (sym (own_session own.id) ∙ ap (λ n. same_request own.id n) e ∙ other) in
+        let same : entries_by a.id (entries ++ made) ≡ entries_by a.id entries = entries_by_longer a.id entries made
+        ∙ ap (λ l. entries_by a.id entries ++ l) (none_of_other own.id a.id made different mine) ∙ append-nil (entries_by a.id entries) in
+        subst (λ l. AreStatements a.id wanted.namespace wanted.ordered 0 wanted.documents l) (sym same) (old wanted is)
+      where
+        true_false : true ≡ false → ⊥
+        true_false e = cc
+
+    each : (a : Asked) → IsIn a asked → StandsInPart entries a → StandsInPart (entries ++ made) a
+    each a i p = by_id a i p (same_request own.id a.id) refl

@@ -1,0 +1,77 @@
+-- What new requests and answers leave of the facts on old ones.
+use Rattle.std.proofs.Common.{◌≡◌, ◌≢◌, ◌⊎◌, inl, inr, ℕ, ◌+◌, ◌<◌, List, [], ◌∷◌, ◌++◌, refl, sym, ap, subst, ◌∙◌, arith, Bool}
+use Rattle.std.specs.Prelude.{true, false, ◌==◌, ◌&&◌, if◌then◌else◌}
+use Rattle.std.specs.List.{AllByRecursion}
+use Rattle.std.proofs.lemmas.Bool.{eqb-true}
+use Rattle.node_model.specs.History.{Session, client_session, router_session, Entry, IsIn}
+use Rattle.node_model.specs.Asked.{RequestId, same_request, Asked, Answered, is_session_of, entries_by}
+use Rattle.node_model.specs.Right.{AreStatements}
+use Rattle.node_model.specs.OneHistory.{WasSent, StandsInPart, IsNotBefore, IsFresh, ids_asked, AreDifferent}
+use Rattle.node_model.specs.Letters.{Taken, Reply}
+use Rattle.node_model.specs.World.{asked_by, answered_by}
+use Rattle.node_model.proofs.Requests.{same_id}
+use Rattle.node_laws.proofs.Lists.{all_weaken, all_append, all_at, all_of, all_unmapped, in_cons, in_none}
+
+-- a request that is new: none before has its number
+abbrev pub IsNew : List Asked → Asked → Type 0
+IsNew asked a = AllByRecursion (λ (b : Asked). b.id ≢ a.id) asked
+
+-- the requests behind others of different numbers are new
+pub new_ones : (asked more : List Asked) → AreDifferent (ids_asked (asked ++ more)) → AllByRecursion (IsNew asked) more
+new_ones [] more all = all_of (IsNew []) more (λ a. tt)
+new_ones (b ∷ asked) more all = joined more (behind asked more all.0) (new_ones asked more all.1)
+  where
+    behind : (xs ys : List Asked) → AllByRecursion (λ other. ¬ (other ≡ b.id)) (ids_asked (xs ++ ys)) → AllByRecursion (λ (a : Asked). a.id ≢ b.id) ys
+    behind [] [] all = tt
+    behind [] (y ∷ ys) all = (all.0, behind [] ys all.1)
+    behind (x ∷ xs) ys all = behind xs ys all.1
+
+    joined : (ys : List Asked) → AllByRecursion (λ (a : Asked). a.id ≢ b.id) ys → AllByRecursion (IsNew asked) ys → AllByRecursion (IsNew (b ∷ asked)) ys
+    joined [] ps qs = tt
+    joined (y ∷ ys) ps qs = (((λ e. ps.0 (sym e)), qs.0), joined ys ps.1 qs.1)
+
+-- a session of one request is none of another
+pub other_made : (a b : RequestId) (session : Session) → a ≢ b → is_session_of a session ≡ true → is_session_of b session ≡ false
+other_made a b (client_session name) other own = absurd (cc)
+other_made a b (router_session node life request) other own = by_test (same_request (record { router = node; life = life; count = request }) b) refl
+  where
+    by_test : (t : Bool) → same_request (record { router = node; life = life; count = request }) b ≡ t → same_request (record { router = node; life = life; count = request }) b ≡ false
+    by_test true e = absurd (other (sym (same_id (record { router = node; life = life; count = request }) a own) ∙ same_id (record { router = node; life = life; count = request }) b e))
+    by_test false e = e
+
+-- a new request made no entry
+pub none_by : (asked : List Asked) (a : Asked) (history : List Entry) → IsNew asked a → AllByRecursion (WasSent asked) history → entries_by a.id history ≡ []
+none_by asked a [] new sent = refl
+none_by asked a (e ∷ history) new sent =
+    let s = sent.0 in
+    let other : s.request.id ≢ a.id = all_at (λ (b : Asked). b.id ≢ a.id) s.request asked new s.taken in
+    let no : is_session_of a.id e.number.session ≡ false = other_made s.request.id a.id e.number.session other s.own in
+    ap (λ t. if t then e ∷ entries_by a.id history else entries_by a.id history) no ∙ none_by asked a history new sent.1
+
+-- so of each request a prefix stands, also of new ones
+pub parts_grow : (asked more : List Asked) (history : List Entry) → AreDifferent (ids_asked (asked ++ more)) → AllByRecursion (WasSent asked) history → AllByRecursion (StandsInPart history) asked → AllByRecursion (StandsInPart history) (asked ++ more)
+parts_grow asked more history different sent parts =
+    all_append (StandsInPart history) asked more parts
+    (all_weaken (IsNew asked) (StandsInPart history) more (λ a new insert asks. subst (λ l. AreStatements a.id insert.namespace insert.ordered 0 insert.documents l) (sym (none_by asked a history new sent)) tt) (new_ones asked more different))
+
+-- what is answered in this step is answered in it, by this router
+pub answered_now : (now : ℕ) (replies : List Reply) → AllByRecursion (λ (t : Answered). t.step ≡ now) (answered_by now replies)
+answered_now now [] = tt
+answered_now now (x ∷ replies) = (refl, answered_now now replies)
+
+pub answered_here : (now at : ℕ) (replies : List Reply) → AllByRecursion (λ (x : Reply). x.id.router ≡ at) replies → AllByRecursion (λ (t : Answered). t.id.router ≡ at) (answered_by now replies)
+answered_here now at [] all = tt
+answered_here now at (x ∷ replies) all = (all.0, answered_here now at replies all.1)
+
+pub asked_now : (now : ℕ) (taken : List Taken) → AllByRecursion (λ (a : Asked). a.came ≡ now) (asked_by now taken)
+asked_now now [] = tt
+asked_now now (x ∷ taken) = (refl, asked_now now taken)
+
+pub asked_here : (now at : ℕ) (taken : List Taken) → AllByRecursion (λ (x : Taken). x.id.router ≡ at) taken → AllByRecursion (λ (a : Asked). a.id.router ≡ at) (asked_by now taken)
+asked_here now at [] all = tt
+asked_here now at (x ∷ taken) all = (all.0, asked_here now at taken all.1)
+
+-- what is told in a step was not told before a request that came in it or earlier
+pub still_fresh : (answered news : List Answered) (now : ℕ) (a : Asked) → a.came < now + 1 → AllByRecursion (λ (t : Answered). t.step ≡ now) news → IsFresh answered a → IsFresh (answered ++ news) a
+still_fresh answered news now a came told fresh =
+    all_append (IsNotBefore a) answered news fresh (all_weaken (λ (t : Answered). t.step ≡ now) (IsNotBefore a) news (λ t e time router life before told. absurd (omega arith)) told)

@@ -1,0 +1,217 @@
+-- What a router asks for fits.
+use Rattle.std.proofs.Common.{◌≡◌, ◌≢◌, ◌⊎◌, inl, inr, ℕ, ◌≤◌, List, [], ◌∷◌, ◌++◌, refl, sym, ap, subst, ◌∙◌, arith, Bool}
+use Rattle.std.specs.Prelude.{Option, Some, None, true, false, drop, length, if◌then◌else◌}
+use Rattle.std.specs.List.{AllByRecursion}
+use Rattle.std.proofs.lemmas.Bool.{eqb-true, ltb-false}
+use Rattle.chunk_model.proofs.FirstTables.{only_at}
+use Rattle.node_model.specs.Tree.{Datum}
+use Rattle.node_model.specs.Tables.{Table, first_shard, table_of, owner_at}
+use Rattle.node_model.specs.Verdicts.{sent_by}
+use Rattle.node_model.specs.History.{IsIn}
+use Rattle.node_model.specs.Asked.{RequestId, Asked, Answered}
+use Rattle.node_model.specs.Outcomes.{Done}
+use Rattle.node_model.specs.OneHistory.{Given}
+use Rattle.node_model.specs.Letters.{Statement, Half, key_half, write_ask, read_ask, Letter}
+use Rattle.node_model.specs.States.{Work, writing, reading, Wait, for_time, for_table, for_shards, Open, Router}
+use Rattle.node_model.specs.RouterRows.{id_of, owner_of_statement, is_on, run_to, unanswered, asks_to_write, asks_to_read, asks_shards, asks_table, is_enough, enough_of, table_for, asks_times, is_ahead, asks_by, asks_for, asks_again, says}
+use Rattle.node_laws.proofs.Views.{View}
+use Rattle.node_laws.proofs.Facts.{IsKnownTable, IsOwned, IsReadOf, IsWriteOf, LetterFits, WorkFits, IsOpenOf, IsMet}
+use Rattle.node_laws.proofs.Lists.{all_weaken, all_at}
+use Rattle.node_laws.proofs.KnownTables.{FoundTable, table_found}
+
+-- a message that fits, of a time that was met
+abbrev pub IsSaid : View → List Asked → List Given → Letter → Type 0
+IsSaid v asked given m = LetterFits v asked m × IsMet v given m.time
+
+-- the request with this number, taken by this time, has this work to do
+pub record IsAsking (v : View) (asked : List Asked) (id : RequestId) (time : ℕ) (namespace : List ℕ) (work : Work) : Type 0 where
+  pub request : Asked
+  pub taken : IsIn request asked
+  pub own : request.id ≡ id
+  pub past : request.time ≤ time
+  pub does : WorkFits v request namespace work
+
+pub open_asks : (v : View) (asked : List Asked) (answered : List Answered) (r : Router) (time : ℕ) (q : Open) → r.time ≤ time → IsOpenOf v asked answered r q
+    → IsAsking v asked (id_of r q.count) time q.namespace q.work
+open_asks v asked answered r time q later o = record {
+  request = o.request;
+  taken = o.taken;
+  own = o.own;
+  past =
+      (let p = o.past in omega arith);
+  does = o.work;
+}
+
+-- STATEMENTS THAT GO TO ONE SHARD
+
+run_split : (t : Table) (shard : ℕ) (statements : List Statement) → (back : List Statement) × (statements ≡ run_to t shard statements ++ back)
+run_split t shard [] = ([], refl)
+run_split t shard (s ∷ statements) = by_test (is_on shard (owner_of_statement t s)) (run_split t shard statements)
+  where
+    by_test : (a : Bool) → (back : List Statement) × (statements ≡ run_to t shard statements ++ back)
+        → (back : List Statement) × (s ∷ statements ≡ (if a then s ∷ run_to t shard statements else []) ++ back)
+    by_test true more = (more.0, ap (λ l. s ∷ l) more.1)
+    by_test false more = (s ∷ statements, refl)
+
+owner_on : (shard : ℕ) (owner : Option ℕ) → is_on shard owner ≡ true → owner ≡ Some shard
+owner_on shard None on = absurd (cc)
+owner_on shard (Some n) on = ap (λ m. Some m) (eqb-true n shard on)
+
+run_owned : (t : Table) (shard : ℕ) (statements : List Statement) → AllByRecursion (λ s. owner_of_statement t s ≡ Some shard) (run_to t shard statements)
+run_owned t shard [] = tt
+run_owned t shard (s ∷ statements) = by_test (is_on shard (owner_of_statement t s)) refl (run_owned t shard statements)
+  where
+    by_test : (a : Bool) → is_on shard (owner_of_statement t s) ≡ a → AllByRecursion (λ s. owner_of_statement t s ≡ Some shard) (run_to t shard statements)
+        → AllByRecursion (λ s. owner_of_statement t s ≡ Some shard) (if a then s ∷ run_to t shard statements else [])
+    by_test true h more = (owner_on shard (owner_of_statement t s) h, more)
+    by_test false h more = tt
+
+owned_by : (v : View) (time : ℕ) (namespace : List ℕ) (shard : ℕ) (t : Table) (s : Statement) → IsKnownTable v time t → t.namespace ≡ namespace
+    → owner_of_statement t s ≡ Some shard → IsOwned v time namespace shard s
+owned_by v time namespace shard t s k name owner = record {
+  creation = k.creation;
+  begun = k.begun;
+  name = sym (ap (λ (u : Table). u.namespace) k.table) ∙ name;
+  before = k.before;
+  owner = subst (λ u. owner_of_statement u s ≡ Some shard) k.table owner;
+}
+
+module _ (v : View) (asked : List Asked) (given : List Given) (r : Router) (time : ℕ) (met : IsMet v given time) where
+  -- WHAT SHARDS ARE ASKED
+
+  writes_fit : (id : RequestId) (namespace : List ℕ) (t : Table) (ordered : Bool) (statements : List Statement) (answers : List Done) (left : List Statement)
+      → IsAsking v asked id time namespace (writing ordered statements answers) → IsKnownTable v time t → t.namespace ≡ namespace
+      → unanswered statements answers ≡ left
+      → AllByRecursion (IsSaid v asked given) (asks_to_write r time id namespace t ordered left)
+  writes_fit id namespace t ordered statements answers [] a k name here = tt
+  writes_fit id namespace t ordered statements answers (s ∷ left) a k name here = by_owner (owner_of_statement t s)
+    where
+      fits : (shard : ℕ) → IsWriteOf v asked shard time id ordered namespace (run_to t shard (s ∷ left))
+      fits shard =
+          let split = run_split t shard (s ∷ left) in
+          let work = a.does in
+          subst (λ i. IsWriteOf v asked shard time i ordered namespace (run_to t shard (s ∷ left))) a.own (record {
+            request = a.request;
+            insert = work.0;
+            front = answers;
+            standing = work.5.0;
+            back = split.0;
+            taken = a.taken;
+            own = refl;
+            asks = work.1;
+            order = work.3;
+            name = work.2;
+            stands = work.5.1;
+            goes_on = work.6;
+            next = ap (λ l. drop (length answers) l) (sym work.4) ∙ here ∙ split.1;
+            owned = all_weaken (λ x. owner_of_statement t x ≡ Some shard) (IsOwned v time namespace shard) (run_to t shard (s ∷ left))
+                (λ x o. owned_by v time namespace shard t x k name o) (run_owned t shard (s ∷ left));
+            fresh = a.past;
+          })
+
+      by_owner : (owner : Option ℕ) → AllByRecursion (IsSaid v asked given) (elim owner as (λ (o : Option ℕ). List Letter) [
+        | None ↦ []
+        | Some shard ↦ says r shard time (write_ask id 1 ordered namespace (run_to t shard (s ∷ left)) (sent_by t shard)) ∷ []
+      ])
+      by_owner None = tt
+      by_owner (Some shard) = ((fits shard, met), tt)
+
+  reads_fit : (id : RequestId) (namespace : List ℕ) (t : Table) (at : ℕ) (key : Datum)
+      → IsAsking v asked id time namespace (reading at (key_half key)) → IsKnownTable v time t → at ≤ time
+      → AllByRecursion (IsSaid v asked given) (asks_to_read r time id namespace t at (key_half key))
+  reads_fit id namespace t at key a k reached = by_owner (owner_at t key at) refl
+    where
+      work : WorkFits v a.request namespace (reading at (key_half key))
+      work = a.does
+
+      read : IsReadOf asked id (key_half key)
+      read = record { request = a.request; find = work.0; taken = a.taken; own = a.own; asks = work.1; shows = work.3 }
+
+      by_owner : (owner : Option ℕ) → owner_at t key at ≡ owner → AllByRecursion (IsSaid v asked given) (elim owner as (λ (o : Option ℕ). List Letter) [
+        | None ↦ []
+        | Some shard ↦ says r shard time (read_ask id 1 namespace at (key_half key) (sent_by t shard)) ∷ []
+      ])
+      by_owner None h = tt
+      by_owner (Some shard) h =
+          let first : shard ≡ first_shard = (only_at k.creation key at shard (subst (λ u. owner_at u key at ≡ Some shard) k.table h)).0 in
+          (((read, work.2, work.4, reached, first), met), tt)
+
+  reached_by : (at : ℕ) (half : Half) → is_ahead time (reading at half) ≡ false → at ≤ time
+  reached_by at half h = ltb-false time at h
+
+  pub shards_fit : (count : ℕ) (namespace : List ℕ) (t : Table) (work : Work) → IsAsking v asked (id_of r count) time namespace work → IsKnownTable v time t
+      → t.namespace ≡ namespace → is_ahead time work ≡ false → AllByRecursion (IsSaid v asked given) (asks_shards r time count namespace t work)
+  shards_fit count namespace t (writing ordered statements answers) a k name reached =
+      writes_fit (id_of r count) namespace t ordered statements answers (unanswered statements answers) a k name refl
+  shards_fit count namespace t (reading at (key_half key)) a k name reached = reads_fit (id_of r count) namespace t at key a k
+      (reached_by at (key_half key) reached)
+
+  -- WHAT THE CATALOGUE IS ASKED
+
+  pub table_ask_fits : (id : RequestId) (namespace : List ℕ) (work : Work) → IsAsking v asked id time namespace work → is_ahead time work ≡ false
+      → IsSaid v asked given (asks_table r time namespace work)
+  table_ask_fits id namespace (writing ordered statements answers) a reached =
+      let work = a.does in
+      ((tt, record { request = a.request; taken = a.taken; into = record { insert = work.0; asks = work.1; name = sym work.2 }; past = a.past }), met)
+  table_ask_fits id namespace (reading at half) a reached = (reached_by at half reached, met)
+
+  -- WHAT A REQUEST ASKS FOR
+
+  pub table_for_found : (tables : List Table) (namespace : List ℕ) (work : Work) (t : Table) → table_for tables namespace work ≡ Some t
+      → FoundTable namespace tables t
+  table_for_found tables namespace work t got = by_table (table_of namespace tables) refl got
+    where
+      by_enough : (u : Table) (b : Bool) → table_of namespace tables ≡ Some u → (if b then Some u else None) ≡ Some t → FoundTable namespace tables t
+      by_enough u true h got = table_found namespace tables t (h ∙ got)
+      by_enough u false h got = absurd (cc)
+
+      by_table : (table : Option Table) → table_of namespace tables ≡ table → enough_of table work ≡ Some t → FoundTable namespace tables t
+      by_table None h got = absurd (cc)
+      by_table (Some u) h got = by_enough u (is_enough u work) h got
+
+  pub asks_fit : (count : ℕ) (namespace : List ℕ) (work : Work) → IsAsking v asked (id_of r count) time namespace work
+      → AllByRecursion (IsKnownTable v time) r.tables
+      → AllByRecursion (IsSaid v asked given) (asks_for r time count namespace work)
+  asks_fit count namespace work a known = by_ahead (is_ahead time work) refl
+    where
+      by_table : (table : Option Table) → table_for r.tables namespace work ≡ table → is_ahead time work ≡ false
+          → AllByRecursion (IsSaid v asked given) (asks_by r time count namespace work table)
+      by_table None h reached = (table_ask_fits (id_of r count) namespace work a reached, tt)
+      by_table (Some t) h reached =
+          let f = table_for_found r.tables namespace work t h in
+          shards_fit count namespace t work a (all_at (IsKnownTable v time) t r.tables known f.stands) f.name reached
+
+      by_ahead : (b : Bool) → is_ahead time work ≡ b
+          → AllByRecursion (IsSaid v asked given)
+          (if b then asks_times r time (id_of r count) else asks_by r time count namespace work (table_for r.tables namespace work))
+      by_ahead true h = ((tt, met), tt)
+      by_ahead false h = by_table (table_for r.tables namespace work) refl h
+
+  -- a request that waits for no time has reached it
+  pub again_fits : (q : Open) → IsAsking v asked (id_of r q.count) time q.namespace q.work → AllByRecursion (IsKnownTable v time) r.tables
+      → (q.wait ≡ for_time) ⊎ (is_ahead time q.work ≡ false) → AllByRecursion (IsSaid v asked given) (asks_again r time q)
+  again_fits q a known reached = by_wait q.wait refl
+    where
+      not_time : (wait : Wait) → q.wait ≡ wait → wait ≢ for_time → is_ahead time q.work ≡ false
+      not_time wait h other = by_case reached
+        where
+          by_case : (q.wait ≡ for_time) ⊎ (is_ahead time q.work ≡ false) → is_ahead time q.work ≡ false
+          by_case (inl e) = absurd (other (sym h ∙ e))
+          by_case (inr e) = e
+
+      by_table : (table : Option Table) → table_of q.namespace r.tables ≡ table → is_ahead time q.work ≡ false
+          → AllByRecursion (IsSaid v asked given)
+          (elim table as (λ (o : Option Table). List Letter) [ None ↦ [] | Some t ↦ asks_shards r time q.count q.namespace t q.work ])
+      by_table None h not_ahead = tt
+      by_table (Some t) h not_ahead =
+          let f = table_found q.namespace r.tables t h in
+          shards_fit q.count q.namespace t q.work a (all_at (IsKnownTable v time) t r.tables known f.stands) f.name not_ahead
+
+      by_wait : (wait : Wait) → q.wait ≡ wait → AllByRecursion (IsSaid v asked given) (elim wait as (λ (w : Wait). List Letter) [
+        | for_time ↦ asks_times r time (id_of r q.count)
+        | for_table ↦ asks_table r time q.namespace q.work ∷ []
+        | for_shards ↦ elim (table_of q.namespace r.tables) [ None ↦ [] | Some t ↦ asks_shards r time q.count q.namespace t q.work ]
+      ])
+      by_wait for_time h = ((tt, met), tt)
+      by_wait for_table h = (table_ask_fits (id_of r q.count) q.namespace q.work a (not_time for_table h (λ e. cc)), tt)
+      by_wait for_shards h = by_table (table_of q.namespace r.tables) refl (not_time for_shards h (λ e. cc))

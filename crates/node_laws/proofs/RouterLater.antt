@@ -1,0 +1,200 @@
+-- A router at a later time, where it took no request, owes nothing that its row does not give.
+use Rattle.std.proofs.Common.{◌≡◌, ◌≢◌, ◌⊎◌, inl, inr, ℕ, ◌≤◌, List, [], ◌∷◌, ◌++◌, refl, sym, ap, subst, ◌∙◌, arith, append-nil}
+use Rattle.std.specs.Prelude.{true, map}
+use Rattle.std.specs.List.{AllByRecursion}
+use Rattle.node_model.specs.Tables.{Table}
+use Rattle.node_model.specs.History.{IsIn}
+use Rattle.node_model.specs.Asked.{RequestId, Asked, Answered}
+use Rattle.node_model.specs.OneHistory.{ids_told, AreDifferent}
+use Rattle.node_model.specs.Kept.{Kept}
+use Rattle.node_model.specs.Letters.{Letter, Reply, Effect}
+use Rattle.node_model.specs.States.{Open, Router, router_state}
+use Rattle.node_model.specs.RouterRows.{id_of}
+use Rattle.node_model.specs.World.{World, answered_by, journal_at}
+use Rattle.node_laws.proofs.Views.{View, view_of, Later}
+use Rattle.node_laws.proofs.Facts.{IsKnownTable, IsOpenOf, IsBy, ToldBelow, IsClosedOrOpen, RouterFits, IsMet, AnswerFits, Good}
+use Rattle.node_laws.proofs.Owes.{Owes}
+use Rattle.node_laws.proofs.Lists.{all_weaken, all_both, all_append, all_at, in_back}
+use Rattle.node_laws.proofs.Growth.{met_later}
+use Rattle.node_laws.proofs.Others.{told_more}
+use Rattle.node_laws.proofs.OpenRequests.{IsParted}
+use Rattle.node_laws.proofs.RouterAsks.{IsSaid}
+use Rattle.node_laws.proofs.RouterAnswers.{as_answered}
+use Rattle.node_laws.proofs.NextFacts.{IsToldRightly}
+use Rattle.node_laws.proofs.OpenFacts.{by_weaken, open_begun}
+
+-- the router with what a row changes, where it took no request
+abbrev pub goes_to : Router → (time moment : ℕ) → List Table → List Open → Router
+goes_to r time moment tables requests = record {
+  me = r.me;
+  time = time;
+  life = r.life;
+  begun = r.begun;
+  moment = moment;
+  count = r.count;
+  tables = tables;
+  requests = requests;
+}
+
+abbrev pub tells : List Letter → List Reply → Effect
+tells mail replies = record { written = []; mail = mail; taken = []; replies = replies }
+
+-- what a row gives, in a view behind the step
+pub record RowFits (v : View) (w : World) (s : Router) (mail : List Letter) (replies : List Reply) : Type 0 where
+  pub tables : AllByRecursion (IsKnownTable v s.time) s.tables
+  pub requests : AllByRecursion (IsOpenOf v w.asked w.answered s) s.requests
+  pub letters : AllByRecursion (IsSaid v w.asked w.given) mail
+  pub answers : AllByRecursion (IsToldRightly v w.asked s.time w.now) replies
+
+-- LISTS
+
+-- what holds of an answer holds of its reply
+pub of_replies : (P : Answered → Type 0) (now : ℕ) (replies : List Reply) → AllByRecursion P (answered_by now replies)
+    → AllByRecursion (λ x. P (as_answered now x)) replies
+of_replies P now [] all = tt
+of_replies P now (x ∷ replies) all = (all.0, of_replies P now replies all.1)
+
+pub of_answers : (P : Answered → Type 0) (now : ℕ) (replies : List Reply) → AllByRecursion (λ x. P (as_answered now x)) replies
+    → AllByRecursion P (answered_by now replies)
+of_answers P now [] all = tt
+of_answers P now (x ∷ replies) all = (all.0, of_answers P now replies all.1)
+
+-- answers of which each is to another than those before
+pub once_more : (old news : List Answered) → AreDifferent (ids_told old) → AreDifferent (ids_told news)
+    → AllByRecursion (λ (t : Answered). AllByRecursion (λ (x : Answered). x.id ≢ t.id) old) news
+    → AreDifferent (ids_told (old ++ news))
+once_more [] news old_once new_once apart = new_once
+once_more (x ∷ old) news old_once new_once apart = (
+  joined old old_once.0 apart,
+  once_more old news old_once.1 new_once
+      (all_weaken (λ (t : Answered). AllByRecursion (λ (y : Answered). y.id ≢ t.id) (x ∷ old))
+      (λ (t : Answered). AllByRecursion (λ (y : Answered). y.id ≢ t.id) old) news (λ t a. a.1) apart),
+)
+  where
+    firsts : (rest before : List Answered) → AllByRecursion (λ (t : Answered). AllByRecursion (λ (y : Answered). y.id ≢ t.id) (x ∷ before)) rest
+        → AllByRecursion (λ other. ¬ (other ≡ x.id)) (ids_told rest)
+    firsts [] before all = tt
+    firsts (t ∷ rest) before all = ((λ e. all.0.0 (sym e)), firsts rest before all.1)
+
+    joined : (rest : List Answered) → AllByRecursion (λ other. ¬ (other ≡ x.id)) (ids_told rest)
+        → AllByRecursion (λ (t : Answered). AllByRecursion (λ (y : Answered). y.id ≢ t.id) (x ∷ old)) news
+        → AllByRecursion (λ other. ¬ (other ≡ x.id)) (ids_told (rest ++ news))
+    joined [] all more = firsts news old more
+    joined (t ∷ rest) all more = (all.0, joined rest all.1 more)
+
+ids_longer : (old news : List Answered) → ids_told (old ++ news) ≡ ids_told old ++ ids_told news
+ids_longer [] news = refl
+ids_longer (t ∷ old) news = ap (λ l. t.id ∷ l) (ids_longer old news)
+
+-- an answer among new ones
+pub told_now : (id : RequestId) (old news : List Answered) → IsIn id (ids_told news) → IsIn id (ids_told (old ++ news))
+told_now id old news i = subst (λ l. IsIn id l) (sym (ids_longer old news)) (in_back id (ids_told old) (ids_told news) i)
+
+-- THE ROUTER
+
+module _ (w : World) (at : ℕ) (r : Router) (fits : RouterFits (view_of w.nodes) w.asked w.answered at r) (good : Good w) where
+  -- an answer to an open request of this router
+  abbrev IsOwn : Answered → Type 0
+  IsOwn t = (q : Open) × IsIn q r.requests × (t.id ≡ id_of r q.count)
+
+  open_at : (t : Answered) → (o : IsOwn t) → IsOpenOf (view_of w.nodes) w.asked w.answered r o.0
+  open_at t o = all_at (IsOpenOf (view_of w.nodes) w.asked w.answered r) o.0 r.requests fits.requests o.1
+
+  own_router : (t : Answered) → IsOwn t → t.id.router ≡ at
+  own_router t o = ap (λ (i : RequestId). i.router) o.2 ∙ fits.own
+
+  own_begun : (t : Answered) → IsOwn t → r.begun ≡ true
+  own_begun t o = open_begun (view_of w.nodes) w.asked w.answered at r o.0 fits.own fits.counted (open_at t o)
+
+  own_new : (t : Answered) → IsOwn t → AllByRecursion (λ (x : Answered). x.id ≢ t.id) w.answered
+  own_new t o = subst (λ i. AllByRecursion (λ (x : Answered). x.id ≢ i) w.answered) (sym o.2) (open_at t o).silent
+
+  closed_still : (requests : List Open) (news : List Answered) (a : Asked) → IsParted r r.requests requests news → a.id.router ≡ at → a.id.life ≡ r.life
+      → IsClosedOrOpen r.requests w.answered a → IsClosedOrOpen requests (w.answered ++ news) a
+  closed_still requests news a parted router life (inl i) = by_parted (parted.closed a.id.count i)
+    where
+      own : id_of r a.id.count ≡ a.id
+      own = λ i. record { router = (fits.own ∙ sym router) i; life = (sym life) i; count = a.id.count }
+
+      by_parted : IsIn a.id.count (map (λ (q : Open). q.count) requests) ⊎ IsIn (id_of r a.id.count) (ids_told news)
+          → IsClosedOrOpen requests (w.answered ++ news) a
+      by_parted (inl k) = inl k
+      by_parted (inr k) = inr (told_now a.id w.answered news (subst (λ i. IsIn i (ids_told news)) own k))
+  closed_still requests news a parted router life (inr i) = inr (told_more a.id w.answered news i)
+
+  told_still : (time : ℕ) (news : List Answered) → r.time ≤ time → AllByRecursion IsOwn news → AllByRecursion (ToldBelow time) news
+      → AllByRecursion (λ (t : Answered). t.id.router ≡ at → IsBy t.id.life r.life r.begun (ToldBelow time t)) (w.answered ++ news)
+  told_still time news later own below =
+      all_append (λ (t : Answered). t.id.router ≡ at → IsBy t.id.life r.life r.begun (ToldBelow time t)) w.answered news
+      (all_weaken (λ (t : Answered). t.id.router ≡ at → IsBy t.id.life r.life r.begun (ToldBelow r.time t))
+      (λ (t : Answered). t.id.router ≡ at → IsBy t.id.life r.life r.begun (ToldBelow time t)) w.answered
+      (λ t h e. by_weaken t.id.life r.life r.begun (ToldBelow r.time t) (ToldBelow time t) (λ b n s. let l = b n s in omega arith) (h e)) fits.told)
+      (all_both IsOwn (ToldBelow time) (λ (t : Answered). t.id.router ≡ at → IsBy t.id.life r.life r.begun (ToldBelow time t)) news
+      (λ t o b e. inr (ap (λ (i : RequestId). i.life) o.2, own_begun t o, b)) own below)
+
+  router_goes : (v : View) (time moment : ℕ) (tables : List Table) (requests : List Open) (mail : List Letter) (replies : List Reply) → r.time ≤ time
+      → IsParted r r.requests requests (answered_by w.now replies) → RowFits v w (goes_to r time moment tables requests) mail replies
+      → RouterFits v w.asked (w.answered ++ answered_by w.now replies) at (goes_to r time moment tables requests)
+  router_goes v time moment tables requests mail replies later parted row = record {
+    own = fits.own;
+    place = fits.place;
+    requests = all_both (IsOpenOf v w.asked w.answered (goes_to r time moment tables requests))
+        (λ (q : Open). AllByRecursion (λ (t : Answered). t.id ≢ id_of r q.count) (answered_by w.now replies))
+        (IsOpenOf v w.asked (w.answered ++ answered_by w.now replies) (goes_to r time moment tables requests)) requests
+        (λ q o s. record {
+          request = o.request;
+          taken = o.taken;
+          own = o.own;
+          link = o.link;
+          number = o.number;
+          asks = o.asks;
+          past = o.past;
+          reached = o.reached;
+          silent = all_append (λ (t : Answered). t.id ≢ id_of r q.count) w.answered (answered_by w.now replies) o.silent s;
+          work = o.work;
+          seen = o.seen;
+        }) row.requests parted.silent;
+    different = parted.different;
+    counted = fits.counted;
+    told = told_still time (answered_by w.now replies) later parted.own
+        (of_answers (ToldBelow time) w.now replies
+        (all_weaken (IsToldRightly v w.asked time w.now) (λ x. ToldBelow time (as_answered w.now x)) replies (λ x t. t.1) row.answers));
+    tables = row.tables;
+    closed = all_weaken (λ (a : Asked). a.id.router ≡ at → a.id.life ≡ r.life → IsClosedOrOpen r.requests w.answered a)
+        (λ (a : Asked). a.id.router ≡ at → a.id.life ≡ r.life → IsClosedOrOpen requests (w.answered ++ answered_by w.now replies) a) w.asked
+        (λ a c e f. closed_still requests (answered_by w.now replies) a parted e f (c e f)) fits.closed;
+    risen = all_weaken (λ (a : Asked). a.id.router ≡ at → IsBy a.id.life r.life r.begun (a.time ≤ r.time))
+        (λ (a : Asked). a.id.router ≡ at → IsBy a.id.life r.life r.begun (a.time ≤ time)) w.asked
+        (λ a h e. by_weaken a.id.life r.life r.begun (a.time ≤ r.time) (a.time ≤ time) (λ l. omega arith) (h e)) fits.risen;
+  }
+
+  pub goes_owes : (kept : List Kept) (time moment : ℕ) (tables : List Table) (requests : List Open) (mail : List Letter) (replies : List Reply) → r.time ≤ time
+      → IsMet (view_of w.nodes) w.given time → IsParted r r.requests requests (answered_by w.now replies)
+      → ((v : View) → Later (view_of w.nodes) v → ((p : ℕ) → p ≢ at → v.journal p ≡ journal_at w.nodes p)
+      → RowFits v w (goes_to r time moment tables requests) mail replies)
+      → Owes w at (record { state = router_state r; kept = kept }) (tells mail replies) (router_state (goes_to r time moment tables requests))
+  goes_owes kept time moment tables requests mail replies later met parted row = record {
+    kind = tt;
+    rises = tt;
+    later = later;
+    taken = tt;
+    told = of_replies (λ (t : Answered). t.id.router ≡ at) w.now replies
+        (all_weaken IsOwn (λ (t : Answered). t.id.router ≡ at) (answered_by w.now replies) (λ t o. own_router t o) parted.own);
+    one = rw (append-nil w.asked) good.one;
+    once = once_more w.answered (answered_by w.now replies) good.once parted.apart
+        (all_weaken IsOwn (λ (t : Answered). AllByRecursion (λ (x : Answered). x.id ≢ t.id) w.answered) (answered_by w.now replies)
+        (λ t o. own_new t o) parted.own);
+    fresh = tt;
+    in_order = tt;
+    owed = λ v grows others journal bound. let given_row = row v grows others in record {
+      node = rw (append-nil w.asked, append-nil kept) (record {
+        state = router_goes v time moment tables requests mail replies later parted given_row;
+        met = met_later (view_of w.nodes) v w.given time grows met;
+      });
+      letters = rw (append-nil w.asked) given_row.letters;
+      answers = rw (append-nil w.asked)
+          (of_answers (AnswerFits v w.asked) w.now replies
+          (all_weaken (IsToldRightly v w.asked time w.now) (λ x. AnswerFits v w.asked (as_answered w.now x)) replies (λ x t. t.0) given_row.answers));
+      known = tt;
+    };
+  }

@@ -1,0 +1,48 @@
+-- What the journals keep and which times the nodes have, by place, and how both grow.
+use Rattle.std.proofs.Common.{◌≡◌, ℕ, zero, suc, ◌<◌, ◌≤◌, List, [], ◌∷◌, ◌++◌}
+use Rattle.std.specs.List.{AllByRecursion}
+use Rattle.node_model.specs.Catalogue.{Creation}
+use Rattle.node_model.specs.History.{Entry}
+use Rattle.node_model.specs.Kept.{Kept, kept_table, kept_entry, kept_creation, kept_life, kept_block, entries_kept, creations_kept}
+use Rattle.node_model.specs.States.{time_of_node}
+use Rattle.node_model.specs.World.{Held, journal_at}
+
+-- by place: what the journal keeps, and the time up to which it says all
+pub record View : Type 0 where
+  pub journal : ℕ → List Kept
+  pub bound : ℕ → ℕ
+
+-- the time of the node at a place
+abbrev pub time_at : List Held → ℕ → ℕ
+time_at [] at = 0
+time_at (h ∷ nodes) zero = time_of_node h.state
+time_at (h ∷ nodes) (suc at) = time_at nodes at
+
+abbrev pub view_of : List Held → View
+view_of nodes = record { journal = λ at. journal_at nodes at; bound = λ at. time_at nodes at }
+
+abbrev pub entries_in : View → ℕ → List Entry
+entries_in v at = entries_kept (v.journal at)
+
+-- the collections that began
+abbrev pub creations_in : View → List Creation
+creations_in v = creations_kept (v.journal 0)
+
+-- an entry and a collection come after a time
+abbrev pub IsAbove : ℕ → Kept → Type 0
+IsAbove time (kept_entry e) = time < e.time
+IsAbove time (kept_creation c) = time < c.at
+IsAbove time (kept_table t) = Unit {0}
+IsAbove time (kept_life n) = Unit {0}
+IsAbove time (kept_block n) = Unit {0}
+
+-- a journal with more behind it, above a time
+pub record Longer (time : ℕ) (old new : List Kept) : Type 0 where
+  pub written : List Kept
+  pub same : new ≡ old ++ written
+  pub rises : AllByRecursion (IsAbove time) written
+
+-- each journal is longer, and no time falls
+pub record Later (v w : View) : Type 0 where
+  pub longer : (at : ℕ) → Longer (v.bound at) (v.journal at) (w.journal at)
+  pub times : (at : ℕ) → v.bound at ≤ w.bound at

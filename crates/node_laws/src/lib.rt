@@ -1,0 +1,6 @@
+//! Every run of the nodes makes one history.
+#![tactic(auto)]
+
+mod laws;
+
+pub use laws::run_makes_one_history;

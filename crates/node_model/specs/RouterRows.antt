@@ -1,0 +1,346 @@
+-- What a router may do in a step.
+use Rattle.std.specs.Prelude.{◌≡◌, ◌≢◌, ◌<◌, ◌≤◌, ℕ, ℤ, ◌+◌, max, List, [], ◌∷◌, ◌++◌, length, drop, map, Bool, true, false, ◌==◌, ◌&&◌, Option, Some, None, Result, Ok, Err, nat_lt, if◌then◌else◌}
+use Rattle.std.specs.List.{flat_map}
+use Rattle.std.specs.Str.{bytes_eq}
+use Rattle.exchange_model.specs.Tree.{Datum, Fields}
+use Rattle.exchange_model.specs.Requests.{Request}
+use Rattle.exchange_model.specs.Times.{time_of_moment}
+use Rattle.exchange_model.specs.Refusals.{Refusal, time_ahead}
+use Rattle.exchange_model.specs.Insert.{Insert}
+use Rattle.exchange_model.specs.Find.{Find}
+use Rattle.exchange_model.specs.Command.{Command, hello_command, legacy_command, ping_command, end_sessions_command, insert_command, find_command, command_of}
+use Rattle.exchange_model.specs.Answers.{Answer, hello_answer, legacy_answer, done_answer, find_answer, refusal_answer, answer_document}
+use Rattle.exchange_model.specs.History.{Operation, insert_operation, key_written}
+use Rattle.exchange_model.specs.Tables.{Table, first_shard, table_of, with_table, owner_now, owner_at}
+use Rattle.exchange_model.specs.Verdicts.{sent_by}
+use Rattle.exchange_model.specs.Versions.{Version}
+use Rattle.exchange_model.specs.Asked.{RequestId, same_request, number_for}
+use Rattle.exchange_model.specs.Outcomes.{Done, answer_of}
+use Rattle.exchange_model.specs.Right.{ends}
+use Rattle.node_model.specs.Kept.{kept_life}
+use Rattle.node_model.specs.Letters.{At, no_time, at_time, Statement, Half, key_half, Body, table_ask, table_told, write_ask, write_done, read_ask, half_ask, read_rows, stale, time_ask, time_told, Letter, Input, client_input, letter_input, moment_input, opened_input, Taken, Reply, Effect, nothing, sends, writes}
+use Rattle.node_model.specs.States.{Work, writing, reading, Wait, for_time, for_table, for_shards, Open, Router, open_with, without, replaced}
+
+-- THE STATE
+
+abbrev pub heard : Router → Letter → ℕ
+heard r m = max r.time m.time
+
+abbrev pub id_of : Router → ℕ → RequestId
+id_of r count = record { router = r.me; life = r.life; count = count }
+
+-- WHAT A REQUEST HAS TO DO
+
+-- the statements of an insert, numbered from this index on
+abbrev pub statements_from : RequestId → ℕ → List Fields → List Statement
+statements_from id index [] = []
+statements_from id index (document ∷ documents) = record { number = number_for id index; operation = insert_operation document } ∷ statements_from id (index + 1) documents
+
+-- a command is answered at once, or there is work to do on a collection first
+pub data Plan : Type 0 where
+  at_once : Answer → Plan
+  needs : (namespace : List ℕ) → Work → Plan
+
+-- a find is of the time that it names, or else of the router's time
+abbrev pub plan_find : Router → Find → Plan
+plan_find r find = needs find.namespace (reading (elim find.at [ None ↦ r.time | Some named ↦ named ]) (key_half find.key))
+
+abbrev pub plan_of : Router → RequestId → Result Command Refusal → Plan
+plan_of r id (Err refusal) = at_once (refusal_answer refusal)
+plan_of r id (Ok hello_command) = at_once (hello_answer r.moment)
+plan_of r id (Ok (legacy_command legacy)) = at_once (legacy_answer r.moment legacy.shows_hello_ok)
+plan_of r id (Ok ping_command) = at_once done_answer
+plan_of r id (Ok end_sessions_command) = at_once done_answer
+plan_of r id (Ok (insert_command insert)) = needs insert.namespace (writing insert.ordered (statements_from id 0 insert.documents) [])
+plan_of r id (Ok (find_command find)) = plan_find r find
+
+-- WHAT IT ASKS FOR
+
+abbrev pub owner_of_statement : Table → Statement → Option ℕ
+owner_of_statement t s = elim (key_written s.operation) [ None ↦ None | Some key ↦ owner_now t key ]
+
+abbrev pub is_on : ℕ → Option ℕ → Bool
+is_on shard None = false
+is_on shard (Some owner) = owner == shard
+
+-- the statements that follow one another and go to a shard
+abbrev pub run_to : Table → ℕ → List Statement → List Statement
+run_to t shard [] = []
+run_to t shard (s ∷ statements) = if is_on shard (owner_of_statement t s) then s ∷ run_to t shard statements else []
+
+-- the statements that are not answered
+abbrev pub unanswered : List Statement → List Done → List Statement
+unanswered statements answers = drop (length answers) statements
+
+abbrev pub says : Router → (to time : ℕ) → Body → Letter
+says r to time body = record { sender = r.me; receiver = to; time = time; body = body }
+
+-- the next statements go to the shard that owns the first of them; turn 1 is the only one so far
+abbrev pub asks_to_write : Router → ℕ → RequestId → (namespace : List ℕ) → Table → Bool → List Statement → List Letter
+asks_to_write r time id namespace t ordered [] = []
+asks_to_write r time id namespace t ordered (s ∷ statements) = elim (owner_of_statement t s) [
+  | None ↦ []
+  | Some shard ↦ says r shard time (write_ask id 1 ordered namespace (run_to t shard (s ∷ statements)) (sent_by t shard)) ∷ []
+]
+
+abbrev pub owner_of_half : Table → ℕ → Half → Option ℕ
+owner_of_half t at (key_half key) = owner_at t key at
+
+abbrev pub asks_to_read : Router → ℕ → RequestId → (namespace : List ℕ) → Table → ℕ → Half → List Letter
+asks_to_read r time id namespace t at half = elim (owner_of_half t at half) [
+  | None ↦ []
+  | Some shard ↦ says r shard time (read_ask id 1 namespace at half (sent_by t shard)) ∷ []
+]
+
+-- what a request asks the shards for, by a table
+abbrev pub asks_shards : Router → ℕ → (count : ℕ) → (namespace : List ℕ) → Table → Work → List Letter
+asks_shards r time count namespace t (writing ordered statements answers) = asks_to_write r time (id_of r count) namespace t ordered (unanswered statements answers)
+asks_shards r time count namespace t (reading at half) = asks_to_read r time (id_of r count) namespace t at half
+
+-- what it asks the catalogue for: a write begins its collection
+abbrev pub asks_table : Router → ℕ → (namespace : List ℕ) → Work → Letter
+asks_table r time namespace (writing ordered statements answers) = says r 0 time (table_ask namespace true no_time)
+asks_table r time namespace (reading at half) = says r 0 time (table_ask namespace false (at_time at))
+
+-- a table is enough where it says who owned what is read at its time
+abbrev pub is_enough : Table → Work → Bool
+is_enough t (writing ordered statements answers) = true
+is_enough t (reading at half) = elim (owner_of_half t at half) [ None ↦ false | Some shard ↦ true ]
+
+abbrev pub enough_of : Option Table → Work → Option Table
+enough_of None work = None
+enough_of (Some t) work = if is_enough t work then Some t else None
+
+-- the table that a request can go on with
+abbrev pub table_for : List Table → (namespace : List ℕ) → Work → Option Table
+table_for tables namespace work = enough_of (table_of namespace tables) work
+
+-- the time of every shard is asked: so far there is one
+abbrev pub asks_times : Router → ℕ → RequestId → List Letter
+asks_times r time id = says r first_shard time (time_ask id) ∷ []
+
+-- it reads at a time that is not reached
+abbrev pub is_ahead : ℕ → Work → Bool
+is_ahead time (writing ordered statements answers) = false
+is_ahead time (reading at half) = nat_lt time at
+
+-- by the table that it can go on with, if that is there
+abbrev pub wait_by : Option Table → Wait
+wait_by None = for_table
+wait_by (Some t) = for_shards
+
+abbrev pub asks_by : Router → ℕ → (count : ℕ) → (namespace : List ℕ) → Work → Option Table → List Letter
+asks_by r time count namespace work None = asks_table r time namespace work ∷ []
+asks_by r time count namespace work (Some t) = asks_shards r time count namespace t work
+
+-- what work waits for at a time of the router, and what is asked for it: the time that it reads at, its table, or the shards
+abbrev pub wait_of : Router → ℕ → (namespace : List ℕ) → Work → Wait
+wait_of r time namespace work = if is_ahead time work then for_time else wait_by (table_for r.tables namespace work)
+
+abbrev pub asks_for : Router → ℕ → (count : ℕ) → (namespace : List ℕ) → Work → List Letter
+asks_for r time count namespace work = if is_ahead time work then asks_times r time (id_of r count) else asks_by r time count namespace work (table_for r.tables namespace work)
+
+-- A REQUEST THAT COMES
+
+abbrev pub opened_request : Router → (link : ℕ) → (number : ℤ) → Request → (namespace : List ℕ) → Work → Open
+opened_request r link number request namespace work = record { count = r.count + 1; link = link; number = number; request = request; namespace = namespace; wait = wait_of r r.time namespace work; work = work }
+
+abbrev pub taken_now : Router → (link : ℕ) → (number : ℤ) → Request → Taken
+taken_now r link number request = record { id = id_of r (r.count + 1); link = link; number = number; time = r.time; moment = r.moment; request = request }
+
+-- WHAT IS TOLD
+
+-- an open request is told something at a time of the router
+abbrev pub reply_to : Router → ℕ → Open → Answer → Reply
+reply_to r time q answer = record { id = id_of r q.count; link = q.link; number = q.number; request = q.request; time = time; document = answer_document answer }
+
+-- the answers with those that are told next, in the order of the statements
+abbrev pub noted : List Done → List Done → List Done
+noted answers [] = answers
+noted answers (d ∷ dones) = if d.index == length answers then noted (answers ++ d ∷ []) dones else noted answers dones
+
+-- all statements are answered, or the last answer ends the command
+abbrev pub is_answered : (ordered : Bool) → List Statement → List Done → Bool
+is_answered ordered [] answers = true
+is_answered ordered (s ∷ statements) [] = false
+is_answered ordered (s ∷ statements) (d ∷ answers) = if ends ordered d then true else is_answered ordered statements answers
+
+abbrev pub with_work : Open → Wait → Work → Open
+with_work q wait work = record { count = q.count; link = q.link; number = q.number; request = q.request; namespace = q.namespace; wait = wait; work = work }
+
+-- an open request goes on with this work at a time of the router
+abbrev pub going_on : Router → ℕ → Open → Work → Open
+going_on r time q work = with_work q (wait_of r time q.namespace work) work
+
+-- A TABLE THAT IS TOLD
+
+-- the answer is that to a read of this time
+abbrev pub is_for : At → ℕ → Bool
+is_for no_time at = false
+is_for (at_time told) at = told == at
+
+-- what becomes of an open request where a table is told: it stays, and asks the shards where it can go on; or it is told that nothing
+-- is there, where it reads at the time of the answer, and no table says who owned that
+pub data Next : Type 0 where
+  stays : Open → List Letter → Next
+  is_told : Reply → Next
+
+abbrev pub empty_answer : Open → ℕ → Answer
+empty_answer q at = find_answer q.namespace [] at
+
+abbrev pub is_for_table : Wait → Bool
+is_for_table for_time = false
+is_for_table for_table = true
+is_for_table for_shards = false
+
+-- without a table that is enough
+abbrev pub next_without : Router → ℕ → At → Open → Next
+next_without r time told q = elim q.work [
+  | writing ordered statements answers ↦ stays q []
+  | reading at half ↦ if is_for told at then is_told (reply_to r time q (empty_answer q at)) else stays q []
+]
+
+abbrev pub next_waiting : Router → ℕ → At → Open → Option Table → Next
+next_waiting r time told q None = next_without r time told q
+next_waiting r time told q (Some t) = stays (with_work q for_shards q.work) (asks_shards r time q.count q.namespace t q.work)
+
+abbrev pub next_of : Router → ℕ → (tables : List Table) → (namespace : List ℕ) → At → Open → Next
+next_of r time tables namespace told q =
+    if is_for_table q.wait && bytes_eq q.namespace namespace then next_waiting r time told q (table_for tables q.namespace q.work) else stays q []
+
+abbrev pub stay_in : Next → List Open
+stay_in (stays q letters) = q ∷ []
+stay_in (is_told reply) = []
+
+abbrev pub letters_in : Next → List Letter
+letters_in (stays q letters) = letters
+letters_in (is_told reply) = []
+
+abbrev pub replies_in : Next → List Reply
+replies_in (stays q letters) = []
+replies_in (is_told reply) = reply ∷ []
+
+abbrev pub adopted : Option Table → List Table → List Table
+adopted None tables = tables
+adopted (Some t) tables = with_table t tables
+
+-- the router after a table was told
+abbrev pub knows : Router → ℕ → List Table → List Open → Router
+knows r time tables requests = record { me = r.me; time = time; life = r.life; begun = r.begun; moment = r.moment; count = r.count; tables = tables; requests = requests }
+
+-- AT A MOMENT
+
+-- what an open request waits for is asked again
+abbrev pub asks_again : Router → ℕ → Open → List Letter
+asks_again r time q = elim q.wait [
+  | for_time ↦ asks_times r time (id_of r q.count)
+  | for_table ↦ asks_table r time q.namespace q.work ∷ []
+  | for_shards ↦ elim (table_of q.namespace r.tables) [ None ↦ [] | Some t ↦ asks_shards r time q.count q.namespace t q.work ]
+]
+
+-- THE ROWS
+
+-- a message that tells nothing to a router
+abbrev pub TellsNothing : Body → Type 0
+TellsNothing (table_told namespace create at table) = ⊥
+TellsNothing (write_done id dones) = ⊥
+TellsNothing (read_rows id turn rows) = ⊥
+TellsNothing (stale id turn met) = ⊥
+TellsNothing (time_told id) = ⊥
+TellsNothing body = Unit {0}
+
+-- the request with this number, where it is open in this life
+abbrev pub open_of : Router → RequestId → Option Open
+open_of r id = if same_request id (id_of r id.count) then open_with id.count r.requests else None
+
+-- outcomes are news to an open write where they answer more of its statements
+abbrev pub AreNoNews : Option Open → List Done → Type 0
+AreNoNews None dones = Unit {0}
+AreNoNews (Some q) dones = elim q.work [ writing ordered statements answers ↦ noted answers dones ≡ answers | reading at half ↦ Unit {0} ]
+
+-- rows are news to an open read, of the turn that it is in
+abbrev pub IsNoRead : Option Open → (turn : ℕ) → Type 0
+IsNoRead None turn = Unit {0}
+IsNoRead (Some q) turn = elim q.work [ writing ordered statements answers ↦ Unit {0} | reading at half ↦ turn ≢ 1 ]
+
+-- a time is news to a read that waits for it
+abbrev pub IsNotAwaited : Option Open → Type 0
+IsNotAwaited None = Unit {0}
+IsNotAwaited (Some q) = elim q.work [ writing ordered statements answers ↦ Unit {0} | reading at half ↦ q.wait ≢ for_time ]
+
+-- a message comes too late for what it tells
+abbrev pub IsLate : Router → Body → Type 0
+IsLate r (write_done id dones) = AreNoNews (open_of r id) dones
+IsLate r (read_rows id turn rows) = IsNoRead (open_of r id) turn
+IsLate r (time_told id) = IsNotAwaited (open_of r id)
+IsLate r (stale id turn met) = Unit {0}
+IsLate r body = ⊥
+
+-- the router in its life
+abbrev pub begins : Router → Router
+begins r = record { me = r.me; time = r.time; life = r.life; begun = true; moment = r.moment; count = 0; tables = r.tables; requests = r.requests }
+
+-- the router after it took one more request
+abbrev pub takes : Router → List Open → Router
+takes r more = record { me = r.me; time = r.time; life = r.life; begun = r.begun; moment = r.moment; count = r.count + 1; tables = r.tables; requests = r.requests ++ more }
+
+abbrev pub answers_now : Reply → Effect
+answers_now reply = record { written = []; mail = []; taken = []; replies = reply ∷ [] }
+
+pub data RouterRow : Router → Input → Effect → Router → Type 0 where
+  -- a life begins
+  router_begin : (r : Router) → r.begun ≡ false → RouterRow r opened_input (writes (kept_life r.life ∷ []) []) (begins r)
+  router_opened : (r : Router) → r.begun ≡ true → RouterRow r opened_input nothing r
+  -- a request that is answered at once
+  router_plain : (r : Router) (link : ℕ) (number : ℤ) (request : Request) (answer : Answer) → r.begun ≡ true
+      → plan_of r (id_of r (r.count + 1)) (command_of request) ≡ at_once answer
+      → RouterRow r (client_input link number request)
+      (record { written = []; mail = []; taken = taken_now r link number request ∷ []; replies = record { id = id_of r (r.count + 1); link = link; number = number; request = request; time = r.time; document = answer_document answer } ∷ [] })
+      (takes r [])
+  -- a request that has work to do
+  router_take : (r : Router) (link : ℕ) (number : ℤ) (request : Request) (namespace : List ℕ) (work : Work) → r.begun ≡ true
+      → plan_of r (id_of r (r.count + 1)) (command_of request) ≡ needs namespace work
+      → RouterRow r (client_input link number request)
+      (record { written = []; mail = asks_for r r.time (r.count + 1) namespace work; taken = taken_now r link number request ∷ []; replies = [] })
+      (takes r (opened_request r link number request namespace work ∷ []))
+  -- a table is told: a longer one is kept, and what waits for it goes on
+  router_learn : (r : Router) (m : Letter) (namespace : List ℕ) (create : Bool) (at : At) (table : Option Table) → m.body ≡ table_told namespace create at table
+      → RouterRow r (letter_input m)
+      (record {
+        written = [];
+        mail = flat_map (λ q. letters_in (next_of r (heard r m) (adopted table r.tables) namespace at q)) r.requests;
+        taken = [];
+        replies = flat_map (λ q. replies_in (next_of r (heard r m) (adopted table r.tables) namespace at q)) r.requests;
+      })
+      (knows r (heard r m) (adopted table r.tables) (flat_map (λ q. stay_in (next_of r (heard r m) (adopted table r.tables) namespace at q)) r.requests))
+  -- the time that a read waited for is reached, and it goes on
+  router_reach : (r : Router) (m : Letter) (id : RequestId) (q : Open) (at : ℕ) (half : Half) → m.body ≡ time_told id
+      → open_of r id ≡ Some q → q.work ≡ reading at half → q.wait ≡ for_time → at ≤ heard r m
+      → RouterRow r (letter_input m) (sends (asks_for r (heard r m) q.count q.namespace q.work))
+      (knows r (heard r m) r.tables (replaced (going_on r (heard r m) q q.work) r.requests))
+  -- every shard told its time, and the time of the read is ahead
+  router_ahead : (r : Router) (m : Letter) (id : RequestId) (q : Open) (at : ℕ) (half : Half) → m.body ≡ time_told id
+      → open_of r id ≡ Some q → q.work ≡ reading at half → q.wait ≡ for_time → heard r m < at
+      → RouterRow r (letter_input m) (answers_now (reply_to r (heard r m) q (refusal_answer (time_ahead (heard r m)))))
+      (knows r (heard r m) r.tables (without q.count r.requests))
+  -- some statements are answered, and the next are asked for
+  router_note : (r : Router) (m : Letter) (id : RequestId) (dones : List Done) (q : Open) (ordered : Bool) (statements : List Statement) (answers : List Done) → m.body ≡ write_done id dones
+      → open_of r id ≡ Some q → q.work ≡ writing ordered statements answers
+      → noted answers dones ≢ answers → is_answered ordered statements (noted answers dones) ≡ false
+      → RouterRow r (letter_input m) (sends (asks_for r (heard r m) q.count q.namespace (writing ordered statements (noted answers dones))))
+      (knows r (heard r m) r.tables (replaced (going_on r (heard r m) q (writing ordered statements (noted answers dones))) r.requests))
+  -- all statements are answered
+  router_wrote : (r : Router) (m : Letter) (id : RequestId) (dones : List Done) (q : Open) (ordered : Bool) (statements : List Statement) (answers : List Done) → m.body ≡ write_done id dones
+      → open_of r id ≡ Some q → q.work ≡ writing ordered statements answers
+      → noted answers dones ≢ answers → is_answered ordered statements (noted answers dones) ≡ true
+      → RouterRow r (letter_input m) (answers_now (reply_to r (heard r m) q (answer_of (noted answers dones)))) (knows r (heard r m) r.tables (without q.count r.requests))
+  -- a read has its documents
+  router_read : (r : Router) (m : Letter) (id : RequestId) (rows : List Fields) (q : Open) (at : ℕ) (half : Half) → m.body ≡ read_rows id 1 rows
+      → open_of r id ≡ Some q → q.work ≡ reading at half
+      → RouterRow r (letter_input m) (answers_now (reply_to r (heard r m) q (find_answer q.namespace rows at))) (knows r (heard r m) r.tables (without q.count r.requests))
+  router_late : (r : Router) (m : Letter) → IsLate r m.body → RouterRow r (letter_input m) nothing (knows r (heard r m) r.tables r.requests)
+  -- a message of another kind has no effect
+  router_skip : (r : Router) (m : Letter) → TellsNothing m.body → RouterRow r (letter_input m) nothing r
+  router_moment : (r : Router) (moment : ℕ) → r.begun ≡ true
+      → RouterRow r (moment_input moment) (sends (flat_map (λ q. asks_again r (max r.time (time_of_moment moment)) q) r.requests))
+      (record { me = r.me; time = max r.time (time_of_moment moment); life = r.life; begun = r.begun; moment = moment; count = r.count; tables = r.tables; requests = r.requests })

@@ -1,0 +1,149 @@
+-- What a shard may do in a step.
+use Rattle.std.specs.Prelude.{◌≡◌, ◌≢◌, ◌⊎◌, ℕ, ℤ, ◌+◌, max, List, [], ◌∷◌, ◌++◌, map, filter, not, Bool, true, false, ◌==◌, ◌&&◌, Option, Some, None, is_some}
+use Rattle.std.specs.List.{list_any}
+use Rattle.std.specs.Str.{bytes_eq}
+use Rattle.exchange_model.specs.Tree.{Fields}
+use Rattle.exchange_model.specs.Requests.{Request}
+use Rattle.exchange_model.specs.Times.{time_of_moment}
+use Rattle.exchange_model.specs.History.{Entry}
+use Rattle.exchange_model.specs.Versions.{Version}
+use Rattle.exchange_model.specs.Tables.{Table, table_of, with_table, is_longer}
+use Rattle.exchange_model.specs.Verdicts.{Sent, Verdict, fits, shard_is_old, router_is_old, verdict_of}
+use Rattle.exchange_model.specs.Asked.{RequestId, same_request}
+use Rattle.exchange_model.specs.Outcomes.{Done}
+use Rattle.node_model.specs.Kept.{Kept, kept_table, kept_entry}
+use Rattle.node_model.specs.Letters.{At, no_time, Statement, Half, Body, table_ask, table_told, write_ask, write_done, read_ask, half_ask, read_rows, stale, time_ask, time_told, Letter, Input, client_input, letter_input, moment_input, opened_input, Effect, nothing, sends, writes}
+use Rattle.node_model.specs.States.{Shard}
+use Rattle.node_model.specs.Serving.{seen_before, Serves, Repeats, documents_at, IsHalf}
+
+abbrev pub heard : Shard → Letter → ℕ
+heard s m = max s.time m.time
+
+-- the shard at a later time
+abbrev pub at_later : Shard → ℕ → Shard
+at_later s time = record { me = s.me; time = time; tables = s.tables; entries = s.entries; parked = s.parked }
+
+-- what a shard tells at a time
+abbrev pub says : Shard → (to time : ℕ) → Body → Letter
+says s to time body = record { sender = s.me; receiver = to; time = time; body = body }
+
+-- a message that asks nothing of a shard
+abbrev pub AsksNothing : Body → Type 0
+AsksNothing (write_ask id turn ordered namespace statements sent) = ⊥
+AsksNothing (read_ask id turn namespace at half sent) = ⊥
+AsksNothing (half_ask id turn namespace at half documents) = ⊥
+AsksNothing (table_told namespace create at table) = ⊥
+AsksNothing (time_ask id) = ⊥
+AsksNothing body = Unit {0}
+
+-- Which ask of documents a message is: of which request, in which turn, from which statement on (a read has none), and the
+-- collection whose table it wants, with the versions that were sent.
+pub record Ask : Type 0 where
+  pub id : RequestId
+  pub turn : ℕ
+  pub first : Option ℕ
+  pub namespace : List ℕ
+  pub sent : Sent
+
+-- an ask to write no statement is none
+abbrev pub ask_in : Body → Option Ask
+ask_in (write_ask id turn ordered namespace (s ∷ statements) sent) = Some (record { id = id; turn = turn; first = Some s.number.index; namespace = namespace; sent = sent })
+ask_in (read_ask id turn namespace at half sent) = Some (record { id = id; turn = turn; first = None; namespace = namespace; sent = sent })
+ask_in body = None
+
+abbrev pub same_index : Option ℕ → Option ℕ → Bool
+same_index None None = true
+same_index (Some a) (Some b) = a == b
+same_index a b = false
+
+abbrev pub same_ask : Ask → Ask → Bool
+same_ask a b = same_request a.id b.id && ((a.turn == b.turn) && same_index a.first b.first)
+
+abbrev pub is_ask : Ask → Letter → Bool
+is_ask a m = elim (ask_in m.body) [ None ↦ false | Some b ↦ same_ask b a ]
+
+-- the ask waits already
+abbrev pub is_parked : Ask → List Letter → Bool
+is_parked a parked = list_any (is_ask a) parked
+
+-- the first statement was seen before
+abbrev pub was_seen : Body → List Entry → Bool
+was_seen (write_ask id turn ordered namespace (s ∷ statements) sent) entries = is_some (seen_before s.number entries)
+was_seen body entries = false
+
+abbrev pub wants_table : List ℕ → Letter → Bool
+wants_table namespace m = elim (ask_in m.body) [ None ↦ false | Some a ↦ bytes_eq a.namespace namespace ]
+
+-- what waited is tried again as a message from the shard to itself
+abbrev pub tries : Shard → (time : ℕ) → List Letter → List Letter
+tries s time parked = map (λ (m : Letter). says s s.me time m.body) parked
+
+abbrev pub asks_table : Shard → (time : ℕ) → (namespace : List ℕ) → Letter
+asks_table s time namespace = says s 0 time (table_ask namespace false no_time)
+
+-- the table of each ask that waits is asked again, in the order of parking
+abbrev pub asks_again : Shard → (time : ℕ) → List Letter → List Letter
+asks_again s time [] = []
+asks_again s time (m ∷ parked) = elim (ask_in m.body) [ None ↦ asks_again s time parked | Some a ↦ asks_table s time a.namespace ∷ asks_again s time parked ]
+
+-- the table is news: there is none of its collection, or it has seen more changes
+abbrev pub is_news : Table → Option Table → Bool
+is_news t None = true
+is_news t (Some own) = is_longer t own
+
+-- the shard's part of a table that is told, if it is news
+abbrev pub IsNoNews : Option Table → Shard → List ℕ → Type 0
+IsNoNews None s namespace = Unit {0}
+IsNoNews (Some t) s namespace = is_news t (table_of t.namespace s.tables) ≡ false
+
+pub data ShardRow : Shard → Input → Effect → Shard → Type 0 where
+  -- the statements are served on the table that they were sent with, at least one
+  shard_write : (s : Shard) (m : Letter) (id : RequestId) (turn : ℕ) (ordered : Bool) (namespace : List ℕ) (statements : List Statement) (sent : Sent) (d : Done) (dones : List Done) (made : List Entry) (last : ℕ)
+      → m.body ≡ write_ask id turn ordered namespace statements sent → verdict_of sent s.me (table_of namespace s.tables) ≡ fits
+      → Serves s.me namespace ordered s.entries (heard s m) statements (d ∷ dones) made last
+      → ShardRow s (letter_input m) (writes (map kept_entry made) (says s id.router last (write_done id (d ∷ dones)) ∷ []))
+      (record { me = s.me; time = last; tables = s.tables; entries = s.entries ++ made; parked = s.parked })
+  -- statements that were seen before are answered on any table
+  shard_repeat : (s : Shard) (m : Letter) (id : RequestId) (turn : ℕ) (ordered : Bool) (namespace : List ℕ) (statements : List Statement) (sent : Sent) (d : Done) (dones : List Done)
+      → m.body ≡ write_ask id turn ordered namespace statements sent → verdict_of sent s.me (table_of namespace s.tables) ≢ fits
+      → Repeats ordered s.entries statements (d ∷ dones)
+      → ShardRow s (letter_input m) (sends (says s id.router (heard s m) (write_done id (d ∷ dones)) ∷ [])) (at_later s (heard s m))
+  -- an ask to write no statement has no answer
+  shard_empty : (s : Shard) (m : Letter) (id : RequestId) (turn : ℕ) (ordered : Bool) (namespace : List ℕ) (sent : Sent)
+      → m.body ≡ write_ask id turn ordered namespace [] sent → ShardRow s (letter_input m) nothing (at_later s (heard s m))
+  -- an ask that wants a table waits for it, and the table is asked for once
+  shard_park : (s : Shard) (m : Letter) (a : Ask) → ask_in m.body ≡ Some a → was_seen m.body s.entries ≡ false
+      → verdict_of a.sent s.me (table_of a.namespace s.tables) ≡ shard_is_old → is_parked a s.parked ≡ false
+      → ShardRow s (letter_input m) (sends (asks_table s (heard s m) a.namespace ∷ []))
+      (record { me = s.me; time = heard s m; tables = s.tables; entries = s.entries; parked = s.parked ++ m ∷ [] })
+  -- it waits already
+  shard_waits : (s : Shard) (m : Letter) (a : Ask) → ask_in m.body ≡ Some a → was_seen m.body s.entries ≡ false
+      → verdict_of a.sent s.me (table_of a.namespace s.tables) ≡ shard_is_old → is_parked a s.parked ≡ true
+      → ShardRow s (letter_input m) nothing (at_later s (heard s m))
+  -- an ask that was sent with an older table is not served
+  shard_stale : (s : Shard) (m : Letter) (a : Ask) (met : Version) → ask_in m.body ≡ Some a → was_seen m.body s.entries ≡ false
+      → verdict_of a.sent s.me (table_of a.namespace s.tables) ≡ router_is_old met
+      → ShardRow s (letter_input m) (sends (says s a.id.router (heard s m) (stale a.id a.turn met) ∷ [])) (at_later s (heard s m))
+  -- the documents of a read are taken in one step, and its half is made of them in another
+  shard_read : (s : Shard) (m : Letter) (id : RequestId) (turn : ℕ) (namespace : List ℕ) (at : ℕ) (half : Half) (sent : Sent)
+      → m.body ≡ read_ask id turn namespace at half sent → verdict_of sent s.me (table_of namespace s.tables) ≡ fits
+      → ShardRow s (letter_input m) (sends (says s s.me (heard s m) (half_ask id turn namespace at half (documents_at s.entries namespace at half)) ∷ [])) (at_later s (heard s m))
+  shard_rows : (s : Shard) (m : Letter) (id : RequestId) (turn : ℕ) (namespace : List ℕ) (at : ℕ) (half : Half) (documents rows : List Fields)
+      → m.body ≡ half_ask id turn namespace at half documents → IsHalf half documents rows
+      → ShardRow s (letter_input m) (sends (says s id.router (heard s m) (read_rows id turn rows) ∷ [])) (at_later s (heard s m))
+  -- the time is told
+  shard_time : (s : Shard) (m : Letter) (id : RequestId) → m.body ≡ time_ask id
+      → ShardRow s (letter_input m) (sends (says s id.router (heard s m) (time_told id) ∷ [])) (at_later s (heard s m))
+  -- a table that is news is kept, and what waited for it is tried again
+  shard_learn : (s : Shard) (m : Letter) (namespace : List ℕ) (create : Bool) (at : At) (t : Table)
+      → m.body ≡ table_told namespace create at (Some t) → is_news t (table_of t.namespace s.tables) ≡ true
+      → ShardRow s (letter_input m) (writes (kept_table t ∷ []) (tries s (heard s m) (filter (wants_table t.namespace) s.parked)))
+      (record { me = s.me; time = heard s m; tables = with_table t s.tables; entries = s.entries; parked = filter (λ p. not (wants_table t.namespace p)) s.parked })
+  shard_known : (s : Shard) (m : Letter) (namespace : List ℕ) (create : Bool) (at : At) (table : Option Table)
+      → m.body ≡ table_told namespace create at table → IsNoNews table s namespace → ShardRow s (letter_input m) nothing (at_later s (heard s m))
+  -- a message of another kind has no effect
+  shard_skip : (s : Shard) (m : Letter) → AsksNothing m.body → ShardRow s (letter_input m) nothing s
+  shard_moment : (s : Shard) (moment : ℕ) → ShardRow s (moment_input moment) (sends (asks_again s (max s.time (time_of_moment moment)) s.parked)) (at_later s (max s.time (time_of_moment moment)))
+  shard_opened : (s : Shard) → ShardRow s opened_input nothing s
+  -- clients speak with routers alone
+  shard_client : (s : Shard) (link : ℕ) (number : ℤ) (request : Request) → ShardRow s (client_input link number request) nothing s

@@ -1,0 +1,88 @@
+-- What nodes are.
+use Rattle.std.specs.Prelude.{ℕ, ℤ, List, [], ◌∷◌, Bool, false, ◌==◌, Option, Some, None, if◌then◌else◌}
+use Rattle.exchange_model.specs.Requests.{Request}
+use Rattle.exchange_model.specs.History.{Entry}
+use Rattle.exchange_model.specs.Tables.{Table}
+use Rattle.exchange_model.specs.Outcomes.{Done}
+use Rattle.node_model.specs.Letters.{Letter, Statement, Half}
+
+pub record Catalogue : Type 0 where
+  pub me : ℕ
+  pub time : ℕ
+  pub tables : List Table
+
+-- `parked`: the asks that wait for a table
+pub record Shard : Type 0 where
+  pub me : ℕ
+  pub time : ℕ
+  pub tables : List Table
+  pub entries : List Entry
+  pub parked : List Letter
+
+-- what a request has to do before it is told
+pub data Work : Type 0 where
+  -- its statements, and what the first of them were told
+  writing : (ordered : Bool) → (statements : List Statement) → (answers : List Done) → Work
+  reading : (at : ℕ) → Half → Work
+
+-- what an open request waits for: the time that it reads at, its table, or the shards
+pub data Wait : Type 0 where
+  for_time : Wait
+  for_table : Wait
+  for_shards : Wait
+
+-- a request that is not told yet
+pub record Open : Type 0 where
+  pub count : ℕ
+  pub link : ℕ
+  pub number : ℤ
+  pub request : Request
+  pub namespace : List ℕ
+  pub wait : Wait
+  pub work : Work
+
+-- `life` is the one that the router is in, or will begin where `begun` is false; `moment` is the last that it was given; `count` counts
+-- the requests that it took in this life.
+pub record Router : Type 0 where
+  pub me : ℕ
+  pub time : ℕ
+  pub life : ℕ
+  pub begun : Bool
+  pub moment : ℕ
+  pub count : ℕ
+  pub tables : List Table
+  pub requests : List Open
+
+pub data NodeState : Type 0 where
+  catalogue_state : Catalogue → NodeState
+  shard_state : Shard → NodeState
+  router_state : Router → NodeState
+
+abbrev pub time_of_node : NodeState → ℕ
+time_of_node (catalogue_state c) = c.time
+time_of_node (shard_state s) = s.time
+time_of_node (router_state r) = r.time
+
+-- the open request with this count
+abbrev pub open_with : ℕ → List Open → Option Open
+open_with count [] = None
+open_with count (q ∷ requests) = if q.count == count then Some q else open_with count requests
+
+abbrev pub without : ℕ → List Open → List Open
+without count [] = []
+without count (q ∷ requests) = if q.count == count then without count requests else q ∷ without count requests
+
+-- this request in the place of the one with its count
+abbrev pub replaced : Open → List Open → List Open
+replaced p [] = []
+replaced p (q ∷ requests) = if q.count == p.count then p ∷ replaced p requests else q ∷ replaced p requests
+
+-- nodes as they are before their first step
+abbrev pub new_catalogue : ℕ → Catalogue
+new_catalogue me = record { me = me; time = 0; tables = [] }
+
+abbrev pub new_shard : ℕ → Shard
+new_shard me = record { me = me; time = 0; tables = []; entries = []; parked = [] }
+
+abbrev pub new_router : ℕ → Router
+new_router me = record { me = me; time = 0; life = 1; begun = false; moment = 0; count = 0; tables = []; requests = [] }

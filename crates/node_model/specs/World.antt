@@ -1,0 +1,109 @@
+-- All nodes with their journals, and every message that was ever sent: any of these may be delivered, again, late or never.
+use Rattle.std.specs.Prelude.{◌≡◌, ℕ, ℤ, zero, suc, ◌+◌, List, [], ◌∷◌, ◌++◌, map, Some}
+use Rattle.std.specs.List.{slice_get, slice_set}
+use Rattle.exchange_model.specs.Requests.{Request}
+use Rattle.exchange_model.specs.Asked.{Asked, Answered}
+use Rattle.exchange_model.specs.OneHistory.{Given}
+use Rattle.node_model.specs.Kept.{Kept}
+use Rattle.node_model.specs.Letters.{Letter, Input, client_input, letter_input, moment_input, opened_input, Taken, Reply, Effect}
+use Rattle.node_model.specs.States.{Router, NodeState, catalogue_state, shard_state, router_state, new_catalogue, new_shard, new_router}
+use Rattle.node_model.specs.Steps.{Step}
+
+-- a node and what its journal keeps
+pub record Held : Type 0 where
+  pub state : NodeState
+  pub kept : List Kept
+
+-- `nodes` in order of their numbers; `sent`, `asked`, `answered` and `given`, the moments, in the order in which they came; `now` is the
+-- number of the step to come.
+pub record World : Type 0 where
+  pub nodes : List Held
+  pub sent : List Letter
+  pub asked : List Asked
+  pub answered : List Answered
+  pub given : List Given
+  pub now : ℕ
+
+abbrev pub asked_by : (now : ℕ) → List Taken → List Asked
+asked_by now taken = map (λ (x : Taken). record { id = x.id; link = x.link; number = x.number; came = now; time = x.time; moment = x.moment; request = x.request }) taken
+
+abbrev pub answered_by : (now : ℕ) → List Reply → List Answered
+answered_by now replies = map (λ (x : Reply). record { id = x.id; link = x.link; number = x.number; request = x.request; step = now; time = x.time; document = x.document }) replies
+
+-- the world with what a step of the node at a place leaves
+abbrev pub after : World → (at : ℕ) → Held → Effect → NodeState → World
+after w at old f new = record {
+  nodes = slice_set w.nodes at (record { state = new; kept = old.kept ++ f.written });
+  sent = w.sent ++ f.mail;
+  asked = w.asked ++ asked_by w.now f.taken;
+  answered = w.answered ++ answered_by w.now f.replies;
+  given = w.given;
+  now = w.now;
+}
+
+-- the moment that an input gives to the node at a place
+abbrev pub moment_in : (at now : ℕ) → Input → List Given
+moment_in at now (client_input link number request) = []
+moment_in at now (letter_input m) = []
+moment_in at now (moment_input moment) = record { node = at; moment = moment; step = now } ∷ []
+moment_in at now opened_input = []
+
+abbrev pub is_given : World → (at : ℕ) → Input → World
+is_given w at i = record { nodes = w.nodes; sent = w.sent; asked = w.asked; answered = w.answered; given = w.given ++ moment_in at w.now i; now = w.now }
+
+-- the step is over
+abbrev pub tick : World → World
+tick w = record { nodes = w.nodes; sent = w.sent; asked = w.asked; answered = w.answered; given = w.given; now = w.now + 1 }
+
+-- the node at a place takes a step on the input
+pub record Moves (w : World) (at : ℕ) (i : Input) (v : World) : Type 0 where
+  pub old : Held
+  pub f : Effect
+  pub new : NodeState
+  pub here : slice_get w.nodes at ≡ Some old
+  pub step : Step old.state i f new
+  pub then : v ≡ tick (after (is_given w at i) at old f new)
+
+-- a router stands at a place
+abbrev pub IsRouter : List Held → ℕ → Type 0
+IsRouter nodes at = (r : Router) × (kept : List Kept) × (slice_get nodes at ≡ Some (record { state = router_state r; kept = kept }))
+
+-- a request comes to a router; the message with this place among all that were sent is delivered; a moment is given; a node is opened
+pub data Event : Type 0 where
+  client_event : (at link : ℕ) → (number : ℤ) → Request → Event
+  deliver_event : (at which : ℕ) → Event
+  moment_event : (at moment : ℕ) → Event
+  opened_event : (at : ℕ) → Event
+
+pub data Happens : World → Event → World → Type 0 where
+  comes : (w v : World) (at link : ℕ) (number : ℤ) (request : Request) → IsRouter w.nodes at → Moves w at (client_input link number request) v → Happens w (client_event at link number request) v
+  delivers : (w v : World) (at which : ℕ) (m : Letter) → slice_get w.sent which ≡ Some m → m.receiver ≡ at → Moves w at (letter_input m) v → Happens w (deliver_event at which) v
+  passes : (w v : World) (at moment : ℕ) → Moves w at (moment_input moment) v → Happens w (moment_event at moment) v
+  begins : (w v : World) (at : ℕ) → Moves w at opened_input v → Happens w (opened_event at) v
+
+-- these events happen, one after another
+pub data Run : World → List Event → World → Type 0 where
+  stands : (w : World) → Run w [] w
+  goes : (u v w : World) (e : Event) (es : List Event) → Happens u e v → Run v es w → Run u (e ∷ es) w
+
+-- routers from this number on, shards before them and the catalogue first, with nothing kept
+abbrev pub routers_from : ℕ → ℕ → List Held
+routers_from at zero = []
+routers_from at (suc n) = record { state = router_state (new_router at); kept = [] } ∷ routers_from (at + 1) n
+
+-- so far there is one shard, and any number of routers
+abbrev pub start : (routers : ℕ) → World
+start routers = record {
+  nodes = record { state = catalogue_state (new_catalogue 0); kept = [] } ∷ record { state = shard_state (new_shard 1); kept = [] } ∷ routers_from 2 routers;
+  sent = [];
+  asked = [];
+  answered = [];
+  given = [];
+  now = 0;
+}
+
+-- what the journal at a place keeps
+abbrev pub journal_at : List Held → ℕ → List Kept
+journal_at [] at = []
+journal_at (h ∷ nodes) zero = h.kept
+journal_at (h ∷ nodes) (suc at) = journal_at nodes at

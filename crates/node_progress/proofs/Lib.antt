@@ -1,0 +1,12 @@
+pub mod Passed
+pub mod Taken
+pub mod Leads
+pub mod Receivers
+pub mod CatalogueLeads
+pub mod ShardLeads
+pub mod Asks
+pub mod RouterLeads
+pub mod Idle
+pub mod Stages
+pub mod Takes
+pub mod Rounds

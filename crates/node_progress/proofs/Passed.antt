@@ -1,0 +1,96 @@
+-- What passes the checks: a field by its rule, the documents of an insert by their number and their keys.
+use Rattle.std.proofs.Common.{◌≡◌, ◌≢◌, ℕ, ◌≤◌, List, [], ◌∷◌, length, refl, Bool, true, false, Option, Some, None, if◌then◌else◌, subst}
+use Rattle.std.specs.List.{AllByRecursion}
+use Rattle.std.specs.Str.{bytes_eq}
+use Rattle.std.proofs.lemmas.Slice.Eq.{bytes_eq-Decides}
+use Rattle.std.proofs.lemmas.Bool.{and_parts, leb-true}
+use Rattle.opmsg_model.specs.Tree.{Datum, Fields, no_fields, field, get}
+use Rattle.value_model.specs.Keys.{is_key, key_of}
+use Rattle.base_model.specs.Errors.{ErrorCode, bad_value, failed_to_parse, shard_key_not_found}
+use Rattle.command_model.specs.Checks.{Verdict, first_of, is_one_of, unless_passes}
+use Rattle.opmsg_model.specs.MessageSizes.{IsSmall}
+use Rattle.command_model.specs.Fields.{Rule, by_rule, check_fields, find_rule}
+use Rattle.command_model.specs.Insert.{check_count, check_statement, check_statements, is_statement_count}
+use Rattle.command_model.specs.CommandSizes.{IsKeepable}
+
+pub passed_parts : (v : Verdict) (vs : List Verdict) → first_of (v ∷ vs) ≡ None → (v ≡ None) × (first_of vs ≡ None)
+passed_parts None vs e = (refl, e)
+passed_parts (Some error) vs e = absurd cc
+
+pub passed_last : (v : Verdict) → first_of (v ∷ []) ≡ None → v ≡ None
+passed_last v e = (passed_parts v [] e).0
+
+passed_test : (b : Bool) (error : ErrorCode) → unless_passes b error ≡ None → b ≡ true
+passed_test true error e = refl
+passed_test false error e = cc
+
+pub passed_else : (b : Bool) (v : Verdict) → (if b then Some failed_to_parse else v) ≡ None → v ≡ None
+passed_else true v e = cc
+passed_else false v e = e
+
+-- a value that passes by a rule passes the rule
+by_rule_passed : (o : Option Rule) (given : Bool) (value : Datum) → by_rule (Some failed_to_parse) o given value ≡ None → by_rule (Some failed_to_parse) o false value ≡ None
+by_rule_passed None given value e = absurd cc
+by_rule_passed (Some rule) true value e = absurd cc
+by_rule_passed (Some rule) false value e = e
+
+one_passed : (b : Bool) (rules : List Rule) (given : List (List ℕ)) (first name : List ℕ) (d value : Datum) (rest : Option Datum) →
+    bytes_eq first name ≡ b → (if b then Some d else rest) ≡ Some value →
+    by_rule (Some failed_to_parse) (find_rule first rules) (is_one_of first given) d ≡ None →
+    (rest ≡ Some value → by_rule (Some failed_to_parse) (find_rule name rules) false value ≡ None) → by_rule (Some failed_to_parse) (find_rule name rules) false value ≡ None
+one_passed true rules given first name d value rest is got told others =
+    let same : first ≡ name = (bytes_eq-Decides first name).0 is in
+    let value_is : d ≡ value = cc in
+    let here : by_rule (Some failed_to_parse) (find_rule first rules) false d ≡ None = by_rule_passed (find_rule first rules) (is_one_of first given) d told in
+    subst (λ (n : List ℕ). by_rule (Some failed_to_parse) (find_rule n rules) false value ≡ None) same (subst (λ (v : Datum). by_rule (Some failed_to_parse) (find_rule first rules) false v ≡ None) value_is here)
+one_passed false rules given first name d value rest is got told others = others got
+
+-- a field that is got passed its rule, where all that are not listed are refused
+pub field_passed : (rules : List Rule) (given : List (List ℕ)) (ms : Fields) (name : List ℕ) (value : Datum) → check_fields (Some failed_to_parse) rules given ms ≡ None → get name ms ≡ Some value → by_rule (Some failed_to_parse) (find_rule name rules) false value ≡ None
+field_passed rules given no_fields name value e got = absurd cc
+field_passed rules given (field first d ms) name value e got =
+    let told = passed_parts (by_rule (Some failed_to_parse) (find_rule first rules) (is_one_of first given) d) (check_fields (Some failed_to_parse) rules (first ∷ given) ms ∷ []) e in
+    let rest : check_fields (Some failed_to_parse) rules (first ∷ given) ms ≡ None = passed_last (check_fields (Some failed_to_parse) rules (first ∷ given) ms) told.1 in
+    one_passed (bytes_eq first name) rules given first name d value (get name ms) refl got told.0 (λ later. field_passed rules (first ∷ given) ms name value rest later)
+
+-- there are no more documents than a command may have
+pub few_documents : (documents : List Fields) → check_count documents ≡ None → length documents ≤ 100000
+few_documents documents e =
+    let count : is_statement_count (length documents) ≡ true = passed_test (is_statement_count (length documents)) bad_value e in
+    leb-true (length documents) 100000 (and_parts _ _ count).1
+
+-- and some
+pub some_counted : (documents : List Fields) → check_count documents ≡ None → documents ≢ []
+some_counted [] e none = absurd cc
+some_counted (document ∷ documents) e none = absurd cc
+
+abbrev key_verdict : Option Datum → Verdict
+key_verdict o = elim o [ None ↦ Some shard_key_not_found | Some key ↦ unless_passes (is_key key) bad_value ]
+
+with_key : (o : Option Datum) (document : Fields) → key_of document ≡ o → IsSmall document → key_verdict o ≡ None → IsKeepable document
+with_key None document found small e = absurd cc
+with_key (Some key) document found small e = record { small = small; key = key; found = found; is = passed_test (is_key key) bad_value e }
+
+-- small documents that pass may be kept
+pub keepable : (documents : List Fields) → AllByRecursion IsSmall documents → check_statements documents ≡ None → AllByRecursion IsKeepable documents
+keepable [] small e = tt
+keepable (document ∷ documents) small e =
+    let told = passed_parts (check_statement document) (check_statements documents ∷ []) e in
+    (with_key (key_of document) document refl small.0 told.0, keepable documents small.1 (passed_last (check_statements documents) told.1))
+
+-- a document that has a key
+pub record HasKey (document : Fields) : Type 0 where
+  pub key : Datum
+  pub found : key_of document ≡ Some key
+  pub is : is_key key ≡ true
+
+key_passed : (o : Option Datum) (document : Fields) → key_of document ≡ o → key_verdict o ≡ None → HasKey document
+key_passed None document found e = absurd cc
+key_passed (Some key) document found e = record { key = key; found = found; is = passed_test (is_key key) bad_value e }
+
+-- documents that pass have keys
+pub keys_passed : (documents : List Fields) → check_statements documents ≡ None → AllByRecursion HasKey documents
+keys_passed [] e = tt
+keys_passed (document ∷ documents) e =
+    let told = passed_parts (check_statement document) (check_statements documents ∷ []) e in
+    (key_passed (key_of document) document refl told.0, keys_passed documents (passed_last (check_statements documents) told.1))

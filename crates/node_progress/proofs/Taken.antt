@@ -1,0 +1,229 @@
+-- What a small request asks for is small, and an insert has documents.
+use Rattle.std.proofs.Common.{◌≡◌, ◌≢◌, ℕ, ◌≤◌, List, [], ◌∷◌, length, refl, Option, Some, None, Ok, Err, codes, arith, subst}
+use Rattle.std.specs.Prelude.{Result}
+use Rattle.std.specs.List.{AllByRecursion}
+use Rattle.opmsg_model.specs.Tree.{Datum, array_value, Fields, no_fields, field, get}
+use Rattle.opmsg_model.specs.Spelling.{written_items, written_fields}
+use Rattle.opmsg_model.specs.Requests.{Form, Body, read_body, faulty_body, Request}
+use Rattle.opmsg_model.specs.MessageSizes.{IsSmall, IsSmallBody}
+use Rattle.base_model.specs.Errors.{failed_to_parse}
+use Rattle.base_model.specs.Refusals.{Refusal}
+use Rattle.command_model.specs.Checks.{Verdict, is_one_of}
+use Rattle.command_model.specs.Fields.{check_fields, names_of}
+use Rattle.command_model.specs.Forms.{CommandForm, Sequences, check_collection, check_command, check_database, check_sequence, check_sequences, command_by, database_of, made_into}
+use Rattle.command_model.specs.Handshake.{handshake_form, legacy_of}
+use Rattle.command_model.specs.Insert.{Insert, check_count, check_documents, check_statements, documents_asked, documents_needed, documents_of_value, insert_form, insert_rules, or_documents, some_needed}
+use Rattle.command_model.specs.Find.{find_form}
+use Rattle.command_model.specs.Command.{Command, hello_command, legacy_command, ping_command, end_sessions_command, insert_command, find_command, rows, form_of, by_form, by_verdict, command_asked, command_in, command_of, or_refusal}
+use Rattle.command_model.specs.CommandSizes.{IsKeepable, IsSmallCommand, IsTaken}
+use Rattle.opmsg_model.proofs.Lengths.{length-framed}
+use Rattle.command_model.proofs.ShortErrors.{IsShort, IsShortForm, collection_short, command_short, documents_sequence_short, filter_needed_short, find_short, handshake_short, insert_short, some_short, statements_short}
+use Rattle.node_progress.proofs.Passed.{HasKey, keys_passed, few_documents, keepable, field_passed, passed_else, passed_last, passed_parts, some_counted}
+use Rattle.command_model.proofs.Inside.{got_inside, items_small}
+use Rattle.command_model.proofs.Rows.{found_row}
+
+abbrev AreSmall : Sequences → Type 0
+AreSmall sequences = AllByRecursion (λ s. AllByRecursion IsSmall s.1) sequences
+
+-- an insert has documents, each with a key
+abbrev HasDocuments : Command → Type 0
+HasDocuments hello_command = Unit {0}
+HasDocuments (legacy_command legacy) = Unit {0}
+HasDocuments ping_command = Unit {0}
+HasDocuments end_sessions_command = Unit {0}
+HasDocuments (insert_command insert) = (insert.documents ≢ []) × AllByRecursion HasKey insert.documents
+HasDocuments (find_command find) = Unit {0}
+
+-- a command of that name and form that passes has documents, and is as small as its request
+record IsSound (name : List ℕ) (form : CommandForm Command) : Type 0 where
+  short : IsShortForm form
+  some : (sent : Form) (value : Datum) (others : Fields) (sequences : Sequences) → check_command form sent name value others sequences ≡ None → HasDocuments (command_by form sent name value others sequences)
+  small : (sent : Form) (value : Datum) (others : Fields) (sequences : Sequences) → IsSmall (field name value others) → AreSmall sequences → check_command form sent name value others sequences ≡ None →
+      IsSmallCommand (command_by form sent name value others sequences)
+
+-- the documents of an insert are counted
+
+counted_value : (value : Datum) (documents : List Fields) → documents_needed value ≡ None → documents_of_value value ≡ Some documents → check_count documents ≡ None
+counted_value (array_value ds) documents passed is = subst (λ (o : Option (List Fields)). check_documents o ≡ None) is passed
+counted_value value documents passed is = absurd cc
+
+counted_sequence : (given : List (List ℕ)) (sequences : Sequences) (documents : List Fields) → check_sequences insert_form.sequence given sequences ≡ None → elim sequences [ [] ↦ None | s ∷ more ↦ Some s.1 ] ≡ Some documents → check_count documents ≡ None
+counted_sequence given [] documents passed is = absurd cc
+counted_sequence given (s ∷ more) documents passed is =
+    let same : s.1 ≡ documents = cc in
+    let told = passed_parts (check_sequence insert_form.sequence (is_one_of s.0 given) s) (check_sequences insert_form.sequence (s.0 ∷ given) more ∷ []) passed in
+    subst (λ (l : List Fields). check_count l ≡ None) same (passed_else _ _ told.0)
+
+counted_asked : (o : Option Datum) (given : List (List ℕ)) (sequences : Sequences) (documents : List Fields) → ((value : Datum) → o ≡ Some value → documents_needed value ≡ None) →
+    check_sequences insert_form.sequence given sequences ≡ None → elim o [ Some value ↦ documents_of_value value | None ↦ elim sequences [ [] ↦ None | s ∷ more ↦ Some s.1 ] ] ≡ Some documents → check_count documents ≡ None
+counted_asked None given sequences documents needed passed is = counted_sequence given sequences documents passed is
+counted_asked (Some value) given sequences documents needed passed is = counted_value value documents (needed value refl) is
+
+-- and small
+
+small_value : (document : Fields) (value : Datum) (documents : List Fields) → IsSmall document → get (codes "documents") document ≡ Some value → documents_of_value value ≡ Some documents → AllByRecursion IsSmall documents
+small_value document (array_value ds) documents small got is =
+    let inside = got_inside (codes "documents") document (array_value ds) got in
+    items_small 0 ds documents (omega (arith, inside.0, small.0)) (omega (arith, inside.1, small.1, length-framed (written_items 0 ds), length-framed (written_fields document))) is
+small_value document value documents small got is = absurd cc
+
+small_sequence : (sequences : Sequences) (documents : List Fields) → AreSmall sequences → elim sequences [ [] ↦ None | s ∷ more ↦ Some s.1 ] ≡ Some documents → AllByRecursion IsSmall documents
+small_sequence [] documents small is = absurd cc
+small_sequence (s ∷ more) documents small is =
+    let same : s.1 ≡ documents = cc in
+    subst (λ (l : List Fields). AllByRecursion IsSmall l) same small.0
+
+small_asked : (o : Option Datum) (document : Fields) (sequences : Sequences) (documents : List Fields) → IsSmall document → AreSmall sequences → get (codes "documents") document ≡ o →
+    elim o [ Some value ↦ documents_of_value value | None ↦ elim sequences [ [] ↦ None | s ∷ more ↦ Some s.1 ] ] ≡ Some documents → AllByRecursion IsSmall documents
+small_asked None document sequences documents small all got is = small_sequence sequences documents all is
+small_asked (Some value) document sequences documents small all got is = small_value document value documents small got is
+
+-- an insert that passes all checks
+record Passes (value : Datum) (others : Fields) (sequences : Sequences) : Type 0 where
+  counted : (documents : List Fields) → documents_asked (field (codes "insert") value others) sequences ≡ Some documents → check_count documents ≡ None
+  needed : some_needed (documents_asked (field (codes "insert") value others) sequences) ≡ None
+  judged : check_statements (or_documents (documents_asked (field (codes "insert") value others) sequences)) ≡ None
+
+insert_passes : (sent : Form) (value : Datum) (others : Fields) (sequences : Sequences) → check_command (made_into insert_command insert_form) sent (codes "insert") value others sequences ≡ None → Passes value others sequences
+insert_passes sent value others sequences passed =
+    let document : Fields = field (codes "insert") value others in
+    let first = passed_parts (check_database sent (get (codes "$db") document)) _ passed in
+    let second = passed_parts (check_collection (database_of sent document) value) _ first.1 in
+    let third = passed_parts (check_fields (Some failed_to_parse) insert_rules (codes "insert" ∷ []) others) _ second.1 in
+    let fourth = passed_parts (check_sequences insert_form.sequence (codes "insert" ∷ names_of others) sequences) _ third.1 in
+    let fifth = passed_parts (some_needed (documents_asked document sequences)) _ fourth.1 in
+    record {
+      counted = λ documents is. counted_asked (get (codes "documents") document) (codes "insert" ∷ names_of others) sequences documents
+          (λ d got. field_passed insert_rules (codes "insert" ∷ []) others (codes "documents") d third.0 got) fourth.0 is;
+      needed = fifth.0;
+      judged = passed_last (check_statements (or_documents (documents_asked document sequences))) fifth.1;
+    }
+
+some_of : (o : Option (List Fields)) → ((documents : List Fields) → o ≡ Some documents → check_count documents ≡ None) → some_needed o ≡ None → or_documents o ≢ []
+some_of None counted needed none = absurd cc
+some_of (Some documents) counted needed none = some_counted documents (counted documents refl) none
+
+small_of : (o : Option (List Fields)) → ((documents : List Fields) → o ≡ Some documents → check_count documents ≡ None) → ((documents : List Fields) → o ≡ Some documents → AllByRecursion IsSmall documents) → check_statements (or_documents o) ≡ None →
+    (length (or_documents o) ≤ 100000) × AllByRecursion IsKeepable (or_documents o)
+small_of None counted small judged = (omega arith, tt)
+small_of (Some documents) counted small judged = (few_documents documents (counted documents refl), keepable documents (small documents refl) judged)
+
+insert_sound : IsSound (codes "insert") (made_into insert_command insert_form)
+insert_sound = record {
+  short = record {
+    own_check = collection_short;
+    each_rule = insert_short;
+    others = omega arith;
+    sequence_rule = documents_sequence_short;
+    needed = λ document sequences. some_short (documents_asked document sequences);
+    last = λ document sequences. statements_short (or_documents (documents_asked document sequences));
+  };
+  some = λ sent value others sequences passed.
+      let passes = insert_passes sent value others sequences passed in (
+        some_of (documents_asked (field (codes "insert") value others) sequences) passes.counted passes.needed,
+        keys_passed (or_documents (documents_asked (field (codes "insert") value others) sequences)) passes.judged,
+      );
+  small = λ sent value others sequences small all passed.
+      let passes = insert_passes sent value others sequences passed in
+      small_of (documents_asked (field (codes "insert") value others) sequences) passes.counted
+      (λ documents is. small_asked (get (codes "documents") (field (codes "insert") value others)) (field (codes "insert") value others) sequences documents small all refl is) passes.judged;
+}
+
+find_sound : IsSound (codes "find") (made_into find_command find_form)
+find_sound = record {
+  short = record {
+    own_check = collection_short;
+    each_rule = find_short;
+    others = omega arith;
+    sequence_rule = tt;
+    needed = λ document sequences. filter_needed_short (get (codes "filter") document);
+    last = λ document sequences. tt;
+  };
+  some = λ sent value others sequences passed. tt;
+  small = λ sent value others sequences small all passed. tt;
+}
+
+-- the commands that look at two fields alone
+handshake_is_short : (command : Fields → Command) → IsShortForm (handshake_form command)
+handshake_is_short command = record {
+  own_check = λ database value. tt;
+  each_rule = handshake_short;
+  others = tt;
+  sequence_rule = tt;
+  needed = λ document sequences. tt;
+  last = λ document sequences. tt;
+}
+
+handshake_sound : (name : List ℕ) (command : Fields → Command) → ((ms : Fields) → HasDocuments (command ms)) → ((ms : Fields) → IsSmallCommand (command ms)) → IsSound name (handshake_form command)
+handshake_sound name command some small = record {
+  short = handshake_is_short command;
+  some = λ sent value others sequences passed. some (field name value others);
+  small = λ sent value others sequences document_small all passed. small (field name value others);
+}
+
+all_sound : AllByRecursion (λ row. IsSound row.name row.form) rows
+all_sound = (
+  handshake_sound (codes "hello") (λ document. hello_command) (λ ms. tt) (λ ms. tt),
+  (
+    handshake_sound (codes "isMaster") (λ document. legacy_command (legacy_of document)) (λ ms. tt) (λ ms. tt),
+    (
+      handshake_sound (codes "ismaster") (λ document. legacy_command (legacy_of document)) (λ ms. tt) (λ ms. tt),
+      (
+        handshake_sound (codes "ping") (λ document. ping_command) (λ ms. tt) (λ ms. tt),
+        (handshake_sound (codes "endSessions") (λ document. end_sessions_command) (λ ms. tt) (λ ms. tt), (insert_sound, (find_sound, tt))),
+      ),
+    ),
+  ),
+)
+
+sound_of : (name : List ℕ) (form : CommandForm Command) → form_of name ≡ Some form → IsSound name form
+sound_of name form found = found_row IsSound name rows form all_sound found
+
+by_verdict_taken : (v : Verdict) (command : Command) → IsShort v → (v ≡ None → IsSmallCommand command) → IsTaken (or_refusal (by_verdict v command))
+by_verdict_taken None command short taken = taken refl
+by_verdict_taken (Some error) command short taken = short
+
+by_form_taken : (form : Option (CommandForm Command)) (sent : Form) (own : List ℕ) (value : Datum) (others : Fields) (sequences : Sequences) → form_of own ≡ form → IsSmall (field own value others) → AreSmall sequences →
+    IsTaken (or_refusal (by_form form sent own value others sequences))
+by_form_taken None sent own value others sequences found small all = omega arith
+by_form_taken (Some form) sent own value others sequences found small all =
+    let sound = sound_of own form found in
+    by_verdict_taken (check_command form sent own value others sequences) (command_by form sent own value others sequences) (command_short form sent own value others sequences sound.short)
+    (λ passed. sound.small sent value others sequences small all passed)
+
+asked_taken : (sent : Form) (document : Fields) (sequences : Sequences) → IsSmall document → AreSmall sequences → IsTaken (or_refusal (command_asked sent document sequences))
+asked_taken sent no_fields sequences small all = omega arith
+asked_taken sent (field own value others) sequences small all = by_form_taken (form_of own) sent own value others sequences refl small all
+
+body_taken : (sent : Form) (body : Body) → IsSmallBody body → IsTaken (command_in sent body)
+body_taken sent (read_body document sequences) small = asked_taken sent document sequences small.0 small.1
+body_taken sent (faulty_body fault place) small = omega arith
+
+pub command_taken : (request : Request) → IsSmallBody request.body → IsTaken (command_of request)
+command_taken request small = body_taken request.form request.body small
+
+-- an insert has documents
+
+abbrev HaveDocuments : Result Command Refusal → Type 0
+HaveDocuments (Ok command) = HasDocuments command
+HaveDocuments (Err refusal) = Unit {0}
+
+by_verdict_some : (v : Verdict) (command : Command) → (v ≡ None → HasDocuments command) → HaveDocuments (or_refusal (by_verdict v command))
+by_verdict_some None command some = some refl
+by_verdict_some (Some error) command some = tt
+
+by_form_some : (form : Option (CommandForm Command)) (sent : Form) (own : List ℕ) (value : Datum) (others : Fields) (sequences : Sequences) → form_of own ≡ form → HaveDocuments (or_refusal (by_form form sent own value others sequences))
+by_form_some None sent own value others sequences found = tt
+by_form_some (Some form) sent own value others sequences found =
+    by_verdict_some (check_command form sent own value others sequences) (command_by form sent own value others sequences) (λ passed. (sound_of own form found).some sent value others sequences passed)
+
+body_some : (sent : Form) (body : Body) → HaveDocuments (command_in sent body)
+body_some sent (read_body no_fields sequences) = tt
+body_some sent (read_body (field own value others) sequences) = by_form_some (form_of own) sent own value others sequences refl
+body_some sent (faulty_body fault place) = tt
+
+pub some_documents : (request : Request) (insert : Insert) → command_of request ≡ Ok (insert_command insert) → insert.documents ≢ []
+some_documents request insert is = (subst HaveDocuments is (body_some request.form request.body)).0
+
+pub documents_with_keys : (request : Request) (insert : Insert) → command_of request ≡ Ok (insert_command insert) → AllByRecursion HasKey insert.documents
+documents_with_keys request insert is = (subst HaveDocuments is (body_some request.form request.body)).1

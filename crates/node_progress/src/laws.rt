@@ -1,0 +1,29 @@
+//! The laws of the schedule of `pipe`.
+
+ghost use Rattle.std.specs.Prelude.{ℕ, List};
+ghost use Rattle.std.specs.List.{AllByRecursion};
+ghost use Rattle.node_model.specs.Tables.{first_shard};
+ghost use Rattle.node_model.specs.Kept.{entries_kept};
+ghost use Rattle.node_model.specs.World.{Event, Run, World, journal_at, start};
+ghost use Rattle.node_model.specs.Schedule.{Pipes, Round};
+ghost use Rattle.node_progress.specs.Answered.{AreAnswered, IsAnswered, IsServed};
+
+/// Where nodes are opened and requests come by the schedule of `pipe`, to any of the routers: behind each round every request that was
+/// taken is answered, every insert stands whole, also one that wants no reply, no request is open and no ask is parked.
+#[tactic(auto, using(crate::proofs::Rounds::piped_requests_are_answered))]
+pub fn piped_requests_are_answered()
+    ensures { (routers : ℕ) (rounds : List Round) (events : List Event) (w : World) (next : ℕ) → Pipes routers rounds events w next → AreAnswered w }
+{}
+
+/// Whatever happens behind a round, as in one that is cut short, the requests of the rounds before are answered and their inserts stand whole.
+#[tactic(auto, using(crate::proofs::Rounds::earlier_requests_stay_answered))]
+pub fn earlier_requests_stay_answered()
+    ensures answered { (routers : ℕ) (rounds : List Round) (events more : List Event) (u w : World) (next : ℕ) → Pipes routers rounds events u next → Run u more w → AllByRecursion (IsAnswered w.answered) u.asked }
+    ensures served { (routers : ℕ) (rounds : List Round) (events more : List Event) (u w : World) (next : ℕ) → Pipes routers rounds events u next → Run u more w → AllByRecursion (IsServed (entries_kept (journal_at w.nodes first_shard))) u.asked }
+{}
+
+/// The events of the schedule are a run, so what is true of each run is true behind each round.
+#[tactic(auto, using(node_model::proofs::Schedules::pipes_run))]
+pub fn piped_rounds_are_a_run()
+    ensures { (routers : ℕ) (rounds : List Round) (events : List Event) (w : World) (next : ℕ) → Pipes routers rounds events w next → Run (start routers) events w }
+{}
