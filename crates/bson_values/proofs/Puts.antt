@@ -109,3 +109,16 @@ put_item all old out headed new name items i type_byte v puts inside v_is type_i
     let left : Puts all old out (element (type_byte_of d) (decimal i) (written_value d) ++ others) = rw cut at puts in
     put_element all old out headed new (decimal i) (written_value d) others (type_byte_of d) left
     (headed_is ∙ ap (λ (k : ℕ). out ++ (k ∷ name ++ 0 ∷ [])) type_is ∙ ap (λ (n : List ℕ). out ++ (type_byte_of d ∷ n ++ 0 ∷ [])) name_is) new_is
+
+-- ---- nothing left to put
+
+all_put : (all old out rest : List ℕ) → Puts all old out rest → rest ≡ [] → out ≡ old ++ all
+all_put all old out rest puts none = let text : out ++ [] ≡ old ++ all = rw none at puts.text in rw append-nil at text
+
+pub all_fields_put : (all old out : List ℕ) (items : List Field) (i : ℕ) → Puts all old out (written_fields (fields_of (drop i items))) → length items ≤ i → out ≡ old ++ all
+all_fields_put all old out items i puts none =
+    all_put all old out _ puts (ap (λ (left : List Field). written_fields (fields_of left)) (drop_all i items none))
+
+pub all_items_put : (all old out : List ℕ) (items : List Value) (i : ℕ) → Puts all old out (written_items i (items_of (drop i items))) → length items ≤ i → out ≡ old ++ all
+all_items_put all old out items i puts none =
+    all_put all old out _ puts (ap (λ (left : List Value). written_items i (items_of left)) (drop_all i items none))

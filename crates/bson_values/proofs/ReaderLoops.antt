@@ -5,7 +5,7 @@ use Rattle.bson_model.proofs.Joined.{joined_none, joined_one, joined_items_none,
 use Rattle.bson_values.specs.declared.fault.BsonFault.{BsonFault}
 use Rattle.bson_values.specs.declared.fault.BsonFault.TheVariants as faults
 use Rattle.bson_values.specs.ReadFaults.{◌>>=◌, Fails}
-use Rattle.bson_values.specs.Readers.{Reader, field_at, fields_behind, fields_with, item_at, items_behind, items_with}
+use Rattle.bson_values.specs.Readers.{Reader, length_at, field_at, fields_behind, fields_with, document_with, item_at, items_behind, items_with, array_with}
 
 -- a reader that goes on after one that failed fails in the same way
 pub passes_on : {A B : Type 0} (e : BsonFault) (r : Result A BsonFault) (s : Result B BsonFault) → (r ≡ Err e → s ≡ Err e) → Fails e r → Fails e s
@@ -29,10 +29,6 @@ pub record ReadsOn (total : ℕ) (value_at : Reader) (room : ℕ) (bytes : List 
   pub fuel : ℕ
   pub enough : length left < fuel
   pub same : with_prefix prefix (fields_with total value_at fuel space left) ≡ fields_with total value_at (length bytes + 1) room bytes
-
-prefix_none : (read : Result (Fields × List ℕ) BsonFault) → with_prefix no_fields read ≡ read
-prefix_none (Ok x) = refl
-prefix_none (Err e) = refl
 
 regroup : (prefix : Fields) (name : List ℕ) (d : Datum) (read : Result (Fields × List ℕ) BsonFault)
     → with_prefix prefix (read >>= λ x. Ok (field name d x.0, x.1)) ≡ with_prefix (joined prefix (field name d no_fields)) read
@@ -84,6 +80,12 @@ pub fails : (total : ℕ) (value_at : Reader) (room : ℕ) (bytes : List ℕ) (p
 fails total value_at room bytes prefix space left e h on =
     sym (spent total value_at room bytes prefix space left on) ∙ ap (λ (r : Result (Fields × List ℕ) BsonFault). with_prefix prefix r) (no_more total value_at (on.fuel - 1) space left e h)
 
+-- a document behind its length
+pub behind_length : (total : ℕ) (value_at : Reader) (room count : ℕ) (bytes rest : List ℕ) (read : Result (Fields × List ℕ) BsonFault) → length_at total 5 0 room bytes ≡ Ok (count, rest)
+    → fields_with total value_at (length rest + 1) (count - 4) rest ≡ read → document_with total value_at room bytes ≡ read
+unfolding document_with
+behind_length total value_at room count bytes rest read h e = rw h e
+
 -- ---- values of an array
 
 -- what was read before, and what is still read
@@ -95,10 +97,6 @@ pub record ReadsItemsOn (total : ℕ) (value_at : Reader) (room : ℕ) (bytes : 
   pub fuel : ℕ
   pub enough : length left < fuel
   pub same : items_with_prefix prefix (items_with total value_at fuel space left) ≡ items_with total value_at (length bytes + 1) room bytes
-
-items_prefix_none : (read : Result (Items × List ℕ) BsonFault) → items_with_prefix no_items read ≡ read
-items_prefix_none (Ok x) = refl
-items_prefix_none (Err e) = refl
 
 items_regroup : (prefix : Items) (d : Datum) (read : Result (Items × List ℕ) BsonFault)
     → items_with_prefix prefix (read >>= λ x. Ok (item d x.0, x.1)) ≡ items_with_prefix (joined_items prefix (item d no_items)) read
@@ -149,3 +147,9 @@ pub items_fails : (total : ℕ) (value_at : Reader) (room : ℕ) (bytes : List �
     → ReadsItemsOn total value_at room bytes prefix space left → items_with total value_at (length bytes + 1) room bytes ≡ Err e
 items_fails total value_at room bytes prefix space left e h on =
     sym (items_spent total value_at room bytes prefix space left on) ∙ ap (λ (r : Result (Items × List ℕ) BsonFault). items_with_prefix prefix r) (items_no_more total value_at (on.fuel - 1) space left e h)
+
+-- an array behind its length
+pub items_behind_length : (total : ℕ) (value_at : Reader) (room count : ℕ) (bytes rest : List ℕ) (read : Result (Items × List ℕ) BsonFault) → length_at total 5 0 room bytes ≡ Ok (count, rest)
+    → items_with total value_at (length rest + 1) (count - 4) rest ≡ read → array_with total value_at room bytes ≡ read
+unfolding array_with
+items_behind_length total value_at room count bytes rest read h e = rw h e

@@ -1,7 +1,7 @@
 -- Reading and walking go together: where a reader fails, the walk comes to the same fault at the same offset.
-use Rattle.std.proofs.Common.{◌≡◌, ℕ, ◌+◌, ◌<◌, ◌≤◌, Bool, true, false, cond, ltb, List, ◌++◌, length, get_or, take, drop, Result, Ok, Err, refl, sym, ap, subst, ◌∙◌, append_assoc, arith, inl, inr}
+use Rattle.std.proofs.Common.{◌≡◌, ℕ, ◌+◌, ◌<◌, ◌≤◌, Bool, true, false, cond, ltb, List, ◌++◌, length, get_or, drop, Result, Ok, Err, refl, sym, ap, subst, ◌∙◌, append_assoc, arith, inl, inr}
 use Rattle.std.proofs.lemmas.Bool.{cases_lt, lt-ltb, le-ltb}
-use Rattle.std.proofs.lemmas.List.{take-append-drop, drop_at, length-append, get_or-drop}
+use Rattle.std.proofs.lemmas.List.{drop_at, length-append, get_or-drop}
 use Rattle.bson_model.specs.Faults.{Step, ends_at, faulty, short_fault, length_fault, type_fault, string_fault, boolean_fault, depth_fault, trailing_fault, Walks}
 use Rattle.bson_values.specs.declared.fault.BsonFault.{BsonFault}
 use Rattle.bson_values.specs.declared.fault.BsonFault.TheVariants.{Short, BadLength, BadType, BadText, BadBool, Deep, Trailing, Memory}
@@ -69,15 +69,9 @@ lt_same a b c d below above = elim (cases_lt c d) [
 abbrev pub Stands : List ℕ → List ℕ → Type 0
 Stands all rest = (prefix : List ℕ) × (all ≡ prefix ++ rest)
 
-pub stands_length : (all rest : List ℕ) → Stands all rest → length rest ≤ length all
-stands_length all rest s = let len : length all ≡ length s.0 + length rest = ap (λ (xs : List ℕ). length xs) s.1 ∙ length-append s.0 rest in omega arith
-
 -- what stands behind the first of them
 pub stands_behind : (all bytes a rest : List ℕ) → Stands all bytes → bytes ≡ a ++ rest → Stands all rest
 stands_behind all bytes a rest s e = (s.0 ++ a, s.1 ∙ ap (λ (xs : List ℕ). s.0 ++ xs) e ∙ sym (append_assoc s.0 a rest))
-
-pub stands_drop : (n : ℕ) (all bytes : List ℕ) → Stands all bytes → Stands all (drop n bytes)
-stands_drop n all bytes s = stands_behind all bytes (take n bytes) (drop n bytes) s (sym (take-append-drop n bytes))
 
 pub stands_at : (all rest : List ℕ) (offset : ℕ) → Stands all rest → offset + length rest ≡ length all → drop offset all ≡ rest
 stands_at all rest offset s e =

@@ -8,7 +8,7 @@ ghost use Rattle.bson_model.specs.Faults.{Fault, HasFirstFault};
 ghost use Rattle.bson_model.specs.Tree.{Fields};
 ghost use Rattle.bson_model.specs.Grammar.{AreBytes, BeginsWith, IsWithinDepth, ReadsAs};
 ghost use Rattle.bson_values.specs.ReadFaults.{Gives, fault_from};
-ghost use Rattle.bson_values.specs.Readers.{binary_at, boolean_at, deep_at, scalar_at, value_at, field_at, item_at, fields_with, items_with, document_with, array_with, whole_at};
+ghost use Rattle.bson_values.specs.Readers.{binary_at, boolean_at, deep_at, scalar_at, value_at, field_at, item_at, document_with, array_with, whole_at};
 ghost use Rattle.bson_values.specs.Rests.{IsRest};
 ghost use Rattle.bson_values.specs.View.{datum_of};
 
@@ -269,63 +269,7 @@ fn read_item(
     Ok((Some(value), rest))
 }
 
-/// Reads fields and the 00 behind them.
-#[cycle(reader)]
-fn read_fields(
-    alloc: Global,
-    total: usize,
-    level: u32,
-    room: usize,
-    bytes: &[u8],
-) -> Result<(Document, &[u8]), BsonFault>
-    requires total { length bytes.now < total }
-    ensures gives { Gives (λ x. (x.0, x.1.now)) result
-        (fields_with total (value_at total level) (length bytes.now + 1) room bytes.now) }
-    ensures rest { IfOk result (λ x. length bytes.now ≡ length x.1.now + room) }
-{
-    let mut document = Document::new(alloc);
-    let mut space = room;
-    let mut left = bytes;
-    'fields: loop {
-        let (field, rest) = read_field(alloc, total, level, space, left)?;
-        let Some(field) = field else {
-            return Ok((document, rest));
-        };
-        document.push(field.name, field.value)?;
-        space -= left.len() - rest.len();
-        left = rest;
-    }
-}
-
-/// Reads the values of an array and the 00 behind them.
-#[cycle(reader)]
-fn read_items(
-    alloc: Global,
-    total: usize,
-    level: u32,
-    room: usize,
-    bytes: &[u8],
-) -> Result<(Array, &[u8]), BsonFault>
-    requires total { length bytes.now < total }
-    ensures gives { Gives (λ x. (x.0, x.1.now)) result
-        (items_with total (value_at total level) (length bytes.now + 1) room bytes.now) }
-    ensures rest { IfOk result (λ x. length bytes.now ≡ length x.1.now + room) }
-{
-    let mut array = Array::new(alloc);
-    let mut space = room;
-    let mut left = bytes;
-    'items: loop {
-        let (value, rest) = read_item(alloc, total, level, space, left)?;
-        let Some(value) = value else {
-            return Ok((array, rest));
-        };
-        array.push(value)?;
-        space -= left.len() - rest.len();
-        left = rest;
-    }
-}
-
-/// Reads a document with its length (BSON 1.1, `document`).
+/// Reads a document: its length, its fields and the 00 behind them (BSON 1.1, `document`).
 #[cycle(reader)]
 #[tactic(auto, unfolding(crate::specs::Readers::document_with))]
 fn read_document(
@@ -340,11 +284,21 @@ fn read_document(
         (document_with total (value_at total level) room bytes.now) }
     ensures rest { IfOk result (λ x. IsRest bytes.now room x.1.now) }
 {
-    let (count, rest) = read_length(total, 5, 0, room, bytes)?;
-    read_fields(alloc, total, level, count - 4, rest)
+    let (count, mut left) = read_length(total, 5, 0, room, bytes)?;
+    let mut space = count - 4;
+    let mut document = Document::new(alloc);
+    'fields: loop {
+        let (field, rest) = read_field(alloc, total, level, space, left)?;
+        let Some(field) = field else {
+            return Ok((document, rest));
+        };
+        document.push(field.name, field.value)?;
+        space -= left.len() - rest.len();
+        left = rest;
+    }
 }
 
-/// Reads an array with its length.
+/// Reads an array: its length, its values and the 00 behind them.
 #[cycle(reader)]
 #[tactic(auto, unfolding(crate::specs::Readers::array_with))]
 fn read_array(
@@ -359,8 +313,18 @@ fn read_array(
         (array_with total (value_at total level) room bytes.now) }
     ensures rest { IfOk result (λ x. IsRest bytes.now room x.1.now) }
 {
-    let (count, rest) = read_length(total, 5, 0, room, bytes)?;
-    read_items(alloc, total, level, count - 4, rest)
+    let (count, mut left) = read_length(total, 5, 0, room, bytes)?;
+    let mut space = count - 4;
+    let mut array = Array::new(alloc);
+    'items: loop {
+        let (value, rest) = read_item(alloc, total, level, space, left)?;
+        let Some(value) = value else {
+            return Ok((array, rest));
+        };
+        array.push(value)?;
+        space -= left.len() - rest.len();
+        left = rest;
+    }
 }
 
 // Which document, and which fault.

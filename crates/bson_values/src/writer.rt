@@ -2,8 +2,8 @@
 
 ghost use Rattle.std.specs.Prelude.{◌≡◌, ◌≤◌, ◌<◌, ◌+◌, ◌-◌, ◌^◌, ◌∷◌, [], ◌++◌, length, take, drop, OnOk, OnErr};
 ghost use Rattle.std.specs.Int.{w32, w64, to_le_bytes};
-ghost use Rattle.bson_model.specs.Tree.{document_depth};
-ghost use Rattle.bson_model.specs.Spelling.{type_byte_of, string, framed, written, written_value, written_items, written_fields};
+ghost use Rattle.bson_model.specs.Tree.{document_depth, value_depth};
+ghost use Rattle.bson_model.specs.Spelling.{type_byte_of, string, framed, written, written_value, written_items};
 ghost use Rattle.bson_model.specs.Grammar.{ReadsAs};
 ghost use Rattle.bson_model.specs.Limits.{most_bytes_written, most_depth_written};
 ghost use Rattle.bson_values.specs.View.{datum_of};
@@ -58,6 +58,7 @@ fn type_byte(value: &Value) -> u8
 fn put(bytes: &[u8], out: &mut Vec<u8>) -> Result<(), Memory>
     ensures ok { OnOk result (out.new.items ≡ out.old.items ++ bytes.now) }
     ensures err { OnErr result (out.new.items ≡ out.old.items) }
+    ensures kept { take (length out.old.items) out.new.items ≡ out.old.items }
 {
     out.extend_from_slice(bytes)?;
     Ok(())
@@ -67,6 +68,7 @@ fn put(bytes: &[u8], out: &mut Vec<u8>) -> Result<(), Memory>
 fn put_u32(n: u32, out: &mut Vec<u8>) -> Result<(), Memory>
     ensures ok { OnOk result (out.new.items ≡ out.old.items ++ to_le_bytes w32 n) }
     ensures err { OnErr result (out.new.items ≡ out.old.items) }
+    ensures kept { take (length out.old.items) out.new.items ≡ out.old.items }
 {
     let mut bytes = [0; 4];
     LittleEndian::write_u32(&mut bytes, n);
@@ -77,6 +79,7 @@ fn put_u32(n: u32, out: &mut Vec<u8>) -> Result<(), Memory>
 fn put_u64(n: u64, out: &mut Vec<u8>) -> Result<(), Memory>
     ensures ok { OnOk result (out.new.items ≡ out.old.items ++ to_le_bytes w64 n) }
     ensures err { OnErr result (out.new.items ≡ out.old.items) }
+    ensures kept { take (length out.old.items) out.new.items ≡ out.old.items }
 {
     let mut bytes = [0; 8];
     LittleEndian::write_u64(&mut bytes, n);
@@ -137,6 +140,28 @@ fn end_document(start: usize, out: &mut Vec<u8>) -> Result<(), Memory>
     Ok(())
 }
 
+/// Puts the bytes of a value that holds no values.
+#[tactic(auto, using(crate::proofs::Depth::document_depth_some, crate::proofs::Depth::array_depth_some))]
+fn put_scalar(value: &Value, out: &mut Vec<u8>) -> Result<(), Memory>
+    requires scalar { value_depth (datum_of value.now) ≡ 0 }
+    requires size { length (written_value (datum_of value.now)) ≤ most_bytes_written }
+    ensures ok { OnOk result (out.new.items ≡ out.old.items ++ written_value (datum_of value.now)) }
+    ensures kept { take (length out.old.items) out.new.items ≡ out.old.items }
+{
+    match value {
+        Value::Text(text) => put_text(text.as_str(), out),
+        Value::Binary { subtype, bytes } => put_binary(*subtype, bytes.as_slice(), out),
+        Value::ObjectId(bytes) => put(bytes, out),
+        Value::Bool(b) => put(&[u8::from(*b)], out),
+        Value::Date(n) => put_u64(n.cast_unsigned(), out),
+        Value::Int32(n) => put_u32(n.cast_unsigned(), out),
+        Value::Timestamp(n) => put_u64(*n, out),
+        Value::Int64(n) => put_u64(n.cast_unsigned(), out),
+        Value::Doc(_) | Value::Array(_) => Ok(()),
+        Value::Null | Value::MinKey | Value::MaxKey => Ok(()),
+    }
+}
+
 /// Puts a value's bytes.
 #[cycle(writer)]
 fn put_value(value: &Value, out: &mut Vec<u8>) -> Result<(), Memory>
@@ -145,17 +170,9 @@ fn put_value(value: &Value, out: &mut Vec<u8>) -> Result<(), Memory>
     ensures kept { take (length out.old.items) out.new.items ≡ out.old.items }
 {
     match value {
-        Value::Text(text) => put_text(text.as_str(), out),
         Value::Doc(document) => put_document(document, out),
         Value::Array(array) => put_array(array, out),
-        Value::Binary { subtype, bytes } => put_binary(*subtype, bytes.as_slice(), out),
-        Value::ObjectId(bytes) => put(bytes, out),
-        Value::Bool(b) => put(&[u8::from(*b)], out),
-        Value::Date(n) => put_u64(n.cast_unsigned(), out),
-        Value::Int32(n) => put_u32(n.cast_unsigned(), out),
-        Value::Timestamp(n) => put_u64(*n, out),
-        Value::Int64(n) => put_u64(n.cast_unsigned(), out),
-        Value::Null | Value::MinKey | Value::MaxKey => Ok(()),
+        _ => put_scalar(value, out),
     }
 }
 
@@ -168,11 +185,14 @@ fn put_document(document: &Document, out: &mut Vec<u8>) -> Result<(), Memory>
 {
     let start = out.len();
     put_u32(0, out)?;
-    put_fields(document, out)?;
+    for field in &document.fields {
+        put_head(type_byte(&field.value), field.name.as_str(), out)?;
+        put_value(&field.value, out)?;
+    }
     end_document(start, out)
 }
 
-/// Puts an array. An `Err` may leave a part of it.
+/// Puts an array, its values under their indices as names: `0`, `1` and so on. An `Err` may leave a part of it.
 #[cycle(writer)]
 fn put_array(array: &Array, out: &mut Vec<u8>) -> Result<(), Memory>
     requires { length (framed (written_items 0 array.now)) ≤ most_bytes_written }
@@ -181,35 +201,10 @@ fn put_array(array: &Array, out: &mut Vec<u8>) -> Result<(), Memory>
 {
     let start = out.len();
     put_u32(0, out)?;
-    put_items(array, out)?;
-    end_document(start, out)
-}
-
-/// Puts the fields of a document.
-#[cycle(writer)]
-fn put_fields(document: &Document, out: &mut Vec<u8>) -> Result<(), Memory>
-    requires { length (written_fields document.now) ≤ most_bytes_written }
-    ensures ok { OnOk result (out.new.items ≡ out.old.items ++ written_fields document.now) }
-    ensures kept { take (length out.old.items) out.new.items ≡ out.old.items }
-{
-    for field in &document.fields {
-        put_head(type_byte(&field.value), field.name.as_str(), out)?;
-        put_value(&field.value, out)?;
-    }
-    Ok(())
-}
-
-/// Puts the values of an array under their indices as names: `0`, `1` and so on.
-#[cycle(writer)]
-fn put_items(array: &Array, out: &mut Vec<u8>) -> Result<(), Memory>
-    requires { length (written_items 0 array.now) ≤ most_bytes_written }
-    ensures ok { OnOk result (out.new.items ≡ out.old.items ++ written_items 0 array.now) }
-    ensures kept { take (length out.old.items) out.new.items ≡ out.old.items }
-{
     let mut offset = Buffer::new();
     for (i, value) in array.values.iter().enumerate() {
         put_head(type_byte(value), offset.format(i), out)?;
         put_value(value, out)?;
     }
-    Ok(())
+    end_document(start, out)
 }

@@ -7,16 +7,17 @@ ghost use Rattle.chunk_model.specs.Tables.{chunk_of, chunks_on, greatest_version
 ghost use Rattle.chunk_table.specs.Meanings.{chunk_meant, owned_meant, version_meant};
 ghost use Rattle.chunk_table.specs.Whole.{follow_from};
 ghost use Rattle.std.specs.Ordering.{is_eq};
+ghost use Rattle.bson_values.specs.View.{datum_of};
 ghost use Rattle.value_compare.specs.Bounds.{bound_of};
 ghost use Rattle.value_compare.specs.Keys.{min_bound, order_bounds};
 
 use crate::version::Version;
-use bson_values::Memory;
+use bson_values::{Memory, Value};
 use cluster_base::{NodeId, Time};
 use std::alloc::Global;
 use std::cmp::Ordering;
 use std::marker::Model;
-use value_compare::{Bound, Key, KeyRange};
+use value_compare::{Bound, KeyRange};
 
 /// A shard has the keys of a chunk, from a time on.
 #[derive(Clone, Copy, Debug, PartialEq, Eq)]
@@ -136,12 +137,12 @@ impl Chunk {
     }
 }
 
-/// The first of the chunks that has the key, if one has.
-pub(crate) fn chunk_of<'a>(chunks: &'a [Chunk], key: &Key) -> Option<&'a Chunk>
-    ensures { option_map (λ chunk. chunk_meant chunk.now) result ≡ chunk_of key.now (map chunk_meant chunks.now) }
+/// The first of the chunks between whose bounds the value is, if it is of one.
+pub(crate) fn chunk_of<'a>(chunks: &'a [Chunk], value: &Value) -> Option<&'a Chunk>
+    ensures { option_map (λ chunk. chunk_meant chunk.now) result ≡ chunk_of (datum_of value.now) (map chunk_meant chunks.now) }
 {
     for chunk in chunks {
-        if chunk.range.contains(key) {
+        if chunk.range.contains_value(value) {
             return Some(chunk);
         }
     }

@@ -3,6 +3,7 @@
 ghost use Rattle.std.specs.Prelude.{◌≡◌, ◌<◌, ◌^◌, ◌↔◌, false, IfOk, IfSome, None, Some, length, map};
 ghost use Rattle.std.specs.List.{AllByRecursion};
 ghost use Rattle.std.specs.Option.{option_map};
+ghost use Rattle.bson_values.specs.View.{datum_of};
 ghost use Rattle.chunk_model.specs.Tables.{collection_version, first_table, is_longer, owner_at, owner_now, shard_version};
 ghost use Rattle.chunk_table.specs.Meanings.{chunk_meant, table_of_parts, version_meant};
 ghost use Rattle.chunk_table.specs.Whole.{IsWritableChunk, follow_from};
@@ -12,7 +13,7 @@ use crate::chunk::{
     Chunk, Owned, OwnedList, chunk_of, copy_all, follow, greatest_on, greatest_version,
 };
 use crate::version::Version;
-use bson_values::Memory;
+use bson_values::{Memory, Value};
 use cluster_base::{Namespace, NodeId, Time};
 use std::alloc::Global;
 use std::marker::Model;
@@ -166,8 +167,7 @@ impl Table {
     pub fn owner_now(&self, key: &Key) -> NodeId
         ensures { owner_now self.now key.now ≡ Some result.0 }
     {
-        let _key = key.value();
-        let newest = match chunk_of(&self.chunks, key) {
+        let newest = match chunk_of(&self.chunks, key.value()) {
             Some(chunk) => chunk.history.newest(),
             None => None,
         };
@@ -181,7 +181,15 @@ impl Table {
     pub fn owner_at(&self, key: &Key, time: Time) -> Option<NodeId>
         ensures { option_map (λ shard. shard.0) result ≡ owner_at self.now key.now time.0 }
     {
-        match chunk_of(&self.chunks, key) {
+        self.owner_of_value(key.value(), time)
+    }
+
+    /// The shard that had what would stand under the value at a time, were it a key; none before the collection began. A read may
+    /// name a value that is no key.
+    pub fn owner_of_value(&self, value: &Value, time: Time) -> Option<NodeId>
+        ensures { option_map (λ shard. shard.0) result ≡ owner_at self.now (datum_of value.now) time.0 }
+    {
+        match chunk_of(&self.chunks, value) {
             Some(chunk) => chunk.history.at(time),
             None => None,
         }

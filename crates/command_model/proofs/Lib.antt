@@ -4,5 +4,7 @@ pub mod Inside
 pub mod Rows
 pub mod Taken
 pub mod SmallAnswers
+pub mod AnswerTimes
+pub mod ToldRefusals
 pub use Rattle.base_model.proofs.OpenNames
 pub use Rattle.base_model.proofs.Replies

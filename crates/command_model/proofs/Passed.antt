@@ -77,3 +77,20 @@ keepable [] small e = tt
 keepable (document ∷ documents) small e =
     let told = passed_parts (check_statement document) (check_statements documents ∷ []) e in
     (with_key (key_of document) document refl small.0 told.0, keepable documents small.1 (passed_last (check_statements documents) told.1))
+
+-- a document that has a key
+pub record HasKey (document : Fields) : Type 0 where
+  pub key : Datum
+  pub found : key_of document ≡ Some key
+  pub is : is_key key ≡ true
+
+key_passed : (o : Option Datum) (document : Fields) → key_of document ≡ o → key_verdict o ≡ None → HasKey document
+key_passed None document found e = absurd cc
+key_passed (Some key) document found e = record { key = key; found = found; is = passed_test (is_key key) bad_value e }
+
+-- documents that pass have keys
+pub keys_passed : (documents : List Fields) → check_statements documents ≡ None → AllByRecursion HasKey documents
+keys_passed [] e = tt
+keys_passed (document ∷ documents) e =
+    let told = passed_parts (check_statement document) (check_statements documents ∷ []) e in
+    (key_passed (key_of document) document refl told.0, keys_passed documents (passed_last (check_statements documents) told.1))

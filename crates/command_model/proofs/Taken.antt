@@ -18,20 +18,20 @@ use Rattle.command_model.specs.Command.{Command, hello_command, legacy_command, 
 use Rattle.command_model.specs.CommandSizes.{IsKeepable, IsSmallCommand, IsTaken}
 use Rattle.opmsg_model.proofs.Lengths.{length-framed}
 use Rattle.command_model.proofs.ShortErrors.{IsShort, IsShortForm, collection_short, command_short, documents_sequence_short, filter_needed_short, find_short, handshake_short, insert_short, some_short, statements_short}
-use Rattle.command_model.proofs.Passed.{few_documents, keepable, field_passed, passed_else, passed_last, passed_parts, some_counted}
+use Rattle.command_model.proofs.Passed.{HasKey, keys_passed, few_documents, keepable, field_passed, passed_else, passed_last, passed_parts, some_counted}
 use Rattle.command_model.proofs.Inside.{got_inside, items_small}
 use Rattle.command_model.proofs.Rows.{found_row}
 
 abbrev AreSmall : Sequences → Type 0
 AreSmall sequences = AllByRecursion (λ s. AllByRecursion IsSmall s.1) sequences
 
--- an insert has documents
+-- an insert has documents, each with a key
 abbrev HasDocuments : Command → Type 0
 HasDocuments hello_command = Unit {0}
 HasDocuments (legacy_command legacy) = Unit {0}
 HasDocuments ping_command = Unit {0}
 HasDocuments end_sessions_command = Unit {0}
-HasDocuments (insert_command insert) = insert.documents ≢ []
+HasDocuments (insert_command insert) = (insert.documents ≢ []) × AllByRecursion HasKey insert.documents
 HasDocuments (find_command find) = Unit {0}
 
 -- a command of that name and form that passes has documents, and is as small as its request
@@ -119,8 +119,10 @@ insert_sound = record {
     last = λ document sequences. statements_short (or_documents (documents_asked document sequences));
   };
   some = λ sent value others sequences passed.
-      let passes = insert_passes sent value others sequences passed in
-      some_of (documents_asked (field (codes "insert") value others) sequences) passes.counted passes.needed;
+      let passes = insert_passes sent value others sequences passed in (
+        some_of (documents_asked (field (codes "insert") value others) sequences) passes.counted passes.needed,
+        keys_passed (or_documents (documents_asked (field (codes "insert") value others) sequences)) passes.judged,
+      );
   small = λ sent value others sequences small all passed.
       let passes = insert_passes sent value others sequences passed in
       small_of (documents_asked (field (codes "insert") value others) sequences) passes.counted
@@ -221,4 +223,7 @@ body_some sent (read_body (field own value others) sequences) = by_form_some (fo
 body_some sent (faulty_body fault place) = tt
 
 pub some_documents : (request : Request) (insert : Insert) → command_of request ≡ Ok (insert_command insert) → insert.documents ≢ []
-some_documents request insert is = subst HaveDocuments is (body_some request.form request.body)
+some_documents request insert is = (subst HaveDocuments is (body_some request.form request.body)).0
+
+pub documents_with_keys : (request : Request) (insert : Insert) → command_of request ≡ Ok (insert_command insert) → AllByRecursion HasKey insert.documents
+documents_with_keys request insert is = (subst HaveDocuments is (body_some request.form request.body)).1

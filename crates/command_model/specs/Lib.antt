@@ -9,6 +9,7 @@ pub mod Command
 pub mod Answers
 pub mod CommandSizes
 pub mod Worked
+pub mod SampleRequests
 pub use Rattle.base_model.specs.Errors
 pub use Rattle.opmsg_model.specs.Faults
 pub use Rattle.value_model.specs.Keys

@@ -12,8 +12,8 @@ use Rattle.value_compare.specs.Order.{same_value}
 use Rattle.value_compare.specs.Keys.{is_key, key_of, valid_key, KeyFault, absent_key, wrong_kind}
 use Rattle.value_compare.proofs.Spans.{same_is_key, same_value_equivalence}
 use Rattle.cluster_base.specs.Errors.{duplicate_key}
-use Rattle.plain_store_model.specs.History.{StatementNumber, insert_operation, is_too_large, effect, fails_with, Entry, same_key, writes_to, document_left, document_at}
-use Rattle.plain_store_model.proofs.LegalHistories.{both, put_in}
+use Rattle.plain_store_model.specs.History.{StatementNumber, insert_operation, is_too_large, key_written, effect, Outcome, fails_with, Entry, same_key, writes_to, document_left, document_at}
+use Rattle.plain_store_model.proofs.LegalHistories.{both, insert_again, insert_key, insert_new, put_in}
 use Rattle.plain_store_model.proofs.Stores.{document_after_push}
 use Rattle.command_words.specs.MessageSizes.{IsSmall}
 use Rattle.document_store.specs.Collections.{is_created, kept_under}
@@ -58,18 +58,25 @@ document_at_push n key t es e =
 is_hit : (ns n : List ℕ) (written : Option Datum) (key k : Datum) → written ≡ Some key → (bytes_eq ns n && same_key written (Some k)) ≡ (bytes_eq n ns && same_value k key)
 is_hit ns n written key k own = rw (own, turned_bytes n ns, same_value_equivalence.symm k key) refl
 
--- what an insert leaves where nothing stood
-kept_inserted : (hit : Bool) (document : Fields) (time : ℕ) (before : Option Fields) (was : Option (ℕ × Fields)) → is_too_large document ≡ false → before ≡ whole was → (hit ≡ true → was ≡ None) →
-    (if hit then (effect (insert_operation document) before).0 else before) ≡ whole (if hit then Some (time, document) else was)
-kept_inserted true document time before was fits e h = rw (e, h refl) (ap (λ (large : Bool). (put_in document large).0) fits)
-kept_inserted false document time before was fits e h = e
+-- an insert where nothing stood, and one where a document stood
+new_left : (document : Fields) (key : Datum) → valid_key document ≡ Ok key → (effect (insert_operation document) None).0 ≡ (put_in document (is_too_large document)).0
+new_left document key valid = ap (λ (w : Option Fields × Outcome). w.0) (insert_new document key valid)
 
-seen_inserted : (hit early : Bool) (document : Fields) (time t : ℕ) (before : Option Fields) (was : Option (ℕ × Fields)) → is_too_large document ≡ false → before ≡ seen_at t was → nat_le time t ≡ early → (hit ≡ true → was ≡ None) →
+again_left : (document : Fields) (key : Datum) (before : Fields) → valid_key document ≡ Ok key → (effect (insert_operation document) (Some before)).0 ≡ Some before
+again_left document key before valid = ap (λ (w : Option Fields × Outcome). w.0) (insert_again document key before valid)
+
+-- what an insert leaves where nothing stood
+kept_inserted : (hit : Bool) (document : Fields) (key : Datum) → valid_key document ≡ Ok key → (time : ℕ) (before : Option Fields) (was : Option (ℕ × Fields)) → is_too_large document ≡ false → before ≡ whole was → (hit ≡ true → was ≡ None) →
+    (if hit then (effect (insert_operation document) before).0 else before) ≡ whole (if hit then Some (time, document) else was)
+kept_inserted true document key valid time before was fits e h = rw (e, h refl) (new_left document key valid ∙ ap (λ (large : Bool). (put_in document large).0) fits)
+kept_inserted false document key valid time before was fits e h = e
+
+seen_inserted : (hit early : Bool) (document : Fields) (key : Datum) → valid_key document ≡ Ok key → (time t : ℕ) (before : Option Fields) (was : Option (ℕ × Fields)) → is_too_large document ≡ false → before ≡ seen_at t was → nat_le time t ≡ early → (hit ≡ true → was ≡ None) →
     (if early then (if hit then (effect (insert_operation document) before).0 else before) else before) ≡ seen_at t (if hit then Some (time, document) else was)
-seen_inserted true true document time t before was fits e early h = rw (early, e, h refl) (ap (λ (large : Bool). (put_in document large).0) fits)
-seen_inserted true false document time t before was fits e early h = rw (early, e, h refl) refl
-seen_inserted false true document time t before was fits e early h = e
-seen_inserted false false document time t before was fits e early h = e
+seen_inserted true true document key valid time t before was fits e early h = rw (early, e, h refl) (new_left document key valid ∙ ap (λ (large : Bool). (put_in document large).0) fits)
+seen_inserted true false document key valid time t before was fits e early h = rw (early, e, h refl) refl
+seen_inserted false true document key valid time t before was fits e early h = e
+seen_inserted false false document key valid time t before was fits e early h = e
 
 is_met : (a b : ℕ) → nat_le a b ≡ true → a ≤ b
 is_met a b e = by_test (leb_tells a b) e
@@ -91,7 +98,7 @@ seen_refused true false document t before was e leaves = e
 seen_refused false true document t before was e leaves = e
 seen_refused false false document t before was e leaves = e
 
-module _ (old new : Store) (plain : plain_store.PlainStore) (number : StatementNumber) (time : ℕ) (ns : List ℕ) (document : Fields) (key : Datum) (held : Represents old plain) (own : key_of document ≡ Some key) (later : old.time < time) (timed : new.time ≡ time) (created : (n : List ℕ) → is_created new.collections n ≡ is_created old.collections n) where
+module _ (old new : Store) (plain : plain_store.PlainStore) (number : StatementNumber) (time : ℕ) (ns : List ℕ) (document : Fields) (key : Datum) (held : Represents old plain) (valid : valid_key document ≡ Ok key) (later : old.time < time) (timed : new.time ≡ time) (created : (n : List ℕ) → is_created new.collections n ≡ is_created old.collections n) where
   abbrev entry : Entry
   entry = entry_of plain.entries time number ns document
 
@@ -107,12 +114,12 @@ module _ (old new : Store) (plain : plain_store.PlainStore) (number : StatementN
   now_left : (n : List ℕ) (k : Datum) (o : Option Fields) →
       (if hit n k then (effect (insert_operation document) (document_left n (Some k) plain.entries)).0 else document_left n (Some k) plain.entries) ≡ o →
       document_left n (Some k) (plain.entries ++ entry ∷ []) ≡ o
-  now_left n k o e = document_after_push n (Some k) None plain.entries entry ∙ rw (is_hit ns n (key_of document) key k own) e
+  now_left n k o e = document_after_push n (Some k) None plain.entries entry ∙ rw (is_hit ns n (key_written (insert_operation document)) key k (insert_key document key valid)) e
 
   then_left : (n : List ℕ) (k : Datum) (t : ℕ) (o : Option Fields) →
       (if nat_le time t then (if hit n k then (effect (insert_operation document) (document_at plain.entries n (Some k) t)).0 else document_at plain.entries n (Some k) t) else document_at plain.entries n (Some k) t) ≡ o →
       document_at (plain.entries ++ entry ∷ []) n (Some k) t ≡ o
-  then_left n k t o e = document_at_push n (Some k) t plain.entries entry ∙ rw (is_hit ns n (key_of document) key k own) e
+  then_left n k t o e = document_at_push n (Some k) t plain.entries entry ∙ rw (is_hit ns n (key_written (insert_operation document)) key k (insert_key document key valid)) e
 
   -- a document is put in
   pub inserted : is_too_large document ≡ false → kept_under old.collections ns key ≡ None → ((n : List ℕ) (k : Datum) → kept_under new.collections n k ≡ (if bytes_eq n ns && same_value k key then Some (time, document) else kept_under old.collections n k)) →
@@ -120,8 +127,8 @@ module _ (old new : Store) (plain : plain_store.PlainStore) (number : StatementN
   inserted fits absent kept = record {
     time = timed;
     created = λ n. created n ∙ held.created n;
-    kept = λ n k. rw (kept n k) (now_left n k _ (kept_inserted (hit n k) document time _ (kept_under old.collections n k) fits (held.kept n k) (λ same. here n k same ∙ absent)));
-    seen = λ n k t. rw (kept n k) (then_left n k t _ (seen_inserted (hit n k) (nat_le time t) document time t _ (kept_under old.collections n k) fits (held.seen n k t) refl (λ same. here n k same ∙ absent)));
+    kept = λ n k. rw (kept n k) (now_left n k _ (kept_inserted (hit n k) document key valid time _ (kept_under old.collections n k) fits (held.kept n k) (λ same. here n k same ∙ absent)));
+    seen = λ n k t. rw (kept n k) (then_left n k t _ (seen_inserted (hit n k) (nat_le time t) document key valid time t _ (kept_under old.collections n k) fits (held.seen n k t) refl (λ same. here n k same ∙ absent)));
     past = λ n k s d e. past_inserted (hit n k) (kept_under old.collections n k) s d (held.past n k s d) (sym (kept n k) ∙ e);
     small = λ n k s d e. small_inserted (hit n k) (kept_under old.collections n k) s d (held.small n k s d) (sym (kept n k) ∙ e);
   }
@@ -165,7 +172,7 @@ nothing_kept (Some s) e = absurd cc
 -- there is no such document; a copy of it is kept
 pub entered_new : (old new : Store) (plain : plain_store.PlainStore) (number : StatementNumber) (time : ℕ) (ns : List ℕ) (document copy : Fields) (key : Datum) → Represents old plain → valid_key document ≡ Ok key → old.time < time → new.time ≡ time → is_too_large document ≡ false → is_some (kept_under old.collections ns key) ≡ false → copy ≡ document → ((n : List ℕ) → is_created new.collections n ≡ is_created old.collections n) → ((n : List ℕ) (k : Datum) → kept_under new.collections n k ≡ (if bytes_eq n ns && same_value k key then Some (time, copy) else kept_under old.collections n k)) → Represents new (with_entries plain (entry_of plain.entries time number ns document ∷ []))
 entered_new old new plain number time ns document copy key held valid later timed fits absent same created kept =
-    inserted old new plain number time ns document key held (own_key document key valid).0 later timed created fits (nothing_kept (kept_under old.collections ns key) absent)
+    inserted old new plain number time ns document key held valid later timed created fits (nothing_kept (kept_under old.collections ns key) absent)
     (λ n k. kept n k ∙ ap (λ (d : Fields). if bytes_eq n ns && same_value k key then Some (time, d) else kept_under old.collections n k) same)
 
 -- there is one already
@@ -175,27 +182,27 @@ entered_again old new plain number time ns document key held valid later timed t
     by_kept : (o : Option (ℕ × Fields)) → kept_under old.collections ns key ≡ o → is_some o ≡ true → Represents new (with_entries plain (entry_of plain.entries time number ns document ∷ []))
     by_kept None e there = absurd cc
     by_kept (Some put_before) e there =
-        refused old new plain number time ns document key held (own_key document key valid).0 later timed (λ n. rw same refl) (rw e refl)
+        refused old new plain number time ns document key held valid later timed (λ n. rw same refl) (rw e (again_left document key put_before.1 valid))
         (λ t early.
         let sooner : nat_le put_before.0 t ≡ true = le-leb put_before.0 t (omega (arith, later, held.past ns key put_before.0 put_before.1 e, is_met time t early)) in
-        rw (e, sooner) refl)
+        rw (e, sooner) (again_left document key put_before.1 valid))
         (λ n k. rw same refl)
 
 -- there is none, and none is put in, since it is too large
 pub entered_large : (old new : Store) (plain : plain_store.PlainStore) (number : StatementNumber) (time : ℕ) (ns : List ℕ) (document : Fields) (key : Datum) → Represents old plain → valid_key document ≡ Ok key → old.time < time → new.time ≡ time → is_too_large document ≡ true → is_some (kept_under old.collections ns key) ≡ false → new.collections ≡ old.collections → Represents new (with_entries plain (entry_of plain.entries time number ns document ∷ []))
 entered_large old new plain number time ns document key held valid later timed large absent same =
     let none : kept_under old.collections ns key ≡ None = nothing_kept (kept_under old.collections ns key) absent in
-    let leaves : (put_in document (is_too_large document)).0 ≡ None = ap (λ (is : Bool). (put_in document is).0) large in
-    refused old new plain number time ns document key held (own_key document key valid).0 later timed (λ n. rw same refl) (rw none leaves) (λ t early. rw none leaves) (λ n k. rw same refl)
+    let leaves : (effect (insert_operation document) None).0 ≡ None = new_left document key valid ∙ ap (λ (is : Bool). (put_in document is).0) large in
+    refused old new plain number time ns document key held valid later timed (λ n. rw same refl) (rw none leaves) (λ t early. rw none leaves) (λ n k. rw same refl)
 
 -- what an insert is told
-told_of : (was : Option (ℕ × Fields)) (document : Fields) (before : Option Fields) (there : Bool) → before ≡ whole was → is_some was ≡ there → (effect (insert_operation document) before).1 ≡ (if there then fails_with duplicate_key else (put_in document (is_too_large document)).1)
-told_of None document before there e is = rw (e, sym is) refl
-told_of (Some kept) document before there e is = rw (e, sym is) refl
+told_of : (was : Option (ℕ × Fields)) (document : Fields) (key : Datum) → valid_key document ≡ Ok key → (before : Option Fields) (there : Bool) → before ≡ whole was → is_some was ≡ there → (effect (insert_operation document) before).1 ≡ (if there then fails_with duplicate_key else (put_in document (is_too_large document)).1)
+told_of None document key valid before there e is = rw (e, sym is) (ap (λ (w : Option Fields × Outcome). w.1) (insert_new document key valid))
+told_of (Some kept) document key valid before there e is = rw (e, sym is) (ap (λ (w : Option Fields × Outcome). w.1) (insert_again document key kept.1 valid))
 
 told_entry : (held : Store) (plain : plain_store.PlainStore) (number : StatementNumber) (time : ℕ) (ns : List ℕ) (document : Fields) (key : Datum) (there : Bool) → Represents held plain → valid_key document ≡ Ok key → is_some (kept_under held.collections ns key) ≡ there → (entry_of plain.entries time number ns document).outcome ≡ (if there then fails_with duplicate_key else (put_in document (is_too_large document)).1)
 told_entry held plain number time ns document key there is valid found =
-    told_of (kept_under held.collections ns key) document _ there (ap (λ (k : Option Datum). document_left ns k plain.entries) (own_key document key valid).0 ∙ is.kept ns key) found
+    told_of (kept_under held.collections ns key) document key valid _ there (ap (λ (k : Option Datum). document_left ns k plain.entries) (insert_key document key valid) ∙ is.kept ns key) found
 
 pub told_again : (held : Store) (plain : plain_store.PlainStore) (number : StatementNumber) (time : ℕ) (ns : List ℕ) (document : Fields) (key : Datum) → Represents held plain → valid_key document ≡ Ok key → is_some (kept_under held.collections ns key) ≡ true → (entry_of plain.entries time number ns document).outcome ≡ fails_with duplicate_key
 told_again held plain number time ns document key is valid found = told_entry held plain number time ns document key true is valid found

@@ -5,7 +5,7 @@ use Rattle.bson_values.specs.Tree.{Fields}
 use Rattle.plain_store_model.specs.History as history
 use Rattle.plain_store_model.specs.History.{Entry, StatementNumber, insert_operation}
 use Rattle.plain_store_model.specs.Statements.{entry_of}
-use Rattle.shard_records.specs.Records.{Record, OutcomeWords, entry_record, insert_words, outcome_words, record_of}
+use Rattle.shard_records.specs.Records.{Record, OutcomeWords, entry_record, outcome_words, record_of}
 use Rattle.shard_records.specs.Spelled.{spelled, IsSound}
 use Rattle.command_store.specs.Service.{own_number}
 use Rattle.command_store.specs.Telling.{outcome_meant, IsEntry}
@@ -23,11 +23,11 @@ spelled_by index outcome time e r (Err f) same numbered ended timed p = tt
 
 -- the record as the program has it, of copies
 pub entry_spelled : {E : Type 0} (time count index : ℕ) (copy ns : List ℕ) (inside document : Fields) (words : OutcomeWords) (outcome : Outcome) (result : Result (List ℕ) E) → copy ≡ ns → inside ≡ document → words ≡ outcome_words (outcome_meant outcome) →
-    IfOk result (λ b. (b ≡ spelled 1 (entry_record (record { time = time; namespace = copy; number = own_number count index; words = insert_words inside; outcome = words }))) × IsSound (entry_record (record { time = time; namespace = copy; number = own_number count index; words = insert_words inside; outcome = words }))) →
+    IfOk result (λ b. (b ≡ spelled 1 (entry_record (record { time = time; namespace = copy; number = own_number count index; operation = insert_operation inside; outcome = words }))) × IsSound (entry_record (record { time = time; namespace = copy; number = own_number count index; operation = insert_operation inside; outcome = words }))) →
     IfOk result (λ b. IsEntry index outcome time b (record { time = time; shard = 1; number = own_number count index; namespace = ns; operation = insert_operation document; outcome = outcome_meant outcome }))
 entry_spelled time count index copy ns inside document words outcome result named own told p =
     spelled_by index outcome time (record { time = time; shard = 1; number = own_number count index; namespace = ns; operation = insert_operation document; outcome = outcome_meant outcome })
-    (entry_record (record { time = time; namespace = copy; number = own_number count index; words = insert_words inside; outcome = words }))
+    (entry_record (record { time = time; namespace = copy; number = own_number count index; operation = insert_operation inside; outcome = words }))
     result (rw (named, own, told) refl) refl refl refl p
 
 -- the entry as the plain store has it

@@ -1,5 +1,5 @@
 -- What follows where history, requests and answers are one history.
-use Rattle.std.proofs.Common.{◌≡◌, ◌≢◌, ℕ, ◌+◌, ◌<◌, ◌≤◌, ◌⊎◌, inl, inr, List, [], ◌∷◌, ◌++◌, length, refl, sym, ap, subst, ◌∙◌, arith}
+use Rattle.std.proofs.Common.{◌≡◌, ◌≢◌, ℕ, ◌+◌, ◌<◌, ◌≤◌, ◌⊎◌, inl, inr, List, [], ◌∷◌, length, refl, sym, ap, subst, ◌∙◌, arith}
 use Rattle.std.specs.Prelude.{Bool, true, false, Option, Some, None, Ok, map, nat_le}
 use Rattle.std.proofs.lemmas.Bool.Decides.{leb_tells}
 use Rattle.command_model.specs.Tree.{Datum, Fields}
@@ -10,18 +10,19 @@ use Rattle.command_model.specs.Insert.{Insert}
 use Rattle.command_model.specs.Find.{Find}
 use Rattle.command_model.specs.Command.{insert_command, find_command, command_of}
 use Rattle.command_model.specs.Answers.{find_answer, refusal_answer, answer_document}
-use Rattle.exchange_model.proofs.AnswerTimes.{time_of_find}
+use Rattle.command_model.proofs.AnswerTimes.{time_of_find}
 use Rattle.command_model.proofs.Taken.{some_documents}
 use Rattle.chunk_model.specs.Catalogue.{Creation}
 use Rattle.history_model.specs.History.{insert_operation, Entry, same_key, writes_to, document_at, Legal, IsIn}
 use Rattle.history_model.proofs.Lists.{all_at, in_first}
-use Rattle.exchange_model.proofs.StandingDocuments.{there_after, put_in_stays, stays_at}
-use Rattle.exchange_model.specs.Asked.{Asked, Answered, is_session_of, entries_by}
-use Rattle.exchange_model.specs.Outcomes.{Done, done_of, time_of, answer_of}
+use Rattle.history_model.proofs.StandingDocuments.{AreInserts, there_after, put_in_stays}
+use Rattle.exchange_model.specs.Asked.{Asked, Answered, entries_by}
+use Rattle.exchange_model.specs.Outcomes.{done_of, time_of, answer_of}
 use Rattle.exchange_model.specs.Right.{IsStatement, found, AreAll, told_by, IsWhole, IsRight}
 use Rattle.exchange_model.specs.OneHistory.{WasSent, StandsInPart, IsRightOf, IsNotBefore, IsFresh, IsInOrder, Given, OneHistory}
 use Rattle.exchange_model.specs.Earlier.{IsTold, WasToldBefore, WasTakenBefore, IsEntryOf}
-use Rattle.exchange_model.proofs.Requests.{same_session, one_asked, one_told, by_in, in_by, among}
+use Rattle.exchange_model.proofs.Requests.{same_session, one_asked, by_in, in_by, among}
+use Rattle.exchange_model.proofs.StayingDocuments.{stays_at}
 use Rattle.exchange_model.proofs.RightAnswers.{TellsInsert, tells_insert, insert_time, most, TellsFind, tells_find, tells_now, found_none, found_one, ahead_time}
 
 module _ (given : List Given) (creations : List Creation) (history : List Entry) (asked : List Asked) (answered : List Answered) (one : OneHistory given creations history asked answered) where
@@ -77,6 +78,9 @@ module _ (given : List Given) (creations : List Creation) (history : List Entry)
       let from : 0 + length m.prefix ≡ length m.prefix = omega arith in
       let statement = subst (λ n. IsStatement s.request.id s.into.insert.namespace n m.document e) from m.statement in
       (s.request, s.taken, record { insert = s.into.insert; prefix = m.prefix; document = m.document; back = m.back; asks = s.into.asks; both = m.both; statement = statement })
+
+  are_inserts : AreInserts history
+  are_inserts e i = let s = sent e i in (s.2.document, s.2.statement.operation)
 
   -- what an answered request left is in its answer's time
   pub in_time : (t : Answered) (e : Entry) → IsIn t answered → IsIn e (entries_by t.id history)
@@ -148,7 +152,8 @@ module _ (given : List Given) (creations : List Creation) (history : List Entry)
   stands_from : (e : Entry) (namespace : List ℕ) (key : Option Datum) (time : ℕ) → IsIn e history → e.outcome.error ≢ Some object_too_large → e.time ≤ time
       → writes_to namespace key e ≡ true → document_at history namespace key time ≢ None
   stands_from e namespace key time i small early hits none =
-      there_after i.0 i.1 e namespace key time (subst (λ (l : List Entry). Legal l) i.2 one.legal) small early hits
+      there_after i.0 i.1 e namespace key time (subst (λ (l : List Entry). Legal l) i.2 one.legal)
+      (subst (λ (l : List Entry). AreInserts l) i.2 are_inserts) small early hits
       (subst (λ (l : List Entry). document_at l namespace key time ≡ None) i.2 none)
 
   pub none_before_writes : (t : Answered) (e : Entry) (find : Find) (time : ℕ) → IsIn t answered → IsIn e history → e.outcome.error ≢ Some object_too_large
@@ -181,19 +186,23 @@ module _ (given : List Given) (creations : List Creation) (history : List Entry)
       let i = (by_in s.id history e by).0 in
       let stands : document_at history find.namespace (Some find.key) a.time ≡ Some document =
       subst (λ (l : List Entry). document_at l find.namespace (Some find.key) a.time ≡ Some document) (sym i.2)
-      (put_in_stays i.0 i.1 e document find.namespace (Some find.key) a.time (subst (λ (l : List Entry). Legal l) i.2 one.legal) inserts done (written_before a s e told.taken w by) hits) in
+      (put_in_stays i.0 i.1 e document find.namespace (Some find.key) a.time (subst (λ (l : List Entry). Legal l) i.2 one.legal)
+      (subst (λ (l : List Entry). AreInserts l) i.2 are_inserts) inserts done (written_before a s e told.taken w by) hits) in
       tells_now history a t find none (tells_its_find a t find told asks) ∙ ap (λ (o : Option Fields). answer_document (find_answer find.namespace (found o) a.time)) stands
 
-  pub shows_again : (a : Asked) (s t : Answered) (earlier find : Find) (document : Fields) (time : ℕ) → IsTold asked answered a t → WasToldBefore answered a s
-      → command_of s.request ≡ Ok (find_command earlier) → s.document ≡ answer_document (find_answer earlier.namespace (document ∷ []) time)
-      → command_of a.request ≡ Ok (find_command find) → find.at ≡ None → earlier.namespace ≡ find.namespace → same_key (Some earlier.key) (Some find.key) ≡ true
+  pub shows_again : (a : Asked) (s t : Answered) (earlier find : Find) (document : Fields) (time : ℕ) → IsTold asked answered a t
+      → WasToldBefore answered a s → command_of s.request ≡ Ok (find_command earlier)
+      → s.document ≡ answer_document (find_answer earlier.namespace (document ∷ []) time) → command_of a.request ≡ Ok (find_command find) → find.at ≡ None
+      → earlier.namespace ≡ find.namespace → same_key (Some earlier.key) (Some find.key) ≡ true
       → t.document ≡ answer_document (find_answer find.namespace (document ∷ []) a.time)
   shows_again a s t earlier find document time told w asked_earlier shown asks none name keys =
       let h = told_to s w.told in
       let there : document_at history earlier.namespace (Some earlier.key) time ≡ Some document =
       found_one history h.request s earlier document time (tells_its_find h.request s earlier h.is (ap command_of h.same ∙ asked_earlier)) shown in
-      let before : time ≤ a.time = told_before a s time told.taken w (ap (λ (d : Fields). operation_time (Some d)) shown ∙ time_of_find earlier.namespace (document ∷ []) time) in
+      let before : time ≤ a.time =
+      told_before a s time told.taken w (ap (λ (d : Fields). operation_time (Some d)) shown ∙ time_of_find earlier.namespace (document ∷ []) time) in
       let stands : document_at history earlier.namespace (Some find.key) a.time ≡ Some document =
-      stays_at history earlier.namespace (Some earlier.key) (Some find.key) document time a.time one.legal keys before there in
+      stays_at history earlier.namespace (Some earlier.key) (Some find.key) document time a.time one.legal are_inserts keys before there in
       let here = subst (λ n. document_at history n (Some find.key) a.time ≡ Some document) name stands in
-      tells_now history a t find none (tells_its_find a t find told asks) ∙ ap (λ (o : Option Fields). answer_document (find_answer find.namespace (found o) a.time)) here
+      tells_now history a t find none (tells_its_find a t find told asks)
+      ∙ ap (λ (o : Option Fields). answer_document (find_answer find.namespace (found o) a.time)) here

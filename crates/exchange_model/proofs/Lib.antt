@@ -1,6 +1,6 @@
-pub mod AnswerTimes
-pub mod ToldRefusals
-pub mod StandingDocuments
+pub mod StayingDocuments
 pub mod Requests
 pub mod RightAnswers
 pub mod Freshness
+pub use Rattle.command_model.proofs.AnswerTimes
+pub use Rattle.history_model.proofs.LegalHistories

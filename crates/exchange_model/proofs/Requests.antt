@@ -1,16 +1,14 @@
 -- Numbers of requests and their entries: each entry is of one request.
-use Rattle.std.proofs.Common.{◌≡◌, ◌⊎◌, inl, inr, ℕ, ◌+◌, ◌<◌, List, [], ◌∷◌, ◌++◌, length, refl, sym, ap, subst, ◌∙◌, arith, Bool, append-nil, append_assoc}
-use Rattle.std.specs.Prelude.{true, false, ◌==◌, ◌&&◌, Ok, map, if◌then◌else◌}
+use Rattle.std.proofs.Common.{◌≡◌, ◌⊎◌, inl, inr, ℕ, ◌+◌, List, [], ◌∷◌, ◌++◌, length, refl, sym, ap, subst, ◌∙◌, arith, Bool}
+use Rattle.std.specs.Prelude.{true, false, ◌==◌, ◌&&◌, map, if◌then◌else◌}
 use Rattle.std.specs.List.{AllByRecursion}
 use Rattle.std.proofs.lemmas.Bool.{eqb-true}
 use Rattle.command_model.specs.Tree.{Fields}
-use Rattle.command_model.specs.Insert.{Insert}
-use Rattle.command_model.specs.Command.{insert_command, command_of}
 use Rattle.history_model.specs.History.{Session, client_session, router_session, StatementNumber, Entry, IsIn}
-use Rattle.history_model.proofs.Lists.{all_at, in_cons, in_first, in_later, in_none}
+use Rattle.history_model.proofs.Lists.{in_cons, in_first, in_later, in_none}
 use Rattle.exchange_model.specs.Asked.{RequestId, same_request, Asked, Answered, number_for, is_session_of, entries_by}
 use Rattle.exchange_model.specs.Right.{IsStatement, AreStatements}
-use Rattle.exchange_model.specs.OneHistory.{WasSent, OneHistory, ids_asked, ids_told, AreDifferent}
+use Rattle.exchange_model.specs.OneHistory.{ids_asked, ids_told, AreDifferent}
 use Rattle.exchange_model.specs.Earlier.{IsEntryOf}
 
 -- numbers that compare equal are one

@@ -1,6 +1,6 @@
 -- What right answers tell, by what the requests ask for.
-use Rattle.std.proofs.Common.{◌≡◌, ℕ, ◌<◌, ◌≤◌, ◌⊎◌, inl, inr, List, [], ◌∷◌, refl, sym, ap, subst, ◌∙◌, arith}
-use Rattle.std.specs.Prelude.{Bool, true, false, Option, Some, None, Result, Ok, map}
+use Rattle.std.proofs.Common.{◌≡◌, ℕ, ◌≤◌, ◌⊎◌, inl, inr, List, [], ◌∷◌, refl, sym, ap, subst, ◌∙◌, arith}
+use Rattle.std.specs.Prelude.{Option, Some, None, Result, Ok, map}
 use Rattle.command_model.specs.Tree.{Fields}
 use Rattle.command_model.specs.Refusals.{Refusal, time_ahead}
 use Rattle.command_model.specs.ReplyParts.{operation_time}
@@ -9,11 +9,11 @@ use Rattle.command_model.specs.Find.{Find}
 use Rattle.command_model.specs.Shown.{document_items}
 use Rattle.command_model.specs.Command.{Command, insert_command, find_command, command_of}
 use Rattle.command_model.specs.Answers.{find_answer, refusal_answer, answer_document}
-use Rattle.exchange_model.proofs.AnswerTimes.{time_of_insert, time_of_find}
-use Rattle.exchange_model.proofs.ToldRefusals.{never_ahead}
+use Rattle.command_model.proofs.AnswerTimes.{time_of_insert}
+use Rattle.command_model.proofs.ToldRefusals.{never_ahead}
 use Rattle.history_model.specs.History.{Entry, IsIn, document_at}
 use Rattle.history_model.proofs.Lists.{in_cons, in_none}
-use Rattle.exchange_model.specs.Asked.{Asked, Answered, entries_by}
+use Rattle.exchange_model.specs.Asked.{Asked, Answered}
 use Rattle.exchange_model.specs.Outcomes.{Done, done_of, sum_of, errors_of, time_of, answer_of}
 use Rattle.exchange_model.specs.Right.{found, told_by, IsWhole, time_read, IsRight, right_insert, right_find, right_ahead, right_hello, right_legacy, right_ping, right_end_sessions, right_refusal}
 
@@ -89,7 +89,8 @@ found_items history a t find documents time (tells_ahead named at says) told =
     absurd (let e : answer_document (refusal_answer (time_ahead t.time)) ≡ answer_document (find_answer find.namespace documents time) = sym says ∙ told in cc)
 found_items history a t find documents time (tells_found says) told =
     let shown : Option Fields = document_at history find.namespace (Some find.key) (time_read a find) in
-    let e : answer_document (find_answer find.namespace (found shown) (time_read a find)) ≡ answer_document (find_answer find.namespace documents time) = sym says ∙ told in
+    let e : answer_document (find_answer find.namespace (found shown) (time_read a find)) ≡ answer_document (find_answer find.namespace documents time) =
+    sym says ∙ told in
     let times : time_read a find ≡ time = cc in
     let items : document_items (found shown) ≡ document_items documents = cc in
     ap (λ n. document_items (found (document_at history find.namespace (Some find.key) n))) (sym times) ∙ items

@@ -4,7 +4,6 @@ pub mod Right
 pub mod OneHistory
 pub mod Earlier
 pub mod SampleExchanges
-pub mod SampleRequests
 pub use Rattle.command_model.specs.Answers
 pub use Rattle.chunk_model.specs.Catalogue
 pub use Rattle.command_model.specs.Command
@@ -16,11 +15,13 @@ pub use Rattle.command_model.specs.Find
 pub use Rattle.command_model.specs.Handshake
 pub use Rattle.history_model.specs.History
 pub use Rattle.command_model.specs.Insert
+pub use Rattle.history_model.specs.Notes
 pub use Rattle.command_model.specs.Refusals
 pub use Rattle.command_model.specs.Replies
 pub use Rattle.command_model.specs.ReplyParts
 pub use Rattle.chunk_model.specs.SampleCollections
 pub use Rattle.command_model.specs.SampleReplies
+pub use Rattle.command_model.specs.SampleRequests
 pub use Rattle.command_model.specs.Times
 pub use Rattle.command_model.specs.Requests
 pub use Rattle.command_model.specs.Tree

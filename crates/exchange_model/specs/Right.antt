@@ -1,6 +1,6 @@
 -- Which replies are right by one history, and by what their routers knew.
 use Rattle.std.specs.Prelude.{◌≡◌, ℕ, ◌+◌, ◌<◌, ◌≤◌, List, [], ◌∷◌, map, Option, Some, None, Ok, Err, Bool, true, false, ◌&&◌}
-use Rattle.command_model.specs.Tree.{Datum, Fields}
+use Rattle.command_model.specs.Tree.{Fields}
 use Rattle.command_model.specs.Refusals.{Refusal, time_ahead}
 use Rattle.command_model.specs.Insert.{Insert}
 use Rattle.command_model.specs.Find.{Find}

@@ -1,11 +1,11 @@
 -- Requests of two routers, answers and entries to try the definitions on.
-use Rattle.std.specs.Prelude.{ℕ, List, [], ◌∷◌, codes, Option, Some, None, Bool, true, false, pos}
+use Rattle.std.specs.Prelude.{ℕ, List, [], ◌∷◌, codes, Option, None, Bool, true, false, pos}
 use Rattle.command_model.specs.Tree.{Datum, Fields}
 use Rattle.command_model.specs.Requests.{Request}
 use Rattle.command_model.specs.Times.{timestamp}
 use Rattle.command_model.specs.Errors.{object_too_large, duplicate_key}
 use Rattle.command_model.specs.SampleReplies.{done_reply, duplicate_reply}
-use Rattle.exchange_model.specs.SampleRequests.{deep, find_body, five, greeting, insert_body, long_five, request, shown, six, three, with_id}
+use Rattle.command_model.specs.SampleRequests.{deep, find_body, five, greeting, insert_body, long_five, request, shown, six, three, with_id}
 use Rattle.history_model.specs.History.{router_session, insert_operation, Outcome, done, fails_with, Entry}
 use Rattle.exchange_model.specs.Asked.{RequestId, Asked, Answered}
 use Rattle.exchange_model.specs.OneHistory.{Given}

@@ -10,7 +10,7 @@ ghost use Rattle.command_model.specs.Refusals.{Refusal, no_document_at};
 ghost use Rattle.command_model.specs.Replies.{reply_bytes};
 ghost use Rattle.command_model.specs.Requests.{msg_form};
 ghost use Rattle.command_model.specs.SampleReplies.{ahead_reply, done_reply, duplicate_reply};
-ghost use Rattle.exchange_model.specs.SampleRequests.{deep, faulty, five, long_five, second_fails, shown, six, three, too_large_reply, with_id};
+ghost use Rattle.command_model.specs.SampleRequests.{deep, faulty, five, long_five, second_fails, shown, six, three, too_large_reply, with_id};
 ghost use Rattle.command_model.specs.Times.{timestamp};
 ghost use Rattle.history_model.specs.History.{Legal, done, fails_with};
 ghost use Rattle.exchange_model.specs.Asked.{reply_put};

@@ -96,8 +96,8 @@ pub fn reads_miss_nothing()
 
 /// A find that names no time shows each document that its router showed before, in that life, under the same key.
 pub fn reads_stay()
-    ensures { (given : List Given) (creations : List Creation) (history : List Entry) (asked : List Asked) (answered : List Answered) (a : Asked) (s t : Answered)
-        (earlier find : Find) (document : Fields) (time : ℕ) → OneHistory given creations history asked answered → IsTold asked answered a t
+    ensures { (given : List Given) (creations : List Creation) (history : List Entry) (asked : List Asked) (answered : List Answered) (a : Asked)
+        (s t : Answered) (earlier find : Find) (document : Fields) (time : ℕ) → OneHistory given creations history asked answered → IsTold asked answered a t
         → WasToldBefore answered a s → command_of s.request ≡ Ok (find_command earlier)
         → s.document ≡ answer_document (find_answer earlier.namespace (document ∷ []) time) → command_of a.request ≡ Ok (find_command find) → find.at ≡ None
         → earlier.namespace ≡ find.namespace → same_key (Some earlier.key) (Some find.key) ≡ true

@@ -1,2 +1,3 @@
+pub mod FieldLists
 pub mod Parts
 pub mod Walks

@@ -5,6 +5,6 @@ mod path;
 mod values;
 mod walk;
 
-pub use path::{MOST_PARTS, ParseFault, Path, PathFault};
+pub use path::{MOST_PARTS, ParseFault, Path, PathFault, parse_path};
 pub use values::values_at;
 pub use walk::{Visitor, any_at, gap_at};

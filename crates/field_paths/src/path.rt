@@ -1,9 +1,11 @@
 //! Paths: the names between the dots.
 
 ghost use Rattle.std.specs.Prelude.{◌≡◌, ◌<◌, ◌↔◌, Err, IfOk, None, Ok, Some, if◌then◌else◌, length, nat_lt, option_map};
-ghost use Rattle.std.specs.Result.{result_err};
+ghost use Rattle.std.specs.Result.{result_err, result_map_both};
 ghost use Rattle.std.specs.Str.{all_ascii_digits};
 ghost use Rattle.field_paths.specs.Faults.{shown_as};
+ghost use Rattle.field_paths.specs.ReadFaults.{Gives};
+ghost use Rattle.query_model.specs.Queries.{path_fault};
 ghost use Rattle.field_paths.specs.declared.path.PathFault.TheVariants.{Digits, Dollar, Empty, Long, Memory};
 ghost use Rattle.query_model.specs.Paths.{IsPath, digits_part, dollar_part, empty_part, most_parts, part_fault, parts_of, read_path, too_long};
 
@@ -115,6 +117,20 @@ impl Path {
         ensures some { 0 < length self.now }
     {
         self.parts.as_slice()
+    }
+}
+
+/// The path that a name is, for a parser: fails where [`Path::parse`] does, with `Path` and its fault, or with `Memory`.
+pub fn parse_path(alloc: Global, name: &str) -> Result<Path, ParseFault>
+    ensures gives { Gives (λ p. p) result (result_map_both (λ path. path) path_fault (read_path name.now)) }
+{
+    match Path::parse(alloc, name) {
+        Ok(path) => Ok(path),
+        Err(PathFault::Empty) => Err(ParseFault::Path(PathFault::Empty)),
+        Err(PathFault::Digits) => Err(ParseFault::Path(PathFault::Digits)),
+        Err(PathFault::Dollar) => Err(ParseFault::Path(PathFault::Dollar)),
+        Err(PathFault::Long) => Err(ParseFault::Path(PathFault::Long)),
+        Err(PathFault::Memory) => Err(ParseFault::Memory),
     }
 }
 

@@ -1,5 +1,6 @@
 -- What holds of each item of a list, and what stands in one.
 use Rattle.std.proofs.Common.{◌≡◌, ◌⊎◌, inl, inr, List, [], ◌∷◌, ◌++◌, refl, sym, ap, subst, ◌∙◌, append_assoc}
+use Rattle.std.specs.Prelude.{Bool, true, false, filter, if◌then◌else◌}
 use Rattle.std.specs.List.{AllByRecursion}
 use Rattle.history_model.specs.History.{IsIn}
 
@@ -75,3 +76,16 @@ in_push {X = X} x xs y i = by_part (in_append x xs (y ∷ []) i)
     by_part : IsIn x xs ⊎ IsIn x (y ∷ []) → IsIn x xs ⊎ (x ≡ y)
     by_part (inl j) = inl j
     by_part (inr j) = by_one (in_cons x y [] j)
+
+-- what holds of all that stand in a list holds of each item
+pub all_from : {X : Type 0} (P : X → Type 0) (xs : List X) → ((x : X) → IsIn x xs → P x) → AllByRecursion P xs
+all_from P [] f = tt
+all_from P (x ∷ xs) f = (f x (in_first x xs), all_from P xs (λ y i. f y (in_later y x xs i)))
+
+pub all_filter : {X : Type 0} (P : X → Type 0) (test : X → Bool) (xs : List X) → AllByRecursion P xs → AllByRecursion P (filter test xs)
+all_filter P test [] all = tt
+all_filter P test (x ∷ xs) all = by_test (test x) (all_filter P test xs all.1)
+  where
+    by_test : (b : Bool) → AllByRecursion P (filter test xs) → AllByRecursion P (if b then x ∷ filter test xs else filter test xs)
+    by_test true rest = (all.0, rest)
+    by_test false rest = rest

@@ -1,14 +1,15 @@
 -- The history of the clients' writes, and the unsharded collection that it stands for: one map a namespace from
--- keys to documents.
-use Rattle.std.specs.Prelude.{◌≡◌, ◌<◌, ◌⊎◌, ℕ, ℤ, List, [], ◌∷◌, ◌++◌, length, Option, Some, None, Bool, false, IsTrue, ◌&&◌, ◌||◌, if◌then◌else◌, filter, nat_le, nat_lt}
+-- keys to documents (MongoDB manual, "insert", "update", "delete", "Retryable Writes").
+use Rattle.std.specs.Prelude.{◌≡◌, ◌<◌, ◌⊎◌, ℕ, ℤ, List, [], ◌∷◌, ◌++◌, Option, Some, None, Result, Ok, Err, Bool, IsTrue, ◌&&◌, if◌then◌else◌, filter, nat_le}
 use Rattle.std.specs.List.{AllByRecursion}
 use Rattle.std.specs.Str.{bytes_eq}
-use Rattle.base_model.specs.Tree.{Datum, Fields, document_depth}
-use Rattle.base_model.specs.Spelling.{written}
-use Rattle.value_model.specs.Order.{same_value}
-use Rattle.value_model.specs.Keys.{key_of}
-use Rattle.base_model.specs.Errors.{ErrorCode, object_too_large, duplicate_key}
-use Rattle.base_model.specs.Limits.{most_bytes_kept, most_depth_kept}
+use Rattle.base_model.specs.Tree.{Datum, Fields}
+use Rattle.base_model.specs.Errors.{ErrorCode, bad_value, type_mismatch, path_not_viable, immutable_field, object_too_large, duplicate_key}
+use Rattle.query_model.specs.Queries.{QueryFault}
+pub use Rattle.query_model.specs.Edits.{same_key, is_too_large}
+use Rattle.query_model.specs.Edits.{WriteFault, duplicate_fault, immutable_fault, overflow_fault, too_large_fault, not_number_fault, not_document_fault}
+use Rattle.query_model.specs.Writes.{Write, read_insert, read_update, read_delete}
+use Rattle.query_model.specs.Effects.{Effect, unmet, effect_of, left_by, write_key}
 
 -- who numbers statements: a client by 16 bytes, or a router for one request of one of its lives
 pub data Session : Type 0 where
@@ -21,9 +22,13 @@ pub record StatementNumber : Type 0 where
   pub transaction : ℤ
   pub index : ℕ
 
--- what a statement does, in the words of the client
+-- what a statement does, in the words of the client: documents as they were read
 pub data Operation : Type 0 where
   insert_operation : Fields → Operation
+  -- the filter, the change, and whether a document is put in where none is there
+  update_operation : Fields → Fields → Bool → Operation
+  -- the filter
+  delete_operation : Fields → Operation
 
 -- what a statement is told
 pub record Outcome : Type 0 where
@@ -41,14 +46,20 @@ pub record Entry : Type 0 where
   pub operation : Operation
   pub outcome : Outcome
 
--- two keys are one where they compare equal
-abbrev pub same_key : Option Datum → Option Datum → Bool
-same_key (Some a) (Some b) = same_value a b
-same_key a b = false
+-- the write that a statement's words are, or the first fault
+abbrev pub read_operation : Operation → Result Write QueryFault
+read_operation (insert_operation document) = read_insert document
+read_operation (update_operation filter words upsert) = read_update filter words upsert
+read_operation (delete_operation filter) = read_delete filter
+
+-- the key under which words act that are a write
+abbrev pub key_read : Result Write QueryFault → Option Datum
+key_read (Ok write) = write_key write
+key_read (Err fault) = None
 
 -- the key that an operation writes
 abbrev pub key_written : Operation → Option Datum
-key_written (insert_operation document) = key_of document
+key_written operation = key_read (read_operation operation)
 
 abbrev pub done : Outcome
 done = record { count = 1; modified = 0; upserted = None; error = None }
@@ -56,15 +67,31 @@ done = record { count = 1; modified = 0; upserted = None; error = None }
 abbrev pub fails_with : ErrorCode → Outcome
 fails_with error = record { count = 0; modified = 0; upserted = None; error = Some error }
 
--- A document is kept where it has at most 16 mebibytes and 100 levels (MongoDB manual, "MongoDB Limits and Thresholds", BSON
--- document size and nested depth).
-abbrev pub is_too_large : Fields → Bool
-is_too_large document = nat_lt most_bytes_kept (length (written document)) || nat_lt most_depth_kept (document_depth document)
+-- the error that a fault is told as
+abbrev pub error_of : WriteFault → ErrorCode
+error_of duplicate_fault = duplicate_key
+error_of immutable_fault = immutable_field
+error_of overflow_fault = bad_value
+error_of too_large_fault = object_too_large
+error_of not_number_fault = type_mismatch
+error_of not_document_fault = path_not_viable
+
+abbrev pub outcome_of : Result Effect WriteFault → Outcome
+outcome_of (Ok e) = record { count = e.count; modified = e.modified; upserted = e.upserted; error = None }
+outcome_of (Err fault) = fails_with (error_of fault)
+
+-- words that are no write change nothing, and are told so
+abbrev pub effect_read : Result Write QueryFault → Option Fields → Option Fields × Outcome
+effect_read (Ok write) before = (left_by before (effect_of write before), outcome_of (effect_of write before))
+effect_read (Err fault) before = (before, fails_with bad_value)
 
 -- what an operation leaves of the document under its key, and what it is told
 abbrev pub effect : Operation → Option Fields → Option Fields × Outcome
-effect (insert_operation document) None = if is_too_large document then (None, fails_with object_too_large) else (Some document, done)
-effect (insert_operation document) (Some before) = (Some before, fails_with duplicate_key)
+effect operation before = effect_read (read_operation operation) before
+
+-- it met no document, or is told that its words are no write
+abbrev pub MeetsNothing : Option Fields × Outcome → Type 0
+MeetsNothing told = (told ≡ (None, outcome_of (Ok (unmet None)))) ⊎ (told ≡ (None, fails_with bad_value))
 
 -- the entry writes this key of this namespace
 abbrev pub writes_to : List ℕ → Option Datum → Entry → Bool

@@ -1,11 +1,15 @@
 //! The laws between the definitions.
 
-ghost use Rattle.std.specs.Prelude.{◌≡◌, ◌≢◌, ◌++◌, ◌∷◌, ℕ, List, [], Option, Some, false, true};
+ghost use Rattle.std.specs.Prelude.{◌≡◌, ◌≢◌, ◌++◌, ◌∷◌, ℕ, List, [], Option, Some, None, false, true};
 ghost use Rattle.std.specs.List.{AllByRecursion};
 ghost use Rattle.base_model.specs.Tree.{Datum, Fields};
-ghost use Rattle.value_model.specs.Keys.{key_of};
+ghost use Rattle.value_model.specs.Keys.{is_key, key_of};
 ghost use Rattle.base_model.specs.Errors.{ErrorCode, duplicate_key, object_too_large};
-ghost use Rattle.history_model.specs.History.{Entry, IsBefore, IsSameStatement, Legal, Operation, document_after, effect, fails_with, insert_operation, writes_to};
+ghost use Rattle.history_model.specs.Documents.{ListsDocuments, documents_at};
+ghost use Rattle.query_model.specs.Effects.{IsUnder};
+ghost use Rattle.history_model.specs.Versions.{Put, last_put, one_more};
+ghost use Rattle.history_model.specs.Notes.{Note, done_before, new_statement, seen, seen_with};
+ghost use Rattle.history_model.specs.History.{Entry, IsBefore, IsSameStatement, Legal, MeetsNothing, Operation, StatementNumber, document_after, document_at, effect, fails_with, insert_operation, key_written, writes_to};
 
 /// No two entries of a legal history stand at one time of one shard, and none is the statement of another.
 pub fn no_entry_twice()
@@ -28,4 +32,41 @@ pub fn others_untouched()
 /// A statement that is told an error leaves the document under its key as it was.
 pub fn refused_leaves()
     ensures { (operation : Operation) (before : Option Fields) (error : ErrorCode) → (effect operation before).1.error ≡ Some error → (effect operation before).0 ≡ before }
+{}
+
+/// An operation leaves nothing, or a document with the key under which it acts; so each document stands under its key.
+#[tactic(auto, using(crate::proofs::Keyed::operation_keeps, crate::proofs::Keyed::after_under))]
+pub fn keys_stay()
+    ensures operation { (operation : Operation) (before : Option Fields) (key : Datum) → key_written operation ≡ Some key → is_key key ≡ true
+        → IsUnder key before → IsUnder key (effect operation before).0 }
+    ensures entries { (namespace : List ℕ) (key : Datum) (before : Option Fields) (entries : List Entry) → is_key key ≡ true
+        → IsUnder key before → IsUnder key (document_after namespace (Some key) before entries) }
+{}
+
+/// An operation that acts under no key meets nothing or is told 2; so an entry of one is told that it did nothing.
+#[tactic(auto, using(crate::proofs::Keyed::keyless_meets_nothing, crate::proofs::Keyed::keyless_counts_nothing))]
+pub fn nothing_without_key()
+    ensures operation { (operation : Operation) → key_written operation ≡ None → MeetsNothing (effect operation None) }
+    ensures entries { (prefix back : List Entry) (e : Entry) → Legal (prefix ++ e ∷ back) → key_written e.operation ≡ None → e.outcome.count ≡ 0 }
+{}
+
+/// The documents at a time are, in the order of keys and each once, what stands under each key at that time; and there is one such list.
+pub fn documents_in_order()
+    ensures collection { (history : List Entry) (namespace : List ℕ) (time : ℕ)
+        → ListsDocuments (λ key. document_at history namespace (Some key) time) (documents_at history namespace time) }
+    ensures one { (under : Datum → Option Fields) (a b : List Fields) → ListsDocuments under a → ListsDocuments under b → a ≡ b }
+{}
+
+/// One note more, of a number that was new: it is told again, and how other numbers are seen changes as `seen_with` says.
+pub fn one_more_note<A>()
+    ensures others { (notes : List (Note A)) (note : Note A) (number : StatementNumber) → seen notes note.number ≡ new_statement
+        → seen (notes ++ note ∷ []) number ≡ seen_with note number (seen notes number) }
+    ensures own { (notes : List (Note A)) (note : Note A) → seen notes note.number ≡ new_statement
+        → seen (notes ++ note ∷ []) note.number ≡ done_before note.time note.told }
+{}
+
+/// One put more sets what stands under its key from its time on, and nothing else.
+#[tactic(auto, using(crate::proofs::Versions::one_more_put))]
+pub fn one_more_put()
+    ensures { (puts : List Put) (put : Put) (key : Datum) (time : ℕ) → last_put (puts ++ put ∷ []) key time ≡ one_more put key time (last_put puts key time) }
 {}

@@ -10,31 +10,12 @@ use Rattle.query_model.specs.Paths.{Path, as_document, begins_with_dollar, eleme
 use Rattle.query_model.specs.Queries as queries
 use Rattle.query_model.specs.Queries.{Query, clause, query, test, no_clauses, no_queries, no_tests, QueryFault, named, operators, unknown_operator, bad_operand, path_fault, path_clause, connective_clause, connectives}
 use Rattle.query_model.specs.Reading.{◌>>=◌, read_clauses, read_connective, read_path_clause, read_queries, read_tests, read_test, read_asked, some_documents}
-use Rattle.field_paths.specs.declared.path.ParseFault.{ParseFault}
-use Rattle.field_paths.specs.declared.path.ParseFault.TheVariants as faults
-use Rattle.field_paths.specs.declared.path.PathFault.TheVariants as path_faults
 use Rattle.match_expr.specs.declared.tree.Clause.{Clause}
 use Rattle.match_expr.specs.declared.tree.Test.{Test}
 use Rattle.match_expr.specs.FieldTests.{read_field_test}
-use Rattle.match_expr.specs.ReadFaults.{Fails}
 use Rattle.match_expr.specs.View.{clause_of, test_of, query_before, queries_before, tests_before}
+use Rattle.field_paths.proofs.FieldLists.{next_field}
 use Rattle.match_expr.proofs.Views.{pushed_clause, pushed_query, pushed_test}
-
--- a reader that goes on after one that failed fails in the same way
-pub passes_on : {A B : Type 0} (e : ParseFault) (r : Result A QueryFault) (s : Result B QueryFault) →
-    ((f : QueryFault) → r ≡ Err f → s ≡ Err f) → Fails e r → Fails e s
-passes_on faults.UnknownOperator r s on h = on _ h
-passes_on faults.BadOperand r s on h = on _ h
-passes_on (faults.Path path_faults.Empty) r s on h = on _ h
-passes_on (faults.Path path_faults.Digits) r s on h = on _ h
-passes_on (faults.Path path_faults.Dollar) r s on h = on _ h
-passes_on (faults.Path path_faults.Long) r s on h = on _ h
-passes_on (faults.Path path_faults.Memory) r s on h = absurd h
-passes_on faults.Deep r s on h = on _ h
-passes_on faults.Memory r s on h = tt
-
-next_field : (ms : List Field) (i : ℕ) (m : Field) → i < length ms → m ≡ get_or ms i m → drop i ms ≡ m ∷ drop (i + 1) ms
-next_field ms i m less is = rw add-one (drop-cons ms i m less ∙ ap (λ (x : Field). x ∷ drop (suc i) ms) (sym is))
 
 pub next_value : (vs : List Value) (i : ℕ) (v : Value) → i < length vs → v ≡ get_or vs i v → drop i vs ≡ v ∷ drop (i + 1) vs
 next_value vs i v less is = rw add-one (drop-cons vs i v less ∙ ap (λ (x : Value). x ∷ drop (suc i) vs) (sym is))

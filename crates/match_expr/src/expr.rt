@@ -8,7 +8,7 @@ ghost use Rattle.query_model.specs.KeySpans.{key_asked, key_equal};
 ghost use Rattle.query_model.specs.Reading.{read_query};
 ghost use Rattle.value_compare.specs.Spans.{span_of};
 ghost use Rattle.value_compare.specs.Keys.{range_span};
-ghost use Rattle.match_expr.specs.ReadFaults.{Fails};
+ghost use Rattle.field_paths.specs.ReadFaults.{Fails};
 
 use crate::keys;
 use crate::keys::as_key;

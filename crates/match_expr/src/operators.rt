@@ -8,7 +8,7 @@ ghost use Rattle.query_model.specs.Queries as queries;
 ghost use Rattle.query_model.specs.Queries.{Query, QueryFault, connectives, named, operators};
 ghost use Rattle.query_model.specs.Reading.{all_documents, is_operator_document, read_test, some_documents};
 ghost use Rattle.match_expr.specs.OperatorNames.{operator_of, plain_of};
-ghost use Rattle.match_expr.specs.ReadFaults.{Gives};
+ghost use Rattle.field_paths.specs.ReadFaults.{Gives};
 ghost use Rattle.match_expr.specs.View.{connective_of, test_of};
 
 use crate::operand_list::OperandList;

@@ -2,37 +2,22 @@
 //! deep the query or the operator document is in it, then what it has.
 
 ghost use Rattle.std.specs.Prelude.{◌≡◌, Ok, filter_map, if◌then◌else◌};
-ghost use Rattle.std.specs.Result.{result_map_both};
 ghost use Rattle.bson_values.specs.Tree.{document_value};
 ghost use Rattle.bson_values.specs.View.{datum_of};
-ghost use Rattle.query_model.specs.Paths.{as_document, begins_with_dollar, elements, read_path};
-ghost use Rattle.query_model.specs.Queries.{eq_test, no_tests, path_fault, test};
+ghost use Rattle.query_model.specs.Paths.{as_document, begins_with_dollar, elements};
+ghost use Rattle.query_model.specs.Queries.{eq_test, no_tests, test};
 ghost use Rattle.query_model.specs.Reading.{read_asked, read_clauses, read_connective, read_path_clause, read_queries, read_test, read_tests, read_tests_within, read_within};
 ghost use Rattle.match_expr.specs.FieldTests.{read_field_test};
 ghost use Rattle.match_expr.specs.OperatorNames.{nested_of};
-ghost use Rattle.match_expr.specs.ReadFaults.{Gives};
+ghost use Rattle.field_paths.specs.ReadFaults.{Gives};
 ghost use Rattle.match_expr.specs.View.{clause_of, test_of};
 
 use crate::operators;
 use crate::operators::{Nested, Operator};
 use crate::tree::{Clause, Clauses, Queries, Test, Tests};
 use bson_values::{Array, Document, Value};
-use field_paths::{ParseFault, Path, PathFault};
+use field_paths::{ParseFault, parse_path};
 use std::alloc::Global;
-
-// The path that a name is.
-fn parse_path(alloc: Global, name: &str) -> Result<Path, ParseFault>
-    ensures gives { Gives (λ p. p) result (result_map_both (λ path. path) path_fault (read_path name.now)) }
-{
-    match Path::parse(alloc, name) {
-        Ok(path) => Ok(path),
-        Err(PathFault::Empty) => Err(ParseFault::Path(PathFault::Empty)),
-        Err(PathFault::Digits) => Err(ParseFault::Path(PathFault::Digits)),
-        Err(PathFault::Dollar) => Err(ParseFault::Path(PathFault::Dollar)),
-        Err(PathFault::Long) => Err(ParseFault::Path(PathFault::Long)),
-        Err(PathFault::Memory) => Err(ParseFault::Memory),
-    }
-}
 
 // Equality with a value, as the one test.
 fn equality(alloc: Global, value: &Value) -> Result<Tests, ParseFault>

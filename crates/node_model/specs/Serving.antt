@@ -1,20 +1,11 @@
 -- How a shard serves statements and reads on what it keeps.
-use Rattle.std.specs.Prelude.{◌≡◌, ℕ, ◌+◌, List, [], ◌∷◌, ◌++◌, Bool, true, false, ◌==◌, ◌&&◌, Option, Some, None, if◌then◌else◌}
-use Rattle.std.specs.Ordering.{int_eq}
-use Rattle.std.specs.Str.{bytes_eq}
+use Rattle.std.specs.Prelude.{◌≡◌, ℕ, ◌+◌, List, [], ◌∷◌, ◌++◌, Bool, true, false, Option, Some, None, if◌then◌else◌}
 use Rattle.exchange_model.specs.Tree.{Fields}
-use Rattle.exchange_model.specs.History.{Session, client_session, router_session, StatementNumber, Operation, key_written, effect, Entry, document_left, document_at}
+pub use Rattle.exchange_model.specs.Notes.{same_session, same_number}
+use Rattle.exchange_model.specs.History.{StatementNumber, Operation, key_written, effect, Entry, document_left, document_at}
 use Rattle.exchange_model.specs.Outcomes.{Done, done_of}
 use Rattle.exchange_model.specs.Right.{ends, found}
 use Rattle.node_model.specs.Letters.{Statement, Half, key_half}
-
-abbrev pub same_session : Session → Session → Bool
-same_session (client_session a) (client_session b) = bytes_eq a b
-same_session (router_session n l r) (router_session m k s) = (n == m) && ((l == k) && (r == s))
-same_session a b = false
-
-abbrev pub same_number : StatementNumber → StatementNumber → Bool
-same_number a b = same_session a.session b.session && (int_eq a.transaction b.transaction && (a.index == b.index))
 
 -- the entry of a statement, where it was seen before
 abbrev pub seen_before : StatementNumber → List Entry → Option Entry

@@ -15,8 +15,9 @@ use Rattle.node_model.specs.Right.{ends}
 use Rattle.node_model.specs.Letters.{no_time, at_time, Statement, Half, key_half, write_ask, read_ask, time_ask, Letter}
 use Rattle.node_model.specs.States.{Router, Work, writing, reading, for_time, for_table, Open}
 use Rattle.node_model.specs.RouterRows.{id_of, statements_from, owner_of_statement, is_on, run_to, says, asks_to_write, owner_of_half, asks_to_read, asks_shards, asks_table, is_enough, enough_of, table_for, asks_times, is_ahead, wait_by, asks_by, wait_of, asks_for, is_answered}
+use Rattle.node_model.proofs.LegalHistories.{insert_writes}
 use Rattle.chunk_model.proofs.FirstTables.{every_key, only_at}
-use Rattle.node_progress.proofs.Passed.{HasKey}
+use Rattle.command_model.proofs.Passed.{HasKey}
 use Rattle.node_progress.proofs.Leads.{AskFits, IsReading, HasNext, IsGoing, IsNext, Leads}
 
 -- one message, which has this property
@@ -157,7 +158,7 @@ next_from id index (suc n) [] first more keys left = absurd (cc left)
 next_from id index zero (document ∷ documents) first more keys left =
     let same : record { number = number_for id index; operation = insert_operation document } ≡ first = cc left in
     let at_index : first.number.index ≡ index = ap (λ (s : Statement). s.number.index) (sym same) in
-    (omega (arith, at_index), keys.0.key, ap (λ (s : Statement). key_written s.operation) (sym same) ∙ keys.0.found, keys.0.is)
+    (omega (arith, at_index), keys.0.key, ap (λ (s : Statement). key_written s.operation) (sym same) ∙ insert_writes document keys.0.key keys.0.found keys.0.is, keys.0.is)
 next_from id index (suc n) (document ∷ documents) first more keys left =
     let rest = next_from id (index + 1) n documents first more keys.1 left in
     let at_index : first.number.index ≡ index + 1 + n = rest.0 in

@@ -1,5 +1,3 @@
-pub mod Passed
-pub mod Taken
 pub mod Leads
 pub mod Receivers
 pub mod CatalogueLeads

@@ -15,8 +15,8 @@ use Rattle.node_model.specs.States.{Router, Work, writing, Open, NodeState, cata
 use Rattle.node_model.specs.RouterRows.{needs, plan_of, statements_from, opened_request, taken_now, takes, id_of, begins as in_life, RouterRow, router_plain, router_take}
 use Rattle.node_model.specs.Steps.{Step, catalogue_step, shard_step, router_step, begin_step}
 use Rattle.node_model.specs.World.{Held, World, asked_by, answered_by, after, is_given, tick, IsRouter, Happens, comes, client_event}
-use Rattle.node_progress.proofs.Taken.{some_documents, documents_with_keys}
-use Rattle.node_progress.proofs.Passed.{HasKey}
+use Rattle.command_model.proofs.Taken.{some_documents, documents_with_keys}
+use Rattle.command_model.proofs.Passed.{HasKey}
 use Rattle.node_laws.proofs.Views.{view_of}
 use Rattle.node_laws.proofs.Places.{EachAt, each_set}
 use Rattle.node_laws.proofs.Facts.{RouterFits, Good}

@@ -12,7 +12,7 @@ use Rattle.reply_model.specs.Exchange.{Exchange, number_for, reply_if}
 use Rattle.reply_model.specs.Right.{found, IsEntryOf, ByEnd, AreEntriesOf, IsWhole, IsRight, right_insert, right_find, right_ahead, right_hello, right_legacy, right_ping, right_end_sessions, right_refusal, IsUnderWay, AreRight, OneHistory}
 use Rattle.reply_model.specs.Outcomes.{fails}
 use Rattle.reply_model.proofs.Turns.{ComesAfter}
-use Rattle.reply_model.proofs.ReplyTimes.{time_of_find}
+use Rattle.reply_model.proofs.AnswerTimes.{time_of_find}
 use Rattle.plain_store_model.proofs.RisingTimes.{all_prefix, legal_prefix}
 use Rattle.reply_model.proofs.Freshness.{ToldBy, CountedBelow, same_count, own_entry, TellsFresh, fresh_push, nothing_fresh}
 

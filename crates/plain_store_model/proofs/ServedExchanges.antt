@@ -15,8 +15,8 @@ use Rattle.plain_store_model.specs.PlainStore.{PlainStore, has_collection, risen
 use Rattle.reply_model.specs.Right.{found, IsEntryOf, AreEntriesOf, IsPart, IsRight, right_insert, right_find, right_ahead, right_hello, right_legacy, right_ping, right_end_sessions, right_refusal}
 use Rattle.reply_model.specs.Outcomes.{answer_of, sum_of, errors_of, time_of}
 use Rattle.reply_model.proofs.Turns.{ComesAfter}
-use Rattle.reply_model.proofs.ReplyTimes.{time_of_insert, time_of_find, time_of_hello, time_of_legacy, time_of_done, time_refused}
-use Rattle.reply_model.proofs.CommandDocuments.{never_ahead}
+use Rattle.reply_model.proofs.AnswerTimes.{time_of_insert, time_of_find, time_of_hello, time_of_legacy, time_of_done, time_refused}
+use Rattle.reply_model.proofs.ToldRefusals.{never_ahead}
 use Rattle.plain_store_model.proofs.RisingTimes.{all_both, rising_from, last_rises, last_most, greatest_most, legal_append}
 use Rattle.plain_store_model.proofs.LaterHistories.{Grown, Adds, own_alone, adds_nothing, Tells, silent_tells}
 use Rattle.plain_store_model.proofs.StatementEntries.{each_own, each_placed, each_rises, each_legal, each_is, AreBehind, prefix_are}

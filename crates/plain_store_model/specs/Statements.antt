@@ -1,8 +1,7 @@
 -- The entries of one command's statements, as a plain store makes them (MongoDB manual, "insert", "ordered").
 use Rattle.std.specs.Prelude.{ℕ, ◌+◌, List, [], ◌∷◌, ◌++◌, Bool, ◌&&◌, if◌then◌else◌}
 use Rattle.reply_model.specs.Tree.{Fields}
-use Rattle.reply_model.specs.Keys.{key_of}
-use Rattle.reply_model.specs.History.{StatementNumber, insert_operation, effect, Entry, document_left}
+use Rattle.reply_model.specs.History.{StatementNumber, insert_operation, key_written, effect, Entry, document_left}
 use Rattle.reply_model.specs.Outcomes.{fails}
 
 -- the entry of a statement at a time, behind these
@@ -13,7 +12,7 @@ entry_of before time number namespace document = record {
   number = number;
   namespace = namespace;
   operation = insert_operation document;
-  outcome = (effect (insert_operation document) (document_left namespace (key_of document) before)).1;
+  outcome = (effect (insert_operation document) (document_left namespace (key_written (insert_operation document)) before)).1;
 }
 
 -- The entries of the statements from this index on, behind these and one after another, each at the next time. The first

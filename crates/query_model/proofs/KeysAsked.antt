@@ -22,10 +22,10 @@ first_of_both a b h = (both a b h).0
 second_of_both : (a b : Bool) → (a && b) ≡ true → b ≡ true
 second_of_both a b h = (both a b h).1
 
-abbrev kept : Datum → Bool → Result Datum KeyFault
+abbrev pub kept : Datum → Bool → Result Datum KeyFault
 kept d keeps = if keeps then Ok d else Err wrong_kind
 
-abbrev valid : Option Datum → Result Datum KeyFault
+abbrev pub valid : Option Datum → Result Datum KeyFault
 valid found = elim found [ None ↦ Err absent_key | Some d ↦ if is_key d then Ok d else Err wrong_kind ]
 
 kept_key : (d key : Datum) (keeps : Bool) → is_key d ≡ keeps → kept d keeps ≡ Ok key → (Some d ≡ Some key) × (is_key key ≡ true)
@@ -34,7 +34,7 @@ kept_key d key true keeps e =
     (ap (λ (x : Datum). Some x) same, ap is_key (sym same) ∙ keeps)
 kept_key d key false keeps e = absurd cc
 
-valid_from : (found : Option Datum) (key : Datum) → valid found ≡ Ok key → (found ≡ Some key) × (is_key key ≡ true)
+pub valid_from : (found : Option Datum) (key : Datum) → valid found ≡ Ok key → (found ≡ Some key) × (is_key key ≡ true)
 valid_from None key e = absurd cc
 valid_from (Some d) key e = kept_key d key (is_key d) refl e
 

@@ -2,3 +2,9 @@ pub mod DocumentKeys
 pub mod KeysAsked
 pub mod Levels
 pub mod Names
+pub mod Puts
+pub mod KeysStay
+pub mod Entries
+pub mod EditOrder
+pub mod ReadWrites
+pub mod Sizes

@@ -4,6 +4,11 @@ pub mod Reading
 pub mod Holds
 pub mod KeySpans
 pub mod DocumentKeys
+pub mod Changes
+pub mod Edits
+pub mod Writes
+pub mod Effects
+pub mod SampleChanges
 pub mod SampleQueries
 pub use Rattle.value_model.specs.Keys
 pub use Rattle.value_model.specs.Order

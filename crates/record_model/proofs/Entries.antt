@@ -1,15 +1,15 @@
 -- Records keep one list of entries: a record has each field of its entry but the shard and the error's name.
 use Rattle.std.proofs.Common.{◌≡◌, ℕ, List, [], ◌∷◌, ◌++◌, map, refl, sym, ap, ◌∙◌}
-use Rattle.std.specs.Prelude.{Bool, true, false, Option, Some, None}
+use Rattle.std.specs.Prelude.{Option, Some, None, Result, Ok, Err}
 use Rattle.std.specs.List.{AllByRecursion}
 use Rattle.chunk_model.specs.Tree.{Fields}
-use Rattle.history_model.specs.History.{Operation, insert_operation, is_too_large, effect, Entry}
-use Rattle.history_model.proofs.LegalHistories.{put_in}
-use Rattle.record_model.specs.Records.{EntryWords, Record, entry_record, words_of, record_of}
+use Rattle.history_model.specs.History.{Operation, read_operation, outcome_of, effect_read, effect, Entry}
+use Rattle.history_model.specs.Edits.{WriteFault, duplicate_fault, immutable_fault, overflow_fault, too_large_fault, not_number_fault, not_document_fault}
+use Rattle.history_model.specs.Effects.{Effect, effect_of}
+use Rattle.history_model.specs.Writes.{Write}
+use Rattle.history_model.specs.Queries.{QueryFault}
+use Rattle.record_model.specs.Records.{EntryWords, Record, entry_record, record_of}
 use Rattle.record_model.specs.Kept.{IsKnown, Keeps, KeepEntries}
-
-same_operation : (a b : Operation) → words_of a ≡ words_of b → a ≡ b
-same_operation (insert_operation d) (insert_operation f) e = cc
 
 -- what an entry record says
 abbrev said : Record → EntryWords → EntryWords
@@ -19,7 +19,7 @@ said r other = other
 one_entry : (shard : ℕ) (w : EntryWords) (a b : Entry) → Keeps shard w a → Keeps shard w b → a ≡ b
 one_entry shard w a b p q =
     let words = ap (λ r. said r w) (p.own ∙ sym q.own) in
-    let operation = same_operation a.operation b.operation (ap (λ k. k.words) words) in
+    let operation = ap (λ k. k.operation) words in
     let times = ap (λ k. k.time) words in
     let numbers = ap (λ k. k.number) words in
     let namespaces = ap (λ k. k.namespace) words in
@@ -57,11 +57,19 @@ in_parts shard (entry_record w ∷ prefix) back entries later p q =
     (p.0, p.1 ++ later, ap (λ (es : List Entry). es ++ later) p.2, p.3, in_parts shard prefix back p.1 later p.4 q)
 in_parts shard (r ∷ prefix) back entries later p q = in_parts shard prefix back entries later p q
 
+known_outcome : (r : Result Effect WriteFault) → IsKnown (outcome_of r).error
+known_outcome (Ok effect) = refl
+known_outcome (Err duplicate_fault) = refl
+known_outcome (Err immutable_fault) = refl
+known_outcome (Err overflow_fault) = refl
+known_outcome (Err too_large_fault) = refl
+known_outcome (Err not_number_fault) = refl
+known_outcome (Err not_document_fault) = refl
+
+known_read : (read : Result Write QueryFault) (before : Option Fields) → IsKnown (effect_read read before).1.error
+known_read (Ok write) before = known_outcome (effect_of write before)
+known_read (Err fault) before = refl
+
 -- what an operation tells
 pub known_effect : (operation : Operation) (before : Option Fields) → IsKnown (effect operation before).1.error
-known_effect (insert_operation document) None = by_size (is_too_large document)
-  where
-    by_size : (large : Bool) → IsKnown (put_in document large).1.error
-    by_size true = refl
-    by_size false = refl
-known_effect (insert_operation document) (Some before) = refl
+known_effect operation before = known_read (read_operation operation) before

@@ -8,11 +8,12 @@ use Rattle.std.proofs.Math.Facts.{Fits-of_z}
 use Rattle.chunk_model.specs.Tree.{Datum, Fields}
 use Rattle.chunk_model.specs.Spelling.{framed, written, written_fields, boolean_byte}
 use Rattle.chunk_model.specs.Grammar.{ReadsAs}
+use Rattle.chunk_model.specs.Names.{IsNamespace, full_name}
 use Rattle.chunk_model.proofs.OneDocument.{one_document}
-use Rattle.history_model.specs.History.{Session, client_session, router_session, StatementNumber}
+use Rattle.history_model.specs.History.{Session, client_session, router_session, StatementNumber, Operation, insert_operation, update_operation, delete_operation}
 use Rattle.chunk_model.specs.Catalogue.{Creation}
-use Rattle.record_model.specs.Records.{OperationWords, insert_words, update_words, delete_words, OutcomeWords, EntryWords, Record, entry_record, create_record}
-use Rattle.record_model.specs.Spelled.{four, eight, spelled_string, key_document, spelled_key, spelled_session, spelled_number, spelled_words, spelled_outcome, spelled_entry, spelled_creation, spelled, IsSpellable, IsSoundKey, IsSoundSession, IsSoundNumber, AreSoundWords, IsSoundOutcome, IsSoundEntry, IsSoundCreation, IsSound}
+use Rattle.record_model.specs.Records.{OutcomeWords, EntryWords, Record, entry_record, create_record}
+use Rattle.record_model.specs.Spelled.{four, eight, spelled_string, key_document, spelled_key, spelled_session, spelled_number, spelled_operation, spelled_outcome, spelled_entry, spelled_creation, spelled, IsSpellable, IsSoundDocument, IsSoundKeyValue, IsSoundKey, IsSoundSession, IsSoundNumber, IsSoundOperation, IsSoundOutcome, IsSoundEntry, IsSoundCreation, IsSound}
 use Rattle.chunk_model.proofs.Lengths.{length-framed}
 use Rattle.chunk_model.proofs.Parts.{same_prefix, same_boolean}
 
@@ -45,6 +46,12 @@ same_transaction n m xs ys p q e =
     let prefix = same_eight (cast_unsigned w64 n) (cast_unsigned w64 m) xs ys (Fits-of_z p).fits (Fits-of_z q).fits e in
     (sym (to_z-of_z w64 n p) ∙ ap (λ (k : ℕ). cast_signed w64 k) prefix.0 ∙ to_z-of_z w64 m q, prefix.1)
 
+-- a namespace's length is a number of four bytes
+pub short_name : (name : List ℕ) → IsNamespace name → length name < 2 ^ 31
+short_name name is =
+    let same : length name ≡ length (full_name is.0 is.1) = ap (λ (l : List ℕ). length l) is.2 in
+    omega (arith, same, is.3.short)
+
 pub same_text : (s t xs ys : List ℕ) → length s < 2 ^ 31 → length t < 2 ^ 31 → spelled_string s ++ xs ≡ spelled_string t ++ ys → (s ≡ t) × (xs ≡ ys)
 same_text s t xs ys p q e =
     let number = same_four (length s) (length t) (s ++ xs) (t ++ ys) (omega arith) (omega arith) e in
@@ -74,7 +81,7 @@ same_key None (Some b) xs ys p q e =
 same_key (Some a) None xs ys p q e =
     absurd (omega (arith, first_byte 1 0 _ _ e))
 same_key (Some a) (Some b) xs ys p q e =
-    let document = same_document (key_document a) (key_document b) xs ys p q (behind 1 1 _ _ e) in
+    let document = same_document (key_document a) (key_document b) xs ys p.spelled q.spelled (behind 1 1 _ _ e) in
     (ap Some (key_in a b document.0), document.1)
 
 same_session : (s t : Session) (xs ys : List ℕ) → IsSoundSession s → IsSoundSession t → spelled_session s ++ xs ≡ spelled_session t ++ ys → (s ≡ t) × (xs ≡ ys)
@@ -112,27 +119,27 @@ same_update f c g d u v xs ys pf pc pg pd e =
     let last = same_upsert u v xs ys second.1 in
     (first.0, second.0, last.0, last.1)
 
-same_words : (a b : OperationWords) (xs ys : List ℕ) → AreSoundWords a → AreSoundWords b → spelled_words a ++ xs ≡ spelled_words b ++ ys → (a ≡ b) × (xs ≡ ys)
-same_words (insert_words d) (insert_words f) xs ys p q e =
-    let document = same_document d f xs ys p q (behind 1 1 _ _ e) in
-    (ap insert_words document.0, document.1)
-same_words (update_words f c u) (update_words g d v) xs ys p q e =
-    let s = same_update f c g d u v xs ys p.0 p.1 q.0 q.1 (behind 2 2 _ _ e) in
-    (ap (λ k. update_words k c u) s.0 ∙ ap (λ k. update_words g k u) s.1 ∙ ap (λ k. update_words g d k) s.2, s.3)
-same_words (delete_words f) (delete_words g) xs ys p q e =
-    let document = same_document f g xs ys p q (behind 3 3 _ _ e) in
-    (ap delete_words document.0, document.1)
-same_words (insert_words d) (update_words g c v) xs ys p q e =
+same_operation : (a b : Operation) (xs ys : List ℕ) → IsSoundOperation a → IsSoundOperation b → spelled_operation a ++ xs ≡ spelled_operation b ++ ys → (a ≡ b) × (xs ≡ ys)
+same_operation (insert_operation d) (insert_operation f) xs ys p q e =
+    let document = same_document d f xs ys p.spelled q.spelled (behind 1 1 _ _ e) in
+    (ap insert_operation document.0, document.1)
+same_operation (update_operation f c u) (update_operation g d v) xs ys p q e =
+    let s = same_update f c g d u v xs ys p.0.spelled p.1.spelled q.0.spelled q.1.spelled (behind 2 2 _ _ e) in
+    (ap (λ k. update_operation k c u) s.0 ∙ ap (λ k. update_operation g k u) s.1 ∙ ap (λ k. update_operation g d k) s.2, s.3)
+same_operation (delete_operation f) (delete_operation g) xs ys p q e =
+    let document = same_document f g xs ys p.spelled q.spelled (behind 3 3 _ _ e) in
+    (ap delete_operation document.0, document.1)
+same_operation (insert_operation d) (update_operation g c v) xs ys p q e =
     absurd (omega (arith, first_byte 1 2 _ _ e))
-same_words (insert_words d) (delete_words g) xs ys p q e =
+same_operation (insert_operation d) (delete_operation g) xs ys p q e =
     absurd (omega (arith, first_byte 1 3 _ _ e))
-same_words (update_words f c u) (insert_words d) xs ys p q e =
+same_operation (update_operation f c u) (insert_operation d) xs ys p q e =
     absurd (omega (arith, first_byte 2 1 _ _ e))
-same_words (update_words f c u) (delete_words g) xs ys p q e =
+same_operation (update_operation f c u) (delete_operation g) xs ys p q e =
     absurd (omega (arith, first_byte 2 3 _ _ e))
-same_words (delete_words f) (insert_words d) xs ys p q e =
+same_operation (delete_operation f) (insert_operation d) xs ys p q e =
     absurd (omega (arith, first_byte 3 1 _ _ e))
-same_words (delete_words f) (update_words g c v) xs ys p q e =
+same_operation (delete_operation f) (update_operation g c v) xs ys p q e =
     absurd (omega (arith, first_byte 3 2 _ _ e))
 
 same_outcome : (a b : OutcomeWords) (xs ys : List ℕ) → IsSoundOutcome a → IsSoundOutcome b → spelled_outcome a ++ xs ≡ spelled_outcome b ++ ys → (a ≡ b) × (xs ≡ ys)
@@ -147,18 +154,18 @@ same_outcome a b xs ys p q e =
 
 pub same_entry : (a b : EntryWords) → IsSoundEntry a → IsSoundEntry b → spelled_entry a ≡ spelled_entry b → a ≡ b
 same_entry a b p q e =
-    let a_told : List ℕ = spelled_words a.words ++ spelled_outcome a.outcome in
-    let b_told : List ℕ = spelled_words b.words ++ spelled_outcome b.outcome in
+    let a_told : List ℕ = spelled_operation a.operation ++ spelled_outcome a.outcome in
+    let b_told : List ℕ = spelled_operation b.operation ++ spelled_outcome b.outcome in
     let t = same_eight a.time b.time (spelled_string a.namespace ++ (spelled_number a.number ++ a_told)) (spelled_string b.namespace ++ (spelled_number b.number ++ b_told)) p.time q.time e in
-    let n = same_text a.namespace b.namespace (spelled_number a.number ++ a_told) (spelled_number b.number ++ b_told) p.namespace q.namespace t.1 in
+    let n = same_text a.namespace b.namespace (spelled_number a.number ++ a_told) (spelled_number b.number ++ b_told) (short_name a.namespace p.namespace) (short_name b.namespace q.namespace) t.1 in
     let s = same_number a.number b.number a_told b_told p.number q.number n.1 in
-    let w = same_words a.words b.words (spelled_outcome a.outcome) (spelled_outcome b.outcome) p.words q.words s.1 in
+    let w = same_operation a.operation b.operation (spelled_outcome a.outcome) (spelled_outcome b.outcome) p.operation q.operation s.1 in
     let o = same_outcome a.outcome b.outcome [] [] p.outcome q.outcome (ap (λ (l : List ℕ). l ++ []) w.1) in
-    λ i. record { time = t.0 i; namespace = n.0 i; number = s.0 i; words = w.0 i; outcome = o.0 i }
+    λ i. record { time = t.0 i; namespace = n.0 i; number = s.0 i; operation = w.0 i; outcome = o.0 i }
 
 pub same_creation : (a b : Creation) → IsSoundCreation a → IsSoundCreation b → spelled_creation a ≡ spelled_creation b → a ≡ b
 same_creation a b p q e =
-    let n = same_text a.namespace b.namespace (eight a.epoch ++ eight a.at) (eight b.epoch ++ eight b.at) p.namespace q.namespace e in
+    let n = same_text a.namespace b.namespace (eight a.epoch ++ eight a.at) (eight b.epoch ++ eight b.at) (short_name a.namespace p.namespace) (short_name b.namespace q.namespace) e in
     let k = same_eight a.epoch b.epoch (eight a.at) (eight b.at) p.epoch q.epoch n.1 in
     let t = same_eight a.at b.at [] [] p.at q.at (ap (λ (l : List ℕ). l ++ []) k.1) in
     λ i. record { namespace = n.0 i; epoch = k.0 i; at = t.0 i }

@@ -5,12 +5,12 @@ use Rattle.value_model.specs.Keys.{Bound, min_bound, key_bound, max_bound}
 use Rattle.chunk_model.specs.Versions.{Version}
 use Rattle.chunk_model.specs.Tables.{Owned, Chunk, Table}
 use Rattle.record_model.specs.Spelled.{four, eight, spelled_string, key_document, spelled_list, spelled_bound, spelled_version, spelled_owned, spelled_chunk, spelled_table, IsSoundBound, IsSoundVersion, IsSoundOwned, IsSoundChunk, IsSoundTable}
-use Rattle.record_model.proofs.Prefixes.{first_byte, behind, regroup, same_four, same_eight, same_text, same_document, key_in}
+use Rattle.record_model.proofs.Prefixes.{first_byte, behind, regroup, same_four, same_eight, short_name, same_text, same_document, key_in}
 
 same_bound : (a b : Bound) (xs ys : List ℕ) → IsSoundBound a → IsSoundBound b → spelled_bound a ++ xs ≡ spelled_bound b ++ ys → (a ≡ b) × (xs ≡ ys)
 same_bound min_bound min_bound xs ys p q e = (refl, behind 0 0 xs ys e)
 same_bound (key_bound a) (key_bound b) xs ys p q e =
-    let document = same_document (key_document a) (key_document b) xs ys p q (behind 1 1 _ _ e) in
+    let document = same_document (key_document a) (key_document b) xs ys p.spelled q.spelled (behind 1 1 _ _ e) in
     (ap key_bound (key_in a b document.0), document.1)
 same_bound max_bound max_bound xs ys p q e = (refl, behind 2 2 xs ys e)
 same_bound a b xs ys p q e = absurd (omega (arith, first_byte _ _ _ _ e))
@@ -65,7 +65,7 @@ pub same_table : (a b : Table) → IsSoundTable a → IsSoundTable b → spelled
 same_table a b p q e =
     let a_chunks : List ℕ = spelled_list spelled_chunk a.chunks in
     let b_chunks : List ℕ = spelled_list spelled_chunk b.chunks in
-    let n = same_text a.namespace b.namespace (eight a.epoch ++ (eight a.changes ++ (eight a.oldest ++ a_chunks))) (eight b.epoch ++ (eight b.changes ++ (eight b.oldest ++ b_chunks))) p.namespace q.namespace e in
+    let n = same_text a.namespace b.namespace (eight a.epoch ++ (eight a.changes ++ (eight a.oldest ++ a_chunks))) (eight b.epoch ++ (eight b.changes ++ (eight b.oldest ++ b_chunks))) (short_name a.namespace p.namespace) (short_name b.namespace q.namespace) e in
     let k = same_eight a.epoch b.epoch (eight a.changes ++ (eight a.oldest ++ a_chunks)) (eight b.changes ++ (eight b.oldest ++ b_chunks)) p.epoch q.epoch n.1 in
     let m = same_eight a.changes b.changes (eight a.oldest ++ a_chunks) (eight b.oldest ++ b_chunks) p.changes q.changes k.1 in
     let o = same_eight a.oldest b.oldest a_chunks b_chunks p.oldest q.oldest m.1 in

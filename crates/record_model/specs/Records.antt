@@ -1,19 +1,11 @@
 -- What a node keeps in its journal. The records are own; an entry's words are those of the client (MongoDB manual, "insert",
 -- "update" and "delete").
-use Rattle.std.specs.Prelude.{ℕ, ℤ, pos, List, Bool, Option, Some, None}
-use Rattle.chunk_model.specs.Tree.{Datum, Fields}
+use Rattle.std.specs.Prelude.{ℕ, ℤ, pos, List, Option, Some, None}
+use Rattle.chunk_model.specs.Tree.{Datum}
 use Rattle.chunk_model.specs.Errors.{ErrorCode}
-use Rattle.history_model.specs.History.{StatementNumber, Operation, insert_operation, Outcome, Entry}
+use Rattle.history_model.specs.History.{StatementNumber, Operation, Outcome, Entry}
 use Rattle.chunk_model.specs.Catalogue.{Creation}
 use Rattle.chunk_model.specs.Tables.{Table}
-
--- what a statement does
-pub data OperationWords : Type 0 where
-  insert_words : Fields → OperationWords
-  -- filter, change, and whether a document is put in where none meets the filter
-  update_words : Fields → Fields → Bool → OperationWords
-  -- filter
-  delete_words : Fields → OperationWords
 
 -- what a statement is told; an error is told by its number, and 0 is none
 pub record OutcomeWords : Type 0 where
@@ -27,7 +19,7 @@ pub record EntryWords : Type 0 where
   pub time : ℕ
   pub namespace : List ℕ
   pub number : StatementNumber
-  pub words : OperationWords
+  pub operation : Operation
   pub outcome : OutcomeWords
 
 pub data Record : Type 0 where
@@ -39,9 +31,6 @@ pub data Record : Type 0 where
   life_record : ℕ → Record
   -- a router takes a block of cursor numbers, with this number
   block_record : ℕ → Record
-
-abbrev pub words_of : Operation → OperationWords
-words_of (insert_operation document) = insert_words document
 
 abbrev pub code_of : Option ErrorCode → ℤ
 code_of None = pos 0
@@ -56,6 +45,6 @@ record_of e = entry_record (record {
   time = e.time;
   namespace = e.namespace;
   number = e.number;
-  words = words_of e.operation;
+  operation = e.operation;
   outcome = outcome_words e.outcome;
 })

@@ -1,12 +1,12 @@
 -- Records to try the definitions on.
 use Rattle.std.specs.Prelude.{ℕ, List, [], ◌∷◌, codes, true, None, pos}
 use Rattle.chunk_model.specs.Times.{timestamp}
-use Rattle.history_model.specs.History.{Entry}
+use Rattle.history_model.specs.History.{update_operation, delete_operation, Entry}
 use Rattle.chunk_model.specs.SampleDocuments.{id_document}
 use Rattle.history_model.specs.SampleEntries.{first_entry}
 use Rattle.chunk_model.specs.SampleCollections.{creation}
 use Rattle.chunk_model.specs.Tables.{first_table}
-use Rattle.record_model.specs.Records.{update_words, EntryWords, Record, table_record, create_record, life_record, block_record, record_of}
+use Rattle.record_model.specs.Records.{Record, table_record, create_record, life_record, block_record, record_of}
 
 -- the 25 bytes of the collection that begins
 abbrev pub creation_bytes : List ℕ
@@ -32,18 +32,16 @@ abbrev pub insert_bytes : List ℕ
 insert_bytes = 0x01 ∷ 0x02 ∷ 0x02 ∷ 0x00 ∷ 0x00 ∷ 0x00 ∷ 0xE8 ∷ 0x03 ∷ 0x00 ∷ 0x00 ∷ 0x03 ∷ 0x00 ∷ 0x00 ∷ 0x00 ∷ 0x64 ∷ 0x2E ∷ 0x63 ∷ 0x01 ∷ 0x02 ∷ 0x00 ∷ 0x00 ∷ 0x00 ∷ 0x01 ∷ 0x00 ∷ 0x00 ∷ 0x00 ∷ 0x00 ∷ 0x00 ∷ 0x00 ∷ 0x00 ∷ 0x01 ∷ 0x00 ∷ 0x00 ∷ 0x00 ∷ 0x00 ∷ 0x00 ∷ 0x00 ∷ 0x00 ∷ 0x00 ∷ 0x00 ∷ 0x00 ∷ 0x00 ∷ 0x00 ∷ 0x00 ∷ 0x00 ∷ 0x00 ∷ 0x00 ∷ 0x00 ∷ 0x00 ∷ 0x00 ∷ 0x01 ∷ 0x0E ∷ 0x00 ∷ 0x00 ∷ 0x00 ∷ 0x10 ∷ 0x5F ∷ 0x69 ∷ 0x64 ∷ 0x00 ∷ 0x01 ∷ 0x00 ∷ 0x00 ∷ 0x00 ∷ 0x00 ∷ 0x01 ∷ 0x00 ∷ 0x00 ∷ 0x00 ∷ 0x00 ∷ 0x00 ∷ 0x00 ∷ 0x00 ∷ 0x00 ∷ 0x00 ∷ 0x00 ∷ 0x00 ∷ 0x00 ∷ []
 
 -- {_id: 1} is found and put in the place of itself
-abbrev pub update : EntryWords
-update = record {
-  time = timestamp 1000 3;
-  namespace = codes "d.c";
-  number = insert.number;
-  words = update_words (id_document (pos 1)) (id_document (pos 1)) true;
-  outcome = record { count = 1; modified = 0; upserted = None; code = pos 0 };
-}
+abbrev pub update : Entry
+update = record insert { time = timestamp 1000 3; operation = update_operation (id_document (pos 1)) (id_document (pos 1)) true }
+
+-- it is taken out
+abbrev pub delete : Entry
+delete = record insert { time = timestamp 1000 4; operation = delete_operation (id_document (pos 1)) }
 
 -- records that keep no entry
 abbrev pub no_entries : List Record
 no_entries = table_record (first_table creation) ∷ life_record 1 ∷ block_record 1 ∷ []
 
 abbrev pub records : List Record
-records = create_record creation ∷ record_of insert ∷ []
+records = create_record creation ∷ record_of insert ∷ record_of update ∷ record_of delete ∷ []

@@ -1,18 +1,20 @@
 -- The bytes of a record, in a format that is own: the format's number, the kind, and the fields. Numbers are
 -- little-endian; documents are BSON (BSON 1.1, "Specification"). And which records have a spelling that says what they
 -- are.
-use Rattle.std.specs.Prelude.{◌≡◌, ℕ, ◌<◌, ◌^◌, List, [], ◌∷◌, ◌++◌, length, codes, Option, Some, None, FitsSigned}
+use Rattle.std.specs.Prelude.{◌≡◌, ℕ, ◌<◌, ◌^◌, List, [], ◌∷◌, ◌++◌, length, codes, true, Option, Some, None, FitsSigned}
 use Rattle.std.specs.Int.{w32, w64, to_le_bytes, cast_unsigned}
 use Rattle.std.specs.List.{AllByRecursion, flat_map}
 use Rattle.chunk_model.specs.Tree.{Datum, Fields, no_fields, field}
 use Rattle.chunk_model.specs.Spelling.{written, boolean_byte}
-use Rattle.chunk_model.specs.Grammar.{ReadsAs}
-use Rattle.history_model.specs.History.{Session, client_session, router_session, StatementNumber}
+use Rattle.chunk_model.specs.Grammar.{ReadsAs, IsWithinDepth}
+use Rattle.chunk_model.specs.Names.{IsNamespace}
+use Rattle.history_model.specs.Keys.{is_key}
+use Rattle.history_model.specs.History.{Session, client_session, router_session, StatementNumber, Operation, insert_operation, update_operation, delete_operation}
 use Rattle.value_model.specs.Keys.{Bound, min_bound, key_bound, max_bound, Range}
 use Rattle.chunk_model.specs.Catalogue.{Creation}
 use Rattle.chunk_model.specs.Versions.{Version}
 use Rattle.chunk_model.specs.Tables.{Owned, Chunk, Table}
-use Rattle.record_model.specs.Records.{OperationWords, insert_words, update_words, delete_words, OutcomeWords, EntryWords, Record, table_record, entry_record, create_record, life_record, block_record}
+use Rattle.record_model.specs.Records.{OutcomeWords, EntryWords, Record, table_record, entry_record, create_record, life_record, block_record}
 
 -- a number of four bytes, and one of eight
 abbrev pub four : ℕ → List ℕ
@@ -42,16 +44,16 @@ spelled_session (router_session node life request) = 1 ∷ (four node ++ (eight 
 abbrev pub spelled_number : StatementNumber → List ℕ
 spelled_number n = spelled_session n.session ++ (eight (cast_unsigned w64 n.transaction) ++ four n.index)
 
-abbrev pub spelled_words : OperationWords → List ℕ
-spelled_words (insert_words document) = 1 ∷ written document
-spelled_words (update_words filter change upsert) = 2 ∷ (written filter ++ (written change ++ boolean_byte upsert ∷ []))
-spelled_words (delete_words filter) = 3 ∷ written filter
+abbrev pub spelled_operation : Operation → List ℕ
+spelled_operation (insert_operation document) = 1 ∷ written document
+spelled_operation (update_operation filter change upsert) = 2 ∷ (written filter ++ (written change ++ boolean_byte upsert ∷ []))
+spelled_operation (delete_operation filter) = 3 ∷ written filter
 
 abbrev pub spelled_outcome : OutcomeWords → List ℕ
 spelled_outcome o = four o.count ++ (four o.modified ++ (spelled_key o.upserted ++ four (cast_unsigned w32 o.code)))
 
 abbrev pub spelled_entry : EntryWords → List ℕ
-spelled_entry e = eight e.time ++ (spelled_string e.namespace ++ (spelled_number e.number ++ (spelled_words e.words ++ spelled_outcome e.outcome)))
+spelled_entry e = eight e.time ++ (spelled_string e.namespace ++ (spelled_number e.number ++ (spelled_operation e.operation ++ spelled_outcome e.outcome)))
 
 abbrev pub spelled_creation : Creation → List ℕ
 spelled_creation c = spelled_string c.namespace ++ (eight c.epoch ++ eight c.at)
@@ -90,9 +92,19 @@ spelled format (block_record n) = format ∷ 0x31 ∷ eight n
 abbrev pub IsSpellable : Fields → Type 0
 IsSpellable document = ReadsAs (written document) document
 
+-- and it has at most 100 levels
+pub record IsSoundDocument (document : Fields) : Type 0 where
+  pub spelled : IsSpellable document
+  pub within : IsWithinDepth document
+
+-- a value that may be a key
+pub record IsSoundKeyValue (key : Datum) : Type 0 where
+  pub spelled : IsSpellable (key_document key)
+  pub kind : is_key key ≡ true
+
 abbrev pub IsSoundKey : Option Datum → Type 0
 IsSoundKey None = Unit {0}
-IsSoundKey (Some key) = IsSpellable (key_document key)
+IsSoundKey (Some key) = IsSoundKeyValue key
 
 abbrev pub IsSoundSession : Session → Type 0
 IsSoundSession (client_session id) = length id ≡ 16
@@ -103,10 +115,10 @@ pub record IsSoundNumber (n : StatementNumber) : Type 0 where
   pub transaction : FitsSigned w64 n.transaction
   pub index : n.index < 2 ^ 32
 
-abbrev pub AreSoundWords : OperationWords → Type 0
-AreSoundWords (insert_words document) = IsSpellable document
-AreSoundWords (update_words filter change upsert) = IsSpellable filter × IsSpellable change
-AreSoundWords (delete_words filter) = IsSpellable filter
+abbrev pub IsSoundOperation : Operation → Type 0
+IsSoundOperation (insert_operation document) = IsSoundDocument document
+IsSoundOperation (update_operation filter change upsert) = IsSoundDocument filter × IsSoundDocument change
+IsSoundOperation (delete_operation filter) = IsSoundDocument filter
 
 pub record IsSoundOutcome (o : OutcomeWords) : Type 0 where
   pub count : o.count < 2 ^ 32
@@ -116,19 +128,19 @@ pub record IsSoundOutcome (o : OutcomeWords) : Type 0 where
 
 pub record IsSoundEntry (e : EntryWords) : Type 0 where
   pub time : e.time < 2 ^ 64
-  pub namespace : length e.namespace < 2 ^ 31
+  pub namespace : IsNamespace e.namespace
   pub number : IsSoundNumber e.number
-  pub words : AreSoundWords e.words
+  pub operation : IsSoundOperation e.operation
   pub outcome : IsSoundOutcome e.outcome
 
 pub record IsSoundCreation (c : Creation) : Type 0 where
-  pub namespace : length c.namespace < 2 ^ 31
+  pub namespace : IsNamespace c.namespace
   pub epoch : c.epoch < 2 ^ 64
   pub at : c.at < 2 ^ 64
 
 abbrev pub IsSoundBound : Bound → Type 0
 IsSoundBound min_bound = Unit {0}
-IsSoundBound (key_bound key) = IsSpellable (key_document key)
+IsSoundBound (key_bound key) = IsSoundKeyValue key
 IsSoundBound max_bound = Unit {0}
 
 pub record IsSoundVersion (v : Version) : Type 0 where
@@ -147,14 +159,14 @@ pub record IsSoundChunk (c : Chunk) : Type 0 where
   pub owners : AllByRecursion IsSoundOwned c.owners
 
 pub record IsSoundTable (t : Table) : Type 0 where
-  pub namespace : length t.namespace < 2 ^ 31
+  pub namespace : IsNamespace t.namespace
   pub epoch : t.epoch < 2 ^ 64
   pub changes : t.changes < 2 ^ 64
   pub oldest : t.oldest < 2 ^ 64
   pub count : length t.chunks < 2 ^ 32
   pub chunks : AllByRecursion IsSoundChunk t.chunks
 
--- numbers fit their bytes, and documents are spelled by theirs
+-- numbers fit their bytes, namespaces and keys are of their form, and documents are kept ones, spelled by their bytes
 abbrev pub IsSound : Record → Type 0
 IsSound (table_record t) = IsSoundTable t
 IsSound (entry_record e) = IsSoundEntry e

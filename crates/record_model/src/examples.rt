@@ -1,13 +1,12 @@
 //! The definitions on records that one can check by hand.
 
-ghost use Rattle.std.specs.Prelude.{◌≡◌, ◌++◌, ◌∷◌, List, []};
+ghost use Rattle.std.specs.Prelude.{◌≡◌, ◌++◌, ◌∷◌, []};
 ghost use Rattle.chunk_model.specs.SampleCollections.{creation};
 ghost use Rattle.chunk_model.specs.SampleTables.{moved_table};
 ghost use Rattle.chunk_model.specs.Tables.{first_table};
-ghost use Rattle.history_model.specs.History.{Entry};
-ghost use Rattle.record_model.specs.SampleRecords.{creation_bytes, first_table_bytes, insert, insert_bytes, life_bytes, moved_table_bytes, no_entries, records, update};
+ghost use Rattle.record_model.specs.SampleRecords.{creation_bytes, delete, first_table_bytes, insert, insert_bytes, life_bytes, moved_table_bytes, no_entries, records, update};
 ghost use Rattle.record_model.specs.Kept.{KeepEntries, creates_of};
-ghost use Rattle.record_model.specs.Records.{block_record, create_record, entry_record, life_record, record_of, table_record};
+ghost use Rattle.record_model.specs.Records.{block_record, create_record, life_record, record_of, table_record};
 ghost use Rattle.record_model.specs.Spelled.{IsSound, spelled};
 
 /// The 25 bytes of a collection that begins, the 78 bytes of an insert, the 10 of a life; and the bytes of tables: the first one of
@@ -23,14 +22,13 @@ pub fn spellings()
     ensures block { spelled 1 (block_record 258) ≡ 0x01 ∷ 0x31 ∷ 0x02 ∷ 0x01 ∷ 0 ∷ 0 ∷ 0 ∷ 0 ∷ 0 ∷ 0 ∷ [] }
 {}
 
-/// These two records keep the insert and the collection, and tables, lives and blocks keep nothing; a shard of another number keeps
-/// no such entry. A record of an update
-/// keeps no entry, since no operation is an update yet.
+/// These records keep the collection and, in order, the insert, the update and the delete, and tables, lives and blocks keep nothing;
+/// a shard of another number keeps no such entries.
 pub fn what_is_kept()
-    ensures entries { KeepEntries 1 records (insert ∷ []) }
+    ensures entries { KeepEntries 1 records (insert ∷ update ∷ delete ∷ []) }
     ensures creates { creates_of records ≡ creation ∷ [] }
-    ensures others { KeepEntries 1 (no_entries ++ records) (insert ∷ []) }
+    ensures others { KeepEntries 1 (no_entries ++ records) (insert ∷ update ∷ delete ∷ []) }
     ensures no_creates { creates_of (no_entries ++ records) ≡ creation ∷ [] }
-    ensures other_shard { KeepEntries 2 records (insert ∷ []) → ⊥ }
-    ensures updates { (entries : List Entry) → KeepEntries 1 (entry_record update ∷ []) entries → ⊥ }
+    ensures other_shard { KeepEntries 2 records (insert ∷ update ∷ delete ∷ []) → ⊥ }
+    ensures in_order { KeepEntries 1 records (update ∷ insert ∷ delete ∷ []) → ⊥ }
 {}

@@ -1,6 +1,5 @@
 pub mod Turns
 pub mod ReplyTimes
-pub mod CommandDocuments
 pub mod Freshness
 pub mod WholeInserts
 pub mod MissedReads
@@ -8,4 +7,6 @@ pub mod Sample
 pub use Rattle.history_model.proofs.LegalHistories
 pub use Rattle.history_model.proofs.Lists
 pub use Rattle.history_model.proofs.Stores
+pub use Rattle.command_model.proofs.AnswerTimes
 pub use Rattle.command_model.proofs.Taken
+pub use Rattle.command_model.proofs.ToldRefusals

@@ -1,68 +1,28 @@
 -- What finds can't miss: a key that was written keeps a document.
-use Rattle.std.proofs.Common.{◌≡◌, ◌≢◌, ℕ, ◌+◌, ◌<◌, ◌≤◌, ◌⊎◌, inl, inr, List, [], ◌∷◌, ◌++◌, refl, sym, ap, subst, ◌∙◌, arith}
-use Rattle.std.specs.Prelude.{true, false, ◌&&◌, Option, Some, None, Bool, Result, Ok, if◌then◌else◌, filter, nat_le}
+use Rattle.std.proofs.Common.{◌≡◌, ◌≢◌, ℕ, ◌+◌, ◌<◌, ◌≤◌, ◌⊎◌, inl, inr, List, [], ◌∷◌, refl, sym, ap, subst, ◌∙◌, arith}
+use Rattle.std.specs.Prelude.{true, false, ◌&&◌, Option, Some, None, Bool, Result, Ok, nat_le}
 use Rattle.std.specs.List.{AllByRecursion}
-use Rattle.std.proofs.lemmas.Bool.{le-leb}
 use Rattle.std.proofs.lemmas.Bool.Decides.{leb_tells}
-use Rattle.std.proofs.lemmas.List.Elements.{filter-append}
 use Rattle.command_model.specs.Tree.{Datum, Fields}
 use Rattle.command_model.specs.Refusals.{Refusal, time_ahead}
 use Rattle.command_model.specs.Errors.{object_too_large}
-use Rattle.history_model.specs.History.{Outcome, effect, Entry, writes_to, document_after, document_left, document_at, IsBefore, Follows, Legal, IsIn}
+use Rattle.history_model.specs.History.{Entry, writes_to, document_at, Legal, IsIn}
 use Rattle.command_model.specs.ReplyParts.{operation_time}
 use Rattle.history_model.proofs.Lists.{all_at, all_weaken, in_cons, in_none}
-use Rattle.history_model.proofs.LegalHistories.{document_after_append, effect_keeps, effect_leaves, follows_prefix, told_under}
 use Rattle.command_model.specs.Command.{Command, find_command, command_of}
 use Rattle.command_model.specs.Find.{Find}
 use Rattle.command_model.specs.Shown.{document_items}
 use Rattle.command_model.specs.Answers.{find_answer, refusal_answer, answer_document}
+use Rattle.command_model.proofs.AnswerTimes.{time_of_insert, time_of_find}
+use Rattle.history_model.proofs.StandingDocuments.{IsInsert, there_after}
 use Rattle.reply_model.specs.Exchange.{Exchange}
-use Rattle.reply_model.specs.Right.{found, ByEnd, AreEntriesOf, IsRight, right_insert, right_find, right_ahead, right_hello, right_legacy, right_ping, right_end_sessions, right_refusal, OneHistory}
+use Rattle.reply_model.specs.Right.{found, ByEnd, IsEntryOf, AreEntriesOf, IsRight, right_insert, right_find, right_ahead, right_hello, right_legacy, right_ping, right_end_sessions, right_refusal, OneHistory}
 use Rattle.reply_model.specs.Outcomes.{answer_of, errors_of, fails, sum_of, time_of}
 use Rattle.reply_model.proofs.WholeInserts.{told_is_right}
-use Rattle.reply_model.proofs.ReplyTimes.{time_of_insert, time_of_find, reply_told}
+use Rattle.reply_model.proofs.ReplyTimes.{reply_told}
 
--- once there, never gone
-never_gone : (namespace : List ℕ) (key : Option Datum) (before : Option Fields) (es : List Entry) → before ≢ None → document_after namespace key before es ≢ None
-never_gone namespace key before [] there = there
-never_gone namespace key before (e ∷ es) there = never_gone namespace key (if writes_to namespace key e then (effect e.operation before).0 else before) es (by_hit (writes_to namespace key e))
-  where
-    by_hit : (hit : Bool) → (if hit then (effect e.operation before).0 else before) ≢ None
-    by_hit true = effect_keeps e.operation before there
-    by_hit false = there
-
--- all these entries are of a time
-filter_whole : (time : ℕ) (es : List Entry) → AllByRecursion (λ e. e.time ≤ time) es → filter (λ (e : Entry). nat_le e.time time) es ≡ es
-filter_whole time [] all = refl
-filter_whole time (e ∷ es) all = rw (le-leb e.time time all.0) (ap (λ l. e ∷ l) (filter_whole time es all.1))
-
-no_later : (d e : Entry) → IsBefore d e → d.time ≤ e.time
-no_later d e (inl less) = omega arith
-no_later d e (inr equal) = omega arith
-
--- an entry up to a time that put a document in, or found one, leaves one under its key at that time
-there_after : (prefix back : List Entry) (e : Entry) (namespace : List ℕ) (key : Option Datum) (time : ℕ) → Legal (prefix ++ e ∷ back) → e.outcome.error ≢ Some object_too_large → e.time ≤ time → writes_to namespace key e ≡ true → document_at (prefix ++ e ∷ back) namespace key time ≢ None
-there_after prefix back e namespace key time legal small early hits none = never_gone namespace key (effect e.operation before).0 later stands (sym split ∙ none)
-  where
-    follows : Follows prefix e
-    follows = follows_prefix prefix back e legal
-
-    before : Option Fields
-    before = document_left namespace key prefix
-
-    later : List Entry
-    later = filter (λ (d : Entry). nat_le d.time time) back
-
-    stands : (effect e.operation before).0 ≢ None
-    stands = effect_leaves e.operation before (λ large. small (ap (λ (o : Outcome). o.error) (told_under prefix e namespace key follows hits) ∙ large))
-
-    kept : filter (λ (d : Entry). nat_le d.time time) (prefix ++ e ∷ back) ≡ prefix ++ e ∷ later
-    kept =
-        filter-append (λ (d : Entry). nat_le d.time time) prefix (e ∷ back)
-        ∙ rw (le-leb e.time time early, filter_whole time prefix (all_weaken (λ (d : Entry). IsBefore d e) (λ (d : Entry). d.time ≤ time) prefix (λ d is. omega (arith, no_later d e is, early)) follows.rises)) refl
-
-    split : document_at (prefix ++ e ∷ back) namespace key time ≡ document_after namespace key (effect e.operation before).0 later
-    split = ap (λ (l : List Entry). document_left namespace key l) kept ∙ document_after_append namespace key None prefix (e ∷ later) ∙ ap (λ (hit : Bool). document_after namespace key (if hit then (effect e.operation before).0 else before) later) hits
+sent_is_insert : (said : List Exchange) (e : Entry) → (x : Exchange) × IsIn x said × IsEntryOf x e → IsInsert e
+sent_is_insert said e (x, i, of) = (of.document, of.statement.operation)
 
 nothing_found : (shown : Option Fields) → document_items (found shown) ≡ document_items [] → shown ≡ None
 nothing_found None same = refl
@@ -104,7 +64,8 @@ none_before_writes history said y e namespace key at time one i j small asks tol
 
     by_time : ((nat_le e.time time ≡ true) × (e.time ≤ time)) ⊎ ((nat_le e.time time ≡ false) × (time < e.time)) → time < e.time
     by_time (inl early) =
-        absurd (there_after j.0 j.1 e namespace (Some key) time (subst (λ (l : List Entry). Legal l) j.2 one.legal) small early.1 hits
+        absurd (there_after j.0 j.1 e namespace (Some key) time (subst (λ (l : List Entry). Legal l) j.2 one.legal)
+        (λ d k. sent_is_insert said d (one.sent d (subst (λ (l : List Entry). IsIn d l) (sym j.2) k))) small early.1 hits
         (subst (λ (l : List Entry). document_at l namespace (Some key) time ≡ None) j.2 none))
     by_time (inr later) = later.1
 

@@ -11,7 +11,8 @@ use Rattle.command_model.specs.Command.{Command, insert_command, command_of}
 use Rattle.reply_model.specs.Exchange.{Exchange}
 use Rattle.reply_model.specs.Right.{IsEntryOf, AreEntriesOf, IsWhole, IsPart, IsRight, right_insert, right_find, right_ahead, right_hello, right_legacy, right_ping, right_end_sessions, right_refusal, IsUnderWay, AreRight, OneHistory}
 use Rattle.reply_model.specs.Outcomes.{answer_of, errors_of, sum_of, time_of}
-use Rattle.reply_model.proofs.ReplyTimes.{reply_told, time_of_insert}
+use Rattle.command_model.proofs.AnswerTimes.{time_of_insert}
+use Rattle.reply_model.proofs.ReplyTimes.{reply_told}
 
 -- an insert is whole, by what the request asks for
 abbrev IsWholeBy : List Entry → Exchange → Result Command Refusal → Type 0

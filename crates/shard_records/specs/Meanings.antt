@@ -8,10 +8,10 @@ use Rattle.value_compare.specs.declared.words.OpWords.{OpWords}
 use Rattle.value_compare.specs.declared.words.OpWords.TheVariants.{Insert, Update, Delete}
 use Rattle.value_compare.specs.declared.words.Reply.{Reply}
 use Rattle.record_model.specs.History as history
-use Rattle.record_model.specs.History.{client_session, router_session, StatementNumber}
+use Rattle.record_model.specs.History.{client_session, router_session, StatementNumber, Operation, insert_operation, update_operation, delete_operation}
 use Rattle.record_model.specs.Records as records
 use Rattle.record_model.specs.Catalogue.{Creation}
-use Rattle.record_model.specs.Records.{OperationWords, insert_words, update_words, delete_words, OutcomeWords, EntryWords, table_record, entry_record, create_record, life_record, block_record}
+use Rattle.record_model.specs.Records.{OutcomeWords, EntryWords, table_record, entry_record, create_record, life_record, block_record}
 use Rattle.shard_records.specs.declared.record.Record.{Record}
 use Rattle.shard_records.specs.declared.record.Record.TheVariants.{Table, Entry, Create, Life, Block}
 use Rattle.shard_records.specs.declared.record.WordsRef.{WordsRef}
@@ -24,31 +24,31 @@ session_meant (Router node life request) = router_session node.0 life request
 abbrev pub number_meant : Stmt → StatementNumber
 number_meant s = record { session = session_meant s.session; transaction = s.txn; index = s.index }
 
-abbrev pub words_meant : OpWords → OperationWords
-words_meant (Insert document) = insert_words document
-words_meant (Update filter change upsert) = update_words filter change upsert
-words_meant (Delete filter) = delete_words filter
+abbrev pub operation_meant : OpWords → Operation
+operation_meant (Insert document) = insert_operation document
+operation_meant (Update filter change upsert) = update_operation filter change upsert
+operation_meant (Delete filter) = delete_operation filter
 
-abbrev pub words_lent : WordsRef → OperationWords
-words_lent (Lent_insert document) = insert_words document.now
-words_lent (Lent_update filter change upsert) = update_words filter.now change.now upsert
-words_lent (Lent_delete filter) = delete_words filter.now
+abbrev pub operation_lent : WordsRef → Operation
+operation_lent (Lent_insert document) = insert_operation document.now
+operation_lent (Lent_update filter change upsert) = update_operation filter.now change.now upsert
+operation_lent (Lent_delete filter) = delete_operation filter.now
 
 abbrev pub outcome_meant : Reply → OutcomeWords
 outcome_meant r = record { count = r.n; modified = r.modified; upserted = r.upserted; code = r.code }
 
-abbrev pub entry_meant : Time → List ℕ → Stmt → OperationWords → Reply → EntryWords
-entry_meant time namespace statement words reply = record {
+abbrev pub entry_meant : Time → List ℕ → Stmt → Operation → Reply → EntryWords
+entry_meant time namespace statement operation reply = record {
   time = time.0;
   namespace = namespace;
   number = number_meant statement;
-  words = words;
+  operation = operation;
   outcome = outcome_meant reply;
 }
 
 abbrev pub record_meant : Record → records.Record
 record_meant (Table table) = table_record table
-record_meant (Entry time namespace statement op reply) = entry_record (entry_meant time namespace statement (words_meant op) reply)
+record_meant (Entry time namespace statement op reply) = entry_record (entry_meant time namespace statement (operation_meant op) reply)
 record_meant (Create namespace epoch at) = create_record (record { namespace = namespace; epoch = epoch; at = at.0 })
 record_meant (Life number) = life_record number
 record_meant (Block number) = block_record number

@@ -4,11 +4,12 @@
 
 ghost use Rattle.std.specs.Prelude.{◌≡◌, ◌<◌, ◌^◌, ◌++◌, ◌∷◌, [], length, take, FitsSigned, OnErr, OnOk};
 ghost use Rattle.std.specs.Int.{cast_unsigned, w64};
+ghost use Rattle.record_model.specs.Names.{IsNamespace};
 ghost use Rattle.bson_values.specs.Spelling.{written};
-ghost use Rattle.record_model.specs.Spelled.{AreSoundWords, IsSound, IsSoundKey, IsSoundNumber, IsSoundOutcome, IsSoundSession, IsSpellable, eight, four, key_document, spelled, spelled_creation, spelled_entry, spelled_key, spelled_number, spelled_outcome, spelled_session, spelled_string, spelled_words};
+ghost use Rattle.record_model.specs.Spelled.{IsSoundOperation, IsSound, IsSoundKey, IsSoundNumber, IsSoundOutcome, IsSoundSession, IsSoundDocument, IsSoundKeyValue, eight, four, key_document, spelled, spelled_creation, spelled_entry, spelled_key, spelled_number, spelled_outcome, spelled_session, spelled_string, spelled_operation};
 ghost use Rattle.record_model.specs.Records.{create_record, entry_record};
-ghost use Rattle.shard_records.specs.Meanings.{entry_meant, number_meant, outcome_meant, record_meant, session_meant, words_lent};
-ghost use Rattle.shard_records.specs.Sizes.{AreWritable, IsWritableKey, IsWritableRecord};
+ghost use Rattle.shard_records.specs.Meanings.{entry_meant, number_meant, outcome_meant, record_meant, session_meant, operation_lent};
+ghost use Rattle.shard_records.specs.Sizes.{FitsRecord, IsWritableOperation, IsWritableKey, IsWritableRecord};
 ghost use Rattle.bson_values.specs.Limits.{IsWritable};
 
 use crate::record::{Record, WordsRef};
@@ -21,7 +22,7 @@ use value_compare::{Key, Reply};
 /// The format that records are written in.
 pub(crate) const NEWEST_FORMAT: u8 = 0x01;
 
-/// Puts the record's one spelling in the newest format behind the bytes. Each document in the record has at most 104
+/// Puts the record's one spelling in the newest format behind the bytes. Each document in the record has at most 100
 /// levels and 300,000,000 bytes.
 ///
 /// # Errors
@@ -39,7 +40,7 @@ pub fn write_record(kept: &Record, out: &mut Vec<u8>) -> Result<(), Memory>
 }
 
 /// Puts the one spelling, in the newest format, of the record of an entry of these parts behind the bytes, and copies no document.
-/// Each document in it has at most 104 levels and 300,000,000 bytes, that of a key with it.
+/// Each document in it has at most 100 levels and 300,000,000 bytes, that of a key with it.
 ///
 /// # Errors
 /// `Memory` for want of memory, and then the bytes are as they were.
@@ -51,10 +52,10 @@ pub fn write_entry(
     reply: &Reply,
     out: &mut Vec<u8>,
 ) -> Result<(), Memory>
-    requires words { AreWritable (words_lent words.now) }
+    requires words { IsWritableOperation (operation_lent words.now) }
     requires upserted { IsWritableKey (outcome_meant reply.now).upserted }
-    ensures ok { OnOk result (out.new.items ≡ out.old.items ++ spelled 1 (entry_record (entry_meant time namespace.now statement.now (words_lent words.now) reply.now))) }
-    ensures sound { OnOk result (IsSound (entry_record (entry_meant time namespace.now statement.now (words_lent words.now) reply.now))) }
+    ensures ok { OnOk result (out.new.items ≡ out.old.items ++ spelled 1 (entry_record (entry_meant time namespace.now statement.now (operation_lent words.now) reply.now))) }
+    ensures sound { OnOk result (IsSound (entry_record (entry_meant time namespace.now statement.now (operation_lent words.now) reply.now))) }
     ensures err { OnErr result (out.new.items ≡ out.old.items) }
 {
     let len = out.len();
@@ -111,7 +112,7 @@ pub(crate) fn put_u64(n: u64, out: &mut Vec<u8>) -> Result<(), Memory>
 pub(crate) fn put_namespace(namespace: &Namespace, out: &mut Vec<u8>) -> Result<(), Memory>
     ensures ok { OnOk result (out.new.items ≡ out.old.items ++ spelled_string namespace.now) }
     ensures kept { take (length out.old.items) out.new.items ≡ out.old.items }
-    ensures short { length namespace.now < 2 ^ 31 }
+    ensures namespace { IsNamespace namespace.now }
 {
     let text = namespace.as_str();
     put_u32(text.len() as u32, out)?;
@@ -120,9 +121,9 @@ pub(crate) fn put_namespace(namespace: &Namespace, out: &mut Vec<u8>) -> Result<
 
 /// Puts a document.
 fn put_document(document: &Document, out: &mut Vec<u8>) -> Result<(), Memory>
-    requires { IsWritable document.now }
+    requires { FitsRecord document.now }
     ensures ok { OnOk result (out.new.items ≡ out.old.items ++ written document.now) }
-    ensures sound { OnOk result (IsSpellable document.now) }
+    ensures sound { OnOk result (IsSoundDocument document.now) }
     ensures kept { take (length out.old.items) out.new.items ≡ out.old.items }
 {
     write(document, out)
@@ -148,13 +149,13 @@ fn put_key(key: &Option<Key>, out: &mut Vec<u8>) -> Result<(), Memory>
 pub(crate) fn put_some_key(key: &Key, out: &mut Vec<u8>) -> Result<(), Memory>
     requires { IsWritable (key_document key.now) }
     ensures ok { OnOk result (out.new.items ≡ out.old.items ++ written (key_document key.now)) }
-    ensures sound { OnOk result (IsSpellable (key_document key.now)) }
+    ensures sound { OnOk result (IsSoundKeyValue key.now) }
     ensures kept { take (length out.old.items) out.new.items ≡ out.old.items }
 {
     let alloc = *out.allocator();
     let mut document = Document::new(alloc);
     document.push(Name::of(alloc, "_id")?, key.value().copy()?)?;
-    put_document(&document, out)
+    write(&document, out)
 }
 
 /// Puts whose statement it is.
@@ -202,10 +203,10 @@ fn put_statement(statement: &Stmt, out: &mut Vec<u8>) -> Result<(), Memory>
 }
 
 /// Puts what a statement does.
-fn put_words(words: &WordsRef<'_>, out: &mut Vec<u8>) -> Result<(), Memory>
-    requires { AreWritable (words_lent words.now) }
-    ensures ok { OnOk result (out.new.items ≡ out.old.items ++ spelled_words (words_lent words.now)) }
-    ensures sound { OnOk result (AreSoundWords (words_lent words.now)) }
+fn put_operation(words: &WordsRef<'_>, out: &mut Vec<u8>) -> Result<(), Memory>
+    requires { IsWritableOperation (operation_lent words.now) }
+    ensures ok { OnOk result (out.new.items ≡ out.old.items ++ spelled_operation (operation_lent words.now)) }
+    ensures sound { OnOk result (IsSoundOperation (operation_lent words.now)) }
     ensures kept { take (length out.old.items) out.new.items ≡ out.old.items }
 {
     match words {
@@ -252,17 +253,17 @@ fn put_entry(
     reply: &Reply,
     out: &mut Vec<u8>,
 ) -> Result<(), Memory>
-    requires words { AreWritable (words_lent words.now) }
+    requires words { IsWritableOperation (operation_lent words.now) }
     requires upserted { IsWritableKey (outcome_meant reply.now).upserted }
-    ensures ok { OnOk result (out.new.items ≡ out.old.items ++ spelled 1 (entry_record (entry_meant time namespace.now statement.now (words_lent words.now) reply.now))) }
-    ensures sound { OnOk result (IsSound (entry_record (entry_meant time namespace.now statement.now (words_lent words.now) reply.now))) }
+    ensures ok { OnOk result (out.new.items ≡ out.old.items ++ spelled 1 (entry_record (entry_meant time namespace.now statement.now (operation_lent words.now) reply.now))) }
+    ensures sound { OnOk result (IsSound (entry_record (entry_meant time namespace.now statement.now (operation_lent words.now) reply.now))) }
     ensures kept { take (length out.old.items) out.new.items ≡ out.old.items }
 {
     put(&[NEWEST_FORMAT, 0x02], out)?;
     put_u64(time.0, out)?;
     put_namespace(namespace, out)?;
     put_statement(statement, out)?;
-    put_words(words, out)?;
+    put_operation(words, out)?;
     put_reply(reply, out)
 }
 

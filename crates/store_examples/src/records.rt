@@ -1,9 +1,8 @@
 //! The bytes of records.
 
 ghost use Rattle.std.specs.Prelude.{IfOk};
-ghost use Rattle.shard_records.specs.Meanings.{outcome_meant, record_meant, words_meant};
-ghost use Rattle.shard_records.specs.Sizes.{AreWritable, IsWritableKey, IsWritableRecord};
-ghost use Rattle.bson_values.specs.Limits.{IsWritable};
+ghost use Rattle.shard_records.specs.Meanings.{outcome_meant, record_meant, operation_meant};
+ghost use Rattle.shard_records.specs.Sizes.{FitsRecord, IsWritableOperation, IsWritableKey, IsWritableRecord};
 
 use bson_values::{Document, Name, Value};
 use cluster_base::{NameFault, Namespace, NodeId, Session, Stmt, Time};
@@ -77,7 +76,7 @@ fn key_of(word: &str) -> Result<Option<Key>, RowFault>
 
 // `{_id: n}`
 fn document_of(alloc: Global, word: &str) -> Result<Document, RowFault>
-    ensures { IfOk result (λ d. IsWritable d) }
+    ensures { IfOk result (λ d. FitsRecord d) }
 {
     let n = number(word)?;
     let mut document = Document::new(alloc);
@@ -86,7 +85,7 @@ fn document_of(alloc: Global, word: &str) -> Result<Document, RowFault>
 }
 
 fn operation_of(alloc: Global, words: &str) -> Result<OpWords, RowFault>
-    ensures { IfOk result (λ o. AreWritable (words_meant o)) }
+    ensures { IfOk result (λ o. IsWritableOperation (operation_meant o)) }
 {
     let Some((verb, rest)) = words.split_once(' ') else {
         return Err(RowFault::Form);
@@ -101,13 +100,13 @@ fn operation_of(alloc: Global, words: &str) -> Result<OpWords, RowFault>
 }
 
 fn insert_of(alloc: Global, words: &str) -> Result<OpWords, RowFault>
-    ensures { IfOk result (λ o. AreWritable (words_meant o)) }
+    ensures { IfOk result (λ o. IsWritableOperation (operation_meant o)) }
 {
     Ok(OpWords::Insert(document_of(alloc, words)?))
 }
 
 fn update_of(alloc: Global, words: &str, upsert: bool) -> Result<OpWords, RowFault>
-    ensures { IfOk result (λ o. AreWritable (words_meant o)) }
+    ensures { IfOk result (λ o. IsWritableOperation (operation_meant o)) }
 {
     let Some((filter, change)) = words.split_once(' ') else {
         return Err(RowFault::Form);
@@ -122,7 +121,7 @@ fn update_of(alloc: Global, words: &str, upsert: bool) -> Result<OpWords, RowFau
 }
 
 fn delete_of(alloc: Global, words: &str) -> Result<OpWords, RowFault>
-    ensures { IfOk result (λ o. AreWritable (words_meant o)) }
+    ensures { IfOk result (λ o. IsWritableOperation (operation_meant o)) }
 {
     let filter = document_of(alloc, words)?;
     Ok(OpWords::Delete { filter })
@@ -143,7 +142,7 @@ fn entry_of(
     op: OpWords,
     reply: Reply,
 ) -> Result<Record, RowFault>
-    requires op { AreWritable (words_meant op) }
+    requires op { IsWritableOperation (operation_meant op) }
     requires reply { IsWritableKey (outcome_meant reply).upserted }
     ensures { IfOk result (λ r. IsWritableRecord (record_meant r)) }
 {

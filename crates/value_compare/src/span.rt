@@ -3,11 +3,13 @@
 ghost use Rattle.std.specs.Prelude.{◌≡◌, ◌≢◌, ◌↔◌, IfOk, IfSome, None};
 ghost use Rattle.std.specs.declared.cmp.Ordering.TheVariants.{Less};
 ghost use Rattle.value_model.specs.Keys.{IsRange, inside, key_bound, order_bounds, range_span};
+ghost use Rattle.bson_values.specs.View.{datum_of};
 ghost use Rattle.value_compare.specs.Bounds.{bound_of};
 ghost use Rattle.value_compare.specs.Spans.{span_of};
 
 use crate::key::Key;
-use bson_values::Memory;
+use crate::order::compare;
+use bson_values::{Memory, Value};
 use std::cmp::Ordering;
 use std::marker::Model;
 
@@ -28,7 +30,7 @@ impl Bound {
         ensures { result ≡ order_bounds (bound_of self.now) (bound_of other.now) }
     {
         match other {
-            Bound::At(key) => self.compare_to_key(key),
+            Bound::At(key) => self.compare_to_value(key.value()),
             Bound::MinKey => match self {
                 Bound::MinKey => Ordering::Equal,
                 Bound::At(key) => {
@@ -48,15 +50,14 @@ impl Bound {
         }
     }
 
-    // Which of this bound and the one at the key is less.
-    fn compare_to_key(&self, key: &Key) -> Ordering
-        ensures { result ≡ order_bounds (bound_of self.now) (key_bound key.now) }
+    // Which of this bound and one at the value is less.
+    fn compare_to_value(&self, value: &Value) -> Ordering
+        ensures { result ≡ order_bounds (bound_of self.now) (key_bound (datum_of value.now)) }
     {
-        let _key = key.value();
         match self {
-            Bound::MinKey => Ordering::Less,
-            Bound::At(bound) => bound.cmp(key),
-            Bound::MaxKey => Ordering::Greater,
+            Bound::MinKey => compare(&Value::MinKey, value),
+            Bound::At(bound) => compare(bound.value(), value),
+            Bound::MaxKey => compare(&Value::MaxKey, value),
         }
     }
 
@@ -124,11 +125,18 @@ impl KeyRange {
     }
 
     /// Whether a key stands in the range, which holds its least bound and not its greatest. Takes no memory.
-    #[tactic(auto, using(crate::proofs::Turned::greater_is_less))]
     pub fn contains(&self, key: &Key) -> bool
         ensures { result ≡ inside (range_span self.now) key.now }
     {
-        self.min.compare_to_key(key).is_le() && self.max.compare_to_key(key).is_gt()
+        self.contains_value(key.value())
+    }
+
+    /// Whether a value, which need be no key, stands between the bounds of the range, as a key would. Takes no memory.
+    #[tactic(auto, using(crate::proofs::Turned::greater_is_less))]
+    pub fn contains_value(&self, value: &Value) -> bool
+        ensures { result ≡ inside (range_span self.now) (datum_of value.now) }
+    {
+        self.min.compare_to_value(value).is_le() && self.max.compare_to_value(value).is_gt()
     }
 
     /// The same range once more. Fails for want of memory.

@@ -1,76 +1,11 @@
 use Rattle.std.proofs.Common.{arith}
 use Rattle.bson_model.specs.Spelling.{written_items, written_fields}
 use Rattle.bson_model.proofs.Lengths.{length-framed}
-use Rattle.bson_values.proofs.Puts.{closed_kept, closed_ok, kept_behind, kept_on, opened_length, put_item, put_field}
+use Rattle.bson_values.proofs.Puts.{all_fields_put, all_items_put, closed_kept, closed_ok, kept_behind, kept_on, opened_length, put_item, put_field}
 use Rattle.bson_values.proofs.writer.+writer.Goals as goal
 
-pub put_document-returns-in_err-put_fields-clause-kept : goal.put_document-returns-in_err-put_fields-clause-kept
-put_document-returns-in_err-put_fields-clause-kept t c =
-    kept_behind c.args.out.now.items _ c.put_u32.new.out.items c.put_fields.new.out.items c.in_ok-put_u32.ensures.ok c.in_err-put_fields.ensures.kept
-
-pub put_document-end_document-requires-clause-room : goal.put_document-end_document-requires-clause-room
-put_document-end_document-requires-clause-room t c =
-    omega (
-      arith,
-      opened_length c.len-start.result c.args.out.now.items c.put_u32.new.out.items
-          (written_fields c.args.document.now) c.put_fields.new.out.items (omega arith) c.in_ok-put_u32.ensures.ok c.in_ok-put_fields.ensures.ok,
-    )
-
-pub put_document-end_document-requires-clause-short : goal.put_document-end_document-requires-clause-short
-put_document-end_document-requires-clause-short t c =
-    omega (
-      arith,
-      length-framed (written_fields c.args.document.now),
-      opened_length c.len-start.result c.args.out.now.items c.put_u32.new.out.items
-          (written_fields c.args.document.now) c.put_fields.new.out.items (omega arith) c.in_ok-put_u32.ensures.ok c.in_ok-put_fields.ensures.ok,
-    )
-
-pub put_document-returns-clause-ok : goal.put_document-returns-clause-ok
-put_document-returns-clause-ok t c =
-    closed_ok c.end_document.result c.len-start.result c.args.out.now.items c.put_u32.new.out.items (written_fields c.args.document.now)
-    c.put_fields.new.out.items c.end_document.new.out.items (omega arith) c.in_ok-put_u32.ensures.ok c.in_ok-put_fields.ensures.ok
-    c.end_document.ensures.ok
-
-pub put_document-returns-clause-kept : goal.put_document-returns-clause-kept
-put_document-returns-clause-kept t c =
-    closed_kept c.end_document.result c.len-start.result c.args.out.now.items c.put_u32.new.out.items (written_fields c.args.document.now)
-    c.put_fields.new.out.items c.end_document.new.out.items (omega arith) c.in_ok-put_u32.ensures.ok c.in_ok-put_fields.ensures.ok
-    c.end_document.ensures.ok c.end_document.ensures.err
-
-pub put_array-returns-in_err-put_items-clause-kept : goal.put_array-returns-in_err-put_items-clause-kept
-put_array-returns-in_err-put_items-clause-kept t c =
-    kept_behind c.args.out.now.items _ c.put_u32.new.out.items c.put_items.new.out.items c.in_ok-put_u32.ensures.ok c.in_err-put_items.ensures.kept
-
-pub put_array-end_document-requires-clause-room : goal.put_array-end_document-requires-clause-room
-put_array-end_document-requires-clause-room t c =
-    omega (
-      arith,
-      opened_length c.len-start.result c.args.out.now.items c.put_u32.new.out.items
-          (written_items 0 c.args.array.now) c.put_items.new.out.items (omega arith) c.in_ok-put_u32.ensures.ok c.in_ok-put_items.ensures.ok,
-    )
-
-pub put_array-end_document-requires-clause-short : goal.put_array-end_document-requires-clause-short
-put_array-end_document-requires-clause-short t c =
-    omega (
-      arith,
-      length-framed (written_items 0 c.args.array.now),
-      opened_length c.len-start.result c.args.out.now.items c.put_u32.new.out.items
-          (written_items 0 c.args.array.now) c.put_items.new.out.items (omega arith) c.in_ok-put_u32.ensures.ok c.in_ok-put_items.ensures.ok,
-    )
-
-pub put_array-returns-clause-ok : goal.put_array-returns-clause-ok
-put_array-returns-clause-ok t c =
-    closed_ok c.end_document.result c.len-start.result c.args.out.now.items c.put_u32.new.out.items (written_items 0 c.args.array.now)
-    c.put_items.new.out.items c.end_document.new.out.items (omega arith) c.in_ok-put_u32.ensures.ok c.in_ok-put_items.ensures.ok c.end_document.ensures.ok
-
-pub put_array-returns-clause-kept : goal.put_array-returns-clause-kept
-put_array-returns-clause-kept t c =
-    closed_kept c.end_document.result c.len-start.result c.args.out.now.items c.put_u32.new.out.items (written_items 0 c.args.array.now)
-    c.put_items.new.out.items c.end_document.new.out.items (omega arith) c.in_ok-put_u32.ensures.ok c.in_ok-put_items.ensures.ok
-    c.end_document.ensures.ok c.end_document.ensures.err
-
-pub put_fields-loop-field-preserved : goal.put_fields-loop-field-preserved
-put_fields-loop-field-preserved t c = record {
+pub put_document-loop-field-preserved : goal.put_document-loop-field-preserved
+put_document-loop-field-preserved t c = record {
   whole = c.loop-field.invariant.whole;
   puts =
       put_field _ _ c.loop-field.out.items c.put_head.new.out.items c.put_value.new.out.items c.as_str.result.now c.deref-field-items.result.now
@@ -78,18 +13,48 @@ put_fields-loop-field-preserved t c = record {
       c.type_byte.ensures c.as_str.ensures.text c.in_ok-put_head.ensures.ok c.in_ok-put_value.ensures.ok;
 }
 
-pub put_fields-returns-in_err-put_head-clause-kept : goal.put_fields-returns-in_err-put_head-clause-kept
-put_fields-returns-in_err-put_head-clause-kept t c =
-    kept_on _ c.loop-field.out.items c.put_head.new.out.items c.loop-field.invariant.puts.kept c.in_err-put_head.ensures.kept
+pub put_document-returns-in_err-put_head-clause-kept : goal.put_document-returns-in_err-put_head-clause-kept
+put_document-returns-in_err-put_head-clause-kept t c =
+    kept_behind c.args.out.now.items _ c.put_u32.new.out.items c.put_head.new.out.items c.in_ok-put_u32.ensures.ok
+    (kept_on _ c.loop-field.out.items c.put_head.new.out.items c.loop-field.invariant.puts.kept c.in_err-put_head.ensures.kept)
 
-pub put_fields-returns-in_err-put_value-clause-kept : goal.put_fields-returns-in_err-put_value-clause-kept
-put_fields-returns-in_err-put_value-clause-kept t c =
-    kept_on _ c.put_head.new.out.items c.put_value.new.out.items
-    (kept_on _ c.loop-field.out.items c.put_head.new.out.items c.loop-field.invariant.puts.kept c.in_ok-put_head.ensures.kept)
-    c.in_err-put_value.ensures.kept
+pub put_document-returns-in_err-put_value-clause-kept : goal.put_document-returns-in_err-put_value-clause-kept
+put_document-returns-in_err-put_value-clause-kept t c =
+    kept_behind c.args.out.now.items _ c.put_u32.new.out.items c.put_value.new.out.items c.in_ok-put_u32.ensures.ok
+    (kept_on _ c.put_head.new.out.items c.put_value.new.out.items
+    (kept_on _ c.loop-field.out.items c.put_head.new.out.items c.loop-field.invariant.puts.kept c.in_ok-put_head.ensures.kept) c.in_err-put_value.ensures.kept)
 
-pub put_items-loop-i-preserved : goal.put_items-loop-i-preserved
-put_items-loop-i-preserved t c = record {
+pub put_document-end_document-requires-clause-room : goal.put_document-end_document-requires-clause-room
+put_document-end_document-requires-clause-room t c =
+    omega (
+      arith,
+      opened_length c.len-start.result c.args.out.now.items c.put_u32.new.out.items (written_fields c.args.document.now) c.loop-field.out.items (omega arith) c.in_ok-put_u32.ensures.ok
+          (all_fields_put _ _ c.loop-field.out.items c.deref-field-items.result.now c.loop-field.field-index c.loop-field.invariant.puts c.loop-field-test.false),
+    )
+
+pub put_document-end_document-requires-clause-short : goal.put_document-end_document-requires-clause-short
+put_document-end_document-requires-clause-short t c =
+    omega (
+      arith,
+      length-framed (written_fields c.args.document.now),
+      opened_length c.len-start.result c.args.out.now.items c.put_u32.new.out.items (written_fields c.args.document.now) c.loop-field.out.items (omega arith) c.in_ok-put_u32.ensures.ok
+          (all_fields_put _ _ c.loop-field.out.items c.deref-field-items.result.now c.loop-field.field-index c.loop-field.invariant.puts c.loop-field-test.false),
+    )
+
+pub put_document-returns-clause-ok : goal.put_document-returns-clause-ok
+put_document-returns-clause-ok t c =
+    closed_ok c.end_document.result c.len-start.result c.args.out.now.items c.put_u32.new.out.items (written_fields c.args.document.now) c.loop-field.out.items
+    c.end_document.new.out.items (omega arith) c.in_ok-put_u32.ensures.ok
+    (all_fields_put _ _ c.loop-field.out.items c.deref-field-items.result.now c.loop-field.field-index c.loop-field.invariant.puts c.loop-field-test.false) c.end_document.ensures.ok
+
+pub put_document-returns-clause-kept : goal.put_document-returns-clause-kept
+put_document-returns-clause-kept t c =
+    closed_kept c.end_document.result c.len-start.result c.args.out.now.items c.put_u32.new.out.items (written_fields c.args.document.now) c.loop-field.out.items
+    c.end_document.new.out.items (omega arith) c.in_ok-put_u32.ensures.ok
+    (all_fields_put _ _ c.loop-field.out.items c.deref-field-items.result.now c.loop-field.field-index c.loop-field.invariant.puts c.loop-field-test.false) c.end_document.ensures.ok c.end_document.ensures.err
+
+pub put_array-loop-i-preserved : goal.put_array-loop-i-preserved
+put_array-loop-i-preserved t c = record {
   whole = c.loop-i.invariant.whole;
   puts =
       put_item _ _ c.loop-i.out.items c.put_head.new.out.items c.put_value.new.out.items c.format.result.now c.deref-value-items.result.now c.loop-i.i
@@ -97,11 +62,42 @@ put_items-loop-i-preserved t c = record {
       c.in_ok-put_head.ensures.ok c.in_ok-put_value.ensures.ok;
 }
 
-pub put_items-returns-in_err-put_head-clause-kept : goal.put_items-returns-in_err-put_head-clause-kept
-put_items-returns-in_err-put_head-clause-kept t c =
-    kept_on _ c.loop-i.out.items c.put_head.new.out.items c.loop-i.invariant.puts.kept c.in_err-put_head.ensures.kept
+pub put_array-returns-in_err-put_head-clause-kept : goal.put_array-returns-in_err-put_head-clause-kept
+put_array-returns-in_err-put_head-clause-kept t c =
+    kept_behind c.args.out.now.items _ c.put_u32.new.out.items c.put_head.new.out.items c.in_ok-put_u32.ensures.ok
+    (kept_on _ c.loop-i.out.items c.put_head.new.out.items c.loop-i.invariant.puts.kept c.in_err-put_head.ensures.kept)
 
-pub put_items-returns-in_err-put_value-clause-kept : goal.put_items-returns-in_err-put_value-clause-kept
-put_items-returns-in_err-put_value-clause-kept t c =
-    kept_on _ c.put_head.new.out.items c.put_value.new.out.items
-    (kept_on _ c.loop-i.out.items c.put_head.new.out.items c.loop-i.invariant.puts.kept c.in_ok-put_head.ensures.kept) c.in_err-put_value.ensures.kept
+pub put_array-returns-in_err-put_value-clause-kept : goal.put_array-returns-in_err-put_value-clause-kept
+put_array-returns-in_err-put_value-clause-kept t c =
+    kept_behind c.args.out.now.items _ c.put_u32.new.out.items c.put_value.new.out.items c.in_ok-put_u32.ensures.ok
+    (kept_on _ c.put_head.new.out.items c.put_value.new.out.items
+    (kept_on _ c.loop-i.out.items c.put_head.new.out.items c.loop-i.invariant.puts.kept c.in_ok-put_head.ensures.kept) c.in_err-put_value.ensures.kept)
+
+pub put_array-end_document-requires-clause-room : goal.put_array-end_document-requires-clause-room
+put_array-end_document-requires-clause-room t c =
+    omega (
+      arith,
+      opened_length c.len-start.result c.args.out.now.items c.put_u32.new.out.items (written_items 0 c.args.array.now) c.loop-i.out.items (omega arith) c.in_ok-put_u32.ensures.ok
+          (all_items_put _ _ c.loop-i.out.items c.deref-value-items.result.now c.loop-i.i c.loop-i.invariant.puts c.loop-i-test.false),
+    )
+
+pub put_array-end_document-requires-clause-short : goal.put_array-end_document-requires-clause-short
+put_array-end_document-requires-clause-short t c =
+    omega (
+      arith,
+      length-framed (written_items 0 c.args.array.now),
+      opened_length c.len-start.result c.args.out.now.items c.put_u32.new.out.items (written_items 0 c.args.array.now) c.loop-i.out.items (omega arith) c.in_ok-put_u32.ensures.ok
+          (all_items_put _ _ c.loop-i.out.items c.deref-value-items.result.now c.loop-i.i c.loop-i.invariant.puts c.loop-i-test.false),
+    )
+
+pub put_array-returns-clause-ok : goal.put_array-returns-clause-ok
+put_array-returns-clause-ok t c =
+    closed_ok c.end_document.result c.len-start.result c.args.out.now.items c.put_u32.new.out.items (written_items 0 c.args.array.now) c.loop-i.out.items
+    c.end_document.new.out.items (omega arith) c.in_ok-put_u32.ensures.ok
+    (all_items_put _ _ c.loop-i.out.items c.deref-value-items.result.now c.loop-i.i c.loop-i.invariant.puts c.loop-i-test.false) c.end_document.ensures.ok
+
+pub put_array-returns-clause-kept : goal.put_array-returns-clause-kept
+put_array-returns-clause-kept t c =
+    closed_kept c.end_document.result c.len-start.result c.args.out.now.items c.put_u32.new.out.items (written_items 0 c.args.array.now) c.loop-i.out.items
+    c.end_document.new.out.items (omega arith) c.in_ok-put_u32.ensures.ok
+    (all_items_put _ _ c.loop-i.out.items c.deref-value-items.result.now c.loop-i.i c.loop-i.invariant.puts c.loop-i-test.false) c.end_document.ensures.ok c.end_document.ensures.err

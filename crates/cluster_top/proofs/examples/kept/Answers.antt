@@ -2,6 +2,7 @@ use Rattle.std.proofs.Common.{◌≡◌, [], ◌∷◌, refl, inl, rules, arith}
 use Rattle.plain_store_model.specs.SampleCollections.{creation}
 use Rattle.shard_records.specs.Records.{create_record, record_of}
 use Rattle.shard_records.specs.Spelled.{IsSound}
+use Rattle.shard_records.proofs.SampleNames.{sample_namespace}
 use Rattle.plain_store_model.specs.SampleExchanges.{first_entry}
 use Rattle.cluster_top.specs.SampleRuns.{catalogue_file, shard_file}
 use Rattle.cluster_top.specs.Journals.{AreJournals, IsJournal, Tell}
@@ -10,10 +11,10 @@ use Rattle.cluster_top.proofs.Sample.{key_reads}
 use Rattle.cluster_top.proofs.examples.kept.Goals as goal
 
 begun : IsJournal catalogue_file (create_record creation ∷ [])
-begun = record { stands = record { rest = 0 ∷ []; fits = search rules; split = refl; shut = inl tt }; sound = search rules }
+begun = record { stands = record { rest = 0 ∷ []; fits = search rules; split = refl; shut = inl tt }; sound = (record { namespace = sample_namespace; epoch = omega arith; at = omega arith }, tt) }
 
 sound : IsSound (record_of first_entry)
-sound = record { time = omega arith; namespace = omega arith; number = search rules; words = key_reads; outcome = search rules }
+sound = record { time = omega arith; namespace = sample_namespace; number = search rules; operation = record { spelled = key_reads; within = omega arith }; outcome = search rules }
 
 written : IsJournal shard_file (record_of first_entry ∷ [])
 written = record { stands = record { rest = 0 ∷ []; fits = search rules; split = refl; shut = inl tt }; sound = (sound, tt) }

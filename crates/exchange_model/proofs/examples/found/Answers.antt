@@ -1,7 +1,7 @@
 -- The key is there, in other bits, from its time on.
 use Rattle.std.proofs.Common.{refl, codes, arith}
 use Rattle.std.specs.Prelude.{None, Some}
-use Rattle.exchange_model.specs.SampleRequests.{five, long_five, six}
+use Rattle.command_model.specs.SampleRequests.{five, long_five, six}
 use Rattle.command_model.specs.Times.{timestamp}
 use Rattle.exchange_model.specs.Right.{right_find, right_ahead}
 use Rattle.exchange_model.proofs.examples.found.Goals as goal

@@ -1,7 +1,7 @@
 -- The entries are the statements' own.
-use Rattle.std.proofs.Common.{◌≡◌, List, [], ◌∷◌, refl, codes}
+use Rattle.std.proofs.Common.{refl, codes}
 use Rattle.std.specs.Prelude.{Bool, true, false}
-use Rattle.exchange_model.specs.SampleRequests.{second_fails, three}
+use Rattle.command_model.specs.SampleRequests.{three}
 use Rattle.command_model.specs.Insert.{Insert}
 use Rattle.exchange_model.specs.Right.{right_insert, IsWhole}
 use Rattle.exchange_model.specs.SampleExchanges.{id_at, three_entries, two_entries}

@@ -1,19 +1,18 @@
 -- Two inserts and a find, at two routers.
-use Rattle.std.proofs.Common.{◌≡◌, ◌≤◌, ◌<◌, ℕ, inl, inr, List, [], ◌∷◌, refl, sym, ap, subst, codes, arith}
-use Rattle.std.specs.Prelude.{true, Some, None, Ok}
+use Rattle.std.proofs.Common.{◌≡◌, ◌≤◌, ℕ, inl, inr, [], ◌∷◌, refl, sym, ap, subst, codes, arith}
+use Rattle.std.specs.Prelude.{true, Some, None}
 use Rattle.command_model.specs.SampleReplies.{done_reply, duplicate_reply}
-use Rattle.exchange_model.specs.SampleRequests.{five, long_five, shown, with_id}
+use Rattle.command_model.specs.SampleRequests.{five, long_five, shown, with_id}
 use Rattle.command_model.specs.Tree.{Fields}
 use Rattle.command_model.specs.Times.{timestamp}
 use Rattle.command_model.specs.Insert.{Insert}
-use Rattle.command_model.specs.Command.{insert_command, command_of}
 use Rattle.chunk_model.specs.SampleCollections.{creation}
-use Rattle.history_model.specs.History.{Entry, Legal, IsIn, StatementNumber, router_session}
+use Rattle.history_model.specs.History.{Legal, IsIn, StatementNumber, router_session}
 use Rattle.history_model.proofs.Lists.{all_at, in_first, in_later, in_none}
-use Rattle.exchange_model.specs.Asked.{RequestId, Asked, Answered, is_session_of}
-use Rattle.exchange_model.specs.OneHistory.{AreDifferent, Given, IsInsertInto, WasSent, WasWanted, StandsInPart, IsRightOf, IsNotBefore, IsFresh, IsInOrder, IsKnown, IsPlaced, OneHistory}
-use Rattle.exchange_model.specs.Right.{IsPart, IsWhole, IsRight, right_find, right_insert}
-use Rattle.exchange_model.specs.SampleExchanges.{all_asked, all_told, both_entries, first, first_entry, first_told, id_at, moments, second, second_entry, second_told, tells, third, third_told}
+use Rattle.exchange_model.specs.Asked.{RequestId, Asked, is_session_of}
+use Rattle.exchange_model.specs.OneHistory.{AreDifferent, Given, WasSent, WasWanted, IsRightOf, IsKnown, IsPlaced}
+use Rattle.exchange_model.specs.Right.{IsPart, IsRight, right_find, right_insert}
+use Rattle.exchange_model.specs.SampleExchanges.{all_asked, both_entries, first, first_entry, first_told, id_at, moments, second, second_entry, second_told, tells, third, third_told}
 use Rattle.exchange_model.proofs.RightAnswers.{same_insert}
 use Rattle.exchange_model.proofs.examples.one_history.Goals as goal
 

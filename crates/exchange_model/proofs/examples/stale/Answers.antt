@@ -1,10 +1,8 @@
 -- By their steps and times.
-use Rattle.std.proofs.Common.{◌≡◌, ◌≤◌, ◌<◌, [], ◌∷◌, refl, arith}
+use Rattle.std.proofs.Common.{◌≡◌, ◌≤◌, ◌<◌, refl, arith}
 use Rattle.std.specs.Prelude.{true}
-use Rattle.exchange_model.specs.SampleRequests.{long_five}
-use Rattle.command_model.specs.Errors.{duplicate_key}
 use Rattle.command_model.specs.Times.{timestamp}
-use Rattle.history_model.specs.History.{done, router_session}
+use Rattle.history_model.specs.History.{router_session}
 use Rattle.history_model.proofs.Lists.{all_at}
 use Rattle.exchange_model.specs.Asked.{Asked, is_session_of}
 use Rattle.exchange_model.specs.SampleExchanges.{all_asked}

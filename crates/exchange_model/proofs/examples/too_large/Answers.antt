@@ -1,7 +1,7 @@
 -- Nothing is kept under the key.
 use Rattle.std.proofs.Common.{[], ◌∷◌, refl, codes, arith}
 use Rattle.std.specs.Prelude.{None, true}
-use Rattle.exchange_model.specs.SampleRequests.{deep, five, six, with_id}
+use Rattle.command_model.specs.SampleRequests.{deep, five, six, with_id}
 use Rattle.exchange_model.specs.Right.{right_find, right_insert}
 use Rattle.exchange_model.proofs.examples.too_large.Goals as goal
 

@@ -1,5 +1,5 @@
 -- No request that was taken is the answer's.
-use Rattle.std.proofs.Common.{◌≡◌, ◌≤◌, refl, ap, arith}
+use Rattle.std.proofs.Common.{◌≡◌, ◌≤◌, ap, arith}
 use Rattle.std.specs.Prelude.{pos}
 use Rattle.history_model.proofs.Lists.{all_at, in_none}
 use Rattle.exchange_model.specs.Asked.{RequestId, Asked}

@@ -1,5 +1,4 @@
 -- Their numbers differ.
-use Rattle.std.proofs.Common.{◌++◌, ◌∷◌}
 use Rattle.exchange_model.proofs.Requests.{one_asked, once_told}
 use Rattle.exchange_model.proofs.laws.one_answer.Goals as goal
 

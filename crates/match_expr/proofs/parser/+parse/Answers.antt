@@ -4,7 +4,8 @@ use Rattle.bson_values.specs.declared.value.Value.{Value}
 use Rattle.bson_values.specs.Tree.{document_value}
 use Rattle.bson_values.specs.View.{datum_of}
 use Rattle.query_model.specs.Reading.{read_tests_within, read_within}
-use Rattle.match_expr.proofs.ReadLoops.{clauses_go_on, connective_read, passes_on, path_clause_read, queries_go_on, tests_fail, tests_go_on}
+use Rattle.field_paths.proofs.FieldLists.{passes_on}
+use Rattle.match_expr.proofs.ReadLoops.{clauses_go_on, connective_read, path_clause_read, queries_go_on, tests_fail, tests_go_on}
 use Rattle.match_expr.proofs.parser.+parse.Goals as goal
 
 pub parse_clause-returns : goal.parse_clause-returns

@@ -2,9 +2,9 @@ use Rattle.std.proofs.Common.{rules, arith, ◌≡◌, ◌<◌, ◌^◌, ◌++�
 use Rattle.std.proofs.lemmas.Grind.{common_steps}
 use Rattle.std.specs.Int.{cast_unsigned, w64}
 use Rattle.bson_values.specs.Spelling.{written}
-use Rattle.record_model.specs.Spelled.{AreSoundWords, IsSound, IsSoundKey, IsSoundNumber, IsSoundOutcome, IsSoundSession, IsSpellable, eight, four, key_document, spelled, spelled_creation, spelled_entry, spelled_key, spelled_number, spelled_outcome, spelled_session, spelled_string, spelled_words}
-use Rattle.shard_records.specs.Meanings.{entry_meant, number_meant, outcome_meant, record_meant, session_meant, words_meant}
-use Rattle.shard_records.specs.Sizes.{AreWritable, IsWritableKey, IsWritableRecord}
+use Rattle.record_model.specs.Spelled.{IsSoundOperation, IsSound, IsSoundKey, IsSoundNumber, IsSoundOutcome, IsSoundSession, IsSoundDocument, IsSoundKeyValue, eight, four, key_document, spelled, spelled_creation, spelled_entry, spelled_key, spelled_number, spelled_outcome, spelled_session, spelled_string, spelled_operation}
+use Rattle.shard_records.specs.Meanings.{entry_meant, number_meant, outcome_meant, record_meant, session_meant, operation_meant}
+use Rattle.shard_records.specs.Sizes.{IsWritableOperation, IsWritableKey, IsWritableRecord}
 use Rattle.bson_values.specs.Limits.{IsWritable}
 use Rattle.shard_records.proofs.writing.put_reply.Goals as goal
 

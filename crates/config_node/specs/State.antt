@@ -1,0 +1,6 @@
+-- The state of the definitions that the catalogue is in.
+use Rattle.node_traits.specs.States.{NodeState, catalogue_state}
+use Rattle.config_node.specs.declared.node.ConfigNode.{ConfigNode}
+
+abbrev pub state_of : ConfigNode → NodeState
+state_of c = catalogue_state (record { me = c.me.0; time = c.time.0; tables = c.tables.tables })

@@ -1,0 +1,162 @@
+//! What a step of the catalogue comes to, before it is taken.
+
+ghost use Rattle.std.specs.Prelude.{◌≡◌, ◌+◌, ◌<◌, ◌^◌, ◌-◌, ◌∷◌, [], IfOk, Some, None, map};
+ghost use Rattle.std.specs.Arc.{arc_value};
+ghost use Rattle.std.specs.Option.{option_map};
+ghost use Rattle.chunk_table.specs.Tables.{first_table};
+ghost use Rattle.node_traits.specs.CatalogueRows.{begun_at};
+ghost use Rattle.node_traits.specs.Letters.{table_told};
+ghost use Rattle.protocol_model.specs.Bodies.{at_meant};
+ghost use Rattle.protocol_model.specs.Messages.{letter_of};
+ghost use Rattle.shard_records.specs.Records.{create_record};
+ghost use Rattle.shard_records.specs.Spelled.{spelled, IsSound};
+
+use bson_values::{Blob, Memory};
+use chunk_table::Table;
+use cluster_base::{Namespace, NodeId, Time};
+use node_traits::MailList;
+use protocol_model::{Body, Message, TableAsk, TableTold};
+use shard_records::{Record, write_record};
+use std::alloc::Global;
+use std::sync::Arc;
+
+/// What a step will write and send, and what the catalogue will then be: at which time, and with which new table.
+#[derive(Drop)]
+pub(crate) struct Plan {
+    pub(crate) time: Time,
+    pub(crate) table: Option<Arc<Table, Global>>,
+    pub(crate) mail: MailList<Message>,
+    pub(crate) records: Vec<Blob>,
+}
+
+impl Plan {
+    /// Nothing but the time.
+    pub(crate) fn of_time(alloc: Global, time: Time) -> Plan
+        ensures time { result.time ≡ time }
+        ensures table { result.table ≡ None }
+        ensures mail { result.mail ≡ [] }
+        ensures records { result.records.items ≡ [] }
+    {
+        Plan {
+            time,
+            table: None,
+            mail: MailList::new(alloc),
+            records: Vec::new(alloc),
+        }
+    }
+}
+
+/// Who asked for a table, and what is asked.
+#[derive(Drop)]
+pub(crate) struct Asked {
+    pub(crate) sender: NodeId,
+    pub(crate) ask: TableAsk,
+}
+
+impl Asked {
+    /// The answer, from a node at a time.
+    pub(crate) fn told(self, me: NodeId, time: Time, table: Option<Arc<Table, Global>>) -> Message
+        ensures { letter_of result ≡ record {
+          sender = me.0;
+          receiver = self.sender.0;
+          time = time.0;
+          body = table_told self.ask.namespace self.ask.create (at_meant self.ask.at) (option_map (λ t. arc_value t) table);
+        } }
+    {
+        let Asked { sender, ask } = self;
+        let TableAsk {
+            namespace,
+            create,
+            at,
+        } = ask;
+        Message {
+            sender: me,
+            receiver: sender,
+            time,
+            body: Body::TableTold(TableTold {
+                namespace,
+                create,
+                at,
+                table,
+            }),
+        }
+    }
+
+    /// The table there is, or none, is told at a time. Fails for want of memory.
+    pub(crate) fn tell(
+        self,
+        alloc: Global,
+        me: NodeId,
+        time: Time,
+        table: Option<Arc<Table, Global>>,
+    ) -> Plan
+        ensures time { result.time ≡ time }
+        ensures table { result.table ≡ None }
+        ensures mail { map letter_of result.mail ≡ record {
+          sender = me.0;
+          receiver = self.sender.0;
+          time = time.0;
+          body = table_told self.ask.namespace self.ask.create (at_meant self.ask.at) (option_map (λ t. arc_value t) table);
+        } ∷ [] }
+        ensures records { result.records.items ≡ [] }
+    {
+        let message = self.told(me, time, table);
+        Plan {
+            time,
+            table: None,
+            mail: MailList::of_one(alloc, message),
+            records: Vec::new(alloc),
+        }
+    }
+
+    /// A collection begins at a time, and its first table is told. Fails for want of memory.
+    pub(crate) fn begin(self, alloc: Global, me: NodeId, time: Time) -> Result<Plan, Memory>
+        ensures time { IfOk result (λ p. p.time ≡ time) }
+        ensures table { IfOk result (λ p. option_map (λ t. arc_value t) p.table ≡ Some (first_table (begun_at self.ask.namespace time.0))) }
+        ensures mail { IfOk result (λ p. map letter_of p.mail ≡ record {
+          sender = me.0;
+          receiver = self.sender.0;
+          time = time.0;
+          body = table_told self.ask.namespace self.ask.create (at_meant self.ask.at) (Some (first_table (begun_at self.ask.namespace time.0)));
+        } ∷ []) }
+        ensures records { IfOk result (λ p. p.records.items ≡ spelled 1 (create_record (begun_at self.ask.namespace time.0)) ∷ []) }
+        ensures sound { IfOk result (λ p. IsSound (create_record (begun_at self.ask.namespace time.0))) }
+    {
+        let record = creation_bytes(alloc, &self.ask.namespace, time)?;
+        let mut records = Vec::new(alloc);
+        records.push(record)?;
+        let table = first_table(alloc, &self.ask.namespace, time)?;
+        let told = Arc::try_clone(&table)?;
+        let message = self.told(me, time, Some(told));
+        Ok(Plan {
+            time,
+            table: Some(table),
+            mail: MailList::of_one(alloc, message),
+            records,
+        })
+    }
+}
+
+// The record of a collection that begins, the first of its name.
+fn creation_bytes(alloc: Global, namespace: &Namespace, at: Time) -> Result<Blob, Memory>
+    ensures { IfOk result (λ b. (b ≡ spelled 1 (create_record (begun_at namespace.now at.0)))
+        × IsSound (create_record (begun_at namespace.now at.0))) }
+{
+    let kept = Record::Create {
+        namespace: namespace.copy()?,
+        epoch: 1,
+        at,
+    };
+    let mut bytes = Vec::new(alloc);
+    write_record(&kept, &mut bytes)?;
+    Blob::of(alloc, &bytes)
+}
+
+// The first table of a collection, the first of its name.
+fn first_table(alloc: Global, namespace: &Namespace, at: Time) -> Result<Arc<Table, Global>, Memory>
+    ensures { IfOk result (λ t. arc_value t ≡ first_table (begun_at namespace.now at.0)) }
+{
+    let table = Table::first(alloc, namespace.copy()?, 1, at)?;
+    let shared = Arc::new(alloc, table)?;
+    Ok(shared)
+}

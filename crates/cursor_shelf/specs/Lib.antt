@@ -1,0 +1,3 @@
+pub mod Cursors
+pub mod Shelves
+pub use Rattle.pipeline_model.specs.Batches

@@ -1,0 +1,156 @@
+//! One cursor: the documents that are not given yet.
+
+ghost use Rattle.std.specs.Prelude.{◌≡◌, ◌≤◌, ◌<◌, ◌+◌, ◌&&◌, ◌++◌, ◌∷◌, [], IfOk, OnErr, OnOk, drop, length, map, nat_lt, take, ◌==◌};
+ghost use Rattle.std.specs.Arc.{arc_value};
+ghost use Rattle.std.specs.Str.{bytes_eq};
+ghost use Rattle.std.specs.Vec.{vec_capacity, vec_len};
+ghost use Rattle.bson_values.specs.Limits.{most_bytes_kept};
+ghost use Rattle.cursor_shelf.specs.Cursors.{IsLongest, is_reached};
+ghost use Rattle.pipeline_model.specs.Batches.{IsBatch};
+
+use bson_values::{Document, MOST_BYTES_KEPT, Memory};
+use cluster_base::{Namespace, Time};
+use std::alloc::Global;
+use std::collections::VecDeque;
+use std::marker::Model;
+use std::sync::Arc;
+
+/// An open cursor.
+#[derive(Drop)]
+pub(crate) struct Cursor {
+    namespace: Namespace,
+    time: Time,
+    remaining: VecDeque<Arc<Document, Global>>,
+}
+
+impl Model for Cursor {
+    ghost use Rattle.std.specs.Prelude.{map};
+    ghost use Rattle.std.specs.Arc.{arc_value};
+    ghost use Rattle.cursor_shelf.specs.Cursors.{OpenCursor, cursor_code};
+
+    ghost Value = { OpenCursor };
+
+    ghost coded = { cursor_code };
+
+    ghost view = { λ c. record { namespace = c.namespace; time = c.time.0; remaining = map arc_value c.remaining.items } };
+}
+
+impl Cursor {
+    /// A cursor on the documents, which were read in the namespace at the time.
+    pub(crate) fn new(
+        namespace: Namespace,
+        time: Time,
+        documents: Vec<Arc<Document, Global>>,
+    ) -> Cursor
+        ensures { result ≡ record { namespace = namespace; time = time.0; remaining = map arc_value documents.items } }
+    {
+        Cursor {
+            namespace,
+            time,
+            remaining: VecDeque::from(documents),
+        }
+    }
+
+    /// Whether its documents are of that namespace.
+    pub(crate) fn is_of(&self, namespace: &Namespace) -> bool
+        ensures { result ≡ bytes_eq self.now.namespace namespace.now }
+    {
+        self.namespace.as_str() == namespace.as_str()
+    }
+
+    /// The time at which its documents were read.
+    pub(crate) fn time(&self) -> Time
+        ensures { result.0 ≡ self.now.time }
+    {
+        self.time
+    }
+
+    /// Whether no document is left.
+    pub(crate) fn is_done(&self) -> bool
+        ensures { result ≡ (length self.now.remaining == 0) }
+    {
+        self.remaining.is_empty()
+    }
+
+    /// Takes out the next batch. Fails for want of memory, and then changes nothing.
+    pub(crate) fn take(
+        &mut self,
+        alloc: Global,
+        size: Option<u64>,
+    ) -> Result<Vec<Arc<Document, Global>>, Memory>
+        ensures batch { IfOk result (λ b. IsBatch size self.old.remaining (map arc_value b.items)) }
+        ensures remaining { IfOk result (λ b. self.new.remaining ≡ drop (length (map arc_value b.items)) self.old.remaining) }
+        ensures namespace { self.new.namespace ≡ self.old.namespace }
+        ensures time { self.new.time ≡ self.old.time }
+        ensures err { OnErr result (self.new ≡ self.old) }
+    {
+        let count = batch_length(&self.remaining, size);
+        take_front(alloc, &mut self.remaining, count)
+    }
+}
+
+// Whether so many documents are as many as are asked for.
+fn is_reached(size: Option<u64>, count: usize) -> bool
+    ensures { result ≡ is_reached size count }
+{
+    match size {
+        Some(most) => most <= count as u64,
+        None => false,
+    }
+}
+
+// Whether documents of so many bytes are too long for one batch: more than one document, and more bytes than it may have.
+fn is_too_long(before: usize, bytes: usize) -> bool
+    ensures { result ≡ (nat_lt 0 before && nat_lt most_bytes_kept bytes) }
+{
+    before > 0 && bytes > MOST_BYTES_KEPT
+}
+
+// How many of the documents that remain are the next batch.
+#[tactic(auto, using(crate::proofs::Longest::at_end))]
+fn batch_length(remaining: &VecDeque<Arc<Document, Global>>, size: Option<u64>) -> usize
+    ensures { IsLongest size (map arc_value remaining.now.items) result }
+{
+    let mut bytes = 0usize;
+    for count in 0..remaining.len() {
+        if is_reached(size, count) {
+            return count;
+        }
+        bytes = bytes.saturating_add(remaining[count].size());
+        if is_too_long(count, bytes) {
+            return count;
+        }
+    }
+    remaining.len()
+}
+
+// Puts a document behind the others, where there is room.
+fn put(front: &mut Vec<Arc<Document, Global>>, document: Arc<Document, Global>)
+    requires { vec_len front.old < vec_capacity front.old }
+    ensures items { front.new.items ≡ front.old.items ++ document ∷ [] }
+    ensures len { vec_len front.new ≡ vec_len front.old + 1 }
+    ensures capacity { vec_capacity front.old ≤ vec_capacity front.new }
+{
+    let _ = front.push(document);
+}
+
+// Takes out the first documents, so many. Fails for want of memory, and then changes nothing.
+#[tactic(auto, using(crate::proofs::Longest::front_is, crate::proofs::Longest::rest_is))]
+fn take_front(
+    alloc: Global,
+    remaining: &mut VecDeque<Arc<Document, Global>>,
+    count: usize,
+) -> Result<Vec<Arc<Document, Global>>, Memory>
+    requires { count ≤ length remaining.old.items }
+    ensures front { IfOk result (λ b. b.items ≡ take count remaining.old.items) }
+    ensures rest { OnOk result (remaining.new.items ≡ drop count remaining.old.items) }
+    ensures err { OnErr result (remaining.new.items ≡ remaining.old.items) }
+{
+    let mut front = Vec::with_capacity(alloc, count)?;
+    for _ in 0..count {
+        if let Some(document) = remaining.pop_front() {
+            put(&mut front, document);
+        }
+    }
+    Ok(front)
+}

@@ -1,0 +1,7 @@
+//! Cursors that wait for the next request (MongoDB manual, "Cursors", "getMore", "killCursors").
+#![tactic(auto)]
+
+mod cursor;
+mod shelf;
+
+pub use shelf::{Batch, Shelf, ShelfFault};

@@ -1,0 +1,4 @@
+pub mod Seats
+pub mod Stepping
+pub mod Moves
+pub mod Runs

@@ -1,0 +1,369 @@
+-- Events, one after another.
+use Rattle.std.proofs.Common.{◌≡◌, ◌⊎◌, inl, inr, ℕ, ℤ, zero, suc, ◌+◌, ◌*◌, ◌<◌, ◌≤◌, ◌^◌, List}
+use Rattle.std.proofs.Common.{[], ◌∷◌, ◌++◌, map, length, refl, sym, ap, subst, ◌∙◌, arith, append_assoc, append-nil, length-append, add-one}
+use Rattle.std.specs.Prelude.{Option, Some, None, MatchOption, option_to_list}
+use Rattle.std.specs.VecDeque.{deque_len}
+use Rattle.std.specs.List.{slice_get}
+use Rattle.node_model.specs.Letters.{Letter, Input, client_input, letter_input, moment_input, opened_input}
+use Rattle.node_model.specs.Requests.{Request}
+use Rattle.node_model.specs.Schedule.{moments_given, openings, Delivers, delivers_none, delivers_next}
+use Rattle.node_model.specs.World.{World, IsRouter, Moves, Event, client_event, deliver_event, moment_event, opened_event}
+use Rattle.node_model.specs.World.{Happens, comes, delivers, passes, begins as was_opened, Run, stands, goes}
+use Rattle.node_model.proofs.Schedules.{run_then}
+use Rattle.node_traits.specs.declared.outputs.StepFault.{StepFault}
+use Rattle.node_traits.specs.declared.outputs.ToLink.{ToLink}
+use Rattle.driver_steps.specs.declared.post.Post.{Post}
+use Rattle.driver_steps.specs.Seats.{SeatView}
+use Rattle.driver_steps.specs.Worlds.{PostView, StandsFor, post_view}
+use Rattle.driver_steps.specs.Moves.{HasDelivered, HasHappened, HasMoved, HasRun, HasSettled, HasStopped}
+use Rattle.driver_steps.specs.Moves.{IsCutShort, MovesOrNot, DeliversOrLoses, Settles, settles_none, settles_next, loses_next}
+
+-- THE SCHEDULE
+
+pub one_moment_more : (first count moment : ℕ) → moments_given first (suc count) moment ≡ moments_given first count moment ++ moment_event
+    (first + count) moment ∷ []
+one_moment_more first zero moment = let here : first ≡ first + 0 = omega arith in ap (λ (n : ℕ). moment_event n moment ∷ []) here
+one_moment_more first (suc count) moment =
+    let there : (first + 1) + count ≡ first + suc count = omega arith in
+    ap (λ (l : List Event). moment_event first moment ∷ l)
+    (one_moment_more (first + 1) count moment ∙ ap (λ (n : ℕ). moments_given (first + 1) count moment ++ moment_event n moment ∷ []) there)
+
+pub one_opening_more : (first count : ℕ) → openings first (suc count) ≡ openings first count ++ opened_event (first + count) ∷ []
+one_opening_more first zero = let here : first ≡ first + 0 = omega arith in ap (λ (n : ℕ). opened_event n ∷ []) here
+one_opening_more first (suc count) =
+    let there : (first + 1) + count ≡ first + suc count = omega arith in
+    ap (λ (l : List Event). opened_event first ∷ l)
+    (one_opening_more (first + 1) count ∙ ap (λ (n : ℕ). openings (first + 1) count ++ opened_event n ∷ []) there)
+
+-- DELIVERIES
+
+pub settles_run : (u : World) (next : ℕ) (events : List Event) (w : World) (later : ℕ) → Settles u next events w later → Run u events w
+settles_run _ _ _ _ _ (settles_none w next) = stands w
+settles_run _ _ _ _ _ (settles_next u v w next later at events h more) =
+    goes u v w (deliver_event at next) events h (settles_run v (next + 1) events w later more)
+settles_run _ _ _ _ _ (loses_next u w next later m events got none more) = settles_run u (next + 1) events w later more
+
+pub settles_more : (u : World) (next : ℕ) (events : List Event) (v : World) (later at : ℕ) (w : World) → Settles u next events v later
+    → Happens v (deliver_event at later) w → Settles u next (events ++ deliver_event at later ∷ []) w (later + 1)
+settles_more _ _ _ _ _ at x (settles_none w next) h = settles_next w x x next (next + 1) at [] h (settles_none x (next + 1))
+settles_more _ _ _ _ _ at x (settles_next u v w next later first events here more) h =
+    settles_next u v x next (later + 1) first (events ++ deliver_event at later ∷ []) here (settles_more v (next + 1) events w later at x more h)
+settles_more _ _ _ _ _ at x (loses_next u w next later m events got none more) h =
+    loses_next u x next (later + 1) m (events ++ deliver_event at later ∷ []) got none (settles_more u (next + 1) events w later at x more h)
+
+pub loses_more : (u : World) (next : ℕ) (events : List Event) (v : World) (later : ℕ) (m : Letter) → Settles u next events v later
+    → slice_get v.sent later ≡ Some m → length v.nodes ≤ m.receiver → Settles u next events v (later + 1)
+loses_more _ _ _ _ _ m (settles_none w next) got none = loses_next w w next (next + 1) m [] got none (settles_none w (next + 1))
+loses_more _ _ _ _ _ m (settles_next u v w next later first events here more) got none =
+    settles_next u v w next (later + 1) first events here (loses_more v (next + 1) events w later m more got none)
+loses_more _ _ _ _ _ m (loses_next u w next later o events before lost more) got none =
+    loses_next u w next (later + 1) o events before lost (loses_more u (next + 1) events w later m more got none)
+
+-- a delivery leaves less to do: fewer steps, or as many and fewer messages
+pub less_left : {M : Type 0} (left left_after count count_taken count_after : ℕ) (taken after : List M)
+    → (left_after + 1 ≡ left) ⊎ ((left_after ≡ left) × (after ≡ taken))
+    → count_taken + 1 ≡ count → count_taken ≡ length taken → count_after ≡ length after → count_after < 2 ^ 64
+    → left_after * 2 ^ 66 + count_after < left * 2 ^ 66 + count
+less_left left left_after count count_taken count_after taken after (inl fewer) one some all fits = omega arith
+less_left {M} left left_after count count_taken count_after taken after (inr (same, stays)) one some all fits =
+    let as_many : length after ≡ length taken = ap (λ (l : List M). length l) stays in
+    omega arith
+
+seam : (past : List Letter) (m : Letter) (rest : List Letter) → slice_get (past ++ m ∷ rest) (length past) ≡ Some m
+seam [] m rest = refl
+seam (x ∷ past) m rest = seam past m rest
+
+-- what waited longest is taken from the queue
+pub record Popped {S M : Type 0} (view : S → SeatView) (letter : M → Letter) (seats : List S) (handed : List ToLink) (w : World) (next : ℕ) (m : M)
+    (new : Post M) : Type 0 where
+  pub got : slice_get w.sent next ≡ Some (letter m)
+  pub stands : StandsFor view seats (post_view letter new) handed w (next + 1)
+
+pub popped : {S M : Type 0} (view : S → SeatView) (letter : M → Letter) (seats : List S) (handed : List ToLink) (w : World) (next : ℕ) (m : M)
+    (old new : Post M)
+    → StandsFor view seats (post_view letter old) handed w next → old.waiting.items ≡ m ∷ new.waiting.items → new.replies.items ≡ old.replies.items
+    → Popped view letter seats handed w next m new
+popped view letter seats handed w next m old new s first same =
+    let all : w.sent ≡ s.past ++ letter m ∷ map letter new.waiting.items =
+    s.sent ∙ ap (λ l. s.past ++ map letter l) first in
+    let count : length (s.past ++ letter m ∷ []) ≡ next + 1 = length-append s.past (letter m ∷ []) ∙ ap (λ (n : ℕ). n + 1) s.place in
+    record {
+      got = ap (λ (l : List Letter). slice_get l next) all ∙ subst (λ (n : ℕ). slice_get (s.past ++ letter m ∷ map letter new.waiting.items) n ≡ Some
+          (letter m)) s.place
+          (seam s.past (letter m) (map letter new.waiting.items));
+      stands = record {
+        nodes = s.nodes;
+        past = s.past ++ letter m ∷ [];
+        sent = all ∙ sym (append_assoc s.past (letter m ∷ []) (map letter new.waiting.items));
+        place = count;
+        given = s.given ∙ ap (λ (l : List ToLink). handed ++ l) (sym same);
+      };
+    }
+
+-- FROM STEPS TO EVENTS
+
+pub delivered : {S : Type 0} (view : S → SeatView) (seats : List S) (post : PostView) (handed : List ToLink) (w : World) (next which at : ℕ)
+    (m : Letter) (i : Input)
+    → slice_get w.sent which ≡ Some m → i ≡ letter_input m → at ≡ m.receiver → HasMoved view seats post handed w next at i
+    → HasDelivered view seats post handed w next which m.receiver
+delivered view seats post handed w next which at m i got is to h = record {
+  end = h.end;
+  delivers = inl (delivers w h.end m.receiver which m got refl (subst (λ (n : ℕ). Moves w n (letter_input m) h.end) to
+      (subst (λ (x : Input). Moves w at x h.end) is h.moves)));
+  stands = h.stands;
+}
+
+-- it went to no node
+pub lost : {S : Type 0} (view : S → SeatView) (seats : List S) (post : PostView) (handed : List ToLink) (w : World) (next which receiver count at : ℕ)
+    → length seats ≡ length w.nodes → count ≡ length seats → at ≡ receiver → count ≤ at → StandsFor view seats post handed w next
+    → HasDelivered view seats post handed w next which receiver
+lost view seats post handed w next which receiver count at same counted to behind s = record { end = w; delivers = inr (refl, omega arith); stands = s }
+
+-- events happened, and the next one was cut short
+pub stopped : {S : Type 0} (view : S → SeatView) (seats : List S) (replies handed : List ToLink) (u : World) (events : List Event) (w : World)
+    (e : Event) (at : ℕ) (i : Input) (fault : StepFault)
+    → Run u events w → ((v : World) → Moves w at i v → Happens w e v) → IsCutShort view seats replies handed w at i fault
+    → HasStopped view seats replies handed u fault
+stopped view seats replies handed u events w e at i fault run event c = by_step c.moves
+  where
+    by_step : MovesOrNot w at i c.end → HasStopped view seats replies handed u fault
+    by_step (inl same) = record {
+      events = events;
+      end = c.end;
+      run = subst (λ (x : World). Run u events x) (sym same) run;
+      nodes = c.nodes;
+      missing = c.missing;
+      given = c.given;
+    }
+    by_step (inr m) = record {
+      events = events ++ e ∷ [];
+      end = c.end;
+      run = run_then u events w (e ∷ []) c.end run (goes w c.end c.end e [] (event c.end m) (stands c.end));
+      nodes = c.nodes;
+      missing = c.missing;
+      given = c.given;
+    }
+
+pub run_more : {S : Type 0} (view : S → SeatView) (seats : List S) (post : PostView) (handed : List ToLink) (u : World) (events : List Event)
+    (w : World) (next : ℕ) (e : Event) (at : ℕ) (i : Input)
+    → Run u events w → ((v : World) → Moves w at i v → Happens w e v) → HasMoved view seats post handed w next at i
+    → HasRun view seats post handed u next (events ++ e ∷ [])
+run_more view seats post handed u events w next e at i run event h = record {
+  end = h.end;
+  run = run_then u events w (e ∷ []) h.end run (goes w h.end h.end e [] (event h.end h.moves) (stands h.end));
+  stands = h.stands;
+}
+
+-- a run, and then a stop
+pub stopped_behind : {S : Type 0} (view : S → SeatView) (seats : List S) (replies handed : List ToLink) (u : World) (events : List Event) (w : World)
+    (fault : StepFault)
+    → Run u events w → HasStopped view seats replies handed w fault → HasStopped view seats replies handed u fault
+stopped_behind view seats replies handed u events w fault run s = record {
+  events = events ++ s.events;
+  end = s.end;
+  run = run_then u events w s.events s.end run s.run;
+  nodes = s.nodes;
+  missing = s.missing;
+  given = s.given;
+}
+
+-- ALL THAT WAITED
+
+-- so far
+pub record IsSettling {S : Type 0} (view : S → SeatView) (seats : List S) (post : PostView) (handed : List ToLink) (before : World) (next : ℕ) : Type 0 where
+  pub events : List Event
+  pub end : World
+  pub later : ℕ
+  pub settles : Settles before next events end later
+  pub stands : StandsFor view seats post handed end later
+
+pub settling_more : {S : Type 0} (view : S → SeatView) (seats : List S) (post : PostView) (handed : List ToLink) (u : World) (next : ℕ)
+    (events : List Event) (v : World) (later : ℕ) (m : Letter)
+    → Settles u next events v later → slice_get v.sent later ≡ Some m → HasDelivered view seats post handed v (later + 1) later m.receiver
+    → IsSettling view seats post handed u next
+settling_more view seats post handed u next events v later m so_far got d = by_delivery d.delivers
+  where
+    by_delivery : DeliversOrLoses v later m.receiver d.end → IsSettling view seats post handed u next
+    by_delivery (inl happens) = record {
+      events = events ++ deliver_event m.receiver later ∷ [];
+      end = d.end;
+      later = later + 1;
+      settles = settles_more u next events v later m.receiver d.end so_far happens;
+      stands = d.stands;
+    }
+    by_delivery (inr (same, none)) = record {
+      events = events;
+      end = d.end;
+      later = later + 1;
+      settles = subst (λ (x : World). Settles u next events x (later + 1)) (sym same) (loses_more u next events v later m so_far got none);
+      stands = d.stands;
+    }
+
+-- a message is taken from the queue and delivered
+pub settling_step : {S M : Type 0} (view : S → SeatView) (letter : M → Letter) (seats seats_after : List S) (post : PostView) (handed : List ToLink)
+    (u : World) (next : ℕ) (m : M) (old taken : Post M)
+    → IsSettling view seats (post_view letter old) handed u next → old.waiting.items ≡ m ∷ taken.waiting.items → taken.replies.items ≡ old.replies.items
+    → ((v : World) (n which : ℕ) → StandsFor view seats (post_view letter taken) handed v n → slice_get v.sent which ≡ Some (letter m)
+    → HasDelivered view seats_after post handed v n which (letter m).receiver)
+    → IsSettling view seats_after post handed u next
+settling_step view letter seats seats_after post handed u next m old taken r first same deliver =
+    let p = popped view letter seats handed r.end r.later m old taken r.stands first same in
+    settling_more view seats_after post handed u next r.events r.end r.later (letter m) r.settles p.got (deliver r.end (r.later + 1) r.later p.stands p.got)
+
+pub settling_stopped : {S M : Type 0} (view : S → SeatView) (letter : M → Letter) (seats seats_after : List S) (replies handed : List ToLink)
+    (u : World) (next : ℕ) (m : M) (old taken : Post M) (fault : StepFault)
+    → IsSettling view seats (post_view letter old) handed u next → old.waiting.items ≡ m ∷ taken.waiting.items → taken.replies.items ≡ old.replies.items
+    → ((v : World) (n which : ℕ) → StandsFor view seats (post_view letter taken) handed v n → slice_get v.sent which ≡ Some (letter m)
+    → HasStopped view seats_after replies handed v fault)
+    → HasStopped view seats_after replies handed u fault
+settling_stopped view letter seats seats_after replies handed u next m old taken fault r first same deliver =
+    let p = popped view letter seats handed r.end r.later m old taken r.stands first same in
+    stopped_behind view seats_after replies handed u r.events r.end fault (settles_run u next r.events r.end r.later r.settles)
+    (deliver r.end (r.later + 1) r.later p.stands p.got)
+
+-- nothing waits any more
+pub settled : {S : Type 0} (view : S → SeatView) (seats : List S) (post : PostView) (handed : List ToLink) (u : World) (next : ℕ)
+    → IsSettling view seats post handed u next → post.waiting ≡ [] → HasSettled view seats post handed u next
+settled view seats post handed u next s none =
+    let past_all : s.end.sent ≡ s.stands.past = s.stands.sent ∙ (ap (λ (l : List Letter). s.stands.past ++ l) none ∙ append-nil s.stands.past) in
+    let all : s.later ≡ length s.end.sent = sym s.stands.place ∙ sym (ap (λ (l : List Letter). length l) past_all) in
+    record {
+      events = s.events;
+      end = s.end;
+      settles = subst (λ (n : ℕ). Settles u next s.events s.end n) all s.settles;
+      stands = subst (λ (n : ℕ). StandsFor view seats post handed s.end n) all s.stands;
+    }
+
+empty_of : {M : Type 0} (items : List M) → length items ≡ 0 → items ≡ []
+empty_of [] none = refl
+empty_of (x ∷ items) none = absurd (omega (arith, none))
+
+-- the queue was found empty
+pub settled_at_end : {S M : Type 0} (view : S → SeatView) (letter : M → Letter) (seats : List S) (handed : List ToLink) (u : World) (next : ℕ)
+    (old taken : Post M) (found : Option M) → IsSettling view seats (post_view letter old) handed u next → found ≡ None
+    → old.waiting.items ≡ option_to_list found ++ taken.waiting.items
+    → MatchOption found ((deque_len old.waiting ≡ 0) × (deque_len taken.waiting ≡ 0)) (λ m. deque_len taken.waiting + 1 ≡ deque_len old.waiting)
+    → deque_len taken.waiting ≡ length taken.waiting.items → taken.replies.items ≡ old.replies.items
+    → HasSettled view seats (post_view letter taken) handed u next
+settled_at_end view letter seats handed u next old taken (Some m) r none items cases count same = absurd (cc)
+settled_at_end {S} {M} view letter seats handed u next old taken None r none items cases count same =
+    let empty : taken.waiting.items ≡ [] = empty_of taken.waiting.items (sym count ∙ cases.1) in
+    let h = settled view seats (post_view letter old) handed u next r (ap (λ (l : List M). map letter l) (items ∙ empty)) in
+    record {
+      events = h.events;
+      end = h.end;
+      settles = h.settles;
+      stands = record {
+        nodes = h.stands.nodes;
+        past = h.stands.past;
+        sent = h.stands.sent ∙ ap (λ (l : List M). h.stands.past ++ map letter l) items;
+        place = h.stands.place;
+        given = h.stands.given ∙ ap (λ (l : List ToLink). handed ++ l) (sym same);
+      };
+    }
+
+-- OPENINGS, MOMENTS AND REQUESTS
+
+pub delivery_stopped : {S : Type 0} (view : S → SeatView) (seats : List S) (replies handed : List ToLink) (w : World) (which at : ℕ) (m : Letter)
+    (i : Input) (fault : StepFault)
+    → slice_get w.sent which ≡ Some m → i ≡ letter_input m → at ≡ m.receiver → IsCutShort view seats replies handed w at i fault
+    → HasStopped view seats replies handed w fault
+delivery_stopped view seats replies handed w which at m i fault got is to c =
+    stopped view seats replies handed w [] w (deliver_event m.receiver which) at i fault (stands w)
+    (λ v x. delivers w v m.receiver which m got refl (subst (λ (n : ℕ). Moves w n (letter_input m) v) to (subst (λ (y : Input). Moves w at y v) is x))) c
+
+pub ask_stopped : {S : Type 0} (view : S → SeatView) (seats : List S) (replies handed : List ToLink) (w : World) (at link : ℕ) (number : ℤ)
+    (request : Request) (i : Input) (fault : StepFault)
+    → IsRouter w.nodes at → i ≡ client_input link number request → IsCutShort view seats replies handed w at i fault
+    → HasStopped view seats replies handed w fault
+ask_stopped view seats replies handed w at link number request i fault router is c =
+    stopped view seats replies handed w [] w (client_event at link number request) at i fault (stands w)
+    (λ v x. comes w v at link number request router (subst (λ (y : Input). Moves w at y v) is x)) c
+
+pub opened_stopped : {S : Type 0} (view : S → SeatView) (seats_before seats : List S) (post_before : PostView) (replies handed : List ToLink)
+    (u : World) (next at : ℕ) (i : Input) (fault : StepFault)
+    → (r : HasRun view seats_before post_before handed u next (openings 0 at)) → i ≡ opened_input → IsCutShort view seats replies handed r.end at i fault
+    → HasStopped view seats replies handed u fault
+opened_stopped view seats_before seats post_before replies handed u next at i fault r is c =
+    stopped view seats replies handed u (openings 0 at) r.end (opened_event at) at i fault r.run
+    (λ v x. was_opened r.end v at (subst (λ (y : Input). Moves r.end at y v) is x)) c
+
+pub given_stopped : {S : Type 0} (view : S → SeatView) (seats_before seats : List S) (post_before : PostView) (replies handed : List ToLink)
+    (u : World) (next at moment : ℕ) (i : Input) (fault : StepFault)
+    → (r : HasRun view seats_before post_before handed u next (moments_given 0 at moment)) → i ≡ moment_input moment
+    → IsCutShort view seats replies handed r.end at i fault → HasStopped view seats replies handed u fault
+given_stopped view seats_before seats post_before replies handed u next at moment i fault r is c =
+    stopped view seats replies handed u (moments_given 0 at moment) r.end (moment_event at moment) at i fault r.run
+    (λ v x. passes r.end v at moment (subst (λ (y : Input). Moves r.end at y v) is x)) c
+
+pub opened_more : {S : Type 0} (view : S → SeatView) (seats_before seats : List S) (post_before post : PostView) (handed : List ToLink) (u : World)
+    (next at : ℕ) (i : Input)
+    → (r : HasRun view seats_before post_before handed u next (openings 0 at)) → i ≡ opened_input → HasMoved view seats post handed r.end next at i
+    → HasRun view seats post handed u next (openings 0 (at + 1))
+opened_more view seats_before seats post_before post handed u next at i r is h =
+    let zero_at : 0 + at ≡ at = omega arith in
+    let all : openings 0 (at + 1) ≡ openings 0 at ++ opened_event at ∷ [] =
+    ap (λ (n : ℕ). openings 0 n) (add-one at) ∙ (one_opening_more 0 at ∙ ap (λ (n : ℕ). openings 0 at ++ opened_event n ∷ []) zero_at) in
+    subst (λ (l : List Event). HasRun view seats post handed u next l) (sym all)
+    (run_more view seats post handed u (openings 0 at) r.end next (opened_event at) at i r.run
+    (λ v m. was_opened r.end v at (subst (λ (x : Input). Moves r.end at x v) is m)) h)
+
+pub given_more : {S : Type 0} (view : S → SeatView) (seats_before seats : List S) (post_before post : PostView) (handed : List ToLink) (u : World)
+    (next at moment : ℕ) (i : Input)
+    → (r : HasRun view seats_before post_before handed u next (moments_given 0 at moment)) → i ≡ moment_input moment
+    → HasMoved view seats post handed r.end next at i
+    → HasRun view seats post handed u next (moments_given 0 (at + 1) moment)
+given_more view seats_before seats post_before post handed u next at moment i r is h =
+    let zero_at : 0 + at ≡ at = omega arith in
+    let all : moments_given 0 (at + 1) moment ≡ moments_given 0 at moment ++ moment_event at moment ∷ [] =
+    ap (λ (n : ℕ). moments_given 0 n moment) (add-one at) ∙ (one_moment_more 0 at moment
+    ∙ ap (λ (n : ℕ). moments_given 0 at moment ++ moment_event n moment ∷ []) zero_at) in
+    subst (λ (l : List Event). HasRun view seats post handed u next l) (sym all)
+    (run_more view seats post handed u (moments_given 0 at moment) r.end next (moment_event at moment) at i r.run
+    (λ v m. passes r.end v at moment (subst (λ (x : Input). Moves r.end at x v) is m)) h)
+
+pub run_none : {S : Type 0} (view : S → SeatView) (seats : List S) (post : PostView) (handed : List ToLink) (u : World) (next : ℕ)
+    → StandsFor view seats post handed u next → HasRun view seats post handed u next []
+run_none view seats post handed u next s = record { end = u; run = stands u; stands = s }
+
+pub settling_none : {S : Type 0} (view : S → SeatView) (seats : List S) (post : PostView) (handed : List ToLink) (u : World) (next : ℕ)
+    → StandsFor view seats post handed u next → IsSettling view seats post handed u next
+settling_none view seats post handed u next s = record { events = []; end = u; later = next; settles = settles_none u next; stands = s }
+
+pub asked : {S : Type 0} (view : S → SeatView) (seats : List S) (post : PostView) (handed : List ToLink) (u : World) (next at link : ℕ) (number : ℤ)
+    (request : Request) (i : Input)
+    → IsRouter u.nodes at → i ≡ client_input link number request → HasMoved view seats post handed u next at i
+    → HasHappened view seats post handed u next (client_event at link number request)
+asked view seats post handed u next at link number request i router is h = record {
+  end = h.end;
+  happens = comes u h.end at link number request router (subst (λ (x : Input). Moves u at x h.end) is h.moves);
+  stands = h.stands;
+}
+
+-- NO MESSAGE IS LOST
+
+module _ (P : World → (next : ℕ) → Type 0) (there : (v : World) (n : ℕ) (m : Letter) → P v n → slice_get v.sent n ≡ Some m
+    → m.receiver < length v.nodes) (kept : (v x : World) (n at : ℕ) → P v n → Happens v (deliver_event at n) x → P x (n + 1)) where
+  -- where each message that is next goes to a node
+  pub settles_delivers : (u : World) (next : ℕ) (events : List Event) (w : World) (later : ℕ) → P u next → Settles u next events w later
+      → Delivers u next events w later
+  settles_delivers _ _ _ _ _ p (settles_none w next) = delivers_none w next
+  settles_delivers _ _ _ _ _ p (settles_next u v w next later at events h more) =
+      delivers_next u v w next later at events h (settles_delivers v (next + 1) events w later (kept u v next at p h) more)
+  settles_delivers _ _ _ _ _ p (loses_next u w next later m events got none more) =
+      let here : m.receiver < length u.nodes = there u next m p got in
+      absurd (omega (arith, here, none))
+
+-- HANDING ON
+
+-- the replies were handed on behind the others
+pub handed_on : {S M : Type 0} (view : S → SeatView) (letter : M → Letter) (seats : List S) (handed : List ToLink) (w : World) (next : ℕ) (old new : Post M)
+    → StandsFor view seats (post_view letter old) handed w next → new.waiting.items ≡ old.waiting.items → new.replies.items ≡ []
+    → StandsFor view seats (post_view letter new) (handed ++ old.replies.items) w next
+handed_on view letter seats handed w next old new s same none = record {
+  nodes = s.nodes;
+  past = s.past;
+  sent = s.sent ∙ ap (λ l. s.past ++ map letter l) (sym same);
+  place = s.place;
+  given = s.given ∙ (sym (append-nil (handed ++ old.replies.items)) ∙ ap (λ (l : List ToLink). (handed ++ old.replies.items) ++ l) (sym none));
+}

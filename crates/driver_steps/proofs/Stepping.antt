@@ -1,0 +1,164 @@
+-- A step of a node is a step of the world.
+use Rattle.std.proofs.Common.{◌≡◌, inl, inr, ℕ, List, [], ◌∷◌, ◌++◌, Bool, true, false, IsTrue, refl, sym, ap, subst, ◌∙◌}
+use Rattle.std.specs.Prelude.{Some, if◌then◌else◌}
+use Rattle.std.specs.List.{slice_get, slice_set}
+use Rattle.std.proofs.lemmas.List.{map-append}
+use Rattle.outside.specs.Causes.{Rose}
+use Rattle.outside.specs.Devices.{OneRose}
+use Rattle.outside.specs.Disks.{Outcomes}
+use Rattle.outside.specs.Logs.{WithOrWithout}
+use Rattle.node_model.specs.Asked.{Answered, reply_put}
+use Rattle.node_model.specs.Kept.{Kept, record_kept}
+use Rattle.node_model.specs.Letters.{Letter, Input, Reply, Effect}
+use Rattle.node_model.specs.Spelled.{spelled}
+use Rattle.node_model.specs.States.{NodeState}
+use Rattle.node_model.specs.Steps.{Step}
+use Rattle.node_model.specs.World.{Held, World, Moves, after, answered_by, is_given, tick}
+use Rattle.node_traits.specs.Calls.{log_call}
+use Rattle.node_traits.specs.Effects.{AreSound, ByStepFault, StepBroken, put_by, puts_of, spellings}
+use Rattle.node_traits.specs.declared.outputs.StepFault.{StepFault}
+use Rattle.node_traits.specs.declared.outputs.StepFault.TheVariants.{Disk, Steps, Memory}
+use Rattle.node_traits.specs.declared.outputs.ToLink.{ToLink}
+use Rattle.driver_steps.specs.declared.seat.Seat.{Seat}
+use Rattle.driver_steps.specs.Seats.{SeatView, IsHeld, AreHeld, faults_of, seat_view}
+use Rattle.driver_steps.specs.Worlds.{puts_given}
+use Rattle.driver_steps.specs.Moves.{HasStepped, IsBroken}
+use Rattle.driver_steps.proofs.Seats.{HeldAt, fault_rose, faults_same, held_at, held_set, held_still, held_kept, kept_set, kept_still}
+
+if_append : (b : Bool) (x : ToLink) (p q r : List ToLink) → p ≡ q ++ r → (if b then p else x ∷ p) ≡ (if b then q else x ∷ q) ++ r
+if_append true x p q r e = e
+if_append false x p q r e = ap (λ (l : List ToLink). x ∷ l) e
+
+pub puts_append : (answered more : List Answered) → puts_given (answered ++ more) ≡ puts_given answered ++ puts_given more
+puts_append [] more = refl
+puts_append (a ∷ answered) more =
+    if_append a.request.more (record { link = a.link; bytes = reply_put a.number a.request a.document }) (puts_given (answered ++ more))
+    (puts_given answered)
+    (puts_given more) (puts_append answered more)
+
+pub puts_answered : (now : ℕ) (replies : List Reply) → puts_given (answered_by now replies) ≡ puts_of replies
+puts_answered now [] = refl
+puts_answered now (r ∷ replies) =
+    ap (λ (l : List ToLink). if r.request.more then l else record { link = r.link; bytes = put_by r } ∷ l) (puts_answered now replies)
+
+sound_append : (kept more : List Kept) → AreSound kept → AreSound more → AreSound (kept ++ more)
+sound_append [] more all rest = rest
+sound_append (k ∷ kept) more all rest = (all.0, sound_append kept more all.1 rest)
+
+pub spellings_append : (kept more : List Kept) → spellings (kept ++ more) ≡ spellings kept ++ spellings more
+spellings_append kept more = map-append (λ (k : Kept). spelled 1 (record_kept k)) kept more
+
+-- what is put behind a step
+pub puts_moved : (w : World) (at : ℕ) (i : Input) (v : World) → Moves w at i v → (more : List ToLink) ×
+    (puts_given v.answered ≡ puts_given w.answered ++ more)
+puts_moved w at i v m = (
+  puts_of m.f.replies,
+  ap (λ (x : World). puts_given x.answered) m.then ∙ (puts_append w.answered (answered_by w.now m.f.replies)
+      ∙ ap (λ (l : List ToLink). puts_given w.answered ++ l) (puts_answered w.now m.f.replies)),
+)
+
+module _ {S : Type 0} (view : S → SeatView) (seats : List S) (w : World) (at : ℕ) (s t : S) (i : Input) (f : Effect)
+    (are : AreHeld view seats w.nodes) (got : slice_get seats at ≡ Some s) (sound : AreSound f.written)
+    (same : IsTrue (view t).tells → IsTrue (view s).tells) where
+  place : HeldAt (view s) w.nodes at
+  place = held_at view seats w.nodes at s are got
+
+  moves_to : (new : NodeState) → Step (view s).state i f new → Moves w at i (tick (after (is_given w at i) at place.old f new))
+  moves_to new step = record {
+    old = place.old;
+    f = f;
+    new = new;
+    here = place.here;
+    step = subst (λ (x : NodeState). Step x i f new) (sym place.is.same) step;
+    then = refl;
+  }
+
+  grown_with : (records : List (List ℕ)) → (IsTrue (view t).tells → records ≡ (view s).records ++ spellings f.written) → IsTrue (view t).tells
+      → records ≡ spellings (place.old.kept ++ f.written)
+  grown_with records grown told =
+      grown told ∙ (ap (λ (l : List (List ℕ)). l ++ spellings f.written) (place.is.written (same told)) ∙ sym (spellings_append place.old.kept f.written))
+
+  pub stepped : (mail : List Letter) (replies : List ToLink) → Step (view s).state i f (view t).state → f.mail ≡ mail → replies ≡ puts_of f.replies
+      → (IsTrue (view t).tells → (view t).records ≡ (view s).records ++ spellings f.written)
+      → ((view s).holds (view s).records → (view t).holds (view t).records)
+      → HasStepped view (slice_set seats at t) w at i mail replies
+  stepped mail replies step sent told grown kept =
+      let written : (IsTrue (view t).tells → (view t).records ≡ spellings (place.old.kept ++ f.written)) = grown_with (view t).records grown in
+      record {
+        end = tick (after (is_given w at i) at place.old f (view t).state);
+        moves = moves_to (view t).state step;
+        nodes = held_set view seats w.nodes at t (record { state = (view t).state; kept = place.old.kept ++ f.written }) are
+            (record {
+              same = refl;
+              written = written;
+              keeps = record {
+                sound = sound_append place.old.kept f.written place.is.keeps.sound sound;
+                found = λ tells. subst (λ (l : List (List ℕ)). (view t).holds l) (written tells)
+                    (kept (subst (λ (l : List (List ℕ)). (view s).holds l) (sym (place.is.written (same tells))) (place.is.keeps.found (same tells))));
+              };
+            });
+        sent = ap (λ (l : List Letter). w.sent ++ l) sent;
+        given = puts_append w.answered (answered_by w.now f.replies)
+            ∙ ap (λ (l : List ToLink). puts_given w.answered ++ l) (puts_answered w.now f.replies ∙ sym told);
+      }
+
+  pub broken : (new : NodeState) → Step (view s).state i f new → WithOrWithout (view t).holds (view s).records (spellings f.written)
+      → IsBroken view (slice_set seats at t) w at i
+  broken new step (inl before) = record {
+    end = w;
+    moves = inl refl;
+    kept = kept_still view seats w.nodes at t place.old (held_kept view seats w.nodes are) place.here
+        (record { sound = place.is.keeps.sound; found = λ tells. subst (λ (l : List (List ℕ)). (view t).holds l) (place.is.written (same tells)) before });
+  }
+  broken new step (inr behind) = record {
+    end = tick (after (is_given w at i) at place.old f new);
+    moves = inr (moves_to new step);
+    kept = kept_set view seats w.nodes at t (record { state = new; kept = place.old.kept ++ f.written }) (held_kept view seats w.nodes are)
+        (record {
+          sound = sound_append place.old.kept f.written place.is.keeps.sound sound;
+          found = λ tells. subst (λ (l : List (List ℕ)). (view t).holds l) (grown_with ((view s).records ++ spellings f.written) (λ told. refl) tells)
+              behind;
+        });
+  }
+
+-- FAULTS
+
+module _ {N L : Type 0} (state : N → NodeState) (told : Bool) (records : L → List (List ℕ)) (holds : L → List (List ℕ) → Type 0)
+    (finds : List ℕ → List (List ℕ) → Type 0) (moment : L → ℕ) (left_since : L → ℕ → Outcomes) where
+  still_held : (s t : Seat N L) (h : Held) → IsHeld (seat_view state told records holds s) h → (state t.node ≡ state s.node) × (t.log ≡ s.log)
+      → IsHeld (seat_view state told records holds t) h
+  still_held s t h is (same, unchanged) = record {
+    same = is.same ∙ sym same;
+    written = λ tells. ap records unchanged ∙ is.written tells;
+    keeps = record { sound = is.keeps.sound; found = λ tells. subst (λ (l : L). holds l (spellings h.kept)) (sym unchanged) (is.keeps.found tells) };
+  }
+
+  still : (seats : List (Seat N L)) (w : World) (at : ℕ) (s t : Seat N L) → AreHeld (seat_view state told records holds) seats w.nodes
+      → slice_get seats at ≡ Some s → (state t.node ≡ state s.node) × (t.log ≡ s.log)
+      → AreHeld (seat_view state told records holds) (slice_set seats at t) w.nodes
+  still seats w at s t are got unchanged =
+      let here : HeldAt (seat_view state told records holds s) w.nodes at = held_at (seat_view state told records holds) seats w.nodes at s are got in
+      held_still (seat_view state told records holds) seats w.nodes at t here.old are here.here (still_held s t here.old here.is unchanged)
+
+  -- what the fault of a step says of its node and log
+  abbrev pub Fails : StepFault → Input → (s t : Seat N L) → Type 0
+  Fails fault i s t =
+      ByStepFault fault (λ faults. StepBroken (state s.node) i (log_call told records holds finds moment left_since s.log t.log))
+      ((state t.node ≡ state s.node) × (t.log ≡ s.log))
+
+  pub failed : (seats : List (Seat N L)) (w : World) (at : ℕ) (s t : Seat N L) (i : Input) (fault : StepFault)
+      → AreHeld (seat_view state told records holds) seats w.nodes → slice_get seats at ≡ Some s → Fails fault i s t
+      → ByStepFault fault (λ faults. IsBroken (seat_view state told records holds) (slice_set seats at t) w at i)
+      (AreHeld (seat_view state told records holds) (slice_set seats at t) w.nodes)
+  failed seats w at s t i (Disk faults) are got b =
+      broken (seat_view state told records holds) seats w at s t i b.effect are got b.sound (λ tells. tells) b.new b.step b.left.left
+  failed seats w at s t i Steps are got unchanged = still seats w at s t are got unchanged
+  failed seats w at s t i Memory are got unchanged = still seats w at s t are got unchanged
+
+  pub faults_told : (count : L → ℕ) (seats : List (Seat N L)) (at : ℕ) (s t : Seat N L) (i : Input) (fault : StepFault) → slice_get seats at ≡ Some s
+      → ByStepFault fault (λ faults. (faults ≡ count t.log) × Rose (count s.log) (count t.log)) (Unit {0}) → Fails fault i s t
+      → ByStepFault fault (λ faults. OneRose (faults_of count seats) (faults_of count (slice_set seats at t)))
+      (faults_of count (slice_set seats at t) ≡ faults_of count seats)
+  faults_told count seats at s t i (Disk faults) got rose b = fault_rose count seats at s t got rose.1
+  faults_told count seats at s t i Steps got rose unchanged = faults_same count seats at s t got (ap count unchanged.1)
+  faults_told count seats at s t i Memory got rose unchanged = faults_same count seats at s t got (ap count unchanged.1)

@@ -1,0 +1,48 @@
+use Rattle.std.proofs.Common.{rules, ◌≡◌, ◌<◌, ◌^◌, refl, arith, ◌∙◌}
+use Rattle.std.specs.Prelude.{None}
+use Rattle.driver_steps.specs.Seats.{seat_view}
+use Rattle.driver_steps.proofs.Runs.{less_left, settled_at_end, settling_none, settling_step, settling_stopped}
+use Rattle.driver_steps.proofs.deliveries.settle.Goals as goal
+
+pub messages-init : goal.messages-init
+messages-init g c = record {
+  len = refl;
+  are_open = c.requires;
+  faults = refl;
+  places = refl;
+  run = λ w next handed s. settling_none (seat_view g.N.Node.state g.L.Log.tells g.L.Log.records g.L.Log.holds) _ _ handed w next s;
+}
+
+pub messages-preserved : goal.messages-preserved
+messages-preserved g c = record {
+  len = c.in-Ok.ensures.len ∙ c.messages.invariant.len;
+  are_open = c.in-Ok.ensures.«open»;
+  faults = c.in-Ok.ensures.faults ∙ c.messages.invariant.faults;
+  places = c.in-Ok.ensures.places ∙ c.messages.invariant.places;
+  run = λ w next handed s.
+      settling_step (seat_view g.N.Node.state g.L.Log.tells g.L.Log.records g.L.Log.holds)
+      (λ m. g.N.Mail.Mail.letter m) c.messages.seats.items _ _ handed w next c.in-Some.message c.messages.post
+      (record { waiting = c.pop_front.new.self; replies = c.messages.post.replies }) (c.messages.invariant.run w next handed s) c.in-Some.ensures.items refl
+      (λ v n which stands got. c.in-Ok.ensures.delivered v n which handed stands got);
+}
+
+pub messages-smaller : goal.messages-smaller
+messages-smaller g c =
+    let fits : c.deliver.new.post.waiting.len < 2 ^ 64 = omega (arith, c.deliver.new.post.waiting.small.0, c.deliver.new.post.waiting.small.1) in
+    less_left _ _ _ _ _ c.pop_front.new.self.items c.deliver.new.post.waiting.items c.in-Ok.ensures.falls c.in-Some.ensures.cases c.pop_front.new.self.ok.0
+    c.deliver.new.post.waiting.ok.0 fits
+
+pub returns-in-Err-clause-stopped : goal.returns-in-Err-clause-stopped
+returns-in-Err-clause-stopped g c w next handed s =
+    settling_stopped (seat_view g.N.Node.state g.L.Log.tells g.L.Log.records g.L.Log.holds)
+    (λ m. g.N.Mail.Mail.letter m) c.messages.seats.items _ _ handed w next c.in-Some.message c.messages.post
+    (record { waiting = c.pop_front.new.self; replies = c.messages.post.replies }) c.in-Err.e
+    (c.messages.invariant.run w next handed s) c.in-Some.ensures.items refl
+    (λ v n which stands got. c.in-Err.ensures.stopped v n which handed stands got)
+
+pub returns-clause-settled : goal.returns-clause-settled
+returns-clause-settled g c w next handed s =
+    let none : c.pop_front.result ≡ None = search (rules, c.in_default.is) in
+    settled_at_end (seat_view g.N.Node.state g.L.Log.tells g.L.Log.records g.L.Log.holds) (λ m. g.N.Mail.Mail.letter m) c.messages.seats.items handed w next
+    c.messages.post (record { waiting = c.pop_front.new.self; replies = c.messages.post.replies }) c.pop_front.result
+    (c.messages.invariant.run w next handed s) none c.pop_front.ensures.items c.pop_front.ensures.cases c.pop_front.new.self.ok.0 refl

@@ -1,0 +1,24 @@
+use Rattle.std.proofs.Common.{◌≡◌, ℕ, ◌+◌, ◌*◌, ◌^◌, List}
+use Rattle.std.specs.Prelude.{vec_len}
+use Rattle.std.specs.VecDeque.{deque_len}
+use Rattle.node_model.specs.World.{World}
+use Rattle.node_traits.specs.declared.outputs.ToLink.{ToLink}
+use Rattle.driver_steps.specs.Seats.{AreOpen, faults_of, left_of, places_of, seat_view}
+use Rattle.driver_steps.specs.Worlds.{StandsFor, post_view}
+use Rattle.driver_steps.proofs.Runs.{IsSettling}
+use Rattle.driver_steps.proofs.deliveries.settle.Given as goal
+
+abbrev pub invariant-messages : goal.invariant-messages
+invariant-messages g l = record {
+  len : vec_len l.seats ≡ vec_len l.fn.seats;
+  are_open : AreOpen g.L.Log.is_open l.seats.items;
+  faults : faults_of g.L.Log.fault_count l.seats.items ≡ faults_of g.L.Log.fault_count l.fn.seats.items;
+  places : places_of g.L.Log.place l.seats.items ≡ places_of g.L.Log.place l.fn.seats.items;
+  run : (w : World) (next : ℕ) (handed : List ToLink) → StandsFor (seat_view g.N.Node.state g.L.Log.tells g.L.Log.records g.L.Log.holds)
+      l.fn.seats.items (post_view (λ m. g.N.Mail.Mail.letter m) l.fn.post) handed w next
+      → IsSettling (seat_view g.N.Node.state g.L.Log.tells g.L.Log.records g.L.Log.holds) l.seats.items
+      (post_view (λ m. g.N.Mail.Mail.letter m) l.post) handed w next;
+}
+
+abbrev pub decreases-messages : goal.decreases-messages
+decreases-messages g l = left_of g.N.Node.steps l.seats.items * 2 ^ 66 + deque_len l.post.waiting

@@ -1,0 +1,6 @@
+pub mod Seats
+pub mod Worlds
+pub mod Moves
+pub use Rattle.node_model.specs.Schedule
+pub use Rattle.node_model.specs.World
+pub use Rattle.node_traits.specs.Effects

@@ -1,0 +1,93 @@
+-- What calls of a driver do to the world that stands for it (own).
+use Rattle.std.specs.Prelude.{◌≡◌, ◌⊎◌, ℕ, ◌+◌, ◌≤◌, Some, List, [], ◌∷◌, ◌++◌, length}
+use Rattle.std.specs.List.{slice_get}
+use Rattle.node_model.specs.Letters.{Letter, Input}
+use Rattle.node_model.specs.World.{World, Moves, Event, deliver_event, Happens, Run}
+use Rattle.node_traits.specs.declared.outputs.StepFault.{StepFault}
+use Rattle.node_traits.specs.declared.outputs.ToLink.{ToLink}
+use Rattle.driver_steps.specs.Seats.{SeatView, AreHeld, AreKept, AreHeldOrKept}
+use Rattle.driver_steps.specs.Worlds.{PostView, puts_given, StandsFor}
+
+-- The node at a place took a step on the input, and gave out these messages and replies.
+pub record HasStepped {S : Type 0} (view : S → SeatView) (seats : List S) (before : World) (at : ℕ) (i : Input) (mail : List Letter)
+    (replies : List ToLink) : Type 0 where
+  pub end : World
+  pub moves : Moves before at i end
+  pub nodes : AreHeld view seats end.nodes
+  pub sent : end.sent ≡ before.sent ++ mail
+  pub given : puts_given end.answered ≡ puts_given before.answered ++ replies
+
+-- the step was taken, or it was not
+abbrev pub MovesOrNot : World → (at : ℕ) → Input → World → Type 0
+MovesOrNot before at i end = (end ≡ before) ⊎ Moves before at i end
+
+-- A disk failed in the step: the logs keep what they keep behind it, or before it.
+pub record IsBroken {S : Type 0} (view : S → SeatView) (seats : List S) (before : World) (at : ℕ) (i : Input) : Type 0 where
+  pub end : World
+  pub moves : MovesOrNot before at i end
+  pub kept : AreKept view seats end.nodes
+
+-- The node at a place took a step on the input, and what it gave out was taken in.
+pub record HasMoved {S : Type 0} (view : S → SeatView) (seats : List S) (post : PostView) (handed : List ToLink) (before : World) (next at : ℕ)
+    (i : Input) : Type 0 where
+  pub end : World
+  pub moves : Moves before at i end
+  pub stands : StandsFor view seats post handed end next
+
+-- A fault came in the step, or messages or replies found no room: replies may be missing, and of what waits nothing is said.
+pub record IsCutShort {S : Type 0} (view : S → SeatView) (seats : List S) (replies handed : List ToLink) (before : World) (at : ℕ) (i : Input)
+    (fault : StepFault) : Type 0 where
+  pub end : World
+  pub moves : MovesOrNot before at i end
+  pub nodes : AreHeldOrKept fault view seats end.nodes
+  pub missing : List ToLink
+  pub given : puts_given end.answered ≡ (handed ++ replies) ++ missing
+
+-- An event happened.
+pub record HasHappened {S : Type 0} (view : S → SeatView) (seats : List S) (post : PostView) (handed : List ToLink) (before : World) (next : ℕ)
+    (e : Event) : Type 0 where
+  pub end : World
+  pub happens : Happens before e end
+  pub stands : StandsFor view seats post handed end next
+
+-- These events happened, one after another.
+pub record HasRun {S : Type 0} (view : S → SeatView) (seats : List S) (post : PostView) (handed : List ToLink) (before : World) (next : ℕ)
+    (events : List Event) : Type 0 where
+  pub end : World
+  pub run : Run before events end
+  pub stands : StandsFor view seats post handed end next
+
+-- Events happened, and then a fault came: replies may be missing, and of what waits nothing is said.
+pub record HasStopped {S : Type 0} (view : S → SeatView) (seats : List S) (replies handed : List ToLink) (before : World) (fault : StepFault) : Type 0 where
+  pub events : List Event
+  pub end : World
+  pub run : Run before events end
+  pub nodes : AreHeldOrKept fault view seats end.nodes
+  pub missing : List ToLink
+  pub given : puts_given end.answered ≡ (handed ++ replies) ++ missing
+
+-- The message with a place among all that were sent is delivered to a node, or lost where there is none.
+abbrev pub DeliversOrLoses : World → (which receiver : ℕ) → World → Type 0
+DeliversOrLoses before which receiver end = Happens before (deliver_event receiver which) end ⊎ ((end ≡ before) × (length before.nodes ≤ receiver))
+
+pub record HasDelivered {S : Type 0} (view : S → SeatView) (seats : List S) (post : PostView) (handed : List ToLink) (before : World)
+    (next which receiver : ℕ) : Type 0 where
+  pub end : World
+  pub delivers : DeliversOrLoses before which receiver end
+  pub stands : StandsFor view seats post handed end next
+
+-- Messages are delivered in order of sending, each once, from a place among all that were sent up to a later one; those too that are
+-- sent meanwhile. One that goes to no node is lost.
+pub data Settles : World → (next : ℕ) → List Event → World → (later : ℕ) → Type 0 where
+  settles_none : (w : World) (next : ℕ) → Settles w next [] w next
+  settles_next : (u v w : World) (next later at : ℕ) (events : List Event) → Happens u (deliver_event at next) v → Settles v (next + 1) events w later
+      → Settles u next (deliver_event at next ∷ events) w later
+  loses_next : (u w : World) (next later : ℕ) (m : Letter) (events : List Event) → slice_get u.sent next ≡ Some m → length u.nodes ≤ m.receiver
+      → Settles u (next + 1) events w later → Settles u next events w later
+
+-- All that waited was delivered, and nothing waits.
+pub record HasSettled {S : Type 0} (view : S → SeatView) (seats : List S) (post : PostView) (handed : List ToLink) (before : World) (next : ℕ) : Type 0 where
+  pub events : List Event
+  pub end : World
+  pub settles : Settles before next events end (length end.sent)
+  pub stands : StandsFor view seats post handed end (length end.sent)

@@ -1,0 +1,75 @@
+-- Nodes with their logs, as the nodes of a world with what their journals keep (own).
+use Rattle.std.specs.Prelude.{◌≡◌, ℕ, ◌+◌, ◌-◌, ◌^◌, Bool, IsTrue, List, [], ◌∷◌, map, Result, Ok, Err}
+use Rattle.std.specs.List.{AllByRecursion}
+use Rattle.outside.specs.Devices.{OneRose}
+use Rattle.node_model.specs.Kept.{Kept}
+use Rattle.node_model.specs.States.{NodeState}
+use Rattle.node_model.specs.World.{Held}
+use Rattle.node_traits.specs.Effects.{AreSound, ByStepFault, spellings}
+use Rattle.node_traits.specs.declared.outputs.StepFault.{StepFault}
+use Rattle.driver_steps.specs.declared.seat.Seat.{Seat}
+
+-- What is told of a node with its log: its state; whether the log's type tells its records, and these; and whether an opening of the log
+-- would find a list.
+pub record SeatView : Type 1 where
+  pub state : NodeState
+  pub tells : Bool
+  pub records : List (List ℕ)
+  pub holds : List (List ℕ) → Type 0
+
+abbrev pub seat_view : {N L : Type 0} → (N → NodeState) → Bool → (L → List (List ℕ)) → (L → List (List ℕ) → Type 0) → Seat N L → SeatView
+seat_view state_of told records_of holds_in seat = record {
+  state = state_of seat.node;
+  tells = told;
+  records = records_of seat.log;
+  holds = holds_in seat.log;
+}
+
+-- an opening of the log finds what is kept, and nothing else
+pub record Keeps (seat : SeatView) (kept : List Kept) : Type 0 where
+  pub sound : AreSound kept
+  pub found : IsTrue seat.tells → seat.holds (spellings kept)
+
+-- the node is in this state, and its log has what its journal keeps
+pub record IsHeld (seat : SeatView) (held : Held) : Type 0 where
+  pub same : held.state ≡ seat.state
+  pub written : IsTrue seat.tells → seat.records ≡ spellings held.kept
+  pub keeps : Keeps seat held.kept
+
+-- these nodes with their logs, in order
+abbrev pub AreHeld : {S : Type 0} → (S → SeatView) → List S → List Held → Type 0
+AreHeld view [] [] = Unit {0}
+AreHeld view (s ∷ seats) (h ∷ held) = IsHeld (view s) h × AreHeld view seats held
+AreHeld view seats held = ⊥
+
+-- of the nodes that is not said, but the logs keep what the journals keep
+abbrev pub AreKept : {S : Type 0} → (S → SeatView) → List S → List Held → Type 0
+AreKept view [] [] = Unit {0}
+AreKept view (s ∷ seats) (h ∷ held) = Keeps (view s) h.kept × AreKept view seats held
+AreKept view seats held = ⊥
+
+-- all where no disk failed, else what the logs keep
+abbrev pub AreHeldOrKept : {S : Type 0} → StepFault → (S → SeatView) → List S → List Held → Type 0
+AreHeldOrKept fault view seats held = ByStepFault fault (λ faults. AreKept view seats held) (AreHeld view seats held)
+
+-- records can be appended to each log
+abbrev pub AreOpen : {N L : Type 0} → (L → Bool) → List (Seat N L) → Type 0
+AreOpen is_open seats = AllByRecursion (λ s. IsTrue (is_open s.log)) seats
+
+-- how many steps are left to all nodes
+abbrev pub left_of : {N L : Type 0} → (N → ℕ) → List (Seat N L) → ℕ
+left_of steps [] = 0
+left_of steps (s ∷ seats) = (2 ^ 56 - steps s.node) + left_of steps seats
+
+-- the counts of faults that the logs' disks met
+abbrev pub faults_of : {N L : Type 0} → (L → ℕ) → List (Seat N L) → List ℕ
+faults_of fault_count seats = map (λ s. fault_count s.log) seats
+
+-- where the logs' disks are
+abbrev pub places_of : {N L : Type 0} → (L → List ℕ) → List (Seat N L) → List (List ℕ)
+places_of place seats = map (λ s. place s.log) seats
+
+-- one of the counts rose where a disk failed, and elsewhere all are as before
+abbrev pub TellsFaults : {X : Type 0} → Result X StepFault → (before after : List ℕ) → Type 0
+TellsFaults (Ok x) before after = after ≡ before
+TellsFaults (Err fault) before after = ByStepFault fault (λ faults. OneRose before after) (after ≡ before)

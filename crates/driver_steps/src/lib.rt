@@ -1,0 +1,14 @@
+//! Nodes with their logs, driven on one thread: steps, messages and replies, as drivers share them.
+#![tactic(auto)]
+
+mod deliveries;
+mod post;
+mod rounds;
+mod seat;
+mod steps;
+
+pub use deliveries::{deliver, settle};
+pub use post::Post;
+pub use rounds::{ask, give_moments, open_all};
+pub use seat::Seat;
+pub use steps::{happen, step_node};

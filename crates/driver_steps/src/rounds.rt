@@ -1,0 +1,118 @@
+//! Openings, moments and requests.
+
+ghost use Rattle.std.specs.Prelude.{◌≡◌, ℕ, ◌<◌, List, vec_len, IfErr, OnOk};
+ghost use Rattle.node_model.specs.Schedule.{moments_given, openings};
+ghost use Rattle.node_model.specs.World.{IsRouter, World, client_event};
+ghost use Rattle.node_traits.specs.declared.outputs.ToLink.{ToLink};
+ghost use Rattle.driver_steps.specs.Seats.{AreOpen, TellsFaults, faults_of, places_of, seat_view};
+ghost use Rattle.driver_steps.specs.Moves.{HasHappened, HasRun, HasStopped};
+ghost use Rattle.driver_steps.specs.Worlds.{StandsFor, post_view};
+
+use crate::post::Post;
+use crate::seat::Seat;
+use crate::steps::happen;
+use node_traits::{Node, StepFault};
+use outside::log::Log;
+
+/// Tells each node that it was opened, in order of their numbers.
+///
+/// # Errors
+/// The first fault, as `happen` has it.
+pub fn open_all<N: Node, L: Log>(
+    seats: &mut Vec<Seat<N, L>>,
+    post: &mut Post<N::Mail>,
+) -> Result<(), StepFault>
+    requires { AreOpen L.is_open seats.old.items }
+    ensures opened { (w : World) (next : ℕ) (handed : List ToLink) →
+        StandsFor (seat_view N.state L.tells L.records L.holds) seats.old.items (post_view (λ m. N.Mail.letter m) post.old) handed w next →
+        OnOk result (HasRun (seat_view N.state L.tells L.records L.holds) seats.new.items (post_view (λ m. N.Mail.letter m) post.new) handed w next
+        (openings 0 (vec_len seats.old))) }
+    ensures stopped { (w : World) (next : ℕ) (handed : List ToLink) →
+        StandsFor (seat_view N.state L.tells L.records L.holds) seats.old.items (post_view (λ m. N.Mail.letter m) post.old) handed w next →
+        IfErr result (λ e. HasStopped (seat_view N.state L.tells L.records L.holds) seats.new.items post.new.replies.items handed w e) }
+    ensures len { vec_len seats.new ≡ vec_len seats.old }
+    ensures open { OnOk result (AreOpen L.is_open seats.new.items) }
+
+    // Of the logs' disks.
+    ensures faults { TellsFaults result (faults_of L.fault_count seats.old.items) (faults_of L.fault_count seats.new.items) }
+    ensures places { places_of L.place seats.new.items ≡ places_of L.place seats.old.items }
+{
+    let count = seats.len();
+    'nodes: for at in 0..count {
+        match happen(seats, post, at, N::opened()) {
+            Ok(()) => {}
+            Err(e) => return Err(e),
+        }
+    }
+    Ok(())
+}
+
+/// Gives each node the moment, in milliseconds since 1970, in order of their numbers.
+///
+/// # Errors
+/// The first fault, as `happen` has it.
+pub fn give_moments<N: Node, L: Log>(
+    seats: &mut Vec<Seat<N, L>>,
+    post: &mut Post<N::Mail>,
+    moment: u64,
+) -> Result<(), StepFault>
+    requires { AreOpen L.is_open seats.old.items }
+    ensures given { (w : World) (next : ℕ) (handed : List ToLink) →
+        StandsFor (seat_view N.state L.tells L.records L.holds) seats.old.items (post_view (λ m. N.Mail.letter m) post.old) handed w next →
+        OnOk result (HasRun (seat_view N.state L.tells L.records L.holds) seats.new.items (post_view (λ m. N.Mail.letter m) post.new) handed w next
+        (moments_given 0 (vec_len seats.old) moment)) }
+    ensures stopped { (w : World) (next : ℕ) (handed : List ToLink) →
+        StandsFor (seat_view N.state L.tells L.records L.holds) seats.old.items (post_view (λ m. N.Mail.letter m) post.old) handed w next →
+        IfErr result (λ e. HasStopped (seat_view N.state L.tells L.records L.holds) seats.new.items post.new.replies.items handed w e) }
+    ensures len { vec_len seats.new ≡ vec_len seats.old }
+    ensures open { OnOk result (AreOpen L.is_open seats.new.items) }
+
+    // Of the logs' disks.
+    ensures faults { TellsFaults result (faults_of L.fault_count seats.old.items) (faults_of L.fault_count seats.new.items) }
+    ensures places { places_of L.place seats.new.items ≡ places_of L.place seats.old.items }
+{
+    let count = seats.len();
+    'nodes: for at in 0..count {
+        match happen(seats, post, at, N::moment(moment)) {
+            Ok(()) => {}
+            Err(e) => return Err(e),
+        }
+    }
+    Ok(())
+}
+
+/// A request comes to the router at a place, on a link; the number is that of its reply.
+///
+/// # Errors
+/// As `happen` has them.
+pub fn ask<N: Node, L: Log>(
+    seats: &mut Vec<Seat<N, L>>,
+    post: &mut Post<N::Mail>,
+    at: usize,
+    link: u32,
+    number: i32,
+    request: N::Request,
+) -> Result<(), StepFault>
+    requires at { at < vec_len seats.old }
+    requires open { AreOpen L.is_open seats.old.items }
+    ensures asked { (w : World) (next : ℕ) (handed : List ToLink) →
+        StandsFor (seat_view N.state L.tells L.records L.holds) seats.old.items (post_view (λ m. N.Mail.letter m) post.old) handed w next
+        → IsRouter w.nodes at →
+        OnOk result (HasHappened (seat_view N.state L.tells L.records L.holds) seats.new.items
+        (post_view (λ m. N.Mail.letter m) post.new) handed w next (client_event at link number (N.asks request))) }
+    ensures stopped { (w : World) (next : ℕ) (handed : List ToLink) →
+        StandsFor (seat_view N.state L.tells L.records L.holds) seats.old.items (post_view (λ m. N.Mail.letter m) post.old) handed w next
+        → IsRouter w.nodes at →
+        IfErr result (λ e. HasStopped (seat_view N.state L.tells L.records L.holds) seats.new.items post.new.replies.items handed w e) }
+    ensures len { vec_len seats.new ≡ vec_len seats.old }
+    ensures open { OnOk result (AreOpen L.is_open seats.new.items) }
+
+    // Of the logs' disks.
+    ensures faults { TellsFaults result (faults_of L.fault_count seats.old.items) (faults_of L.fault_count seats.new.items) }
+    ensures places { places_of L.place seats.new.items ≡ places_of L.place seats.old.items }
+{
+    match happen(seats, post, at, N::client(link, number, request)) {
+        Ok(()) => Ok(()),
+        Err(e) => Err(e),
+    }
+}

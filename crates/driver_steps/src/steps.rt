@@ -1,0 +1,84 @@
+//! One step of one node.
+
+ghost use Rattle.std.specs.Prelude.{◌≡◌, ℕ, ◌+◌, ◌<◌, List, map, vec_len, IfErr, IfOk, OnOk};
+ghost use Rattle.node_model.specs.World.{World};
+ghost use Rattle.node_traits.specs.Effects.{ByStepFault};
+ghost use Rattle.node_traits.specs.declared.outputs.ToLink.{ToLink};
+ghost use Rattle.driver_steps.specs.Seats.{AreHeld, AreOpen, TellsFaults, faults_of, left_of, places_of, seat_view};
+ghost use Rattle.driver_steps.specs.Moves.{HasMoved, HasStepped, IsBroken, IsCutShort};
+ghost use Rattle.driver_steps.specs.Worlds.{StandsFor, post_view};
+
+use crate::post::Post;
+use crate::seat::Seat;
+use node_traits::{Node, Outputs, StepFault};
+use outside::log::Log;
+
+/// The node at a place takes a step on the input; what it gives out is handed out.
+///
+/// # Errors
+/// The fault of the step: `StepFault::Disk` only if the disk of that node's log met one.
+pub fn step_node<N: Node, L: Log>(
+    seats: &mut Vec<Seat<N, L>>,
+    at: usize,
+    input: N::Input,
+) -> Result<Outputs<N::Mail>, StepFault>
+    requires at { at < vec_len seats.old }
+    requires open { AreOpen L.is_open seats.old.items }
+    ensures stepped { (w : World) → AreHeld (seat_view N.state L.tells L.records L.holds) seats.old.items w.nodes →
+        IfOk result (λ outputs. HasStepped (seat_view N.state L.tells L.records L.holds) seats.new.items w at (N.meaning input)
+        (map (λ message. N.Mail.letter message) outputs.mail) outputs.replies) }
+    ensures failed { (w : World) → AreHeld (seat_view N.state L.tells L.records L.holds) seats.old.items w.nodes →
+        IfErr result (λ e. ByStepFault e
+        (λ faults. IsBroken (seat_view N.state L.tells L.records L.holds) seats.new.items w at (N.meaning input))
+        (AreHeld (seat_view N.state L.tells L.records L.holds) seats.new.items w.nodes)) }
+    ensures len { vec_len seats.new ≡ vec_len seats.old }
+    ensures open { OnOk result (AreOpen L.is_open seats.new.items) }
+    ensures falls { OnOk result (left_of N.steps seats.new.items + 1 ≡ left_of N.steps seats.old.items) }
+
+    // Of the logs' disks.
+    ensures faults { TellsFaults result (faults_of L.fault_count seats.old.items) (faults_of L.fault_count seats.new.items) }
+    ensures places { places_of L.place seats.new.items ≡ places_of L.place seats.old.items }
+{
+    let seat = &mut seats[at];
+    match seat.node.step(&mut seat.log, input) {
+        Ok(outputs) => Ok(outputs),
+        Err(e) => Err(e),
+    }
+}
+
+/// The node at a place takes a step on the input; what it gives out is taken in.
+///
+/// # Errors
+/// The fault of the step, or `StepFault::Memory` where its messages or replies found no room.
+pub fn happen<N: Node, L: Log>(
+    seats: &mut Vec<Seat<N, L>>,
+    post: &mut Post<N::Mail>,
+    at: usize,
+    input: N::Input,
+) -> Result<(), StepFault>
+    requires at { at < vec_len seats.old }
+    requires open { AreOpen L.is_open seats.old.items }
+    ensures moved { (w : World) (next : ℕ) (handed : List ToLink) →
+        StandsFor (seat_view N.state L.tells L.records L.holds) seats.old.items (post_view (λ m. N.Mail.letter m) post.old) handed w next →
+        OnOk result (HasMoved (seat_view N.state L.tells L.records L.holds) seats.new.items
+        (post_view (λ m. N.Mail.letter m) post.new) handed w next at (N.meaning input)) }
+    ensures cut { (w : World) (next : ℕ) (handed : List ToLink) →
+        StandsFor (seat_view N.state L.tells L.records L.holds) seats.old.items (post_view (λ m. N.Mail.letter m) post.old) handed w next →
+        IfErr result (λ e. IsCutShort (seat_view N.state L.tells L.records L.holds) seats.new.items post.new.replies.items handed w at (N.meaning input) e) }
+    ensures len { vec_len seats.new ≡ vec_len seats.old }
+    ensures open { OnOk result (AreOpen L.is_open seats.new.items) }
+    ensures falls { OnOk result (left_of N.steps seats.new.items + 1 ≡ left_of N.steps seats.old.items) }
+
+    // Of the logs' disks.
+    ensures faults { TellsFaults result (faults_of L.fault_count seats.old.items) (faults_of L.fault_count seats.new.items) }
+    ensures places { places_of L.place seats.new.items ≡ places_of L.place seats.old.items }
+{
+    let outputs = match step_node(seats, at, input) {
+        Ok(outputs) => outputs,
+        Err(e) => return Err(e),
+    };
+    match post.take(outputs) {
+        Ok(()) => Ok(()),
+        Err(_) => Err(StepFault::Memory),
+    }
+}

@@ -1,0 +1,5 @@
+pub mod Known
+pub mod Code
+pub mod Places
+pub use Rattle.chunk_table.specs.Tables
+pub use Rattle.chunk_table.specs.Verdicts

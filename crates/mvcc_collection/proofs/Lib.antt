@@ -1,0 +1,4 @@
+pub mod Chains
+pub mod Puts
+pub mod Rows
+pub mod Edges

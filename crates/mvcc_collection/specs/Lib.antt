@@ -1,0 +1,6 @@
+pub mod Chains
+pub mod View
+pub mod Edges
+pub mod Collections
+pub use Rattle.history_model.specs.Documents
+pub use Rattle.history_model.specs.Versions

@@ -1,0 +1,84 @@
+//! The versions of the document under one key.
+
+ghost use Rattle.std.specs.Prelude.{◌≡◌, ◌+◌, ◌<◌, ◌≤◌, ◌∷◌, ◌++◌, [], None, IfOk, IfSome, OnOk};
+ghost use Rattle.std.specs.Arc.{arc_value};
+ghost use Rattle.std.specs.Option.{option_map};
+ghost use Rattle.mvcc_collection.specs.Chains.{Past, document_left, last_time};
+
+use bson_values::{Document, Memory};
+use cluster_base::Time;
+use std::alloc::Global;
+use std::marker::Model;
+use std::sync::Arc;
+
+/// What stands under a key from a time on: a document, or none.
+#[derive(Drop)]
+pub(crate) struct Version {
+    time: Time,
+    document: Option<Arc<Document, Global>>,
+}
+
+/// The versions of the document under a key, by rising time.
+#[derive(Drop)]
+pub(crate) struct Chain {
+    versions: Vec<Version>,
+}
+
+impl Model for Chain {
+    ghost use Rattle.mvcc_collection.specs.Chains.{Past, past_code};
+
+    ghost Value = { Past };
+
+    ghost coded = { past_code };
+
+    ghost use Rattle.std.specs.List.Sorted.{IsNonDecreasingBy};
+    ghost use Rattle.mvcc_collection.specs.View.{past_of};
+
+    ghost view = { λ c. past_of c.versions };
+
+    ghost invariant = { λ c. IsNonDecreasingBy (λ v. v.time.0) c.versions.items };
+}
+
+impl Chain {
+    /// No version, with room for one. Fails for want of memory.
+    pub(crate) fn with_room(alloc: Global) -> Result<Chain, Memory>
+        ensures empty { IfOk result (λ c. c.versions ≡ []) }
+        ensures room { IfOk result (λ c. 1 ≤ c.room) }
+    {
+        let versions = Vec::with_capacity(alloc, 1)?;
+        Ok(Chain { versions })
+    }
+
+    /// Makes room for one version more. Fails for want of memory.
+    pub(crate) fn reserve(&mut self) -> Result<(), Memory>
+        ensures room { OnOk result (1 ≤ self.new.room) }
+        ensures rooms { self.old.room ≤ self.new.room }
+        ensures versions { self.new.versions ≡ self.old.versions }
+    {
+        self.versions.reserve(1)?;
+        Ok(())
+    }
+
+    /// Puts a version behind the others, which are earlier. Takes one room, and no memory.
+    pub(crate) fn push(&mut self, time: Time, document: Option<Arc<Document, Global>>)
+        requires room { 1 ≤ self.old.room }
+        requires later { IfSome (last_time self.old.versions) (λ t. t < time.0) }
+        ensures versions { self.new.versions ≡ self.old.versions ++ (time.0, option_map arc_value document) ∷ [] }
+        ensures room { self.old.room ≤ self.new.room + 1 }
+    {
+        let _ = self.versions.push(Version { time, document });
+    }
+
+    /// The document of the last version up to the time, if that is one.
+    pub(crate) fn document_at(&self, time: Time) -> Option<&Arc<Document, Global>>
+        ensures { option_map (λ d. arc_value d.now) result ≡ document_left self.now.versions time.0 }
+    {
+        let place = self
+            .versions
+            .partition_point(|version| version.time.0 <= time.0);
+        if place == 0 {
+            return None;
+        }
+        self.versions[place - 1].document.as_ref()
+    }
+}

@@ -1,0 +1,45 @@
+-- What a call says of the log that was lent to it.
+use Rattle.std.specs.Prelude.{◌≡◌, ◌⊎◌, ℕ, ◌≤◌, Bool, IsTrue, List, ◌++◌}
+use Rattle.outside.specs.Disks.{Outcomes}
+use Rattle.outside.specs.Logs.{WithOrWithout}
+
+-- A crash since an earlier moment left what it might have left before the call, or a file that has P.
+pub record LeavesAlso {L : Type 0} (moment : L → ℕ) (left_since : L → ℕ → Outcomes) (old new : L) (P : Outcomes) : Type 0 where
+  pub later : moment old ≤ moment new
+  pub each : (t : ℕ) (file : List ℕ) → t ≤ moment old → left_since new t file → left_since old t file ⊎ P file
+
+-- A log over a call: whether its type tells its records, and the records before and after; whether an opening would find a list after
+-- the call, and in a file; and what a crash might have left.
+pub record LogCall : Type 1 where
+  pub tells : Bool
+  pub before : List (List ℕ)
+  pub after : List (List ℕ)
+  pub holds : List (List ℕ) → Type 0
+  pub finds : List ℕ → List (List ℕ) → Type 0
+  pub leaves_also : Outcomes → Type 0
+
+-- a log as it was and as it is
+abbrev pub log_call : {L : Type 0} → Bool → (L → List (List ℕ)) → (L → List (List ℕ) → Type 0) → (List ℕ → List (List ℕ) → Type 0) → (L → ℕ) → (L
+    → ℕ → Outcomes) → L → L → LogCall
+log_call told records holds_in finds_in moment left_since old new = record {
+  tells = told;
+  before = records old;
+  after = records new;
+  holds = holds_in new;
+  finds = finds_in;
+  leaves_also = λ P. LeavesAlso moment left_since old new P;
+}
+
+-- after a crash during the call an opening finds the records of before, or all of these more
+abbrev pub IsWhole : LogCall → (more : List (List ℕ)) → Type 0
+IsWhole call more = IsTrue call.tells → call.leaves_also (λ file. WithOrWithout (call.finds file) call.before more)
+
+-- these records were appended
+pub record Appended (call : LogCall) (more : List (List ℕ)) : Type 0 where
+  pub grown : IsTrue call.tells → call.after ≡ call.before ++ more
+  pub whole : IsWhole call more
+
+-- these records were to be appended, and a disk failed
+pub record LeftOff (call : LogCall) (more : List (List ℕ)) : Type 0 where
+  pub left : WithOrWithout call.holds call.before more
+  pub whole : IsWhole call more

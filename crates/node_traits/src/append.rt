@@ -1,0 +1,41 @@
+//! The records of a step, appended at once.
+
+ghost use Rattle.std.specs.Prelude.{◌≡◌, ℕ, ◌≤◌, IfErr, IsTrue, OnOk};
+ghost use Rattle.outside.specs.Causes.{Rose};
+ghost use Rattle.node_traits.specs.Calls.{Appended, LeftOff, log_call};
+ghost use Rattle.node_traits.specs.Effects.{ByStepFault, OnLast};
+
+use crate::outputs::StepFault;
+use bson_values::Blob;
+use outside::log::{Log, LogFault};
+
+/// Appends the records of a step, all at once; with no record the log is left alone.
+///
+/// # Errors
+/// - `StepFault::Disk` only if the disk of the log met a fault: then all of the records stand or none does.
+/// - `StepFault::Memory` for want of memory: the log is as it was.
+pub fn append_records<L: Log>(log: &mut L, records: &[Blob]) -> Result<(), StepFault>
+    requires open { IsTrue (L.is_open log.old) }
+    ensures done { OnOk result (Appended (log_call L.tells L.records L.holds L.finds L.moment L.left_since log.old log.new) records.now) }
+    ensures failed { IfErr result (λ e. ByStepFault e
+        (λ faults. LeftOff (log_call L.tells L.records L.holds L.finds L.moment L.left_since log.old log.new) records.now)
+        (log.new ≡ log.old)) }
+    ensures never_last { IfErr result (λ e. OnLast e ⊥) }
+    ensures open { OnOk result (IsTrue (L.is_open log.new)) }
+    ensures kept { L.holds log.old (L.records log.old) → OnOk result (L.holds log.new (L.records log.new)) }
+    ensures cause { IfErr result (λ e. ByStepFault e
+        (λ faults. (faults ≡ L.fault_count log.new) × Rose (L.fault_count log.old) (L.fault_count log.new))
+        (Unit {0})) }
+    ensures calm { OnOk result (L.fault_count log.new ≡ L.fault_count log.old) }
+    ensures later { L.fault_count log.old ≤ L.fault_count log.new }
+    ensures place { L.place log.new ≡ L.place log.old }
+{
+    if records.is_empty() {
+        return Ok(());
+    }
+    match log.append_all(records) {
+        Ok(()) => Ok(()),
+        Err(LogFault::Disk { faults }) => Err(StepFault::Disk { faults }),
+        Err(LogFault::Memory) => Err(StepFault::Memory),
+    }
+}

@@ -1,0 +1,58 @@
+//! How many steps a node took.
+
+ghost use Rattle.std.specs.Prelude.{◌≡◌, ◌⊎◌, ◌+◌, ◌<◌, ◌≤◌, ◌^◌, IfErr, OnErr, OnOk};
+ghost use Rattle.node_traits.specs.Effects.{last_time};
+ghost use Rattle.node_traits.specs.declared.outputs.StepFault.TheVariants.{Steps};
+
+use crate::outputs::StepFault;
+use cluster_base::Time;
+use std::marker::Model;
+
+/// The count of steps at the last one.
+const LAST_COUNT: u64 = (1 << 56) - 1;
+
+/// The last second that a time can tell: from it on no time may come.
+const LAST_TIME: u64 = 0xffff_ffff_0000_0000;
+
+/// How many steps a node took since it was opened, below 2^56.
+#[derive(Drop)]
+pub struct StepCount {
+    steps: u64,
+}
+
+impl Model for StepCount {
+    ghost use Rattle.std.specs.Prelude.{ℕ, ◌<◌, ◌^◌};
+
+    ghost Value = { ℕ };
+
+    ghost view = { λ c. c.steps };
+
+    ghost invariant = { λ c. c.steps < 2 ^ 56 };
+}
+
+impl StepCount {
+    /// No step.
+    pub fn new() -> StepCount
+        ensures { result ≡ 0 }
+    {
+        StepCount { steps: 0 }
+    }
+
+    /// Counts one more step, of a node at its own time, on an input that brings the other.
+    ///
+    /// # Errors
+    /// `StepFault::Steps` exactly at the last step: where the count, or one of the times, is at its end. Nothing is counted then.
+    pub fn count(&mut self, own: Time, brought: Time) -> Result<(), StepFault>
+        ensures counted { OnOk result (self.new ≡ self.old + 1) }
+        ensures early { OnOk result ((own.0 < last_time) × (brought.0 < last_time)) }
+        ensures err { OnErr result (self.new ≡ self.old) }
+        ensures last { IfErr result (λ e. (e ≡ Steps) × ((2 ^ 56 ≤ self.old + 1) ⊎ ((last_time ≤ own.0) ⊎ (last_time ≤ brought.0)))) }
+        ensures below { self.new < 2 ^ 56 }
+    {
+        if self.steps >= LAST_COUNT || own.0 >= LAST_TIME || brought.0 >= LAST_TIME {
+            return Err(StepFault::Steps);
+        }
+        self.steps += 1;
+        Ok(())
+    }
+}

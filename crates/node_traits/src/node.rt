@@ -1,0 +1,99 @@
+//! Nodes: machines that take one step on each input.
+
+ghost use Rattle.std.specs.Prelude.{◌≡◌, ℕ, ◌+◌, ◌<◌, ◌≤◌, ◌^◌, map, IfErr, IfOk, IsTrue, OnOk};
+ghost use Rattle.outside.specs.Causes.{Rose};
+ghost use Rattle.node_model.specs.Letters.{Input, client_input, letter_input, moment_input, opened_input};
+ghost use Rattle.node_model.specs.Requests.{Request};
+ghost use Rattle.node_model.specs.States.{NodeState};
+ghost use Rattle.node_model.specs.Steps.{number_of};
+ghost use Rattle.node_traits.specs.Calls.{log_call};
+ghost use Rattle.node_traits.specs.Effects.{ByStepFault, IsLast, OnLast, StepBroken, StepDone, steps_after};
+
+use crate::mail::Mail;
+use crate::outputs::{Outputs, StepFault};
+use cluster_base::NodeId;
+use outside::log::Log;
+use std::alloc::Global;
+use std::marker::Sync;
+use std::thread::Threads;
+
+/// A node: one machine that takes one step on each input, and keeps in a log what has to outlive it.
+pub trait Node: Drop {
+    /// What it takes.
+    type Input: Drop;
+
+    /// What it sends.
+    type Mail: Mail;
+
+    /// What clients ask of it.
+    type Request: Drop;
+
+    // The state of the definitions that it is in.
+    ghost state: { Self → NodeState };
+
+    // How many steps it took since it was opened.
+    ghost steps: { Self → ℕ };
+
+    // The input of the definitions that an input is.
+    ghost meaning: { Self.Input → Input };
+
+    // The request of the definitions that a request is.
+    ghost asks: { Self.Request → Request };
+
+    /// Its number among the nodes.
+    fn me(&self) -> NodeId
+        ensures { result.0 ≡ number_of (state self.now) };
+
+    /// The input that brings a request of a link, whose reply has this number.
+    fn client(link: u32, number: i32, request: Self::Request) -> Self::Input
+        ensures { meaning result ≡ client_input link number (asks request) };
+
+    /// The input that tells the moment, in milliseconds since 1970.
+    fn moment(ms: u64) -> Self::Input
+        ensures { meaning result ≡ moment_input ms };
+
+    /// The input that tells that the node was opened.
+    fn opened() -> Self::Input
+        ensures { meaning result ≡ opened_input };
+
+    /// The input that delivers a message. What can be computed of the message alone is computed here, so that it needs no node.
+    fn prepare<R: Threads + Sync>(rt: &R, alloc: Global, mail: Self::Mail) -> Self::Input
+        ensures { meaning result ≡ letter_input (Self.Mail.letter mail) };
+
+    /// Takes one step on an input: its records are appended at once, and its messages and replies are given out.
+    ///
+    /// # Errors
+    /// - `StepFault::Disk` only if the disk of the log met a fault: then all records of a step stand or none does, and the log and the
+    ///   node must be opened again.
+    /// - `StepFault::Steps` only at the last step: node and log are as they were.
+    /// - `StepFault::Memory` for want of memory: node and log are as they were, but the step is counted.
+    fn step<L: Log>(
+        &mut self,
+        log: &mut L,
+        input: Self::Input,
+    ) -> Result<Outputs<Self::Mail>, StepFault>
+        requires open { IsTrue (L.is_open log.old) }
+        ensures done { IfOk result (λ outputs. StepDone (state self.old) (meaning input)
+            (map (λ message. Self.Mail.letter message) outputs.mail) outputs.replies
+            (log_call L.tells L.records L.holds L.finds L.moment L.left_since log.old log.new) (state self.new)) }
+        ensures failed { IfErr result (λ e. ByStepFault e
+            (λ faults. StepBroken (state self.old) (meaning input)
+            (log_call L.tells L.records L.holds L.finds L.moment L.left_since log.old log.new))
+            ((state self.new ≡ state self.old) × (log.new ≡ log.old))) }
+        ensures last { IfErr result (λ e. OnLast e (IsLast (steps self.old) (state self.old) (meaning input))) }
+        ensures open { OnOk result (IsTrue (L.is_open log.new)) }
+        ensures kept { L.holds log.old (L.records log.old) → OnOk result (L.holds log.new (L.records log.new)) }
+
+        // Each step counts but the last, which is refused.
+        ensures counted { OnOk result (steps self.new ≡ steps self.old + 1) }
+        ensures counted_err { IfErr result (λ e. steps self.new ≡ steps_after e (steps self.old)) }
+        ensures below { steps self.new < 2 ^ 56 }
+
+        // Of the log's disk.
+        ensures cause { IfErr result (λ e. ByStepFault e
+            (λ faults. (faults ≡ L.fault_count log.new) × Rose (L.fault_count log.old) (L.fault_count log.new))
+            (Unit {0})) }
+        ensures calm { OnOk result (L.fault_count log.new ≡ L.fault_count log.old) }
+        ensures later { L.fault_count log.old ≤ L.fault_count log.new }
+        ensures place { L.place log.new ≡ L.place log.old };
+}

@@ -1,0 +1,48 @@
+//! What a step gives out.
+
+ghost use Rattle.std.specs.Prelude.{◌≡◌};
+ghost use Rattle.node_traits.specs.declared.outputs.StepFault.TheVariants.{Memory as out_of_memory};
+
+use crate::list::SpareList;
+use bson_values::{Blob, Memory};
+
+/// The bytes of a reply, for a link.
+#[derive(Drop)]
+pub struct ToLink {
+    /// The number of the link, as it came with the request.
+    pub link: u32,
+    /// A whole message.
+    pub bytes: Blob,
+}
+
+/// Messages, in the order of sending.
+pub type MailList<M> = SpareList<M>;
+
+/// Replies, in order.
+pub type ReplyList = SpareList<ToLink>;
+
+/// The messages and the replies of a step. Both go out once its records are in the journal.
+#[derive(Drop)]
+pub struct Outputs<M: Drop> {
+    pub mail: MailList<M>,
+    pub replies: ReplyList,
+}
+
+/// Why a step was not taken.
+#[derive(Clone, Copy, Debug, PartialEq, Eq)]
+pub enum StepFault {
+    /// The disk of the log failed; its count of faults is shown. The log and the node must be opened again.
+    Disk { faults: u64 },
+    /// The node is at its last step: its count of steps, or a time, is at its end.
+    Steps,
+    /// Want of memory. The node and the log are as they were.
+    Memory,
+}
+
+impl From<Memory> for StepFault {
+    ghost from_gives = { λ _ e. e ≡ out_of_memory };
+
+    fn from(_e: Memory) -> StepFault {
+        StepFault::Memory
+    }
+}

@@ -1,0 +1,6 @@
+mod Keys
+mod Places
+mod Counted
+mod Runs
+mod Waits
+pub mod Askers

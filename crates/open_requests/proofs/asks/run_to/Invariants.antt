@@ -1,0 +1,9 @@
+use Rattle.std.proofs.Common.{◌≡◌, ◌++◌, drop, map}
+use Rattle.node_model.specs.Asked.{RequestId}
+use Rattle.node_model.specs.RouterRows.{run_to}
+use Rattle.protocol_model.specs.Statements.{statement_meant}
+use Rattle.open_requests.proofs.asks.run_to.Given as goal
+
+abbrev pub invariant-loop-statement : goal.invariant-loop-statement
+invariant-loop-statement l =
+    (id : RequestId) → map (λ s. statement_meant id s) l.run.items ++ run_to l.table l.shard.0 (map (λ s. statement_meant id s) (drop l.statement-index l.statements)) ≡ run_to l.table l.shard.0 (map (λ s. statement_meant id s) l.statements)

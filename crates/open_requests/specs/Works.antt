@@ -1,0 +1,35 @@
+-- What open requests of the program are, by the definitions.
+use Rattle.std.specs.Prelude.{ℕ, List, map}
+use Rattle.node_model.specs.Asked as asked
+use Rattle.node_model.specs.States as states
+use Rattle.node_model.specs.States.{writing, reading, for_time, for_table, for_shards}
+use Rattle.protocol_model.specs.Bodies.{half_meant}
+use Rattle.protocol_model.specs.Requests.{request_of}
+use Rattle.protocol_model.specs.Statements.{done_meant, statement_meant}
+use Rattle.open_requests.specs.declared.work.Work.{Work}
+use Rattle.open_requests.specs.declared.work.Work.TheVariants.{Writing, Reading}
+use Rattle.open_requests.specs.declared.work.Wait.{Wait}
+use Rattle.open_requests.specs.declared.work.Wait.TheVariants.{ForTime, ForTable, ForShards}
+use Rattle.open_requests.specs.declared.work.OpenRequest.{OpenRequest}
+
+-- the work of the request with this id
+abbrev pub work_meant : asked.RequestId → Work → states.Work
+work_meant id (Writing ordered statements answers) = writing ordered (map (λ s. statement_meant id s) statements.items) (map done_meant answers.items)
+work_meant id (Reading at half) = reading at.0 (half_meant half)
+
+abbrev pub wait_meant : Wait → states.Wait
+wait_meant ForTime = for_time
+wait_meant ForTable = for_table
+wait_meant ForShards = for_shards
+
+-- an open request of this router, in this of its lives
+abbrev pub open_meant : (router life : ℕ) → OpenRequest → states.Open
+open_meant router life q = record {
+  count = q.count;
+  link = q.link;
+  number = q.number;
+  request = request_of q.request;
+  namespace = q.namespace;
+  wait = wait_meant q.wait;
+  work = work_meant (record { router = router; life = life; count = q.count }) q.work;
+}

@@ -1,0 +1,139 @@
+//! What writes are told.
+
+ghost use Rattle.std.specs.Prelude.{◌≡◌, ◌++◌, ◌∷◌, [], IfOk, OnOk, map};
+ghost use Rattle.node_model.specs.Asked as asked;
+ghost use Rattle.node_model.specs.Outcomes as outcomes;
+ghost use Rattle.node_model.specs.Right as right;
+ghost use Rattle.node_model.specs.RouterRows as rows;
+ghost use Rattle.command_answers.specs.AnswerMeanings.{answer_meant};
+ghost use Rattle.command_answers.specs.Errors.{errors_meant};
+ghost use Rattle.protocol_model.specs.Statements.{done_meant, statement_meant};
+ghost use Rattle.open_requests.specs.Counts as counts;
+
+use bson_values::Memory;
+use cluster_base::Time;
+use command_answers::{Answer, Evidence, Refusal, StatementIndex, WriteError};
+use protocol_model::{Done, DoneList, Statement};
+use std::alloc::Global;
+
+/// The same once more. Fails for want of memory.
+fn copies_of(alloc: Global, dones: &[Done]) -> Result<DoneList, Memory>
+    ensures { IfOk result (λ list. map done_meant list.items ≡ map done_meant dones.now) }
+{
+    let mut copies = Vec::new(alloc);
+    for done in dones {
+        copies.push(done.copy()?)?;
+    }
+    Ok(copies)
+}
+
+/// The answers with those that are told next, in the order of the statements. Fails for want of memory.
+pub fn note(alloc: Global, answers: &[Done], dones: &[Done]) -> Result<DoneList, Memory>
+    ensures { IfOk result (λ list. map done_meant list.items ≡ rows.noted (map done_meant answers.now) (map done_meant dones.now)) }
+{
+    let mut noted = copies_of(alloc, answers)?;
+    for done in dones {
+        if done.index as usize == noted.len() {
+            noted.push(done.copy()?)?;
+        }
+    }
+    Ok(noted)
+}
+
+/// Whether a statement ends its command: it is told an error, and the command is ordered.
+fn ends(ordered: bool, done: &Done) -> bool
+    ensures { result ≡ right.ends ordered (done_meant done.now) }
+{
+    ordered && done.outcome.error.is_some()
+}
+
+/// Whether so many statements are answered, or the last answer ends the command.
+fn are_all(ordered: bool, count: usize, answers: &[Done]) -> bool
+    ensures { result ≡ counts.are_all ordered count (map done_meant answers.now) }
+{
+    let mut left = count;
+    for done in answers {
+        if left == 0 || ends(ordered, done) {
+            return true;
+        }
+        left -= 1;
+    }
+    left == 0
+}
+
+/// Whether all statements are answered, or the last answer ends the command.
+#[tactic(auto, using(crate::proofs::Counted::answered_by_count))]
+pub fn is_answered(ordered: bool, statements: &[Statement], answers: &[Done]) -> bool
+    ensures { (id : asked.RequestId) → result ≡ rows.is_answered ordered (map (λ s. statement_meant id s) statements.now) (map done_meant answers.now) }
+{
+    are_all(ordered, statements.len(), answers)
+}
+
+/// How many documents were put in. Fails where that is above 32 bits, which no command reaches.
+fn sum_of(dones: &[Done]) -> Result<u32, Memory>
+    ensures { IfOk result (λ sum. sum ≡ outcomes.sum_of (map done_meant dones.now)) }
+{
+    let mut sum: u32 = 0;
+    for done in dones {
+        let Some(more) = sum.checked_add(done.outcome.count) else {
+            return Err(Memory);
+        };
+        sum = more;
+    }
+    Ok(sum)
+}
+
+/// The greatest time.
+fn time_of(dones: &[Done]) -> Time
+    ensures { result.0 ≡ outcomes.time_of (map done_meant dones.now) }
+{
+    let mut time = Time(0);
+    for done in dones {
+        time = Time(time.0.max(done.time.0));
+    }
+    time
+}
+
+/// Puts the error that a statement is told, if it is told one, behind the others. Fails for want of memory, and where its index is
+/// none that a command can have.
+#[tactic(auto, using(crate::proofs::Counted::errors_pushed))]
+fn add_error(errors: &mut Vec<WriteError>, done: &Done) -> Result<(), Memory>
+    ensures { OnOk result (errors_meant errors.new.items ≡ errors_meant errors.old.items ++ outcomes.errors_of (done_meant done.now ∷ [])) }
+{
+    let Some(code) = done.outcome.error else {
+        return Ok(());
+    };
+    let Some(index) = StatementIndex::of(done.index) else {
+        return Err(Memory);
+    };
+    let refusal = Refusal {
+        code,
+        evidence: Evidence::Nothing,
+    };
+    errors.push(WriteError { index, refusal })?;
+    Ok(())
+}
+
+/// The errors, in order. Fails for want of memory, and where an index is none that a command can have.
+fn errors_of(alloc: Global, dones: &[Done]) -> Result<Vec<WriteError>, Memory>
+    ensures { IfOk result (λ errors. errors_meant errors.items ≡ outcomes.errors_of (map done_meant dones.now)) }
+{
+    let mut errors = Vec::new(alloc);
+    for done in dones {
+        add_error(&mut errors, done)?;
+    }
+    Ok(errors)
+}
+
+/// What the statements are told together. Fails for want of memory, and where they are more than a command can have.
+pub fn answer_of(alloc: Global, dones: &[Done]) -> Result<Answer, Memory>
+    ensures { IfOk result (λ answer. answer_meant answer ≡ outcomes.answer_of (map done_meant dones.now)) }
+{
+    let count = sum_of(dones)?;
+    let errors = errors_of(alloc, dones)?;
+    Ok(Answer::Insert {
+        count,
+        errors,
+        time: time_of(dones),
+    })
+}

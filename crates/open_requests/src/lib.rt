@@ -1,0 +1,15 @@
+//! The requests of a router that are not told yet, what they ask the other nodes for, and what they are told.
+#![tactic(auto)]
+
+mod answers;
+mod asker;
+mod asks;
+mod list;
+mod owners;
+mod work;
+
+pub use answers::{answer_of, is_answered, note};
+pub use asker::Asker;
+pub use list::OpenList;
+pub use owners::{is_enough, owner_of_half};
+pub use work::{OpenRequest, Wait, Work};

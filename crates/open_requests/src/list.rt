@@ -1,0 +1,136 @@
+//! The open requests of a router.
+
+ghost use Rattle.std.specs.Prelude.{◌≡◌, true};
+ghost use Rattle.open_requests.specs.Rising.{place_of, rises};
+
+use crate::work::{OpenRequest, Wait};
+use bson_values::Memory;
+use std::alloc::Global;
+
+/// The open requests of a router in one of its lives, in the order in which it took them.
+#[derive(Drop)]
+pub struct OpenList {
+    // How many requests were taken.
+    pub(crate) taken: u64,
+    pub(crate) requests: Vec<OpenRequest>,
+    ghost rising: { rises 0 taken requests.items ≡ true },
+}
+
+impl OpenList {
+    ghost use Rattle.std.specs.Prelude.{◌≡◌, ◌<◌, ◌^◌, ◌-◌, ◌+◌, ◌++◌, ◌∷◌, [], ℕ, List, Bool, Some, true, map, OnOk};
+    ghost use Rattle.std.specs.Option.{option_map};
+    ghost use Rattle.node_model.specs.Letters as letters;
+    ghost use Rattle.node_model.specs.Outcomes as outcomes;
+    ghost use Rattle.node_model.specs.RouterRows as rows;
+    ghost use Rattle.node_model.specs.States as states;
+    ghost use Rattle.protocol_model.specs.Statements.{done_meant};
+    ghost use Rattle.open_requests.specs.Lists.{has_room, opens_of, taken_of};
+    ghost use Rattle.open_requests.specs.Works.{open_meant, wait_meant};
+
+    /// No request was taken.
+    pub fn new(alloc: Global) -> OpenList
+        ensures taken { taken_of result ≡ 0 }
+        ensures opens { (router life : ℕ) → opens_of router life result ≡ [] }
+    {
+        OpenList {
+            taken: 0,
+            requests: Vec::new(alloc),
+        }
+    }
+
+    /// How many requests were taken.
+    pub fn taken(&self) -> u64
+        ensures { result ≡ taken_of self.now }
+    {
+        self.taken
+    }
+
+    /// The open requests, in the order in which they were taken.
+    pub fn as_slice(&self) -> &[OpenRequest]
+        ensures { (router life : ℕ) → map (λ q. open_meant router life q) result.now ≡ opens_of router life self.now }
+    {
+        &self.requests
+    }
+
+    /// The open request with this count.
+    pub fn find(&self, count: u64) -> Option<&OpenRequest>
+        ensures { (router life : ℕ) → option_map (λ q. open_meant router life q.now) result ≡ states.open_with count (opens_of router life self.now) }
+    {
+        for request in &self.requests {
+            if request.count == count {
+                return Some(request);
+            }
+        }
+        None
+    }
+
+    // How many requests stand before that with this count; all where there is none.
+    fn place(&self, count: u64) -> usize
+        ensures { result ≡ place_of count self.now.requests.items }
+    {
+        let mut place = 0;
+        for request in &self.requests {
+            if request.count == count {
+                return place;
+            }
+            place += 1;
+        }
+        place
+    }
+
+    /// Makes room for one request more. Fails for want of memory. The requests are the same either way.
+    pub fn reserve(&mut self) -> Result<(), Memory>
+        ensures room { OnOk result (has_room self.new ≡ true) }
+        ensures taken { taken_of self.new ≡ taken_of self.old }
+        ensures opens { (router life : ℕ) → opens_of router life self.new ≡ opens_of router life self.old }
+    {
+        self.requests.reserve(1)?;
+        Ok(())
+    }
+
+    /// Counts a request that is answered at once.
+    #[tactic(auto, using(crate::proofs::Places::rises_more))]
+    pub fn count_one(&mut self)
+        requires { taken_of self.old < 2 ^ 64 - 1 }
+        ensures taken { taken_of self.new ≡ taken_of self.old + 1 }
+        ensures opens { (router life : ℕ) → opens_of router life self.new ≡ opens_of router life self.old }
+    {
+        self.taken += 1;
+    }
+
+    /// Puts the next request behind the others, where there is room. Takes no memory.
+    #[tactic(auto, using(crate::proofs::Places::rises_pushed))]
+    pub fn push(&mut self, request: OpenRequest)
+        requires room { has_room self.old ≡ true }
+        requires next { request.count ≡ taken_of self.old + 1 }
+        ensures taken { taken_of self.new ≡ taken_of self.old + 1 }
+        ensures opens { (router life : ℕ) → opens_of router life self.new ≡ opens_of router life self.old ++ open_meant router life request ∷ [] }
+    {
+        self.taken = request.count;
+        self.requests.push_reserved(request);
+    }
+
+    /// Takes out the request with this count.
+    #[tactic(auto, using(crate::proofs::Places::rises_removed, crate::proofs::Places::without_at, crate::proofs::Places::none_out))]
+    pub fn remove(&mut self, count: u64)
+        ensures taken { taken_of self.new ≡ taken_of self.old }
+        ensures opens { (router life : ℕ) → opens_of router life self.new ≡ states.without count (opens_of router life self.old) }
+    {
+        let place = self.place(count);
+        if place < self.requests.len() {
+            let _ = self.requests.remove(place);
+        }
+    }
+
+    /// From now on the request with this count waits for this.
+    pub fn set_wait(&mut self, count: u64, wait: Wait)
+        ensures taken { taken_of self.new ≡ taken_of self.old }
+        ensures opens { (router life : ℕ) (q : states.Open) → states.open_with count (opens_of router life self.old) ≡ Some q →
+            opens_of router life self.new ≡ states.replaced (rows.with_work q (wait_meant wait) q.work) (opens_of router life self.old) }
+    {
+        let place = self.place(count);
+        if place < self.requests.len() {
+            self.requests[place].wait = wait;
+        }
+    }
+}

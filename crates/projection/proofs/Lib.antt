@@ -1,0 +1,2 @@
+pub mod RulesRead
+pub mod Steps

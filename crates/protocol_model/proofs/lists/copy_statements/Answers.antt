@@ -1,0 +1,6 @@
+use Rattle.std.proofs.Common.{◌≡◌, arith}
+use Rattle.std.proofs.lemmas.Grind.{common_steps}
+use Rattle.protocol_model.proofs.lists.copy_statements.Goals as goal
+
+pub loop-statement-preserved : goal.loop-statement-preserved
+loop-statement-preserved c = λ id. grind (arith, common_steps, c.loop-statement.invariant id, c.in_ok-copy.ensures id)

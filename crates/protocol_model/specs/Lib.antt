@@ -1,0 +1,5 @@
+pub mod Statements
+pub mod Bodies
+pub mod Messages
+pub mod Requests
+pub mod Inputs

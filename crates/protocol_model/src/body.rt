@@ -1,0 +1,74 @@
+//! What a message says.
+
+ghost use Rattle.std.specs.Prelude.{◌≡◌, IfOk};
+ghost use Rattle.node_traits.specs.Kinds.{kind_of};
+ghost use Rattle.protocol_model.specs.Bodies.{body_meant};
+
+use crate::reads::{HalfAsk, ReadAsk, ReadRows, TimeAsk, TimeTold};
+use crate::tables::{TableAsk, TableTold};
+use crate::writes::{WriteAsk, WriteDone};
+use bson_values::Memory;
+use chunk_table::Version;
+use cluster_base::RequestId;
+use std::alloc::Global;
+
+/// The answer to an ask that was sent with an older table than the shard's: the version of that.
+#[derive(Clone, Copy, Debug, PartialEq, Eq, Drop)]
+pub struct Stale {
+    pub id: RequestId,
+    pub turn: u32,
+    pub met: Version,
+}
+
+/// What a message says. A turn counts the tries of a request that met a stale table.
+#[derive(Drop)]
+pub enum Body {
+    TableAsk(TableAsk),
+    TableTold(TableTold),
+    WriteAsk(WriteAsk),
+    WriteDone(WriteDone),
+    ReadAsk(ReadAsk),
+    HalfAsk(HalfAsk),
+    ReadRows(ReadRows),
+    Stale(Stale),
+    TimeAsk(TimeAsk),
+    TimeTold(TimeTold),
+}
+
+impl Body {
+    /// The name of the message's kind.
+    pub fn kind(&self) -> &'static str
+        ensures { result.now ≡ kind_of (body_meant self.now) }
+    {
+        match self {
+            Body::TableAsk(_) => "TableAsk",
+            Body::TableTold(_) => "TableTold",
+            Body::WriteAsk(_) => "WriteAsk",
+            Body::WriteDone(_) => "WriteDone",
+            Body::ReadAsk(_) => "ReadAsk",
+            Body::HalfAsk(_) => "HalfAsk",
+            Body::ReadRows(_) => "ReadRows",
+            Body::Stale(_) => "Refused",
+            Body::TimeAsk(_) => "TimeAsk",
+            Body::TimeTold(_) => "TimeTold",
+        }
+    }
+
+    /// The same once more. Documents, keys and tables are shared. Fails for want of memory.
+    pub fn copy(&self, alloc: Global) -> Result<Body, Memory>
+        ensures { IfOk result (λ body. body_meant body ≡ body_meant self.now) }
+    {
+        match self {
+            Body::TableAsk(ask) => Ok(Body::TableAsk(ask.copy()?)),
+            Body::TableTold(told) => Ok(Body::TableTold(told.copy()?)),
+            Body::WriteAsk(ask) => Ok(Body::WriteAsk(ask.copy(alloc)?)),
+            Body::WriteDone(done) => Ok(Body::WriteDone(done.copy(alloc)?)),
+            Body::ReadAsk(ask) => Ok(Body::ReadAsk(ask.copy()?)),
+            Body::HalfAsk(ask) => Ok(Body::HalfAsk(ask.copy(alloc)?)),
+            Body::ReadRows(told) => Ok(Body::ReadRows(told.copy(alloc)?)),
+            Body::Stale(stale) => Ok(Body::Stale(*stale)),
+            Body::TimeAsk(ask) => Ok(Body::TimeAsk(*ask)),
+            Body::TimeTold(told) => Ok(Body::TimeTold(*told)),
+        }
+    }
+}

@@ -1,0 +1,39 @@
+//! What a node takes.
+
+ghost use Rattle.std.specs.Prelude.{◌≡◌};
+ghost use Rattle.node_traits.specs.Effects.{time_in};
+ghost use Rattle.protocol_model.specs.Inputs.{input_of};
+
+use crate::message::Message;
+use cluster_base::{Time, moment_time};
+use opmsg_frames::Request;
+
+/// What a node takes in one step.
+#[derive(Drop)]
+pub enum Input {
+    /// A request comes on a link; the number is that of its reply.
+    Client {
+        link: u32,
+        number: i32,
+        request: Request,
+    },
+    /// A message is delivered.
+    Deliver(Message),
+    /// A moment, in milliseconds since 1970.
+    Moment(u64),
+    /// The node was opened.
+    Opened,
+}
+
+impl Input {
+    /// The time that it brings: that of a message, or that of a moment; else 0.
+    pub fn time(&self) -> Time
+        ensures { result.0 ≡ time_in (input_of self.now) }
+    {
+        match self {
+            Input::Deliver(message) => message.time,
+            Input::Moment(moment) => moment_time(*moment),
+            Input::Client { .. } | Input::Opened => Time(0),
+        }
+    }
+}

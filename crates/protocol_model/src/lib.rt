@@ -1,0 +1,23 @@
+//! What nodes tell each other, as values.
+#![tactic(auto)]
+
+mod body;
+mod document;
+mod input;
+pub mod laws;
+mod lists;
+mod message;
+mod reads;
+mod statement;
+mod tables;
+mod writes;
+
+pub use body::{Body, Stale};
+pub use document::NewDocument;
+pub use input::Input;
+pub use lists::{DocumentList, DoneList, StatementList};
+pub use message::Message;
+pub use reads::{Half, HalfAsk, ReadAsk, ReadRows, TimeAsk, TimeTold};
+pub use statement::{Done, Operation, Outcome, Statement};
+pub use tables::{At, TableAsk, TableTold};
+pub use writes::{WriteAsk, WriteDone};

@@ -1,0 +1,59 @@
+//! Copies of lists, whose documents are shared.
+
+ghost use Rattle.std.specs.Prelude.{◌≡◌, IfOk, map};
+ghost use Rattle.std.specs.Arc.{arc_value};
+ghost use Rattle.node_traits.specs.Asked.{RequestId};
+ghost use Rattle.protocol_model.specs.Statements.{done_meant, statement_meant};
+
+use crate::statement::{Done, Statement};
+use bson_values::{Document, Memory};
+use std::alloc::Global;
+use std::sync::Arc;
+
+/// Statements, in order.
+pub type StatementList = Vec<Statement>;
+
+/// What statements were told, in order.
+pub type DoneList = Vec<Done>;
+
+/// Documents that are shared, in order.
+pub type DocumentList = Vec<Arc<Document, Global>>;
+
+/// The same statements once more, which share their documents. Fails for want of memory.
+pub(crate) fn copy_statements(
+    alloc: Global,
+    statements: &[Statement],
+) -> Result<StatementList, Memory>
+    ensures { (id : RequestId) → IfOk result (λ list. map (statement_meant id) list.items ≡ map (statement_meant id) statements.now) }
+{
+    let mut list = Vec::new(alloc);
+    for statement in statements {
+        list.push(statement.copy()?)?;
+    }
+    Ok(list)
+}
+
+/// The same once more. Fails for want of memory.
+pub(crate) fn copy_dones(alloc: Global, dones: &[Done]) -> Result<DoneList, Memory>
+    ensures { IfOk result (λ list. map done_meant list.items ≡ map done_meant dones.now) }
+{
+    let mut list = Vec::new(alloc);
+    for done in dones {
+        list.push(done.copy()?)?;
+    }
+    Ok(list)
+}
+
+/// The same documents once more, shared. Fails for want of memory.
+pub(crate) fn share_documents(
+    alloc: Global,
+    documents: &[Arc<Document, Global>],
+) -> Result<DocumentList, Memory>
+    ensures { IfOk result (λ list. map (λ document. arc_value document) list.items ≡ map (λ document. arc_value document) documents.now) }
+{
+    let mut list = Vec::new(alloc);
+    for document in documents {
+        list.push(Arc::try_clone(document)?)?;
+    }
+    Ok(list)
+}

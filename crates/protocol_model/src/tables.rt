@@ -1,0 +1,78 @@
+//! Messages on tables.
+
+ghost use Rattle.std.specs.Prelude.{◌≡◌, IfOk};
+ghost use Rattle.std.specs.Arc.{arc_value};
+ghost use Rattle.std.specs.Option.{option_map};
+ghost use Rattle.protocol_model.specs.Bodies.{table_ask_meant, table_told_meant};
+
+use bson_values::Memory;
+use chunk_table::Table;
+use cluster_base::{Namespace, Time};
+use std::alloc::Global;
+use std::sync::Arc;
+
+/// For which time a table is asked.
+#[derive(Clone, Copy, Debug, PartialEq, Eq, Drop)]
+pub enum At {
+    /// For none.
+    NoTime,
+    /// For a read at this one.
+    Time(Time),
+}
+
+/// To the catalogue: the table of a collection, which begins now where `create` is true and there is none.
+#[derive(Drop)]
+pub struct TableAsk {
+    pub namespace: Namespace,
+    pub create: bool,
+    pub at: At,
+}
+
+impl TableAsk {
+    /// The same once more. Fails for want of memory.
+    pub fn copy(&self) -> Result<TableAsk, Memory>
+        ensures { IfOk result (λ ask. table_ask_meant ask ≡ table_ask_meant self.now) }
+    {
+        let namespace = self.namespace.copy()?;
+        Ok(TableAsk {
+            namespace,
+            create: self.create,
+            at: self.at,
+        })
+    }
+}
+
+/// The answer: the table, if there is one, with what it answers. The table is shared.
+#[derive(Drop)]
+pub struct TableTold {
+    pub namespace: Namespace,
+    pub create: bool,
+    pub at: At,
+    pub table: Option<Arc<Table, Global>>,
+}
+
+/// The same table once more, shared. Fails for want of memory.
+fn share_table(table: &Option<Arc<Table, Global>>) -> Result<Option<Arc<Table, Global>>, Memory>
+    ensures { IfOk result (λ copy. option_map (λ t. arc_value t) copy ≡ option_map (λ t. arc_value t) table.now) }
+{
+    match table {
+        Some(table) => Ok(Some(Arc::try_clone(table)?)),
+        None => Ok(None),
+    }
+}
+
+impl TableTold {
+    /// The same once more, which shares the table. Fails for want of memory.
+    pub fn copy(&self) -> Result<TableTold, Memory>
+        ensures { IfOk result (λ told. table_told_meant told ≡ table_told_meant self.now) }
+    {
+        let namespace = self.namespace.copy()?;
+        let table = share_table(&self.table)?;
+        Ok(TableTold {
+            namespace,
+            create: self.create,
+            at: self.at,
+            table,
+        })
+    }
+}

@@ -1,0 +1,56 @@
+//! Messages on writes.
+
+ghost use Rattle.std.specs.Prelude.{◌≡◌, IfOk};
+ghost use Rattle.protocol_model.specs.Bodies.{write_ask_meant, write_done_meant};
+
+use crate::lists::{DoneList, StatementList, copy_dones, copy_statements};
+use bson_values::Memory;
+use chunk_table::Sent;
+use cluster_base::{Namespace, RequestId};
+use std::alloc::Global;
+
+/// To a shard: the statements of a request that follow one another and go there.
+#[derive(Drop)]
+pub struct WriteAsk {
+    pub id: RequestId,
+    pub turn: u32,
+    pub ordered: bool,
+    pub namespace: Namespace,
+    pub statements: StatementList,
+    pub sent: Sent,
+}
+
+impl WriteAsk {
+    /// The same once more, which shares the documents. Fails for want of memory.
+    pub fn copy(&self, alloc: Global) -> Result<WriteAsk, Memory>
+        ensures { IfOk result (λ ask. write_ask_meant ask ≡ write_ask_meant self.now) }
+    {
+        let namespace = self.namespace.copy()?;
+        let statements = copy_statements(alloc, &self.statements)?;
+        Ok(WriteAsk {
+            id: self.id,
+            turn: self.turn,
+            ordered: self.ordered,
+            namespace,
+            statements,
+            sent: self.sent,
+        })
+    }
+}
+
+/// The answer: what was done, in order.
+#[derive(Drop)]
+pub struct WriteDone {
+    pub id: RequestId,
+    pub dones: DoneList,
+}
+
+impl WriteDone {
+    /// The same once more. Fails for want of memory.
+    pub fn copy(&self, alloc: Global) -> Result<WriteDone, Memory>
+        ensures { IfOk result (λ done. write_done_meant done ≡ write_done_meant self.now) }
+    {
+        let dones = copy_dones(alloc, &self.dones)?;
+        Ok(WriteDone { id: self.id, dones })
+    }
+}

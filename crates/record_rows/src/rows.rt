@@ -1,0 +1,73 @@
+//! Bytes that spell a record, and bytes that spell none.
+
+use fixtures::{RowFault, Rows, bytes_of, field};
+use record_reader::{RecordFault, read_record};
+use shard_records::Record;
+use std::alloc::Global;
+
+/// `KIND | BYTES`: the bytes are read as a record of that kind. No prefix of them is read, nor they with one byte behind.
+#[derive(Drop)]
+pub struct Records;
+
+impl Rows for Records {
+    fn holds(&mut self, alloc: Global, row: &str) -> Result<bool, RowFault> {
+        let (kind, words) = field(row);
+        let bytes = bytes_of(alloc, words)?;
+        Ok(is_read(alloc, kind, &bytes)? && alone_is_read(alloc, bytes)?)
+    }
+}
+
+/// `BYTES`: they are read as no record.
+#[derive(Drop)]
+pub struct Others;
+
+impl Rows for Others {
+    fn holds(&mut self, alloc: Global, row: &str) -> Result<bool, RowFault> {
+        let bytes = bytes_of(alloc, row)?;
+        is_none(alloc, &bytes)
+    }
+}
+
+// The record that the bytes spell, if they spell one.
+fn record_in(alloc: Global, bytes: &[u8]) -> Result<Option<Record>, RowFault> {
+    match read_record(alloc, bytes) {
+        Ok(found) => Ok(Some(found)),
+        Err(RecordFault::NoRecord) => Ok(None),
+        Err(RecordFault::Memory) => Err(RowFault::Memory),
+    }
+}
+
+fn is_none(alloc: Global, bytes: &[u8]) -> Result<bool, RowFault> {
+    let found = record_in(alloc, bytes)?;
+    Ok(found.is_none())
+}
+
+fn kind_of(found: &Record) -> &'static str {
+    match found {
+        Record::Table(_) => "table",
+        Record::Entry { .. } => "entry",
+        Record::Create { .. } => "create",
+        Record::Life(_) => "life",
+        Record::Block(_) => "block",
+    }
+}
+
+// Whether the bytes are a record of that kind.
+fn is_read(alloc: Global, kind: &str, bytes: &[u8]) -> Result<bool, RowFault> {
+    match record_in(alloc, bytes)? {
+        Some(found) => Ok(kind_of(&found) == kind),
+        None => Ok(false),
+    }
+}
+
+// Whether no prefix of the bytes is read, nor they with a byte behind.
+fn alone_is_read(alloc: Global, bytes: Vec<u8>) -> Result<bool, RowFault> {
+    let mut bytes = bytes;
+    for i in 0..bytes.len() {
+        if !is_none(alloc, &bytes[..i])? {
+            return Ok(false);
+        }
+    }
+    bytes.push(0)?;
+    is_none(alloc, &bytes)
+}

@@ -1,0 +1,4 @@
+pub mod Rising
+pub mod Noting
+pub mod Sessions
+pub mod Booked

@@ -1,0 +1,6 @@
+pub mod Meanings
+pub mod Statements
+pub mod Code
+pub mod Books
+pub use Rattle.history_model.specs.History
+pub use Rattle.history_model.specs.Notes

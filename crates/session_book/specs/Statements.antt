@@ -1,0 +1,59 @@
+-- What is kept of one session (MongoDB manual, "Server Sessions"): of its greatest transaction the statements that were done.
+use Rattle.std.specs.Prelude.{◌≡◌, ◌≢◌, ◌<◌, ◌≤◌, ℕ, ℤ, List, [], ◌∷◌, length, slice_index_or, Bool, true, false, ◌&&◌, ◌==◌, Option, Some, None, int_lt, if◌then◌else◌}
+use Rattle.std.specs.Ordering.{int_eq}
+use Rattle.history_model.specs.Notes.{Seen, new_statement, done_before, older_than}
+use Rattle.value_compare.specs.declared.words.Reply.{Reply}
+use Rattle.session_book.specs.declared.kept.Noted.{Noted}
+
+-- the greatest transaction, its statements by their index, and for how many more there is room
+pub record Statements : Type 0 where
+  pub transaction : ℤ
+  pub notes : List Noted
+  pub room : ℕ
+
+-- the indexes rise
+abbrev pub IsRising : List Noted → Type 0
+IsRising notes = (i j : ℕ) (d : Noted) → i < j → j < length notes → (slice_index_or notes i d).index < (slice_index_or notes j d).index
+
+abbrev pub are_some : List Noted → Bool
+are_some [] = false
+are_some (noted ∷ notes) = true
+
+-- the first of that index
+abbrev pub with_index : ℕ → List Noted → Option Noted
+with_index index [] = None
+with_index index (noted ∷ notes) = if noted.index == index then Some noted else with_index index notes
+
+-- the first of that index stands at that place
+pub record Holds (notes : List Noted) (index place : ℕ) : Type 0 where
+  pub in_range : place < length notes
+  pub first : (d : Noted) → with_index index notes ≡ Some (slice_index_or notes place d)
+  pub some : with_index index notes ≢ None
+
+-- a statement of that index would go to that place: lesser ones before it, and greater ones from it on
+pub record IsGapFor (notes : List Noted) (index place : ℕ) : Type 0 where
+  pub in_range : place ≤ length notes
+  pub lesser : (j : ℕ) (d : Noted) → j < place → (slice_index_or notes j d).index < index
+  pub greater : (j : ℕ) (d : Noted) → place ≤ j → j < length notes → index < (slice_index_or notes j d).index
+
+abbrev pub seen_as : Option Noted → Seen Reply
+seen_as None = new_statement
+seen_as (Some noted) = done_before noted.time.0 noted.reply
+
+-- what a statement of the session is, by its transaction and its index; a transaction of which nothing was done is no greater one
+abbrev pub seen_among : Statements → ℤ → ℕ → Seen Reply
+seen_among kept transaction index =
+    if int_lt transaction kept.transaction && are_some kept.notes then older_than kept.transaction
+    else if int_eq transaction kept.transaction then seen_as (with_index index kept.notes)
+    else new_statement
+
+-- those that were done in that transaction, where none was done in a greater one
+abbrev pub notes_in : ℤ → Statements → List Noted
+notes_in transaction kept = if int_eq transaction kept.transaction then kept.notes else []
+
+-- what it is once a statement, which was new, was noted in that transaction
+abbrev pub seen_after : ℤ → Noted → ℤ → ℕ → Seen Reply → Seen Reply
+seen_after noted_in noted transaction index was =
+    if int_lt transaction noted_in then older_than noted_in
+    else if int_eq noted_in transaction && noted.index == index then done_before noted.time.0 noted.reply
+    else was

@@ -1,0 +1,121 @@
+//! The book: what a statement is against those that were noted.
+#![tactic(auto, unfolding(crate::specs::Books::seen_in, crate::specs::Books::room_in))]
+
+ghost use Rattle.std.specs.Prelude.{◌≡◌, ◌≢◌, ◌≤◌, ◌+◌, ◌++◌, ◌∷◌, List, [], OnOk};
+ghost use Rattle.history_model.specs.History.{StatementNumber};
+ghost use Rattle.history_model.specs.Notes.{Note, new_statement, seen_with};
+ghost use Rattle.cluster_base.specs.declared.identity.Session.{Session};
+ghost use Rattle.value_compare.specs.declared.words.Reply.{Reply};
+ghost use Rattle.session_book.specs.Meanings.{number_meant, session_meant};
+
+use crate::kept::{Kept, Noted};
+use bson_values::Memory;
+use cluster_base::{Session, Stmt, Time};
+use std::alloc::Global;
+use std::collections::BTreeMap;
+use value_compare::Reply;
+
+/// What a statement's number is against the book.
+#[derive(Drop)]
+pub enum Seen<'a> {
+    /// Nothing was noted under it, and nothing under a greater transaction of its session.
+    New,
+    /// It was done.
+    Done {
+        /// The time of its entry.
+        time: Time,
+        /// What it was told.
+        reply: &'a Reply,
+    },
+    /// Its session has this greater transaction.
+    Older(i64),
+}
+
+/// What each numbered statement was told (MongoDB manual, "Retryable Writes" and "Server Sessions").
+///
+/// A caller reserves for a statement, notes it, and goes on to the next: one `reserve` makes room for one `note`, which then can't
+/// fail.
+#[derive(Drop)]
+pub struct Book {
+    alloc: Global,
+    sessions: BTreeMap<Session, Kept>,
+}
+
+impl Book {
+    ghost use Rattle.session_book.specs.Books.{NotesAre, note_meant, room_in, seen_in, seen_meant};
+
+    /// A book in which nothing is noted.
+    pub fn new(alloc: Global) -> Book
+        ensures so_far { NotesAre result [] }
+    {
+        Book {
+            alloc,
+            sessions: BTreeMap::new(alloc),
+        }
+    }
+
+    /// What the statement is against what was noted so far.
+    pub fn look(&self, s: &Stmt) -> Seen
+        ensures { seen_meant result ≡ seen_in self.now (number_meant s.now) }
+    {
+        match self.sessions.get(&s.session) {
+            Some(kept) => kept.look(s.txn, s.index),
+            None => Seen::New,
+        }
+    }
+
+    /// Makes room for one more statement of its session. Nothing is noted by it, so each number is seen as it was.
+    ///
+    /// # Errors
+    /// `Memory` for want of memory; each number is seen as it was then too, and no room is lost.
+    pub fn reserve(&mut self, s: &Stmt) -> Result<(), Memory>
+        ensures room { OnOk result (1 ≤ room_in self.new s.now.session) }
+        ensures others { (t : Session) → room_in self.old t ≤ room_in self.new t }
+        ensures same { (n : StatementNumber) → seen_in self.new n ≡ seen_in self.old n }
+    {
+        if let Some(kept) = self.sessions.get_mut(&s.session) {
+            return kept.reserve();
+        }
+        let kept = Kept::new(self.alloc, s.txn)?;
+        self.sessions.insert(s.session, kept)?;
+        Ok(())
+    }
+
+    /// Makes room for so many statements of this one's session. Nothing is noted by it, so each number is seen as it was.
+    ///
+    /// # Errors
+    /// `Memory` for want of memory; each number is seen as it was then too, and no room is lost.
+    pub fn reserve_run(&mut self, s: &Stmt, count: usize) -> Result<(), Memory>
+        ensures room { OnOk result (count ≤ room_in self.new s.now.session) }
+        ensures others { (t : Session) → room_in self.old t ≤ room_in self.new t }
+        ensures same { (n : StatementNumber) → seen_in self.new n ≡ seen_in self.old n }
+    {
+        if let Some(kept) = self.sessions.get_mut(&s.session) {
+            return kept.reserve_run(count);
+        }
+        let kept = Kept::with_room(self.alloc, s.txn, count)?;
+        self.sessions.insert(s.session, kept)?;
+        Ok(())
+    }
+
+    /// Notes a statement that is new, with the time of its entry and what it was told, where there is room for it.
+    pub fn note(&mut self, s: &Stmt, time: Time, reply: Reply)
+        requires room { 1 ≤ room_in self.old s.now.session }
+        requires new { seen_in self.old (number_meant s.now) ≡ new_statement }
+        ensures seen { (n : StatementNumber) → seen_in self.new n ≡ seen_with (note_meant s.now time reply) n (seen_in self.old n) }
+        ensures so_far { (notes : List (Note Reply)) → NotesAre self.old notes → NotesAre self.new (notes ++ note_meant s.now time reply ∷ []) }
+        ensures room { (t : Session) → room_in self.old t ≤ room_in self.new t + 1 }
+        ensures other_rooms { (t : Session) → session_meant t ≢ session_meant s.now.session → room_in self.old t ≤ room_in self.new t }
+    {
+        if let Some(kept) = self.sessions.get_mut(&s.session) {
+            kept.note(
+                s.txn,
+                Noted {
+                    index: s.index,
+                    time,
+                    reply,
+                },
+            );
+        }
+    }
+}

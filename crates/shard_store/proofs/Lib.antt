@@ -1,0 +1,7 @@
+pub mod Facts
+pub mod Following
+pub mod Lists
+pub mod Named
+pub mod Planning
+pub mod Pushed
+pub mod Seen

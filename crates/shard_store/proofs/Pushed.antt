@@ -1,0 +1,134 @@
+-- What entries leave at a time, with one more that puts a document in.
+use Rattle.std.proofs.Common.{◌≡◌, ◌≤◌, ◌<◌, ◌⊎◌, inl, inr, ℕ, List, [], ◌∷◌, ◌++◌, refl, sym, ap, ◌∙◌, arith, append-nil}
+use Rattle.std.specs.Prelude.{Bool, true, false, ◌&&◌, Option, Some, None, filter, nat_le, Ok, if◌then◌else◌}
+use Rattle.std.specs.Arc.{arc_value}
+use Rattle.std.specs.Str.{bytes_eq}
+use Rattle.std.proofs.lemmas.Bool.{le-leb}
+use Rattle.std.proofs.lemmas.Bool.Decides.{leb_tells}
+use Rattle.std.proofs.lemmas.List.Elements.{filter-append}
+use Rattle.std.proofs.lemmas.Slice.Eq.{bytes_eq-Decides}
+use Rattle.bson_values.specs.Tree.{Datum, Fields}
+use Rattle.value_compare.specs.Keys.{valid_key}
+use Rattle.value_compare.specs.Order.{same_value}
+use Rattle.value_model.proofs.Spans.{same_value_equivalence}
+use Rattle.node_model.specs.Errors.{duplicate_key, object_too_large}
+use Rattle.node_model.specs.History.{insert_operation, Outcome, done, is_too_large, same_key, key_written, effect, Entry, writes_to, document_after, document_left, document_at, IsIn}
+use Rattle.history_model.proofs.LegalHistories.{insert_again, insert_key, insert_new, put_in, refused_leaves}
+use Rattle.history_model.proofs.Lists.{in_first, in_later}
+use Rattle.history_model.proofs.Stores.{document_after_push}
+use Rattle.history_model.specs.Versions.{one_more}
+use Rattle.shard_store.specs.Entries.{entry_meant, is_inserted, put_of, puts}
+use Rattle.shard_store.specs.Outcomes.{outcome_meant}
+use Rattle.shard_store.specs.Plans.{IsNext}
+use Rattle.shard_store.specs.declared.outcome.Outcome as answers
+use Rattle.shard_store.specs.declared.outcome.Outcome.TheVariants.{Inserted, Duplicate, TooLarge}
+use Rattle.shard_store.specs.declared.planned.Planned.{Planned}
+
+-- keys that compare equal find the same
+same_written : (written : Option Datum) (a b : Datum) → same_value a b ≡ true → same_key written (Some a) ≡ same_key written (Some b)
+same_written None a b same = refl
+same_written (Some c) a b same = same_value_equivalence.symm c a ∙ same_value_equivalence.congr a b c same ∙ same_value_equivalence.symm b c
+
+pub same_left : (namespace : List ℕ) (a b : Datum) → same_value a b ≡ true → (before : Option Fields) (es : List Entry) →
+    document_after namespace (Some a) before es ≡ document_after namespace (Some b) before es
+same_left namespace a b same before [] = refl
+same_left namespace a b same before (e ∷ es) =
+    ap (λ (hit : Bool). document_after namespace (Some a) (if bytes_eq e.namespace namespace && hit then (effect e.operation before).0 else before) es)
+    (same_written (key_written e.operation) a b same)
+    ∙ same_left namespace a b same (if writes_to namespace (Some b) e then (effect e.operation before).0 else before) es
+
+-- entries that are all up to a time
+filter_whole : (time : ℕ) (es : List Entry) → ((e : Entry) → IsIn e es → e.time ≤ time) → filter (λ (e : Entry). nat_le e.time time) es ≡ es
+filter_whole time [] all = refl
+filter_whole time (e ∷ es) all =
+    rw (le-leb e.time time (all e (in_first e es))) (ap (λ (l : List Entry). e ∷ l) (filter_whole time es (λ d i. all d (in_later d e es i))))
+
+-- at a time that no entry is behind, all of them count
+pub left_at : (es : List Entry) (last time : ℕ) → ((e : Entry) → IsIn e es → e.time ≤ last) → last ≤ time → (namespace : List ℕ) (key : Option Datum) →
+    document_at es namespace key time ≡ document_left namespace key es
+left_at es last time past le namespace key =
+    ap (λ (l : List Entry). document_left namespace key l) (filter_whole time es (λ e i. omega (arith, past e i, le)))
+
+-- one more entry
+at_push : (n : List ℕ) (key : Option Datum) (t : ℕ) (es : List Entry) (e : Entry) → document_at (es ++ e ∷ []) n key t
+    ≡ (if nat_le e.time t then (if writes_to n key e then (effect e.operation (document_at es n key t)).0 else document_at es n key t) else document_at es n key t)
+at_push n key t es e =
+    ap (λ (l : List Entry). document_left n key l) (filter-append (λ (d : Entry). nat_le d.time t) es (e ∷ [])) ∙ by_test (nat_le e.time t)
+  where
+    before : List Entry
+    before = filter (λ (d : Entry). nat_le d.time t) es
+
+    by_test : (test : Bool) → document_left n key (before ++ (if test then e ∷ [] else []))
+        ≡ (if test then (if writes_to n key e then (effect e.operation (document_left n key before)).0 else document_left n key before) else document_left n key before)
+    by_test true = document_after_push n key None before e
+    by_test false = ap (λ (l : List Entry). document_left n key l) (append-nil before)
+
+-- an insert leaves its document exactly where it is told so
+left_as : (document : Fields) (key : Datum) → valid_key document ≡ Ok key → (o : answers.Outcome) (before : Option Fields) →
+    outcome_meant o ≡ (effect (insert_operation document) before).1 →
+    (effect (insert_operation document) before).0 ≡ (if is_inserted o then Some document else before)
+left_as document key valid Inserted None told =
+    ap (λ (w : Option Fields × Outcome). w.0) (insert_new document key valid)
+    ∙ by_size (is_too_large document) (told ∙ ap (λ (w : Option Fields × Outcome). w.1) (insert_new document key valid))
+  where
+    by_size : (large : Bool) → done ≡ (put_in document large).1 → (put_in document large).0 ≡ Some document
+    by_size true e = absurd (let none : None ≡ Some object_too_large = ap (λ (o : Outcome). o.error) e in cc)
+    by_size false e = refl
+left_as document key valid Inserted (Some before) told =
+    absurd (let none : None ≡ Some duplicate_key = ap (λ (o : Outcome). o.error) (told ∙ ap (λ (w : Option Fields × Outcome). w.1) (insert_again document key before valid)) in cc)
+left_as document key valid Duplicate before told = refused_leaves (insert_operation document) before duplicate_key (sym (ap (λ (o : Outcome). o.error) told))
+left_as document key valid TooLarge before told = refused_leaves (insert_operation document) before object_too_large (sym (ap (λ (o : Outcome). o.error) told))
+
+-- what stands at a time, by whether it puts, and writes here and up to then
+by_tests : (document : Fields) (put name same early : Bool) (was d after : Option Fields) → was ≡ d →
+    (name ≡ true → same ≡ true → early ≡ true → after ≡ (if put then Some document else d)) →
+    (if put && name then (if same && early then Some document else was) else was) ≡ (if early then (if name && same then after else d) else d)
+by_tests document true true true true was d after e h = sym (h refl refl refl)
+by_tests document false true true true was d after e h = e ∙ sym (h refl refl refl)
+by_tests document true true true false was d after e h = e
+by_tests document true true false true was d after e h = e
+by_tests document true true false false was d after e h = e
+by_tests document true false same true was d after e h = e
+by_tests document true false same false was d after e h = e
+by_tests document false true true false was d after e h = e
+by_tests document false true false true was d after e h = e
+by_tests document false true false false was d after e h = e
+by_tests document false false same true was d after e h = e
+by_tests document false false same false was d after e h = e
+
+at_least : (a b : ℕ) → nat_le a b ≡ true → a ≤ b
+at_least a b e = by_test (leb_tells a b) e
+  where
+    by_test : ((nat_le a b ≡ true) × (a ≤ b)) ⊎ ((nat_le a b ≡ false) × (b < a)) → nat_le a b ≡ true → a ≤ b
+    by_test (inl met) e = met.1
+    by_test (inr unmet) e = absurd (let clash : true ≡ false = sym e ∙ unmet.0 in cc)
+
+module _ (shard : ℕ) (entries : List Entry) (last : ℕ) (namespace : List ℕ) (p : Planned) (past : (e : Entry) → IsIn e entries → e.time ≤ last)
+    (next : IsNext entries last namespace p) where
+  abbrev document : Fields
+  document = arc_value p.document
+
+  -- where the entry writes, all entries before it count
+  leaves : (n : List ℕ) (k : Datum) (t : ℕ) → bytes_eq namespace n ≡ true → same_value p.key k ≡ true → nat_le p.time.0 t ≡ true →
+      (effect (insert_operation document) (document_at entries n (Some k) t)).0 ≡ (if puts p then Some document else document_at entries n (Some k) t)
+  leaves n k t name same early =
+      let here : document_at entries n (Some k) t ≡ document_left namespace (Some p.key) entries =
+      left_at entries last t past (omega (arith, next.later, at_least p.time.0 t early)) n (Some k)
+      ∙ ap (λ (m : List ℕ). document_left m (Some k) entries) (sym ((bytes_eq-Decides namespace n).0 name))
+      ∙ sym (same_left namespace p.key k same None entries) in
+      ap (λ (b : Option Fields). (effect (insert_operation document) b).0) here
+      ∙ left_as document p.key next.valid p.outcome (document_left namespace (Some p.key) entries) next.told
+      ∙ ap (λ (b : Option Fields). if puts p then Some document else b) (sym here)
+
+  -- the collections show the entry too
+  pub shown_after : (n : List ℕ) (k : Datum) (t : ℕ) (was now : Option Fields) → was ≡ document_at entries n (Some k) t →
+      now ≡ (if puts p && bytes_eq namespace n then one_more (put_of p) k t was else was) →
+      now ≡ document_at (entries ++ entry_meant shard namespace p ∷ []) n (Some k) t
+  shown_after n k t was now e is =
+      is
+      ∙ by_tests document (puts p) (bytes_eq namespace n) (same_value p.key k) (nat_le p.time.0 t) was (document_at entries n (Some k) t)
+      (effect (insert_operation document) (document_at entries n (Some k) t)).0 e (leaves n k t)
+      ∙ ap (λ (written : Option Datum). if nat_le p.time.0 t
+      then (if bytes_eq namespace n && same_key written (Some k) then (effect (insert_operation document) (document_at entries n (Some k) t)).0 else document_at entries n (Some k) t)
+      else document_at entries n (Some k) t) (sym (insert_key document p.key next.valid))
+      ∙ sym (at_push n (Some k) t entries (entry_meant shard namespace p))

@@ -1,0 +1,63 @@
+use Rattle.std.proofs.Common.{◌≡◌, ◌≤◌, ◌+◌, ◌++◌, ◌∷◌, ℕ, List, [], length, sym, ap, subst, ◌∙◌, append_assoc, arith}
+use Rattle.std.specs.Prelude.{Bool, map, if◌then◌else◌}
+use Rattle.std.specs.List.{AllByRecursion}
+use Rattle.std.specs.Vec.Iter.{into_iter_items}
+use Rattle.node_model.specs.History.{Entry}
+use Rattle.shard_store.proofs.Following.{all_both, next_on}
+use Rattle.shard_store.specs.Collections.{room_under}
+use Rattle.shard_store.specs.Entries.{entry_meant}
+use Rattle.shard_store.specs.Outcomes.{statement_of}
+use Rattle.shard_store.specs.Plans.{AreNext, IsBehind}
+use Rattle.shard_store.specs.Stores.{entries_of, last_of, shard_of}
+use Rattle.shard_store.specs.declared.planned.Planned.{Planned}
+use Rattle.shard_store.proofs.store.ShardStore.commit.Goals as goal
+
+pub loop-planned-preserved : goal.loop-planned-preserved
+loop-planned-preserved c =
+    let at = c.loop-planned in
+    let was = at.invariant in
+    let p = c.in-Some.planned in
+    let name = c.args.namespace.now in
+    let id = c.args.plan.id in
+    let rest = into_iter_items c.next.new.self in
+    let entry = entry_meant (shard_of at.self) name p in
+    let steps : into_iter_items at.planned-iterator ≡ p ∷ rest = c.in-Some.ensures.steps.0 in
+    let next : AreNext (entries_of at.self) (last_of at.self) name id (p ∷ rest) =
+    subst (λ (l : List Planned). AreNext (entries_of at.self) (last_of at.self) name id l) steps was.next in
+    let past : AllByRecursion (λ (q : Planned). q.time.0 ≤ c.args.plan.last.0) (p ∷ rest) =
+    subst (λ (l : List Planned). AllByRecursion (λ (q : Planned). q.time.0 ≤ c.args.plan.last.0) l) steps was.past in
+    let versions : AllByRecursion (λ (q : Planned). 1 ≤ room_under at.self.collections name q.key) (p ∷ rest) =
+    subst (λ (l : List Planned). AllByRecursion (λ (q : Planned). 1 ≤ room_under at.self.collections name q.key) l) steps was.versions in
+    let after : AreNext (entries_of c.enter.new.self) (last_of c.enter.new.self) name id rest =
+    subst (λ (l : List Entry). AreNext l (last_of c.enter.new.self) name id rest) (sym c.enter.ensures.entries)
+    (subst (λ (t : ℕ). AreNext (entries_of at.self ++ entry ∷ []) t name id rest) (sym c.enter.ensures.last)
+    (next_on (shard_of at.self) name (entries_of at.self) (last_of at.self) id p rest next)) in
+    record {
+      len =
+          let long = was.len in
+          let gone = c.in-Some.ensures.steps.1 in
+          let short = ap length steps in
+          omega arith;
+      next = after;
+      whole =
+          ap (λ (l : List Entry). l ++ map (entry_meant (shard_of c.enter.new.self) name) rest) c.enter.ensures.entries
+          ∙ ap (λ (s : ℕ). (entries_of at.self ++ entry ∷ []) ++ map (entry_meant s name) rest) c.enter.ensures.shard
+          ∙ append_assoc (entries_of at.self) (entry ∷ []) (map (entry_meant (shard_of at.self) name) rest)
+          ∙ ap (λ (l : List Planned). entries_of at.self ++ map (entry_meant (shard_of at.self) name) l) (sym steps)
+          ∙ was.whole;
+      last = omega (arith, c.enter.ensures.last, past.0);
+      past = past.1;
+      shard = c.enter.ensures.shard ∙ was.shard;
+      versions = all_both (λ (q : Planned). 1 ≤ room_under at.self.collections name q.key) (IsBehind p)
+          (λ (q : Planned). 1 ≤ room_under c.enter.new.self.collections name q.key) rest
+          (λ q one behind.
+          let kept : room_under at.self.collections name q.key ≤ room_under c.enter.new.self.collections name q.key + 0 =
+          subst (λ (b : Bool). room_under at.self.collections name q.key ≤ room_under c.enter.new.self.collections name q.key + (if b then 1 else 0))
+          behind.key (c.enter.ensures.versions q.key) in
+          omega (arith, one, kept)) versions.1 next.turn.0;
+      notes =
+          let short = ap length steps in
+          let left = was.notes in
+          let one = c.enter.ensures.notes (statement_of id 0).session in
+          omega arith;
+    }

@@ -1,0 +1,92 @@
+use Rattle.std.proofs.Common.{◌≡◌, ◌+◌, ◌++◌, ◌∷◌, ℕ, List, [], refl, sym, ap, subst, ◌∙◌, append-nil, arith}
+use Rattle.std.specs.Prelude.{Some, false, map}
+use Rattle.std.specs.Arc.{arc_value}
+use Rattle.std.specs.List.{list_any}
+use Rattle.std.proofs.lemmas.List.{map-append}
+use Rattle.bson_values.specs.Tree.{Datum}
+use Rattle.bson_values.specs.View.{datum_of}
+use Rattle.value_compare.specs.Keys.{valid_key}
+use Rattle.value_compare.specs.Order.{same_value}
+use Rattle.cluster_base.specs.declared.identity.RequestId.{RequestId}
+use Rattle.node_model.specs.Asked.{number_for}
+use Rattle.node_model.specs.History.{insert_operation, effect, document_left}
+use Rattle.shard_store.proofs.Following.{again, next_from, own_from, served_next}
+use Rattle.shard_store.specs.Entries.{entry_meant}
+use Rattle.shard_store.specs.Outcomes.{done_meant, id_meant}
+use Rattle.shard_store.specs.Plans.{AreNext, IsServed, left_for_later, made_by, planned_in, time_of}
+use Rattle.shard_store.specs.Stores.{entries_of, last_of, shard_of}
+use Rattle.shard_store.specs.declared.planned.Planned.{Planned}
+use Rattle.shard_store.proofs.store.ShardStore.serve.Goals as goal
+
+pub returns-in-Some-clause-served : goal.returns-in-Some-clause-served
+returns-in-Some-clause-served c = (
+  [],
+  sym (append-nil (made_by (shard_of c.args.self.now) c.args.namespace.now c.args.plan.now)),
+  again (shard_of c.args.self.now) c.args.namespace.now (entries_of c.args.self.now) (made_by (shard_of c.args.self.now) c.args.namespace.now c.args.plan.now)
+      (time_of c.args.plan.now) (record { number = number_for (id_meant c.args.plan.now.id) c.args.index; operation = insert_operation (arc_value c.args.document.now) })
+      (done_meant c.args.index c.in-Some.told) c.in-Some.ensures,
+)
+
+pub returns-then-index-plan-clause-served : goal.returns-then-index-plan-clause-served
+returns-then-index-plan-clause-served c = ([], sym (append-nil (made_by (shard_of c.args.self.now) c.args.namespace.now c.args.plan.now)), left_for_later)
+
+pub returns-then-has_key-clause-served : goal.returns-then-has_key-clause-served
+returns-then-has_key-clause-served c = ([], sym (append-nil (made_by (shard_of c.args.self.now) c.args.namespace.now c.args.plan.now)), left_for_later)
+
+pub push-requires-clause-key : goal.push-requires-clause-key
+push-requires-clause-key c =
+    let none : list_any (λ (p : Planned). same_value p.key c.in-Ok.key) (planned_in c.args.plan.now) ≡ false =
+    sym (c.has_key.ensures (entries_of c.args.self.now) (last_of c.args.self.now) c.args.namespace.now c.requires.plan) ∙ c.if-has_key.false in
+    subst (λ (k : Datum). list_any (λ (p : Planned). same_value p.key k) (planned_in c.args.plan.now) ≡ false) (sym c.key.view_is) none
+
+pub returns-clause-plan : goal.returns-clause-plan
+returns-clause-plan c =
+    let store = c.args.self.now in
+    let name = c.args.namespace.now in
+    let plan = c.args.plan.now in
+    let document = arc_value c.args.document.now in
+    let p : Planned = record {
+      statement = c.own_statement.result;
+      time = record { 0 = plan.last.0 + 1 };
+      key = datum_of c.key.inside.value;
+      document = c.in_ok-try_clone.field-0;
+      outcome = c.outcome_of-outcome.result;
+    } in
+    let next = next_from (entries_of store) (last_of store) name p plan.id c.args.index document c.in-Ok.key (omega (arith, c.requires.plan.before))
+    c.own_statement.ensures c.in_ok-try_clone.ensures c.key.view_is (ap valid_key (sym c.deref.ensures) ∙ c.in-Ok.ensures.key)
+    (c.outcome_of-outcome.ensures ∙ ap (λ d. (effect (insert_operation d) (document_left name (Some c.in-Ok.key) (entries_of store))).1) c.deref-2.ensures)
+    c.in_default.ensures in
+    c.in_ok-push.ensures.plan (entries_of store) (last_of store) name c.requires.plan next (own_from plan.id p.statement c.args.index c.own_statement.ensures)
+
+pub returns-clause-served : goal.returns-clause-served
+returns-clause-served c =
+    let store = c.args.self.now in
+    let name = c.args.namespace.now in
+    let plan = c.args.plan.now in
+    let document = arc_value c.args.document.now in
+    let p : Planned = record {
+      statement = c.own_statement.result;
+      time = record { 0 = plan.last.0 + 1 };
+      key = datum_of c.key.inside.value;
+      document = c.in_ok-try_clone.field-0;
+      outcome = c.outcome_of-outcome.result;
+    } in
+    let next = next_from (entries_of store) (last_of store) name p plan.id c.args.index document c.in-Ok.key (omega (arith, c.requires.plan.before))
+    c.own_statement.ensures c.in_ok-try_clone.ensures c.key.view_is (ap valid_key (sym c.deref.ensures) ∙ c.in-Ok.ensures.key)
+    (c.outcome_of-outcome.ensures ∙ ap (λ d. (effect (insert_operation d) (document_left name (Some c.in-Ok.key) (entries_of store))).1) c.deref-2.ensures)
+    c.in_default.ensures in
+    let pushed = c.in_ok-push.ensures.plan (entries_of store) (last_of store) name c.requires.plan next (own_from plan.id p.statement c.args.index c.own_statement.ensures) in
+    let all : AreNext (entries_of store) (last_of store) name plan.id (plan.planned.items ++ p ∷ []) =
+    subst (λ (l : List Planned). AreNext (entries_of store) (last_of store) name plan.id l) c.in_ok-push.ensures.planned
+    (subst (λ (i : RequestId). AreNext (entries_of store) (last_of store) name i c.push.new.self.planned.items) c.in_ok-push.ensures.id pushed.next) in (
+      entry_meant (shard_of store) name p ∷ [],
+      ap (λ (l : List Planned). map (entry_meant (shard_of store) name) l) c.in_ok-push.ensures.planned
+          ∙ map-append (entry_meant (shard_of store) name) plan.planned.items (p ∷ []),
+      subst
+          (λ (t : ℕ). IsServed (shard_of store) name (entries_of store ++ made_by (shard_of store) name plan) (time_of plan)
+          (record { number = number_for (id_meant plan.id) c.args.index; operation = insert_operation document })
+          (Some (done_meant c.args.index (record { time = p.time; outcome = p.outcome }))) (entry_meant (shard_of store) name p ∷ []) t)
+          (sym c.in_ok-push.ensures.time)
+          (served_next (shard_of store) name (entries_of store) (last_of store) plan.id plan.planned.items p c.args.index (time_of plan) document all next
+          c.own_statement.ensures refl c.in_ok-try_clone.ensures),
+    )

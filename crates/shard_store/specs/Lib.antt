@@ -1,0 +1,6 @@
+pub mod Outcomes
+pub mod Collections
+pub mod Entries
+pub mod Codes
+pub mod Plans
+pub mod Stores

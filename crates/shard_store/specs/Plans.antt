@@ -1,0 +1,75 @@
+-- Plans: the entries that a shard is about to make in one collection for one request, behind those that it has.
+use Rattle.std.specs.Prelude.{◌≡◌, ◌<◌, ◌≤◌, ◌+◌, ℕ, List, [], ◌∷◌, map, false, Option, Some, None, Ok, is_some}
+use Rattle.std.specs.Arc.{arc_value}
+use Rattle.std.specs.BTreeMap.{get_by}
+use Rattle.std.specs.List.{AllByRecursion, list_any}
+use Rattle.cluster_base.specs.declared.identity.RequestId.{RequestId}
+use Rattle.value_compare.specs.Keys.{valid_key}
+use Rattle.value_compare.specs.Order.{order, same_value}
+use Rattle.bson_values.specs.Tree.{Datum}
+use Rattle.node_model.specs.History.{insert_operation, effect, Entry, document_left}
+use Rattle.node_model.specs.Letters.{Statement}
+use Rattle.node_model.specs.Outcomes.{Done, done_of}
+use Rattle.node_model.specs.Serving.{seen_before, entry_for}
+use Rattle.session_book.specs.Meanings.{number_meant}
+use Rattle.shard_store.specs.Entries.{entry_meant}
+use Rattle.shard_store.specs.Outcomes.{outcome_meant, statement_of}
+use Rattle.shard_store.specs.declared.plan.Plan.{Plan}
+use Rattle.shard_store.specs.declared.planned.Planned.{Planned}
+
+-- The entry may follow these, the last of which is no later than `last`: it is told what its document does to what they leave under
+-- its key, and its statement is none of theirs.
+pub record IsNext (entries : List Entry) (last : ℕ) (namespace : List ℕ) (p : Planned) : Type 0 where
+  pub later : last < p.time.0
+  pub valid : valid_key (arc_value p.document) ≡ Ok p.key
+  pub told : outcome_meant p.outcome ≡ (effect (insert_operation (arc_value p.document)) (document_left namespace (Some p.key) entries)).1
+  pub unseen : seen_before (number_meant p.statement) entries ≡ None
+
+-- q comes later than p, is another statement, and has another key
+pub record IsBehind (p q : Planned) : Type 0 where
+  pub later : p.time.0 < q.time.0
+  pub index : p.statement.index < q.statement.index
+  pub key : same_value p.key q.key ≡ false
+
+-- each comes behind those before it
+abbrev pub AreInTurn : List Planned → Type 0
+AreInTurn [] = Unit {0}
+AreInTurn (p ∷ planned) = AllByRecursion (IsBehind p) planned × AreInTurn planned
+
+-- it is a statement of this request
+abbrev pub IsOf : RequestId → Planned → Type 0
+IsOf id p = p.statement ≡ statement_of id p.statement.index
+
+-- These may be made behind the entries: all of one request, each behind those before it.
+pub record AreNext (entries : List Entry) (last : ℕ) (namespace : List ℕ) (id : RequestId) (planned : List Planned) : Type 0 where
+  pub each : AllByRecursion (IsNext entries last namespace) planned
+  pub turn : AreInTurn planned
+  pub own : AllByRecursion (IsOf id) planned
+
+-- A plan of entries behind these. What it says of itself is so: its time, the least index that is free, the keys that are taken.
+pub record IsPlan (entries : List Entry) (last : ℕ) (namespace : List ℕ) (plan : Plan) : Type 0 where
+  pub next : AreNext entries last namespace plan.id plan.planned.items
+  pub before : last ≤ plan.last.0
+  pub past : AllByRecursion (λ p. p.time.0 ≤ plan.last.0) plan.planned.items
+  pub indexes : AllByRecursion (λ p. p.statement.index < plan.free) plan.planned.items
+  pub taken : (k : Datum) → is_some (get_by (order k) plan.keys) ≡ list_any (λ (p : Planned). same_value p.key k) plan.planned.items
+  pub empty : plan.planned.items ≡ [] → plan.free ≡ 0
+
+-- the entries of a plan
+abbrev pub made_by : (shard : ℕ) → (namespace : List ℕ) → Plan → List Entry
+made_by shard namespace plan = map (entry_meant shard namespace) plan.planned.items
+
+-- the time of its last entry, or that behind which its first comes
+abbrev pub time_of : Plan → ℕ
+time_of plan = plan.last.0
+
+abbrev pub planned_in : Plan → List Planned
+planned_in plan = plan.planned.items
+
+-- A statement is served behind these entries at this time: it is told again what it was told, or makes an entry at the next time, or
+-- is left for later.
+pub data IsServed (shard : ℕ) (namespace : List ℕ) (entries : List Entry) (time : ℕ) (s : Statement) : Option Done → (made : List Entry) → (after : ℕ) → Type 0 where
+  served_again : (e : Entry) → seen_before s.number entries ≡ Some e → IsServed shard namespace entries time s (Some (done_of e)) [] time
+  served_new : seen_before s.number entries ≡ None
+      → IsServed shard namespace entries time s (Some (done_of (entry_for entries (time + 1) shard namespace s))) (entry_for entries (time + 1) shard namespace s ∷ []) (time + 1)
+  left_for_later : IsServed shard namespace entries time s None [] time

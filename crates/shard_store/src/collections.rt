@@ -1,0 +1,123 @@
+//! The collections of a shard, each by its namespace.
+#![tactic(auto, unfolding(crate::specs::Collections::shown_in, crate::specs::Collections::last_under, crate::specs::Collections::room_under))]
+
+ghost use Rattle.std.specs.Prelude.{◌≡◌, ◌≤◌, ◌<◌, ◌+◌, ◌&&◌, ◌⊎◌, ℕ, List, Some, None, if◌then◌else◌, IfSome, OnOk};
+ghost use Rattle.std.specs.Arc.{arc_value};
+ghost use Rattle.std.specs.List.{AllByRecursion};
+ghost use Rattle.std.specs.Option.{option_map};
+ghost use Rattle.std.specs.Str.{bytes_eq};
+ghost use Rattle.value_compare.specs.Order.{same_value};
+ghost use Rattle.bson_values.specs.Tree.{Datum};
+ghost use Rattle.history_model.specs.Versions.{one_more};
+ghost use Rattle.mvcc_collection.specs.Collections.{put_meant};
+
+use crate::outcome::Outcome;
+use crate::planned::Planned;
+use bson_values::{Document, Memory};
+use cluster_base::Time;
+use mvcc_collection::Collection;
+use std::alloc::Global;
+use std::collections::BTreeMap;
+use std::sync::Arc;
+use value_compare::Key;
+
+/// The collections of a shard, each by its namespace, with the versions of their documents.
+#[derive(Drop)]
+pub struct Collections {
+    alloc: Global,
+    by_name: BTreeMap<String, Collection>,
+}
+
+impl Collections {
+    ghost use Rattle.shard_store.specs.Collections.{last_under, room_under, shown_in};
+    ghost use Rattle.shard_store.specs.Entries.{put_of, puts};
+
+    /// No collections.
+    pub fn new(alloc: Global) -> Collections
+        ensures shown { (n : List ℕ) (k : Datum) (t : ℕ) → shown_in result n k t ≡ None }
+        ensures last { (n : List ℕ) (k : Datum) → last_under result n k ≡ None }
+    {
+        Collections {
+            alloc,
+            by_name: BTreeMap::new(alloc),
+        }
+    }
+
+    /// The document that stands in the namespace under the key at the time, if there is one.
+    pub fn get_at(&self, namespace: &str, key: &Key, time: Time) -> Option<&Arc<Document, Global>>
+        ensures { option_map (λ d. arc_value d.now) result ≡ shown_in self.now namespace.now key.now time.0 }
+    {
+        self.by_name.get(namespace)?.get_at(key, time)
+    }
+
+    /// Makes room for one version more in the namespace under the key. Fails for want of memory. Either way nothing else is to be
+    /// seen of it.
+    pub fn reserve(&mut self, namespace: &str, key: &Key) -> Result<(), Memory>
+        ensures room { OnOk result (1 ≤ room_under self.new namespace.now key.now) }
+        ensures rooms { (n : List ℕ) (k : Datum) → room_under self.old n k ≤ room_under self.new n k }
+        ensures shown { (n : List ℕ) (k : Datum) (t : ℕ) → shown_in self.new n k t ≡ shown_in self.old n k t }
+        ensures last { (n : List ℕ) (k : Datum) → last_under self.new n k ≡ last_under self.old n k }
+    {
+        if let Some(collection) = self.by_name.get_mut(namespace) {
+            return collection.reserve(key);
+        }
+        let name = String::from_str(self.alloc, namespace)?;
+        let mut collection = Collection::new(self.alloc);
+        collection.reserve(key)?;
+        self.by_name.insert(name, collection)?;
+        Ok(())
+    }
+
+    /// Makes room for one version more in the namespace under each key that is planned. Fails for want of memory. Either way nothing
+    /// else is to be seen of it.
+    pub fn reserve_all(&mut self, namespace: &str, planned: &[Planned]) -> Result<(), Memory>
+        ensures room { OnOk result (AllByRecursion (λ p. 1 ≤ room_under self.new namespace.now p.key) planned.now) }
+        ensures rooms { (n : List ℕ) (k : Datum) → room_under self.old n k ≤ room_under self.new n k }
+        ensures shown { (n : List ℕ) (k : Datum) (t : ℕ) → shown_in self.new n k t ≡ shown_in self.old n k t }
+        ensures last { (n : List ℕ) (k : Datum) → last_under self.new n k ≡ last_under self.old n k }
+    {
+        for entry in planned {
+            self.reserve(namespace, &entry.key)?;
+        }
+        Ok(())
+    }
+
+    // From this time on this document stands in the namespace under the key.
+    fn put(&mut self, namespace: &str, key: &Key, time: Time, document: Arc<Document, Global>)
+        requires room { 1 ≤ room_under self.old namespace.now key.now }
+        requires later { IfSome (last_under self.old namespace.now key.now) (λ t. t < time.0) }
+        ensures shown { (n : List ℕ) (k : Datum) (t : ℕ) → shown_in self.new n k t
+            ≡ (if bytes_eq namespace.now n then one_more (put_meant key.now time (Some document)) k t (shown_in self.old n k t) else shown_in self.old n k t) }
+        ensures last { (n : List ℕ) (k : Datum) → last_under self.new n k
+            ≡ (if bytes_eq namespace.now n && same_value key.now k then Some time.0 else last_under self.old n k) }
+        ensures rooms { (n : List ℕ) (k : Datum) → room_under self.old n k
+            ≤ room_under self.new n k + (if bytes_eq namespace.now n && same_value key.now k then 1 else 0) }
+    {
+        if let Some(collection) = self.by_name.get_mut(namespace) {
+            collection.put(key, time, Some(document));
+        }
+    }
+
+    /// From its time on the document of an entry stands in the namespace under its key, if it is put in. There is room for it, and
+    /// all that was put under the key before is earlier. Takes no memory.
+    pub fn enter(&mut self, namespace: &str, planned: Planned)
+        requires room { 1 ≤ room_under self.old namespace.now planned.key }
+        requires later { IfSome (last_under self.old namespace.now planned.key) (λ t. t < planned.time.0) }
+        ensures shown { (n : List ℕ) (k : Datum) (t : ℕ) → shown_in self.new n k t
+            ≡ (if puts planned && bytes_eq namespace.now n then one_more (put_of planned) k t (shown_in self.old n k t) else shown_in self.old n k t) }
+        ensures last { (n : List ℕ) (k : Datum) (t : ℕ) → last_under self.new n k ≡ Some t → (t ≡ planned.time.0) ⊎ (last_under self.old n k ≡ Some t) }
+        ensures rooms { (n : List ℕ) (k : Datum) → room_under self.old n k
+            ≤ room_under self.new n k + (if bytes_eq namespace.now n && same_value planned.key k then 1 else 0) }
+    {
+        let Planned {
+            time,
+            key,
+            document,
+            outcome,
+            ..
+        } = planned;
+        if outcome == Outcome::Inserted {
+            self.put(namespace, &key, time, document);
+        }
+    }
+}

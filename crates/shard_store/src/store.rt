@@ -1,0 +1,225 @@
+//! The store of a shard.
+
+ghost use Rattle.std.specs.Prelude.{◌≡◌, ◌≤◌, ◌<◌, ◌+◌, ◌-◌, ◌^◌, ◌++◌, ◌∷◌, ℕ, List, [], Some, Ok, pos, true, is_some, if◌then◌else◌, IfOk, OnOk};
+ghost use Rattle.std.specs.Arc.{arc_value};
+ghost use Rattle.std.specs.Option.{option_map, IsSome};
+ghost use Rattle.bson_values.specs.Tree.{Datum};
+ghost use Rattle.bson_values.specs.View.{datum_of};
+ghost use Rattle.value_compare.specs.Keys.{valid_key};
+ghost use Rattle.value_compare.specs.Order.{same_value};
+ghost use Rattle.cluster_base.specs.declared.identity.Session.{Session};
+ghost use Rattle.node_model.specs.History.{Entry, IsIn, document_at, document_left, effect, insert_operation};
+ghost use Rattle.node_model.specs.Asked.{number_for};
+ghost use Rattle.node_model.specs.Outcomes.{done_of};
+ghost use Rattle.node_model.specs.Serving.{seen_before};
+ghost use Rattle.command_model.specs.CommandSizes.{IsKeepable};
+ghost use Rattle.session_book.specs.Books.{NotesAre, room_in};
+ghost use Rattle.shard_store.specs.Outcomes.{done_meant, id_meant, outcome_meant};
+ghost use Rattle.shard_store.specs.Entries.{Kept, entries_kept, entry_meant, notes_kept};
+ghost use Rattle.shard_store.specs.Codes.{AreShown, noted-prop, shown-prop};
+ghost use Rattle.shard_store.specs.Collections.{last_under, room_under};
+ghost use Rattle.shard_store.specs.Plans.{AreNext, IsNext, IsOf, IsPlan, IsServed, made_by, planned_in, time_of};
+
+use crate::collections::Collections;
+use crate::outcome::{Outcome, Told};
+use crate::plan::Plan;
+use crate::planned::{Planned, own_statement};
+use bson_values::{Document, Memory, Value};
+use cluster_base::{Namespace, NodeId, RequestId, Time};
+use ghost_list::GhostList;
+use session_book::{Book, Seen};
+use std::alloc::Global;
+use std::sync::Arc;
+use value_compare::{Key, key_of};
+
+/// A document that is kept has at most so many bytes (MongoDB manual, "MongoDB Limits and Thresholds", BSON document size).
+const MOST_BYTES: usize = 16_777_216;
+
+/// What a shard keeps of its entries: the documents that they leave, with their past, and what each statement was told.
+///
+/// The entries themselves are in no memory: `entries` is read by proofs alone.
+#[derive(Drop)]
+pub struct ShardStore {
+    shard: NodeId,
+    // The time of the last entry, or 0.
+    last: Time,
+    collections: Collections,
+    book: Book,
+    entries: GhostList<Namespace, Planned>,
+    // No entry is later than the last.
+    ghost past: { (e : Entry) → IsIn e (entries_kept shard.0 entries.items) → e.time ≤ last.0 },
+    // The statements are of routers' own sessions, which have no later transaction.
+    ghost zero: { (k : Kept) → IsIn k entries.items → k.1.statement.txn ≡ pos 0 },
+    // At each time the collections show what the entries left.
+    ghost shown: { AreShown collections (entries_kept shard.0 entries.items) } by { shown-prop collections (entries_kept shard.0 entries.items) },
+    // No version is later than the last entry.
+    ghost versions: { (n : List ℕ) (k : Datum) (t : ℕ) → last_under collections n k ≡ Some t → t ≤ last.0 },
+    // The book has what the statements were told.
+    ghost noted: { NotesAre book (notes_kept entries.items) } by { noted-prop book (notes_kept entries.items) },
+}
+
+impl ShardStore {
+    ghost use Rattle.shard_store.specs.Stores.{HasRoom, entries_of, last_of, shard_of};
+
+    /// The store of a shard without entries.
+    pub fn new(alloc: Global, shard: NodeId) -> ShardStore
+        ensures entries { entries_of result ≡ [] }
+        ensures last { last_of result ≡ 0 }
+        ensures shard { shard_of result ≡ shard.0 }
+    {
+        ShardStore {
+            shard,
+            last: Time(0),
+            collections: Collections::new(alloc),
+            book: Book::new(alloc),
+            entries: GhostList::new(),
+        }
+    }
+
+    /// What the statement with this index of a request, whose client numbered none, was told, if it was seen before.
+    pub fn look(&self, id: RequestId, index: u32) -> Option<Told>
+        ensures { option_map (done_meant index) result ≡ option_map done_of (seen_before (number_for (id_meant id) index) (entries_of self.now)) }
+    {
+        match self.book.look(&own_statement(id, index)) {
+            Seen::New => None,
+            Seen::Done { time, reply } => Some(Told {
+                time,
+                outcome: Outcome::of(reply),
+            }),
+            Seen::Older(_) => None,
+        }
+    }
+
+    /// The document that the entries leave in the namespace under the key, if they leave one.
+    pub fn document(&self, namespace: &Namespace, key: &Key) -> Option<&Arc<Document, Global>>
+        ensures { option_map (λ d. arc_value d.now) result ≡ document_left namespace.now (Some key.now) (entries_of self.now) }
+    {
+        self.collections.get_at(namespace.as_str(), key, self.last)
+    }
+
+    /// The document that stood in the namespace under a value at a time, if one did. Nothing stands under what is no key. Fails for
+    /// want of memory.
+    pub fn document_at(
+        &self,
+        namespace: &Namespace,
+        value: &Value,
+        time: Time,
+    ) -> Result<Option<&Arc<Document, Global>>, Memory>
+        ensures { IfOk result (λ found. option_map (λ d. arc_value d.now) found
+            ≡ document_at (entries_of self.now) namespace.now (Some (datum_of value.now)) time.0) }
+    {
+        let Ok(key) = Key::of(value.copy()?) else {
+            return Ok(None);
+        };
+        Ok(self.collections.get_at(namespace.as_str(), &key, time))
+    }
+
+    // What an insert of a document with this key is told.
+    fn outcome_of(&self, namespace: &Namespace, key: &Key, document: &Document) -> Outcome
+        requires keepable { IsKeepable document.now }
+        requires valid { valid_key document.now ≡ Ok key.now }
+        ensures { outcome_meant result ≡ (effect (insert_operation document.now) (document_left namespace.now (Some key.now) (entries_of self.now))).1 }
+    {
+        if self.document(namespace, key).is_some() {
+            Outcome::Duplicate
+        } else if document.size() > MOST_BYTES {
+            Outcome::TooLarge
+        } else {
+            Outcome::Inserted
+        }
+    }
+
+    /// Serves a statement behind the entries of the store and those of the plan: tells it again what it was told, or plans its entry
+    /// at the next time; or leaves it for later, where its index is not greater than those of the plan, or its key is one of theirs.
+    /// Fails for want of memory, and the plan is of no more use then.
+    pub fn serve(
+        &self,
+        plan: &mut Plan,
+        alloc: Global,
+        namespace: &Namespace,
+        index: u32,
+        document: &Arc<Document, Global>,
+    ) -> Result<Option<Told>, Memory>
+        requires plan { IsPlan (entries_of self.now) (last_of self.now) namespace.now plan.old }
+        requires keepable { IsKeepable (arc_value document.now) }
+        requires room { time_of plan.old < 2 ^ 64 - 1 }
+        ensures plan { OnOk result (IsPlan (entries_of self.now) (last_of self.now) namespace.now plan.new) }
+        ensures served { IfOk result (λ told. (made : List Entry)
+            × (made_by (shard_of self.now) namespace.now plan.new ≡ made_by (shard_of self.now) namespace.now plan.old ++ made)
+            × IsServed (shard_of self.now) namespace.now (entries_of self.now ++ made_by (shard_of self.now) namespace.now plan.old) (time_of plan.old)
+            (record { number = number_for (id_meant plan.old.id) index; operation = insert_operation (arc_value document.now) })
+            (option_map (done_meant index) told) made (time_of plan.new)) }
+        ensures first { planned_in plan.old ≡ [] → IfOk result (λ told. IsSome told) }
+        ensures id { plan.new.id ≡ plan.old.id }
+    {
+        if let Some(told) = self.look(plan.id, index) {
+            return Ok(Some(told));
+        }
+        if (index as u64) < plan.free {
+            return Ok(None);
+        }
+        let Ok(key) = key_of(alloc, document) else {
+            // A document that may be kept has a key.
+            return Err(Memory);
+        };
+        if plan.has_key(&key) {
+            return Ok(None);
+        }
+        let outcome = self.outcome_of(namespace, &key, document);
+        let time = Time(plan.last.0 + 1);
+        plan.push(Planned {
+            statement: own_statement(plan.id, index),
+            time,
+            key,
+            document: Arc::try_clone(document)?,
+            outcome,
+        })?;
+        Ok(Some(Told { time, outcome }))
+    }
+
+    /// Makes room for the entries of a plan. Fails for want of memory. Either way nothing else is to be seen of it.
+    pub fn reserve(&mut self, namespace: &Namespace, plan: &Plan) -> Result<(), Memory>
+        ensures room { OnOk result (HasRoom self.new namespace.now plan.now) }
+        ensures entries { entries_of self.new ≡ entries_of self.old }
+        ensures last { last_of self.new ≡ last_of self.old }
+        ensures shard { shard_of self.new ≡ shard_of self.old }
+    {
+        self.book
+            .reserve_run(&own_statement(plan.id, 0), plan.planned.len())?;
+        self.collections
+            .reserve_all(namespace.as_str(), &plan.planned)
+    }
+
+    // Makes an entry, for which there is room.
+    fn enter(&mut self, namespace: &Namespace, planned: Planned)
+        requires next { IsNext (entries_of self.old) (last_of self.old) namespace.now planned }
+        requires zero { planned.statement.txn ≡ pos 0 }
+        requires version { 1 ≤ room_under self.old.collections namespace.now planned.key }
+        requires note { 1 ≤ room_in self.old.book planned.statement.session }
+        ensures entries { entries_of self.new ≡ entries_of self.old ++ entry_meant (shard_of self.old) namespace.now planned ∷ [] }
+        ensures last { last_of self.new ≡ planned.time.0 }
+        ensures shard { shard_of self.new ≡ shard_of self.old }
+        ensures versions { (k : Datum) → room_under self.old.collections namespace.now k
+            ≤ room_under self.new.collections namespace.now k + (if same_value planned.key k then 1 else 0) }
+        ensures notes { (s : Session) → room_in self.old.book s ≤ room_in self.new.book s + 1 }
+    {
+        self.entries = self.entries.with(namespace, &planned);
+        self.book
+            .note(&planned.statement, planned.time, planned.outcome.reply());
+        self.last = planned.time;
+        self.collections.enter(namespace.as_str(), planned);
+    }
+
+    /// Makes the entries of a plan, for which there is room. Takes no memory.
+    pub fn commit(&mut self, namespace: &Namespace, plan: Plan)
+        requires plan { IsPlan (entries_of self.old) (last_of self.old) namespace.now plan }
+        requires room { HasRoom self.old namespace.now plan }
+        ensures entries { entries_of self.new ≡ entries_of self.old ++ made_by (shard_of self.old) namespace.now plan }
+        ensures last { last_of self.new ≤ time_of plan }
+        ensures shard { shard_of self.new ≡ shard_of self.old }
+    {
+        for planned in plan.planned {
+            self.enter(namespace, planned);
+        }
+    }
+}
