@@ -82,7 +82,7 @@ impl Asked {
         }
     }
 
-    /// The table there is, or none, is told at a time. Fails for want of memory.
+    /// The table there is, or none, is told at a time. Takes no memory.
     pub(crate) fn tell(
         self,
         alloc: Global,
