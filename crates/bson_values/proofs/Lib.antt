@@ -2,6 +2,7 @@ pub mod Again
 pub mod CopySteps
 pub mod FirstFault
 pub mod TypeTests
+pub mod Heads
 pub mod Leaves
 pub mod Lengths
 pub mod Depth

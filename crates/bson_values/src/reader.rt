@@ -2,13 +2,13 @@
 //!
 //! `total`, `room` and offsets are as in `scan`; `level` is how many levels a value may have inside.
 
-ghost use Rattle.std.specs.Prelude.{◌≡◌, ◌≢◌, ◌+◌, ◌<◌, ◌≤◌, ◌++◌, ◌⊎◌, ℕ, List, Ok, Err, IfOk, IfErr, IfNone, length, take};
+ghost use Rattle.std.specs.Prelude.{◌≡◌, ◌≢◌, ◌+◌, ◌<◌, ◌≤◌, ◌++◌, ◌⊎◌, ℕ, List, Ok, Err, IfOk, IfErr, IfNone, IfSome, length, take};
 ghost use Rattle.std.specs.Option.{option_map};
 ghost use Rattle.bson_model.specs.Faults.{Fault, HasFirstFault};
 ghost use Rattle.bson_model.specs.Tree.{Fields};
 ghost use Rattle.bson_model.specs.Grammar.{AreBytes, BeginsWith, IsWithinDepth, ReadsAs};
 ghost use Rattle.bson_values.specs.ReadFaults.{Gives, fault_from};
-ghost use Rattle.bson_values.specs.Readers.{binary_at, boolean_at, deep_at, scalar_at, value_at, field_at, item_at, document_with, array_with, whole_at};
+ghost use Rattle.bson_values.specs.Readers.{binary_at, boolean_at, deep_at, scalar_at, value_at, head_at, item_head_at, field_at, item_at, document_with, array_with, whole_at};
 ghost use Rattle.bson_values.specs.Rests.{IsRest};
 ghost use Rattle.bson_values.specs.View.{datum_of};
 
@@ -185,6 +185,69 @@ fn read_scalar(
     }
 }
 
+// What stands before a field's value: its type, its name, and the room behind the name.
+#[derive(Drop)]
+struct Head {
+    type_byte: ElementType,
+    name: Name,
+    room: usize,
+}
+
+/// Reads what stands before the next field's value. There is no field at the end of the document.
+#[tactic(auto, unfolding(crate::specs::Readers::head_at, crate::specs::Readers::name_behind))]
+fn read_head(
+    alloc: Global,
+    total: usize,
+    room: usize,
+    bytes: &[u8],
+) -> Result<(Option<Head>, &[u8]), BsonFault>
+    requires total { length bytes.now < total }
+    ensures gives { Gives (λ x. (option_map (λ h. (h.type_byte, h.name, h.room)) x.0, x.1.now)) result
+        (head_at total room bytes.now) }
+    ensures shorter { IfOk result (λ x. length x.1.now < length bytes.now) }
+    ensures some { IfOk result (λ x. IfSome x.0 (λ h.
+        (0 < h.room) × (length bytes.now + h.room ≡ length x.1.now + room))) }
+    ensures end { IfOk result (λ x. IfNone x.0 (length bytes.now ≡ length x.1.now + room)) }
+{
+    let (type_byte, rest) = read_type(total, room, bytes)?;
+    let Some(type_byte) = type_byte else {
+        return Ok((None, rest));
+    };
+    let (name, room, rest) = read_name(total, room - 1, rest)?;
+    let name = Name::of(alloc, name)?;
+    Ok((
+        Some(Head {
+            type_byte,
+            name,
+            room,
+        }),
+        rest,
+    ))
+}
+
+/// Reads what stands before the next value of an array: its type, and the room behind its name, which is passed. There
+/// is no value at the end of the array.
+#[tactic(auto, unfolding(crate::specs::Readers::item_head_at, crate::specs::Readers::index_behind))]
+fn read_item_head(
+    total: usize,
+    room: usize,
+    bytes: &[u8],
+) -> Result<(Option<(ElementType, usize)>, &[u8]), BsonFault>
+    requires total { length bytes.now < total }
+    ensures gives { Gives (λ x. (x.0, x.1.now)) result (item_head_at total room bytes.now) }
+    ensures shorter { IfOk result (λ x. length x.1.now < length bytes.now) }
+    ensures some { IfOk result (λ x. IfSome x.0 (λ h.
+        (0 < h.1) × (length bytes.now + h.1 ≡ length x.1.now + room))) }
+    ensures end { IfOk result (λ x. IfNone x.0 (length bytes.now ≡ length x.1.now + room)) }
+{
+    let (type_byte, rest) = read_type(total, room, bytes)?;
+    let Some(type_byte) = type_byte else {
+        return Ok((None, rest));
+    };
+    let (room, rest) = skip_name(total, room - 1, rest)?;
+    Ok((Some((type_byte, room)), rest))
+}
+
 #[cycle(reader)]
 #[tactic(auto, unfolding(crate::specs::Readers::value_at))]
 fn read_value(
@@ -218,7 +281,6 @@ fn read_value(
 
 /// Reads the next field. There is none at the end of the document.
 #[cycle(reader)]
-#[tactic(auto, unfolding(crate::specs::Readers::field_at, crate::specs::Readers::field_behind))]
 fn read_field(
     alloc: Global,
     total: usize,
@@ -233,19 +295,22 @@ fn read_field(
         (length x.1.now < length bytes.now) × (length bytes.now ≤ length x.1.now + room)) }
     ensures end { IfOk result (λ x. IfNone x.0 (length bytes.now ≡ length x.1.now + room)) }
 {
-    let (type_byte, rest) = read_type(total, room, bytes)?;
-    let Some(type_byte) = type_byte else {
+    let (head, rest) = read_head(alloc, total, room, bytes)?;
+    let Some(head) = head else {
         return Ok((None, rest));
     };
-    let (name, room, rest) = read_name(total, room - 1, rest)?;
-    let name = Name::of(alloc, name)?;
-    let (value, rest) = read_value(alloc, total, level, type_byte, room, rest)?;
-    Ok((Some(Field { name, value }), rest))
+    let (value, rest) = read_value(alloc, total, level, head.type_byte, head.room, rest)?;
+    Ok((
+        Some(Field {
+            name: head.name,
+            value,
+        }),
+        rest,
+    ))
 }
 
 /// Reads the next value of an array, whatever its name. There is none at the end of the array.
 #[cycle(reader)]
-#[tactic(auto, unfolding(crate::specs::Readers::item_at, crate::specs::Readers::item_behind))]
 fn read_item(
     alloc: Global,
     total: usize,
@@ -260,11 +325,10 @@ fn read_item(
         (length x.1.now < length bytes.now) × (length bytes.now ≤ length x.1.now + room)) }
     ensures end { IfOk result (λ x. IfNone x.0 (length bytes.now ≡ length x.1.now + room)) }
 {
-    let (type_byte, rest) = read_type(total, room, bytes)?;
-    let Some(type_byte) = type_byte else {
+    let (head, rest) = read_item_head(total, room, bytes)?;
+    let Some((type_byte, room)) = head else {
         return Ok((None, rest));
     };
-    let (room, rest) = skip_name(total, room - 1, rest)?;
     let (value, rest) = read_value(alloc, total, level, type_byte, room, rest)?;
     Ok((Some(value), rest))
 }

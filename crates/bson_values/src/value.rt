@@ -206,6 +206,16 @@ impl Document {
         self.fields.as_slice()
     }
 
+    /// The fields, in order. The document is taken apart, and nothing is copied.
+    #[tactic(auto, using(crate::proofs::Views::fields_inside))]
+    pub fn into_fields(self) -> Vec<Field>
+        ensures fields { fields_of result.items ≡ self }
+        ensures inside { All (λ m. datum_size (datum_of m.value) ≤ fields_size self) result.items }
+        ensures sound { AreFields self }
+    {
+        self.fields
+    }
+
     /// The value of the first field of that name.
     pub fn get(&self, name: &str) -> Option<&Value>
         ensures { option_map (λ v. datum_of v.now) result ≡ get name.now self.now }
@@ -263,5 +273,15 @@ impl Array {
         ensures sound { AreItems self.now }
     {
         self.values.as_slice()
+    }
+
+    /// The values, in order. The array is taken apart, and nothing is copied.
+    #[tactic(auto, using(crate::proofs::Views::items_inside))]
+    pub fn into_values(self) -> Vec<Value>
+        ensures values { items_of result.items ≡ self }
+        ensures inside { All (λ v. datum_size (datum_of v) ≤ items_size self) result.items }
+        ensures sound { AreItems self }
+    {
+        self.values
     }
 }

@@ -1,5 +1,5 @@
 -- Events, one after another.
-use Rattle.std.proofs.Common.{◌≡◌, ◌⊎◌, inl, inr, ℕ, ℤ, zero, suc, ◌+◌, ◌*◌, ◌<◌, ◌≤◌, ◌^◌, List}
+use Rattle.std.proofs.Common.{◌≡◌, ◌⊎◌, inl, inr, ℕ, ℤ, zero, suc, ◌+◌, ◌-◌, ◌*◌, ◌<◌, ◌≤◌, ◌^◌, List}
 use Rattle.std.proofs.Common.{[], ◌∷◌, ◌++◌, map, length, refl, sym, ap, subst, ◌∙◌, arith, append_assoc, append-nil, length-append, add-one}
 use Rattle.std.specs.Prelude.{Option, Some, None, MatchOption, option_to_list}
 use Rattle.std.specs.VecDeque.{deque_len}
@@ -15,7 +15,8 @@ use Rattle.node_traits.specs.declared.outputs.ToLink.{ToLink}
 use Rattle.driver_steps.specs.declared.post.Post.{Post}
 use Rattle.driver_steps.specs.Seats.{SeatView}
 use Rattle.driver_steps.specs.Worlds.{PostView, StandsFor, post_view}
-use Rattle.driver_steps.specs.Moves.{HasDelivered, HasHappened, HasMoved, HasRun, HasSettled, HasStopped}
+use Rattle.std.specs.List.{AllByRecursion}
+use Rattle.driver_steps.specs.Moves.{BeginWith, IsDelivery, AreDeliveries, HasDelivered, HasHappened, HasMoved, HasRun, HasSettled, HasStopped}
 use Rattle.driver_steps.specs.Moves.{IsCutShort, MovesOrNot, DeliversOrLoses, Settles, settles_none, settles_next, loses_next}
 
 -- THE SCHEDULE
@@ -42,6 +43,15 @@ settles_run _ _ _ _ _ (settles_none w next) = stands w
 settles_run _ _ _ _ _ (settles_next u v w next later at events h more) =
     goes u v w (deliver_event at next) events h (settles_run v (next + 1) events w later more)
 settles_run _ _ _ _ _ (loses_next u w next later m events got none more) = settles_run u (next + 1) events w later more
+
+pub settles_which : (u : World) (next : ℕ) (events : List Event) (w : World) (later : ℕ) → Settles u next events w later → AreDeliveries events
+settles_which _ _ _ _ _ (settles_none w next) = tt
+settles_which _ _ _ _ _ (settles_next u v w next later at events h more) = (tt, settles_which v (next + 1) events w later more)
+settles_which _ _ _ _ _ (loses_next u w next later m events got none more) = settles_which u (next + 1) events w later more
+
+pub deliveries_then : (events more : List Event) → AreDeliveries events → AreDeliveries more → AreDeliveries (events ++ more)
+deliveries_then [] more are others = others
+deliveries_then (e ∷ events) more are others = (are.0, deliveries_then events more are.1 others)
 
 pub settles_more : (u : World) (next : ℕ) (events : List Event) (v : World) (later at : ℕ) (w : World) → Settles u next events v later
     → Happens v (deliver_event at later) w → Settles u next (events ++ deliver_event at later ∷ []) w (later + 1)
@@ -121,15 +131,16 @@ lost view seats post handed w next which receiver count at same counted to behin
 
 -- events happened, and the next one was cut short
 pub stopped : {S : Type 0} (view : S → SeatView) (seats : List S) (replies handed : List ToLink) (u : World) (events : List Event) (w : World)
-    (e : Event) (at : ℕ) (i : Input) (fault : StepFault)
-    → Run u events w → ((v : World) → Moves w at i v → Happens w e v) → IsCutShort view seats replies handed w at i fault
-    → HasStopped view seats replies handed u fault
-stopped view seats replies handed u events w e at i fault run event c = by_step c.moves
+    (e : Event) (at : ℕ) (i : Input) (P : List Event → Type 0) (fault : StepFault)
+    → Run u events w → ((v : World) → Moves w at i v → Happens w e v) → P events → P (events ++ e ∷ [])
+    → IsCutShort view seats replies handed w at i fault → HasStopped view seats replies handed u P fault
+stopped view seats replies handed u events w e at i P fault run event before behind c = by_step c.moves
   where
-    by_step : MovesOrNot w at i c.end → HasStopped view seats replies handed u fault
+    by_step : MovesOrNot w at i c.end → HasStopped view seats replies handed u P fault
     by_step (inl same) = record {
       events = events;
       end = c.end;
+      which = before;
       run = subst (λ (x : World). Run u events x) (sym same) run;
       nodes = c.nodes;
       missing = c.missing;
@@ -138,6 +149,7 @@ stopped view seats replies handed u events w e at i fault run event c = by_step 
     by_step (inr m) = record {
       events = events ++ e ∷ [];
       end = c.end;
+      which = behind;
       run = run_then u events w (e ∷ []) c.end run (goes w c.end c.end e [] (event c.end m) (stands c.end));
       nodes = c.nodes;
       missing = c.missing;
@@ -156,11 +168,13 @@ run_more view seats post handed u events w next e at i run event h = record {
 
 -- a run, and then a stop
 pub stopped_behind : {S : Type 0} (view : S → SeatView) (seats : List S) (replies handed : List ToLink) (u : World) (events : List Event) (w : World)
-    (fault : StepFault)
-    → Run u events w → HasStopped view seats replies handed w fault → HasStopped view seats replies handed u fault
-stopped_behind view seats replies handed u events w fault run s = record {
+    (P Q : List Event → Type 0) (fault : StepFault)
+    → Run u events w → ((more : List Event) → P more → Q (events ++ more)) → HasStopped view seats replies handed w P fault
+    → HasStopped view seats replies handed u Q fault
+stopped_behind view seats replies handed u events w P Q fault run all s = record {
   events = events ++ s.events;
   end = s.end;
+  which = all s.events s.which;
   run = run_then u events w s.events s.end run s.run;
   nodes = s.nodes;
   missing = s.missing;
@@ -214,11 +228,13 @@ pub settling_stopped : {S M : Type 0} (view : S → SeatView) (letter : M → Le
     (u : World) (next : ℕ) (m : M) (old taken : Post M) (fault : StepFault)
     → IsSettling view seats (post_view letter old) handed u next → old.waiting.items ≡ m ∷ taken.waiting.items → taken.replies.items ≡ old.replies.items
     → ((v : World) (n which : ℕ) → StandsFor view seats (post_view letter taken) handed v n → slice_get v.sent which ≡ Some (letter m)
-    → HasStopped view seats_after replies handed v fault)
-    → HasStopped view seats_after replies handed u fault
+    → HasStopped view seats_after replies handed v AreDeliveries fault)
+    → HasStopped view seats_after replies handed u AreDeliveries fault
 settling_stopped view letter seats seats_after replies handed u next m old taken fault r first same deliver =
     let p = popped view letter seats handed r.end r.later m old taken r.stands first same in
-    stopped_behind view seats_after replies handed u r.events r.end fault (settles_run u next r.events r.end r.later r.settles)
+    stopped_behind view seats_after replies handed u r.events r.end AreDeliveries AreDeliveries fault
+    (settles_run u next r.events r.end r.later r.settles)
+    (λ more are. deliveries_then r.events more (settles_which u next r.events r.end r.later r.settles) are)
     (deliver r.end (r.later + 1) r.later p.stands p.got)
 
 -- nothing waits any more
@@ -267,44 +283,97 @@ settled_at_end {S} {M} view letter seats handed u next old taken None r none ite
 pub delivery_stopped : {S : Type 0} (view : S → SeatView) (seats : List S) (replies handed : List ToLink) (w : World) (which at : ℕ) (m : Letter)
     (i : Input) (fault : StepFault)
     → slice_get w.sent which ≡ Some m → i ≡ letter_input m → at ≡ m.receiver → IsCutShort view seats replies handed w at i fault
-    → HasStopped view seats replies handed w fault
+    → HasStopped view seats replies handed w AreDeliveries fault
 delivery_stopped view seats replies handed w which at m i fault got is to c =
-    stopped view seats replies handed w [] w (deliver_event m.receiver which) at i fault (stands w)
-    (λ v x. delivers w v m.receiver which m got refl (subst (λ (n : ℕ). Moves w n (letter_input m) v) to (subst (λ (y : Input). Moves w at y v) is x))) c
+    stopped view seats replies handed w [] w (deliver_event m.receiver which) at i AreDeliveries fault (stands w)
+    (λ v x. delivers w v m.receiver which m got refl (subst (λ (n : ℕ). Moves w n (letter_input m) v) to (subst (λ (y : Input). Moves w at y v) is x)))
+    tt (tt, tt) c
 
 pub ask_stopped : {S : Type 0} (view : S → SeatView) (seats : List S) (replies handed : List ToLink) (w : World) (at link : ℕ) (number : ℤ)
     (request : Request) (i : Input) (fault : StepFault)
     → IsRouter w.nodes at → i ≡ client_input link number request → IsCutShort view seats replies handed w at i fault
-    → HasStopped view seats replies handed w fault
+    → HasStopped view seats replies handed w (λ events. BeginWith events (client_event at link number request ∷ [])) fault
 ask_stopped view seats replies handed w at link number request i fault router is c =
-    stopped view seats replies handed w [] w (client_event at link number request) at i fault (stands w)
-    (λ v x. comes w v at link number request router (subst (λ (y : Input). Moves w at y v) is x)) c
+    stopped view seats replies handed w [] w (client_event at link number request) at i
+    (λ events. BeginWith events (client_event at link number request ∷ [])) fault (stands w)
+    (λ v x. comes w v at link number request router (subst (λ (y : Input). Moves w at y v) is x))
+    (client_event at link number request ∷ [], refl) ([], refl) c
+
+-- the first of so many openings, and of so many moments
+openings_parts : (first a b : ℕ) → openings first (a + b) ≡ openings first a ++ openings (first + a) b
+openings_parts first zero b =
+    let none : 0 + b ≡ b = omega arith in
+    let here : first ≡ first + 0 = omega arith in
+    ap (λ (n : ℕ). openings first n) none ∙ ap (λ (n : ℕ). openings n b) here
+openings_parts first (suc a) b =
+    let one : suc a + b ≡ suc (a + b) = omega arith in
+    let there : (first + 1) + a ≡ first + suc a = omega arith in
+    ap (λ (n : ℕ). openings first n) one
+    ∙ ap (λ (l : List Event). opened_event first ∷ l)
+    (openings_parts (first + 1) a b ∙ ap (λ (n : ℕ). openings (first + 1) a ++ openings n b) there)
+
+moments_parts : (first a b moment : ℕ) → moments_given first (a + b) moment ≡ moments_given first a moment ++ moments_given (first + a) b moment
+moments_parts first zero b moment =
+    let none : 0 + b ≡ b = omega arith in
+    let here : first ≡ first + 0 = omega arith in
+    ap (λ (n : ℕ). moments_given first n moment) none ∙ ap (λ (n : ℕ). moments_given n b moment) here
+moments_parts first (suc a) b moment =
+    let one : suc a + b ≡ suc (a + b) = omega arith in
+    let there : (first + 1) + a ≡ first + suc a = omega arith in
+    ap (λ (n : ℕ). moments_given first n moment) one
+    ∙ ap (λ (l : List Event). moment_event first moment ∷ l)
+    (moments_parts (first + 1) a b moment ∙ ap (λ (n : ℕ). moments_given (first + 1) a moment ++ moments_given n b moment) there)
+
+first_openings : (at count : ℕ) → at ≤ count → BeginWith (openings 0 at) (openings 0 count)
+first_openings at count within =
+    let sum : count ≡ at + (count - at) = omega arith in
+    (openings (0 + at) (count - at), ap (λ (n : ℕ). openings 0 n) sum ∙ openings_parts 0 at (count - at))
+
+first_moments : (at count moment : ℕ) → at ≤ count → BeginWith (moments_given 0 at moment) (moments_given 0 count moment)
+first_moments at count moment within =
+    let sum : count ≡ at + (count - at) = omega arith in
+    (moments_given (0 + at) (count - at) moment, ap (λ (n : ℕ). moments_given 0 n moment) sum ∙ moments_parts 0 at (count - at) moment)
+
+one_more_opening : (at : ℕ) → openings 0 (at + 1) ≡ openings 0 at ++ opened_event at ∷ []
+one_more_opening at =
+    let zero_at : 0 + at ≡ at = omega arith in
+    ap (λ (n : ℕ). openings 0 n) (add-one at) ∙ (one_opening_more 0 at ∙ ap (λ (n : ℕ). openings 0 at ++ opened_event n ∷ []) zero_at)
+
+one_more_moment : (at moment : ℕ) → moments_given 0 (at + 1) moment ≡ moments_given 0 at moment ++ moment_event at moment ∷ []
+one_more_moment at moment =
+    let zero_at : 0 + at ≡ at = omega arith in
+    ap (λ (n : ℕ). moments_given 0 n moment) (add-one at) ∙ (one_moment_more 0 at moment
+    ∙ ap (λ (n : ℕ). moments_given 0 at moment ++ moment_event n moment ∷ []) zero_at)
 
 pub opened_stopped : {S : Type 0} (view : S → SeatView) (seats_before seats : List S) (post_before : PostView) (replies handed : List ToLink)
-    (u : World) (next at : ℕ) (i : Input) (fault : StepFault)
+    (u : World) (next at count : ℕ) (i : Input) (fault : StepFault) → at < count
     → (r : HasRun view seats_before post_before handed u next (openings 0 at)) → i ≡ opened_input → IsCutShort view seats replies handed r.end at i fault
-    → HasStopped view seats replies handed u fault
-opened_stopped view seats_before seats post_before replies handed u next at i fault r is c =
-    stopped view seats replies handed u (openings 0 at) r.end (opened_event at) at i fault r.run
-    (λ v x. was_opened r.end v at (subst (λ (y : Input). Moves r.end at y v) is x)) c
+    → HasStopped view seats replies handed u (λ events. BeginWith events (openings 0 count)) fault
+opened_stopped view seats_before seats post_before replies handed u next at count i fault within r is c =
+    stopped view seats replies handed u (openings 0 at) r.end (opened_event at) at i (λ events. BeginWith events (openings 0 count)) fault r.run
+    (λ v x. was_opened r.end v at (subst (λ (y : Input). Moves r.end at y v) is x))
+    (first_openings at count (omega (arith, within)))
+    (subst (λ (l : List Event). BeginWith l (openings 0 count)) (one_more_opening at) (first_openings (at + 1) count (omega (arith, within)))) c
 
 pub given_stopped : {S : Type 0} (view : S → SeatView) (seats_before seats : List S) (post_before : PostView) (replies handed : List ToLink)
-    (u : World) (next at moment : ℕ) (i : Input) (fault : StepFault)
+    (u : World) (next at count moment : ℕ) (i : Input) (fault : StepFault) → at < count
     → (r : HasRun view seats_before post_before handed u next (moments_given 0 at moment)) → i ≡ moment_input moment
-    → IsCutShort view seats replies handed r.end at i fault → HasStopped view seats replies handed u fault
-given_stopped view seats_before seats post_before replies handed u next at moment i fault r is c =
-    stopped view seats replies handed u (moments_given 0 at moment) r.end (moment_event at moment) at i fault r.run
-    (λ v x. passes r.end v at moment (subst (λ (y : Input). Moves r.end at y v) is x)) c
+    → IsCutShort view seats replies handed r.end at i fault
+    → HasStopped view seats replies handed u (λ events. BeginWith events (moments_given 0 count moment)) fault
+given_stopped view seats_before seats post_before replies handed u next at count moment i fault within r is c =
+    stopped view seats replies handed u (moments_given 0 at moment) r.end (moment_event at moment) at i
+    (λ events. BeginWith events (moments_given 0 count moment)) fault r.run
+    (λ v x. passes r.end v at moment (subst (λ (y : Input). Moves r.end at y v) is x))
+    (first_moments at count moment (omega (arith, within)))
+    (subst (λ (l : List Event). BeginWith l (moments_given 0 count moment)) (one_more_moment at moment)
+    (first_moments (at + 1) count moment (omega (arith, within)))) c
 
 pub opened_more : {S : Type 0} (view : S → SeatView) (seats_before seats : List S) (post_before post : PostView) (handed : List ToLink) (u : World)
     (next at : ℕ) (i : Input)
     → (r : HasRun view seats_before post_before handed u next (openings 0 at)) → i ≡ opened_input → HasMoved view seats post handed r.end next at i
     → HasRun view seats post handed u next (openings 0 (at + 1))
 opened_more view seats_before seats post_before post handed u next at i r is h =
-    let zero_at : 0 + at ≡ at = omega arith in
-    let all : openings 0 (at + 1) ≡ openings 0 at ++ opened_event at ∷ [] =
-    ap (λ (n : ℕ). openings 0 n) (add-one at) ∙ (one_opening_more 0 at ∙ ap (λ (n : ℕ). openings 0 at ++ opened_event n ∷ []) zero_at) in
-    subst (λ (l : List Event). HasRun view seats post handed u next l) (sym all)
+    subst (λ (l : List Event). HasRun view seats post handed u next l) (sym (one_more_opening at))
     (run_more view seats post handed u (openings 0 at) r.end next (opened_event at) at i r.run
     (λ v m. was_opened r.end v at (subst (λ (x : Input). Moves r.end at x v) is m)) h)
 
@@ -314,11 +383,7 @@ pub given_more : {S : Type 0} (view : S → SeatView) (seats_before seats : List
     → HasMoved view seats post handed r.end next at i
     → HasRun view seats post handed u next (moments_given 0 (at + 1) moment)
 given_more view seats_before seats post_before post handed u next at moment i r is h =
-    let zero_at : 0 + at ≡ at = omega arith in
-    let all : moments_given 0 (at + 1) moment ≡ moments_given 0 at moment ++ moment_event at moment ∷ [] =
-    ap (λ (n : ℕ). moments_given 0 n moment) (add-one at) ∙ (one_moment_more 0 at moment
-    ∙ ap (λ (n : ℕ). moments_given 0 at moment ++ moment_event n moment ∷ []) zero_at) in
-    subst (λ (l : List Event). HasRun view seats post handed u next l) (sym all)
+    subst (λ (l : List Event). HasRun view seats post handed u next l) (sym (one_more_moment at moment))
     (run_more view seats post handed u (moments_given 0 at moment) r.end next (moment_event at moment) at i r.run
     (λ v m. passes r.end v at moment (subst (λ (x : Input). Moves r.end at x v) is m)) h)
 

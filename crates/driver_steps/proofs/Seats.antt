@@ -1,10 +1,11 @@
 -- One place among the nodes.
-use Rattle.std.proofs.Common.{◌≡◌, inl, inr, ℕ, zero, suc, ◌+◌, ◌<◌}
+use Rattle.std.proofs.Common.{◌≡◌, inl, inr, ℕ, zero, suc, ◌+◌, ◌<◌, ◌≤◌}
 use Rattle.std.proofs.Common.{◌^◌, List, [], ◌∷◌, length, Bool, IsTrue, refl, sym, ap, subst, ◌∙◌, arith}
 use Rattle.std.specs.Prelude.{Some}
 use Rattle.std.specs.List.{slice_get, slice_set}
 use Rattle.outside.specs.Causes.{Rose}
-use Rattle.outside.specs.Devices.{OneRose}
+use Rattle.outside.specs.Devices.{NoneFell, OneRose}
+use Rattle.outside.proofs.Relations.{none_fell_self}
 use Rattle.node_model.specs.World.{Held}
 use Rattle.driver_steps.specs.declared.seat.Seat.{Seat}
 use Rattle.driver_steps.specs.Seats.{SeatView, Keeps, IsHeld, AreHeld, AreKept, AreOpen, faults_of, left_of, places_of}
@@ -114,6 +115,14 @@ module _ {N L : Type 0} where
       let here : x ≡ s = cc in
       inl (subst (λ (z : Seat N L). Rose (count z.log) (count t.log)) (sym here) rose)
   fault_rose count (x ∷ seats) (suc at) s t got rose = inr (fault_rose count seats at s t got rose)
+
+  pub none_fell_at : (count : L → ℕ) (seats : List (Seat N L)) (at : ℕ) (s t : Seat N L) → slice_get seats at ≡ Some s → count s.log ≤ count t.log
+      → NoneFell (faults_of count seats) (faults_of count (slice_set seats at t))
+  none_fell_at count [] at s t got later = absurd (cc)
+  none_fell_at count (x ∷ seats) zero s t got later =
+      let here : x ≡ s = cc in
+      (subst (λ (z : Seat N L). count z.log ≤ count t.log) (sym here) later, none_fell_self (faults_of count seats))
+  none_fell_at count (x ∷ seats) (suc at) s t got later = (omega arith, none_fell_at count seats at s t got later)
 
   pub places_same : (place : L → List ℕ) (seats : List (Seat N L)) (at : ℕ) (s t : Seat N L) → slice_get seats at ≡ Some s → place t.log ≡ place s.log
       → places_of place (slice_set seats at t) ≡ places_of place seats

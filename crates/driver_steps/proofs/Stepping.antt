@@ -1,10 +1,9 @@
 -- A step of a node is a step of the world.
-use Rattle.std.proofs.Common.{◌≡◌, inl, inr, ℕ, List, [], ◌∷◌, ◌++◌, Bool, true, false, IsTrue, refl, sym, ap, subst, ◌∙◌}
+use Rattle.std.proofs.Common.{◌≡◌, inl, inr, ℕ, ◌≤◌, List, [], ◌∷◌, ◌++◌, Bool, true, false, IsTrue, refl, sym, ap, subst, ◌∙◌}
 use Rattle.std.specs.Prelude.{Some, if◌then◌else◌}
 use Rattle.std.specs.List.{slice_get, slice_set}
 use Rattle.std.proofs.lemmas.List.{map-append}
 use Rattle.outside.specs.Causes.{Rose}
-use Rattle.outside.specs.Devices.{OneRose}
 use Rattle.outside.specs.Disks.{Outcomes}
 use Rattle.outside.specs.Logs.{WithOrWithout}
 use Rattle.node_model.specs.Asked.{Answered, reply_put}
@@ -20,10 +19,10 @@ use Rattle.node_traits.specs.declared.outputs.StepFault.{StepFault}
 use Rattle.node_traits.specs.declared.outputs.StepFault.TheVariants.{Disk, Steps, Memory}
 use Rattle.node_traits.specs.declared.outputs.ToLink.{ToLink}
 use Rattle.driver_steps.specs.declared.seat.Seat.{Seat}
-use Rattle.driver_steps.specs.Seats.{SeatView, IsHeld, AreHeld, faults_of, seat_view}
+use Rattle.driver_steps.specs.Seats.{SeatView, HaveRisen, IsHeld, AreHeld, faults_of, seat_view}
 use Rattle.driver_steps.specs.Worlds.{puts_given}
 use Rattle.driver_steps.specs.Moves.{HasStepped, IsBroken}
-use Rattle.driver_steps.proofs.Seats.{HeldAt, fault_rose, faults_same, held_at, held_set, held_still, held_kept, kept_set, kept_still}
+use Rattle.driver_steps.proofs.Seats.{HeldAt, fault_rose, faults_same, held_at, held_set, held_still, held_kept, kept_set, kept_still, none_fell_at}
 
 if_append : (b : Bool) (x : ToLink) (p q r : List ToLink) → p ≡ q ++ r → (if b then p else x ∷ p) ≡ (if b then q else x ∷ q) ++ r
 if_append true x p q r e = e
@@ -157,8 +156,10 @@ module _ {N L : Type 0} (state : N → NodeState) (told : Bool) (records : L →
 
   pub faults_told : (count : L → ℕ) (seats : List (Seat N L)) (at : ℕ) (s t : Seat N L) (i : Input) (fault : StepFault) → slice_get seats at ≡ Some s
       → ByStepFault fault (λ faults. (faults ≡ count t.log) × Rose (count s.log) (count t.log)) (Unit {0}) → Fails fault i s t
-      → ByStepFault fault (λ faults. OneRose (faults_of count seats) (faults_of count (slice_set seats at t)))
+      → count s.log ≤ count t.log
+      → ByStepFault fault (λ faults. HaveRisen (faults_of count seats) (faults_of count (slice_set seats at t)))
       (faults_of count (slice_set seats at t) ≡ faults_of count seats)
-  faults_told count seats at s t i (Disk faults) got rose b = fault_rose count seats at s t got rose.1
-  faults_told count seats at s t i Steps got rose unchanged = faults_same count seats at s t got (ap count unchanged.1)
-  faults_told count seats at s t i Memory got rose unchanged = faults_same count seats at s t got (ap count unchanged.1)
+  faults_told count seats at s t i (Disk faults) got rose b later =
+      record { one = fault_rose count seats at s t got rose.1; none_fell = none_fell_at count seats at s t got later }
+  faults_told count seats at s t i Steps got rose unchanged later = faults_same count seats at s t got (ap count unchanged.1)
+  faults_told count seats at s t i Memory got rose unchanged later = faults_same count seats at s t got (ap count unchanged.1)

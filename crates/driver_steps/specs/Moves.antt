@@ -1,8 +1,8 @@
 -- What calls of a driver do to the world that stands for it (own).
 use Rattle.std.specs.Prelude.{◌≡◌, ◌⊎◌, ℕ, ◌+◌, ◌≤◌, Some, List, [], ◌∷◌, ◌++◌, length}
-use Rattle.std.specs.List.{slice_get}
+use Rattle.std.specs.List.{slice_get, AllByRecursion}
 use Rattle.node_model.specs.Letters.{Letter, Input}
-use Rattle.node_model.specs.World.{World, Moves, Event, deliver_event, Happens, Run}
+use Rattle.node_model.specs.World.{World, Moves, Event, client_event, deliver_event, moment_event, opened_event, Happens, Run}
 use Rattle.node_traits.specs.declared.outputs.StepFault.{StepFault}
 use Rattle.node_traits.specs.declared.outputs.ToLink.{ToLink}
 use Rattle.driver_steps.specs.Seats.{SeatView, AreHeld, AreKept, AreHeldOrKept}
@@ -57,10 +57,25 @@ pub record HasRun {S : Type 0} (view : S → SeatView) (seats : List S) (post : 
   pub run : Run before events end
   pub stands : StandsFor view seats post handed end next
 
--- Events happened, and then a fault came: replies may be missing, and of what waits nothing is said.
-pub record HasStopped {S : Type 0} (view : S → SeatView) (seats : List S) (replies handed : List ToLink) (before : World) (fault : StepFault) : Type 0 where
+-- these are the first of all these events, as far as they go
+abbrev pub BeginWith : (events all : List Event) → Type 0
+BeginWith events all = (others : List Event) × (all ≡ events ++ others)
+
+abbrev pub IsDelivery : Event → Type 0
+IsDelivery (client_event at link number request) = ⊥
+IsDelivery (deliver_event at which) = Unit {0}
+IsDelivery (moment_event at moment) = ⊥
+IsDelivery (opened_event at) = ⊥
+
+abbrev pub AreDeliveries : List Event → Type 0
+AreDeliveries events = AllByRecursion IsDelivery events
+
+-- Events happened, of which P holds, and then a fault came: replies may be missing, and of what waits nothing is said.
+pub record HasStopped {S : Type 0} (view : S → SeatView) (seats : List S) (replies handed : List ToLink) (before : World) (P : List Event → Type 0)
+    (fault : StepFault) : Type 0 where
   pub events : List Event
   pub end : World
+  pub which : P events
   pub run : Run before events end
   pub nodes : AreHeldOrKept fault view seats end.nodes
   pub missing : List ToLink

@@ -1,7 +1,7 @@
 -- Nodes with their logs, as the nodes of a world with what their journals keep (own).
 use Rattle.std.specs.Prelude.{◌≡◌, ℕ, ◌+◌, ◌-◌, ◌^◌, Bool, IsTrue, List, [], ◌∷◌, map, Result, Ok, Err}
 use Rattle.std.specs.List.{AllByRecursion}
-use Rattle.outside.specs.Devices.{OneRose}
+use Rattle.outside.specs.Devices.{NoneFell, OneRose}
 use Rattle.node_model.specs.Kept.{Kept}
 use Rattle.node_model.specs.States.{NodeState}
 use Rattle.node_model.specs.World.{Held}
@@ -69,7 +69,12 @@ faults_of fault_count seats = map (λ s. fault_count s.log) seats
 abbrev pub places_of : {N L : Type 0} → (L → List ℕ) → List (Seat N L) → List (List ℕ)
 places_of place seats = map (λ s. place s.log) seats
 
--- one of the counts rose where a disk failed, and elsewhere all are as before
+-- one of these counts rose, and none fell
+pub record HaveRisen (before after : List ℕ) : Type 0 where
+  pub one : OneRose before after
+  pub none_fell : NoneFell before after
+
+-- one of the counts rose where a disk failed, and none fell; elsewhere all are as before
 abbrev pub TellsFaults : {X : Type 0} → Result X StepFault → (before after : List ℕ) → Type 0
 TellsFaults (Ok x) before after = after ≡ before
-TellsFaults (Err fault) before after = ByStepFault fault (λ faults. OneRose before after) (after ≡ before)
+TellsFaults (Err fault) before after = ByStepFault fault (λ faults. HaveRisen before after) (after ≡ before)

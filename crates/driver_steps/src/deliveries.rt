@@ -5,7 +5,7 @@ ghost use Rattle.std.specs.List.{slice_get};
 ghost use Rattle.node_model.specs.World.{World};
 ghost use Rattle.node_traits.specs.declared.outputs.ToLink.{ToLink};
 ghost use Rattle.driver_steps.specs.Seats.{AreOpen, TellsFaults, faults_of, left_of, places_of, seat_view};
-ghost use Rattle.driver_steps.specs.Moves.{HasDelivered, HasSettled, HasStopped};
+ghost use Rattle.driver_steps.specs.Moves.{AreDeliveries, HasDelivered, HasSettled, HasStopped};
 ghost use Rattle.driver_steps.specs.Worlds.{StandsFor, post_view};
 
 use crate::post::Post;
@@ -37,7 +37,7 @@ pub fn deliver<R: Threads + Sync, N: Node, L: Log>(
     ensures stopped { (w : World) (next which : ℕ) (handed : List ToLink) →
         StandsFor (seat_view N.state L.tells L.records L.holds) seats.old.items (post_view (λ m. N.Mail.letter m) post.old) handed w next →
         slice_get w.sent which ≡ Some (N.Mail.letter message) →
-        IfErr result (λ e. HasStopped (seat_view N.state L.tells L.records L.holds) seats.new.items post.new.replies.items handed w e) }
+        IfErr result (λ e. HasStopped (seat_view N.state L.tells L.records L.holds) seats.new.items post.new.replies.items handed w AreDeliveries e) }
     ensures len { vec_len seats.new ≡ vec_len seats.old }
     ensures open { OnOk result (AreOpen L.is_open seats.new.items) }
     ensures falls { OnOk result ((left_of N.steps seats.new.items + 1 ≡ left_of N.steps seats.old.items) ⊎
@@ -73,7 +73,7 @@ pub fn settle<R: Threads + Sync, N: Node, L: Log>(
         OnOk result (HasSettled (seat_view N.state L.tells L.records L.holds) seats.new.items (post_view (λ m. N.Mail.letter m) post.new) handed w next) }
     ensures stopped { (w : World) (next : ℕ) (handed : List ToLink) →
         StandsFor (seat_view N.state L.tells L.records L.holds) seats.old.items (post_view (λ m. N.Mail.letter m) post.old) handed w next →
-        IfErr result (λ e. HasStopped (seat_view N.state L.tells L.records L.holds) seats.new.items post.new.replies.items handed w e) }
+        IfErr result (λ e. HasStopped (seat_view N.state L.tells L.records L.holds) seats.new.items post.new.replies.items handed w AreDeliveries e) }
     ensures len { vec_len seats.new ≡ vec_len seats.old }
     ensures open { OnOk result (AreOpen L.is_open seats.new.items) }
 

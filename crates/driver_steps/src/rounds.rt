@@ -1,11 +1,11 @@
 //! Openings, moments and requests.
 
-ghost use Rattle.std.specs.Prelude.{◌≡◌, ℕ, ◌<◌, List, vec_len, IfErr, OnOk};
+ghost use Rattle.std.specs.Prelude.{◌≡◌, ℕ, ◌<◌, List, [], ◌∷◌, vec_len, IfErr, OnOk};
 ghost use Rattle.node_model.specs.Schedule.{moments_given, openings};
 ghost use Rattle.node_model.specs.World.{IsRouter, World, client_event};
 ghost use Rattle.node_traits.specs.declared.outputs.ToLink.{ToLink};
 ghost use Rattle.driver_steps.specs.Seats.{AreOpen, TellsFaults, faults_of, places_of, seat_view};
-ghost use Rattle.driver_steps.specs.Moves.{HasHappened, HasRun, HasStopped};
+ghost use Rattle.driver_steps.specs.Moves.{BeginWith, HasHappened, HasRun, HasStopped};
 ghost use Rattle.driver_steps.specs.Worlds.{StandsFor, post_view};
 
 use crate::post::Post;
@@ -29,7 +29,8 @@ pub fn open_all<N: Node, L: Log>(
         (openings 0 (vec_len seats.old))) }
     ensures stopped { (w : World) (next : ℕ) (handed : List ToLink) →
         StandsFor (seat_view N.state L.tells L.records L.holds) seats.old.items (post_view (λ m. N.Mail.letter m) post.old) handed w next →
-        IfErr result (λ e. HasStopped (seat_view N.state L.tells L.records L.holds) seats.new.items post.new.replies.items handed w e) }
+        IfErr result (λ e. HasStopped (seat_view N.state L.tells L.records L.holds) seats.new.items post.new.replies.items handed w
+        (λ events. BeginWith events (openings 0 (vec_len seats.old))) e) }
     ensures len { vec_len seats.new ≡ vec_len seats.old }
     ensures open { OnOk result (AreOpen L.is_open seats.new.items) }
 
@@ -63,7 +64,8 @@ pub fn give_moments<N: Node, L: Log>(
         (moments_given 0 (vec_len seats.old) moment)) }
     ensures stopped { (w : World) (next : ℕ) (handed : List ToLink) →
         StandsFor (seat_view N.state L.tells L.records L.holds) seats.old.items (post_view (λ m. N.Mail.letter m) post.old) handed w next →
-        IfErr result (λ e. HasStopped (seat_view N.state L.tells L.records L.holds) seats.new.items post.new.replies.items handed w e) }
+        IfErr result (λ e. HasStopped (seat_view N.state L.tells L.records L.holds) seats.new.items post.new.replies.items handed w
+        (λ events. BeginWith events (moments_given 0 (vec_len seats.old) moment)) e) }
     ensures len { vec_len seats.new ≡ vec_len seats.old }
     ensures open { OnOk result (AreOpen L.is_open seats.new.items) }
 
@@ -103,7 +105,8 @@ pub fn ask<N: Node, L: Log>(
     ensures stopped { (w : World) (next : ℕ) (handed : List ToLink) →
         StandsFor (seat_view N.state L.tells L.records L.holds) seats.old.items (post_view (λ m. N.Mail.letter m) post.old) handed w next
         → IsRouter w.nodes at →
-        IfErr result (λ e. HasStopped (seat_view N.state L.tells L.records L.holds) seats.new.items post.new.replies.items handed w e) }
+        IfErr result (λ e. HasStopped (seat_view N.state L.tells L.records L.holds) seats.new.items post.new.replies.items handed w
+        (λ events. BeginWith events (client_event at link number (N.asks request) ∷ [])) e) }
     ensures len { vec_len seats.new ≡ vec_len seats.old }
     ensures open { OnOk result (AreOpen L.is_open seats.new.items) }
 

@@ -29,7 +29,7 @@ openings_still : (first count : ℕ) → AllByRecursion IsStillEvent (openings f
 openings_still first zero = tt
 openings_still first (suc count) = (tt, openings_still (first + 1) count)
 
-moments_still : (first count moment : ℕ) → AllByRecursion IsStillEvent (moments_given first count moment)
+pub moments_still : (first count moment : ℕ) → AllByRecursion IsStillEvent (moments_given first count moment)
 moments_still first zero moment = tt
 moments_still first (suc count) moment = (tt, moments_still (first + 1) count moment)
 
@@ -56,7 +56,7 @@ round_idle u next r events w good idle round =
     (request_stage round.given round.asked next r.at r.link r.number r.request given.0 quiet round.comes) round.settles in
     (end.0, all_there w (length w.sent) refl end.1)
 
-pipes_idle : (routers : ℕ) (rounds : List Round) (events : List Event) (w : World) (next : ℕ) → Pipes routers rounds events w next → StaysTrue w × Idle w next
+pub pipes_idle : (routers : ℕ) (rounds : List Round) (events : List Event) (w : World) (next : ℕ) → Pipes routers rounds events w next → StaysTrue w × Idle w next
 pipes_idle routers _ _ _ _ (opens w run) = (
   run_keeps (start routers) w (openings 0 (length (start routers).nodes)) (start_good routers, start_moments routers) run,
   run_idle (start routers) (openings 0 (length (start routers).nodes)) w 0 (openings_still 0 (length (start routers).nodes)) (start_idle routers) run,

@@ -4,3 +4,6 @@ mod Counted
 mod Runs
 mod Waits
 pub mod Askers
+pub mod Noted
+mod Nexts
+mod Settled

@@ -1,7 +1,7 @@
 -- Changes of a request in its place.
 use Rattle.std.proofs.Common.{◌≡◌, refl, ap, sym, subst, ◌∙◌, ℕ, suc, ◌+◌, ◌≤◌, ◌<◌, List, [], ◌∷◌, map, length, get_or, Bool, true, false, ◌&&◌, ◌==◌, if◌then◌else◌, arith, nat_lt}
 use Rattle.std.proofs.lemmas.Bool.{eqb-true, ltb-true}
-use Rattle.std.specs.Prelude.{Option, Some, None}
+use Rattle.std.specs.Prelude.{Option, Some, None, zero}
 use Rattle.std.specs.List.{slice_set}
 use Rattle.node_model.specs.States.{Open, open_with, replaced}
 use Rattle.open_requests.specs.declared.work.OpenRequest.{OpenRequest}
@@ -84,3 +84,12 @@ rises_put count taken place items old new e at inside here same =
     let there = found_at 0 0 count old items (rw (sym at) inside) (rw at at here) in
     let stands : place ≡ place_of new.count items = rw (same, there.1) at in
     rw stands (rises_set 0 taken items new e)
+
+-- one is put at a place, with the count of the one there
+pub rises_at : (least greatest place : ℕ) (items : List OpenRequest) (old new : OpenRequest) → rises least greatest items ≡ true → place < length items
+    → old ≡ get_or items place old → new.count ≡ old.count → rises least greatest (slice_set items place new) ≡ true
+rises_at least greatest place [] old new e inside here same = absurd (omega (arith, inside))
+rises_at least greatest zero (q ∷ items) old new e inside here same =
+    let count : new.count ≡ q.count = same ∙ ap (λ (x : OpenRequest). x.count) here in rw count e
+rises_at least greatest (suc place) (q ∷ items) old new e inside here same =
+    let h = both (nat_lt least q.count) (rises q.count greatest items) e in and h.0 (rises_at q.count greatest place items old new h.1 (omega (arith, inside)) here same)

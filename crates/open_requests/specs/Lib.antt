@@ -3,5 +3,7 @@ pub mod Askers
 pub mod Lists
 pub mod Rising
 pub mod Counts
+pub mod Nexts
+pub mod Settled
 pub use Rattle.node_model.specs.RouterRows
 pub use Rattle.node_model.specs.States

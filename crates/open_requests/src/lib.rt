@@ -6,10 +6,12 @@ mod asker;
 mod asks;
 mod list;
 mod owners;
+mod tables;
 mod work;
 
 pub use answers::{answer_of, is_answered, note};
 pub use asker::Asker;
 pub use list::OpenList;
 pub use owners::{is_enough, owner_of_half};
+pub use tables::{Next, next_of};
 pub use work::{OpenRequest, Wait, Work};

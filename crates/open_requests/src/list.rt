@@ -3,8 +3,12 @@
 ghost use Rattle.std.specs.Prelude.{◌≡◌, true};
 ghost use Rattle.open_requests.specs.Rising.{place_of, rises};
 
+use crate::tables::{Next, next_of};
 use crate::work::{OpenRequest, Wait};
 use bson_values::Memory;
+use chunk_table::Table;
+use cluster_base::Namespace;
+use protocol_model::{At, DoneList};
 use std::alloc::Global;
 
 /// The open requests of a router in one of its lives, in the order in which it took them.
@@ -17,14 +21,18 @@ pub struct OpenList {
 }
 
 impl OpenList {
-    ghost use Rattle.std.specs.Prelude.{◌≡◌, ◌<◌, ◌^◌, ◌-◌, ◌+◌, ◌++◌, ◌∷◌, [], ℕ, List, Bool, Some, true, map, OnOk};
+    ghost use Rattle.std.specs.Prelude.{◌≡◌, ◌<◌, ◌≤◌, ◌^◌, ◌-◌, ◌+◌, ◌++◌, ◌∷◌, [], ℕ, List, Bool, Some, true, map, length, OnOk};
+    ghost use Rattle.std.specs.List.{flat_map};
     ghost use Rattle.std.specs.Option.{option_map};
     ghost use Rattle.node_model.specs.Letters as letters;
     ghost use Rattle.node_model.specs.Outcomes as outcomes;
     ghost use Rattle.node_model.specs.RouterRows as rows;
     ghost use Rattle.node_model.specs.States as states;
+    ghost use Rattle.node_model.specs.Tables as tables;
+    ghost use Rattle.protocol_model.specs.Bodies.{at_meant};
     ghost use Rattle.protocol_model.specs.Statements.{done_meant};
     ghost use Rattle.open_requests.specs.Lists.{has_room, opens_of, taken_of};
+    ghost use Rattle.open_requests.specs.Settled.{settled};
     ghost use Rattle.open_requests.specs.Works.{open_meant, wait_meant};
 
     /// No request was taken.
@@ -131,6 +139,62 @@ impl OpenList {
         let place = self.place(count);
         if place < self.requests.len() {
             self.requests[place].wait = wait;
+        }
+    }
+
+    /// The write with this count has these answers now, and waits for this.
+    pub fn set_answers(&mut self, count: u64, wait: Wait, answers: DoneList)
+        ensures taken { taken_of self.new ≡ taken_of self.old }
+        ensures opens { (router life : ℕ) (q : states.Open) (ordered : Bool) (statements : List letters.Statement) (before : List outcomes.Done) →
+            states.open_with count (opens_of router life self.old) ≡ Some q → q.work ≡ states.writing ordered statements before →
+            opens_of router life self.new ≡ states.replaced (rows.with_work q (wait_meant wait) (states.writing ordered statements (map done_meant answers.items))) (opens_of router life self.old) }
+    {
+        let place = self.place(count);
+        if place < self.requests.len() {
+            self.requests[place].answer(wait, answers);
+        }
+    }
+
+    // The request at a place has its turn, where a table of this collection was told for a time, and this is the one that is known then.
+    // Gives the place of the next one.
+    fn learn_at(
+        &mut self,
+        place: usize,
+        namespace: &Namespace,
+        told: At,
+        known: Option<&Table>,
+    ) -> usize
+        requires { place < length self.old.requests.items }
+        ensures taken { taken_of self.new ≡ taken_of self.old }
+        ensures inside { result ≤ length self.new.requests.items }
+        ensures nearer { length self.new.requests.items + place < length self.old.requests.items + result }
+        ensures opens { (r : states.Router) (time : ℕ) (after : List tables.Table) → tables.table_of namespace.now after ≡ option_map (λ t. t.now) known.entry →
+            settled (λ q. open_meant r.me r.life q) (λ q. rows.stay_in (rows.next_of r time after namespace.now (at_meant told) q)) result self.new.requests.items
+            ≡ settled (λ q. open_meant r.me r.life q) (λ q. rows.stay_in (rows.next_of r time after namespace.now (at_meant told) q)) place self.old.requests.items }
+    {
+        match next_of(namespace, told, known, &self.requests[place]) {
+            Next::Stays => place + 1,
+            Next::GoesOn => {
+                self.requests[place].wait = Wait::ForShards;
+                place + 1
+            }
+            Next::IsTold(_) => {
+                let _ = self.requests.remove(place);
+                place
+            }
+        }
+    }
+
+    /// A table of this collection was told for a time, and this is the one that is known then, if one is: requests that can go on with it
+    /// wait for the shards, and those that are told that nothing is there are taken out.
+    pub fn learn(&mut self, namespace: &Namespace, told: At, known: Option<&Table>)
+        ensures taken { taken_of self.new ≡ taken_of self.old }
+        ensures opens { (r : states.Router) (time : ℕ) (after : List tables.Table) → tables.table_of namespace.now after ≡ option_map (λ t. t.now) known.entry →
+            opens_of r.me r.life self.new ≡ flat_map (λ q. rows.stay_in (rows.next_of r time after namespace.now (at_meant told) q)) (opens_of r.me r.life self.old) }
+    {
+        let mut place = 0;
+        while place < self.requests.len() {
+            place = self.learn_at(place, namespace, told, known);
         }
     }
 }

@@ -47,3 +47,30 @@ pub struct OpenRequest {
     pub wait: Wait,
     pub work: Work,
 }
+
+impl OpenRequest {
+    ghost use Rattle.std.specs.Prelude.{◌≡◌, ℕ, List, Bool, map};
+    ghost use Rattle.node_model.specs.Letters as letters;
+    ghost use Rattle.node_model.specs.Outcomes as outcomes;
+    ghost use Rattle.node_model.specs.RouterRows as rows;
+    ghost use Rattle.node_model.specs.States as states;
+    ghost use Rattle.protocol_model.specs.Statements.{done_meant};
+    ghost use Rattle.open_requests.specs.Works.{open_meant, wait_meant};
+
+    // A write has these answers now, and waits for this.
+    pub(crate) fn answer(&mut self, wait: Wait, answers: DoneList)
+        ensures count { self.new.count ≡ self.old.count }
+        ensures work { (router life : ℕ) (ordered : Bool) (statements : List letters.Statement) (before : List outcomes.Done) →
+            (open_meant router life self.old).work ≡ states.writing ordered statements before →
+            open_meant router life self.new ≡ rows.with_work (open_meant router life self.old) (wait_meant wait) (states.writing ordered statements (map done_meant answers.items)) }
+    {
+        self.wait = wait;
+        match &mut self.work {
+            Work::Writing {
+                answers: before,
+                ..
+            } => *before = answers,
+            Work::Reading { .. } => {}
+        }
+    }
+}

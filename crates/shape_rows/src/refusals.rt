@@ -1,8 +1,9 @@
-//! Documents that are projections or sorts, and documents that are none.
+//! Documents that are projections, sorts or groups, and documents that are none.
 
 use crate::documents::first_document;
 use field_paths::{ParseFault, PathFault};
 use fixtures::{RowFault, Rows};
+use group_accum::GroupSpec;
 use projection::Projection;
 use sort_keys::SortSpec;
 use std::alloc::Global;
@@ -30,6 +31,20 @@ impl Rows for Sorts {
         let (document, wanted) = first_document(alloc, row)?;
         match SortSpec::parse(alloc, &document) {
             Ok(_spec) => Ok(wanted == "sort"),
+            Err(fault) => Ok(wanted == word_of(fault)),
+        }
+    }
+}
+
+/// `DOCUMENT | group`, or in place of `group` its first fault, in a word.
+#[derive(Drop)]
+pub struct GroupSpecs;
+
+impl Rows for GroupSpecs {
+    fn holds(&mut self, alloc: Global, row: &str) -> Result<bool, RowFault> {
+        let (document, wanted) = first_document(alloc, row)?;
+        match GroupSpec::parse(alloc, &document) {
+            Ok(_spec) => Ok(wanted == "group"),
             Err(fault) => Ok(wanted == word_of(fault)),
         }
     }

@@ -30,7 +30,8 @@ nodes-preserved g c = record {
 
 pub returns-in-Err-clause-stopped : goal.returns-in-Err-clause-stopped
 returns-in-Err-clause-stopped g c w next handed s =
-    opened_stopped (seat_view g.N.Node.state g.L.Log.tells g.L.Log.records g.L.Log.holds) _ _ _ _ handed w next c.nodes.at _ c.in-Err.e
+    opened_stopped (seat_view g.N.Node.state g.L.Log.tells g.L.Log.records g.L.Log.holds) _ _ _ _ handed w next c.nodes.at
+    (vec_len c.args.seats.now) _ c.in-Err.e (omega (arith, c.nodes-test.true, c.len-count.ensures))
     (c.nodes.invariant.run w next handed s) c.opened.ensures
     (c.in-Err.ensures.cut (c.nodes.invariant.run w next handed s).end next handed (c.nodes.invariant.run w next handed s).stands)
 

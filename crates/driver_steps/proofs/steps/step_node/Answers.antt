@@ -39,7 +39,7 @@ pub returns-in-Err-clause-faults : goal.returns-in-Err-clause-faults
 returns-in-Err-clause-faults g c =
     faults_told g.N.Node.state g.L.Log.tells g.L.Log.records g.L.Log.holds g.L.Log.finds g.L.Log.moment g.L.Log.left_since g.L.Log.fault_count
     c.args.seats.now.items c.args.at c.index_mut-seat.result.now (record { node = c.step.new.self; log = c.step.new.log }) (g.N.Node.meaning c.args.input)
-    c.in-Err.e (slice_get_read _ _ _ _ (search rules) c.requires.at c.index_mut-seat.ensures.value) c.in-Err.ensures.cause c.in-Err.ensures.failed
+    c.in-Err.e (slice_get_read _ _ _ _ (search rules) c.requires.at c.index_mut-seat.ensures.value) c.in-Err.ensures.cause c.in-Err.ensures.failed c.step.ensures.later
 
 pub returns-in-Err-clause-places : goal.returns-in-Err-clause-places
 returns-in-Err-clause-places g c =

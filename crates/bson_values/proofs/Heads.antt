@@ -1,0 +1,85 @@
+-- A field, and a value of an array, behind what stands before it.
+use Rattle.std.proofs.Common.{◌≡◌, ℕ, ◌-◌, List, Option, Some, None, Result, Ok, Err, refl, ◌∙◌, ap}
+use Rattle.bson_model.specs.Tree.{Datum}
+use Rattle.bson_values.specs.declared.fault.BsonFault.{BsonFault}
+use Rattle.bson_values.specs.declared.element_type.ElementType.{ElementType}
+use Rattle.bson_values.specs.ReadFaults.{◌>>=◌}
+use Rattle.bson_values.specs.Readers.{Reader, name_at, index_at, type_at, name_behind, head_at, index_behind, item_head_at, field_behind, field_at, item_behind, item_at}
+
+-- ---- fields
+
+abbrev pub field_from : Reader → Option (ElementType × List ℕ × ℕ) → List ℕ → Result (Option (List ℕ × Datum) × List ℕ) BsonFault
+field_from value_at None bytes = Ok (None, bytes)
+field_from value_at (Some head) bytes = value_at head.0 head.2 bytes >>= λ value. Ok (Some (head.1, value.0), value.1)
+
+abbrev pub named_value : Reader → ElementType → List ℕ × ℕ × List ℕ → Result (Option (List ℕ × Datum) × List ℕ) BsonFault
+named_value value_at k name = value_at k name.1 name.2 >>= λ value. Ok (Some (name.0, value.0), value.1)
+
+abbrev pub named_head : ElementType → List ℕ × ℕ × List ℕ → Result (Option (ElementType × List ℕ × ℕ) × List ℕ) BsonFault
+named_head k name = Ok (Some (k, name.0, name.1), name.2)
+
+by_name : (value_at : Reader) (k : ElementType) (n : Result (List ℕ × ℕ × List ℕ) BsonFault)
+    → (n >>= named_value value_at k) ≡ ((n >>= named_head k) >>= λ h. field_from value_at h.0 h.1)
+by_name value_at k (Ok x) = refl
+by_name value_at k (Err e) = refl
+
+by_type : (total room : ℕ) (value_at : Reader) (o : Option ElementType) (rest : List ℕ)
+    → field_behind total value_at room o rest ≡ (name_behind total room o rest >>= λ h. field_from value_at h.0 h.1)
+unfolding field_behind name_behind
+by_type total room value_at None rest = refl
+by_type total room value_at (Some k) rest = by_name value_at k (name_at total (room - 1) rest)
+
+by_start : (total room : ℕ) (value_at : Reader) (t : Result (Option ElementType × List ℕ) BsonFault)
+    → (t >>= λ k. field_behind total value_at room k.0 k.1) ≡ ((t >>= λ k. name_behind total room k.0 k.1) >>= λ h. field_from value_at h.0 h.1)
+by_start total room value_at (Ok x) = by_type total room value_at x.0 x.1
+by_start total room value_at (Err e) = refl
+
+by_head : (total room : ℕ) (value_at : Reader) (bytes : List ℕ) → field_at total value_at room bytes ≡ (head_at total room bytes >>= λ h. field_from value_at h.0 h.1)
+unfolding field_at head_at
+by_head total room value_at bytes = by_start total room value_at (type_at total room bytes)
+
+pub field_behind_head : (total room : ℕ) (value_at : Reader) (bytes : List ℕ) (head : Result (Option (ElementType × List ℕ × ℕ) × List ℕ) BsonFault)
+    (read : Result (Option (List ℕ × Datum) × List ℕ) BsonFault)
+    → head_at total room bytes ≡ head → (head >>= λ h. field_from value_at h.0 h.1) ≡ read → field_at total value_at room bytes ≡ read
+field_behind_head total room value_at bytes head read h e =
+    by_head total room value_at bytes
+    ∙ (ap (λ (r : Result (Option (ElementType × List ℕ × ℕ) × List ℕ) BsonFault). r >>= λ h. field_from value_at h.0 h.1) h ∙ e)
+
+-- ---- values of an array
+
+abbrev pub item_from : Reader → Option (ElementType × ℕ) → List ℕ → Result (Option Datum × List ℕ) BsonFault
+item_from value_at None bytes = Ok (None, bytes)
+item_from value_at (Some head) bytes = value_at head.0 head.1 bytes >>= λ value. Ok (Some value.0, value.1)
+
+abbrev pub passed_value : Reader → ElementType → ℕ × List ℕ → Result (Option Datum × List ℕ) BsonFault
+passed_value value_at k left = value_at k left.0 left.1 >>= λ value. Ok (Some value.0, value.1)
+
+abbrev pub passed_head : ElementType → ℕ × List ℕ → Result (Option (ElementType × ℕ) × List ℕ) BsonFault
+passed_head k left = Ok (Some (k, left.0), left.1)
+
+by_index : (value_at : Reader) (k : ElementType) (n : Result (ℕ × List ℕ) BsonFault)
+    → (n >>= passed_value value_at k) ≡ ((n >>= passed_head k) >>= λ h. item_from value_at h.0 h.1)
+by_index value_at k (Ok x) = refl
+by_index value_at k (Err e) = refl
+
+item_by_type : (total room : ℕ) (value_at : Reader) (o : Option ElementType) (rest : List ℕ)
+    → item_behind total value_at room o rest ≡ (index_behind total room o rest >>= λ h. item_from value_at h.0 h.1)
+unfolding item_behind index_behind
+item_by_type total room value_at None rest = refl
+item_by_type total room value_at (Some k) rest = by_index value_at k (index_at total (room - 1) rest)
+
+item_by_start : (total room : ℕ) (value_at : Reader) (t : Result (Option ElementType × List ℕ) BsonFault)
+    → (t >>= λ k. item_behind total value_at room k.0 k.1) ≡ ((t >>= λ k. index_behind total room k.0 k.1) >>= λ h. item_from value_at h.0 h.1)
+item_by_start total room value_at (Ok x) = item_by_type total room value_at x.0 x.1
+item_by_start total room value_at (Err e) = refl
+
+item_by_head : (total room : ℕ) (value_at : Reader) (bytes : List ℕ) → item_at total value_at room bytes ≡ (item_head_at total room bytes >>= λ h. item_from value_at h.0 h.1)
+unfolding item_at item_head_at
+item_by_head total room value_at bytes = item_by_start total room value_at (type_at total room bytes)
+
+pub item_behind_head : (total room : ℕ) (value_at : Reader) (bytes : List ℕ) (head : Result (Option (ElementType × ℕ) × List ℕ) BsonFault)
+    (read : Result (Option Datum × List ℕ) BsonFault)
+    → item_head_at total room bytes ≡ head → (head >>= λ h. item_from value_at h.0 h.1) ≡ read → item_at total value_at room bytes ≡ read
+item_behind_head total room value_at bytes head read h e =
+    item_by_head total room value_at bytes
+    ∙ (ap (λ (r : Result (Option (ElementType × ℕ) × List ℕ) BsonFault). r >>= λ h. item_from value_at h.0 h.1) h ∙ e)

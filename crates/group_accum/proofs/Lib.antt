@@ -1,0 +1,6 @@
+pub mod Entries
+pub mod OwnRows
+pub mod PartLoops
+pub mod PartsRead
+pub mod Steps
+pub mod TakenIn

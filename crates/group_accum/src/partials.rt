@@ -1,0 +1,31 @@
+//! The rows of one part of the documents, on their way to where the parts are joined.
+
+use crate::absorb::Cell;
+use crate::key::GroupKey;
+use std::collections::BTreeMap;
+use std::marker::Model;
+
+/// Below this is the number of documents behind the rows of a part.
+pub(crate) const DOCUMENTS_OF_PART: u64 = 1 << 58;
+
+/// Rows, one of each key, in the order of keys, and how many documents are behind them (MongoDB manual, "Aggregation Pipeline and
+/// Sharded Collections").
+#[derive(Drop)]
+pub struct PartialList {
+    pub(crate) rows: BTreeMap<GroupKey, Vec<Cell>>,
+    pub(crate) documents: u64,
+}
+
+impl Model for PartialList {
+    ghost use Rattle.std.specs.Prelude.{◌<◌, ◌^◌};
+    ghost use Rattle.group_accum.specs.Code.{partials_code};
+    ghost use Rattle.group_accum.specs.Rows.{Partials, rows_of};
+
+    ghost Value = { Partials };
+
+    ghost coded = { partials_code };
+
+    ghost view = { λ p. record { rows = rows_of p.rows.entries; documents = p.documents } };
+
+    ghost invariant = { λ p. p.documents < 2 ^ 58 };
+}

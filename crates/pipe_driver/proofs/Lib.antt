@@ -1,0 +1,12 @@
+pub mod Buffers
+pub mod Counts
+pub mod Endings
+pub mod Frames
+pub mod Histories
+pub mod Framings
+pub mod Openings
+pub mod Puts
+pub mod RestLengths
+pub mod Rounds
+pub mod Routers
+pub mod Serving

@@ -1,0 +1,100 @@
+-- A router stays one, and each message that comes next goes to a node.
+use Rattle.std.proofs.Common.{◌≡◌, ◌⊎◌, inl, inr, ℕ, zero, suc, ◌+◌, ◌<◌, List, [], ◌∷◌, ◌++◌, length, refl, sym, ap, subst, ◌∙◌, arith}
+use Rattle.std.specs.Prelude.{Some}
+use Rattle.std.specs.List.{slice_get, slice_set}
+use Rattle.std.proofs.lemmas.Option.{slice_get_within}
+use Rattle.node_model.specs.Kept.{Kept}
+use Rattle.node_model.specs.Letters.{Letter, Input, Effect}
+use Rattle.node_model.specs.States.{Router, NodeState, catalogue_state, shard_state, router_state, new_router}
+use Rattle.node_model.specs.Steps.{Step, catalogue_step, shard_step, router_step, begin_step, other_step}
+use Rattle.node_model.specs.World.{Held, World, IsRouter, Moves, Event, deliver_event, Happens, comes, delivers, passes, begins as was_opened, Run, stands}
+use Rattle.node_model.specs.World.{goes, start}
+use Rattle.node_model.specs.Schedule.{Round, Pipes, Delivers}
+use Rattle.node_model.proofs.Schedules.{pipes_run}
+use Rattle.node_laws.proofs.Facts.{Good}
+use Rattle.node_laws.proofs.Runs.{StaysTrue, fits_here, happens_keeps}
+use Rattle.node_progress.proofs.Leads.{Leads}
+use Rattle.node_progress.proofs.Receivers.{goes_to}
+use Rattle.node_progress.proofs.Stages.{Stage, Waits, delivery_keeps}
+use Rattle.driver_steps.specs.Moves.{Settles}
+use Rattle.driver_steps.proofs.Runs.{settles_delivers}
+
+-- ROUTERS
+
+state_stays : (s : NodeState) (i : Input) (f : Effect) (t : NodeState) → Step s i f t → (r : Router) → s ≡ router_state r
+    → (q : Router) × (t ≡ router_state q)
+state_stays _ _ _ _ (catalogue_step c d i f own row) r is = absurd (cc is)
+state_stays _ _ _ _ (shard_step s t i f own row) r is = absurd (cc is)
+state_stays _ _ _ _ (router_step p q i f own row) r is = (q, refl)
+state_stays _ _ _ _ (begin_step p q i f early before row) r is = (q, refl)
+state_stays _ _ _ _ (other_step s m other) r is = (r, is)
+
+set_stays : (nodes : List Held) (place at : ℕ) (old h : Held) → slice_get nodes place ≡ Some old
+    → ((r : Router) → old.state ≡ router_state r → (q : Router) × (h.state ≡ router_state q)) → IsRouter nodes at → IsRouter (slice_set nodes place h) at
+set_stays [] place at old h got stay is = absurd (cc got)
+set_stays (x ∷ nodes) zero zero old h got stay (r, kept, here) =
+    let same : x ≡ old = cc got in
+    let state : old.state ≡ router_state r = ap (λ (y : Held). y.state) (sym same) ∙ cc here in
+    let q = stay r state in
+    (q.0, h.kept, ap (λ (s : NodeState). Some (record { state = s; kept = h.kept })) q.1)
+set_stays (x ∷ nodes) zero (suc at) old h got stay is = is
+set_stays (x ∷ nodes) (suc place) zero old h got stay is = is
+set_stays (x ∷ nodes) (suc place) (suc at) old h got stay is = set_stays nodes place at old h got stay is
+
+move_stays : (w v : World) (place at : ℕ) (i : Input) → Moves w place i v → IsRouter w.nodes at → IsRouter v.nodes at
+move_stays w v place at i m is =
+    subst (λ (x : World). IsRouter x.nodes at) (sym m.then)
+    (set_stays w.nodes place at m.old (record { state = m.new; kept = m.old.kept ++ m.f.written }) m.here
+    (λ r state. state_stays m.old.state i m.f m.new m.step r state) is)
+
+pub happens_stays : (w v : World) (e : Event) (at : ℕ) → Happens w e v → IsRouter w.nodes at → IsRouter v.nodes at
+happens_stays _ _ _ p (comes w v at link number request router m) is = move_stays w v at p _ m is
+happens_stays _ _ _ p (delivers w v at which letter got to m) is = move_stays w v at p _ m is
+happens_stays _ _ _ p (passes w v at moment m) is = move_stays w v at p _ m is
+happens_stays _ _ _ p (was_opened w v at m) is = move_stays w v at p _ m is
+
+pub run_stays : (u : World) (es : List Event) (w : World) (at : ℕ) → Run u es w → IsRouter u.nodes at → IsRouter w.nodes at
+run_stays _ _ _ at (stands w) is = is
+run_stays _ _ _ at (goes u v w e es h run) is = run_stays v es w at run (happens_stays u v e at h is)
+
+start_router : (routers : ℕ) → 0 < routers → IsRouter (start routers).nodes 2
+start_router zero some = absurd (omega arith)
+start_router (suc n) some = (new_router 2, [], refl)
+
+-- the connection's router is there behind each round
+pub router_there : (routers : ℕ) (rounds : List Round) (events : List Event) (w : World) (next : ℕ) → 0 < routers → Pipes routers rounds events w next
+    → IsRouter w.nodes 2
+router_there routers rounds events w next some pipes =
+    run_stays (start routers) events w 2 (pipes_run routers rounds events w next pipes) (start_router routers some)
+
+-- MESSAGES
+
+goes_within : (n own count : ℕ) (to : ℕ) → (to ≡ 0) ⊎ ((to ≡ 1) ⊎ (to ≡ own)) → 1 < own → own < count → to < count
+goes_within n own count to (inl e) some below = omega arith
+goes_within n own count to (inr (inl e)) some below = omega arith
+goes_within n own count to (inr (inr e)) some below = omega arith
+
+letter_goes : (v : World) (n : ℕ) (m : Letter) → StaysTrue v → Stage v n → slice_get v.sent n ≡ Some m → m.receiver < length v.nodes
+letter_goes v n m good (inl idle) got =
+    let b = slice_get_within v.sent n m got in
+    let l = idle.left in
+    absurd (omega (arith, b, l))
+letter_goes v n m good (inr s) got =
+    let both : Some s.letter ≡ Some m = sym s.got ∙ got in
+    let same : s.letter ≡ m = cc both in
+    let fits = (fits_here v s.at (record { state = router_state s.router; kept = s.kept }) good.0 s.here).state in
+    let below = slice_get_within v.nodes s.at (record { state = router_state s.router; kept = s.kept }) s.here in
+    let own = fits.own in
+    let place = fits.place in
+    subst (λ (l : Letter). l.receiver < length v.nodes) same
+    (goes_within n s.router.me (length v.nodes) s.letter.receiver (goes_to s.router s.request s.parked s.letter s.leads) (omega (arith, own, place))
+    (omega (arith, own, below)))
+
+-- so no message of a round is lost
+pub none_lost : (u : World) (next : ℕ) (events : List Event) (w : World) (later : ℕ) → StaysTrue u → Stage u next → Settles u next events w later
+    → Delivers u next events w later
+none_lost u next events w later good stage settles =
+    settles_delivers (λ (v : World) (n : ℕ). StaysTrue v × Stage v n)
+    (λ v n m p got. letter_goes v n m p.0 p.1 got)
+    (λ v x n at p h. (happens_keeps v x (deliver_event at n) p.0 h, delivery_keeps v x n at p.0.0 p.1 h))
+    u next events w later (good, stage) settles

@@ -1,0 +1,203 @@
+-- A connection goes on by one request, or stops at it.
+use Rattle.std.proofs.Common.{◌≡◌, ◌≢◌, ◌⊎◌, inl, inr, ℕ, ℤ, ◌+◌, Bool, List, [], ◌∷◌, ◌++◌, length, refl, sym, ap, subst, ◌∙◌, append_assoc, append-nil}
+use Rattle.std.specs.List.{flat_map}
+use Rattle.outside.specs.Streams.{Put}
+use Rattle.outside.proofs.Relations.{put_then}
+use Rattle.opmsg_frames.specs.Requests.{Request, IsRequest}
+use Rattle.node_model.specs.Letters.{Letter}
+use Rattle.node_model.specs.World.{World, Event, Run, start}
+use Rattle.node_model.specs.Schedule.{openings, Round, Pipes, opens, serves}
+use Rattle.node_traits.specs.declared.outputs.StepFault.{StepFault}
+use Rattle.node_traits.specs.declared.outputs.StepFault.TheVariants.{Disk, Steps, Memory}
+use Rattle.node_traits.specs.declared.outputs.ToLink.{ToLink}
+use Rattle.driver_steps.specs.declared.post.Post.{Post}
+use Rattle.driver_steps.specs.Seats.{SeatView, AreHeld, AreKept, AreHeldOrKept}
+use Rattle.driver_steps.specs.Worlds.{PostView, StandsFor, post_view, puts_given}
+use Rattle.driver_steps.specs.Moves.{BeginWith, HasRun, HasStopped}
+use Rattle.driver_steps.proofs.Seats.{held_kept}
+use Rattle.driver_steps.proofs.Runs.{handed_on}
+use Rattle.pipe_driver.specs.Pieces.{PutInPart}
+use Rattle.pipe_driver.specs.Progress.{AreAsked, Serving, CutShort, PutShort}
+use Rattle.pipe_driver.specs.Rounds.{first_router, first_link, requests_of, replies_after, replies_behind, number_behind, AreOfOne, bytes_of}
+use Rattle.pipe_driver.specs.Schedules.{round_of, IsPart, HasServed, came_whole, came_opening, came_part}
+use Rattle.pipe_driver.specs.Stops.{status_for, StopsAtRequest, at_write_fault, at_disk_fault, at_no_memory}
+use Rattle.pipe_driver.specs.declared.status.Status.{Status}
+use Rattle.pipe_driver.specs.declared.status.Status.TheVariants as statuses
+use Rattle.pipe_driver.proofs.Openings.{nothing_told}
+use Rattle.pipe_driver.proofs.Puts.{bytes_then}
+use Rattle.pipe_driver.proofs.Rounds.{asked_more, behind_more, one_more, requests_more}
+
+-- what the logs keep after a fault
+kept_at : {S : Type 0} (fault : StepFault) (view : S → SeatView) (seats : List S) (w : World) → AreHeldOrKept fault view seats w.nodes
+    → AreKept view seats w.nodes
+kept_at (Disk faults) view seats w are = are
+kept_at Steps view seats w are = held_kept view seats w.nodes are
+kept_at Memory view seats w are = held_kept view seats w.nodes are
+
+-- BY STATUS
+
+module _ {S : Type 0} (view : S → SeatView) (seats : List S) (gives : ℕ → Type 0) (routers : ℕ) (tells : Bool) (held_before held consumed : List ℕ) where
+  pub stops_by : (fault : StepFault) (status : Status) → status ≡ status_for fault → CutShort view seats gives routers tells held_before held consumed
+      → StopsAtRequest view seats gives routers tells held_before held consumed status
+  stops_by (Disk faults) status is cut = subst (λ (s : Status). StopsAtRequest view seats gives routers tells held_before held consumed s) (sym is)
+      (at_disk_fault cut)
+  stops_by Steps status is cut = subst (λ (s : Status). StopsAtRequest view seats gives routers tells held_before held consumed s) (sym is) (at_no_memory cut)
+  stops_by Memory status is cut = subst (λ (s : Status). StopsAtRequest view seats gives routers tells held_before held consumed s) (sym is) (at_no_memory cut)
+
+  -- between two rounds
+  pub cut_between : (post : PostView) (replied : ℕ) → Serving view seats post gives routers tells held_before held consumed replied
+      → CutShort view seats gives routers tells held_before held consumed
+  cut_between post replied s = record {
+    rounds = s.rounds;
+    under_way = [];
+    whole = s.world;
+    end = s.world;
+    came = came_whole s.rounds s.events s.world s.next s.pipes;
+    one = s.one;
+    put = s.put;
+    asked = subst (λ (l : List Request). AreAsked consumed l) (sym (append-nil (requests_of s.rounds))) s.asked;
+    kept = held_kept view seats s.world.nodes s.stands.nodes;
+  }
+
+-- that is a fault of a disk, or want of memory
+pub no_other : (fault : StepFault) (status : Status) → status ≡ status_for fault → status ≢ statuses.DiskFailed → status ≢ statuses.OutOfMemory → ⊥
+no_other (Disk faults) status is disk memory = disk is
+no_other Steps status is disk memory = memory is
+no_other Memory status is disk memory = memory is
+
+-- THE START
+
+module _ {S : Type 0} (view : S → SeatView) (seats : List S) (gives : ℕ → Type 0) (routers : ℕ) (tells : Bool) (held : List ℕ) (count : ℕ)
+    (as_many : count ≡ length (start routers).nodes) where
+  pub opened_serving : (post : PostView) → HasRun view seats post [] (start routers) 0 (openings 0 count)
+      → Serving view seats post gives routers tells held held [] 0
+  opened_serving post r =
+      let none : r.end.answered ≡ [] = nothing_told routers count r.end r.run in
+      let silent : puts_given r.end.answered ≡ [] = ap puts_given none in
+      let run : Run (start routers) (openings 0 (length (start routers).nodes)) r.end =
+      subst (λ (n : ℕ). Run (start routers) (openings 0 n) r.end) as_many r.run in
+      record {
+        rounds = [];
+        events = openings 0 (length (start routers).nodes);
+        world = r.end;
+        next = 0;
+        pipes = opens r.end run;
+        one = record { moments = tt; routers = tt; links = tt; numbers = tt };
+        stands = subst (λ (l : List ToLink). StandsFor view seats post l r.end 0) (sym silent) r.stands;
+        put = λ told. sym (ap (λ (l : List ToLink). held ++ bytes_of l) silent ∙ append-nil held);
+        asked = record { all = refl; each = tt };
+        count = refl;
+      }
+
+  pub opening_cut : (replies : List ToLink) (fault : StepFault)
+      → HasStopped view seats replies [] (start routers) (λ events. BeginWith events (openings 0 count)) fault
+      → CutShort view seats gives routers tells held held []
+  opening_cut replies fault s = record {
+    rounds = [];
+    under_way = [];
+    whole = start routers;
+    end = s.end;
+    came = came_opening s.events s.end (subst (λ (n : ℕ). BeginWith s.events (openings 0 n)) as_many s.which) s.run;
+    one = record { moments = tt; routers = tt; links = tt; numbers = tt };
+    put = λ told. sym (append-nil held);
+    asked = record { all = refl; each = tt };
+    kept = kept_at fault view seats s.end s.nodes;
+  }
+
+-- ONE REQUEST
+
+module _ {S : Type 0} (view : S → SeatView) (seats seats_after : List S) (before : PostView) (gives : ℕ → Type 0) (routers : ℕ) (tells : Bool)
+    (held_before held consumed : List ℕ) (replied : ℕ) (s : Serving view seats before gives routers tells held_before held consumed replied)
+    (moment : ℕ) (number : ℤ) (asked q : Request) (given : gives moment) (numbered : number ≡ number_behind replied) (same : asked ≡ q) (is : IsRequest q) where
+  numbered_behind : number ≡ number_behind (replies_behind 0 (requests_of s.rounds))
+  numbered_behind = numbered ∙ ap (λ (n : ℕ). number_behind n) s.count
+
+  round_is : round_of moment number asked ≡ round_of moment (number_behind (replies_behind 0 (requests_of s.rounds))) q
+  round_is = ap (λ (z : ℤ). round_of moment z asked) numbered_behind
+      ∙ ap (λ (x : Request). round_of moment (number_behind (replies_behind 0 (requests_of s.rounds))) x) same
+
+  rounds_one : AreOfOne gives (s.rounds ++ round_of moment number asked ∷ [])
+  rounds_one = one_more gives s.rounds (round_of moment number asked) s.one given refl refl numbered_behind
+
+  asked_then : AreAsked (consumed ++ q.bytes) (requests_of s.rounds ++ q ∷ [])
+  asked_then = asked_more consumed (requests_of s.rounds) q s.asked is
+
+  asked_rounds : AreAsked (consumed ++ q.bytes) (requests_of (s.rounds ++ round_of moment number asked ∷ []))
+  asked_rounds =
+      let all : requests_of (s.rounds ++ round_of moment number asked ∷ []) ≡ requests_of s.rounds ++ q ∷ [] =
+      requests_more s.rounds (round_of moment number asked) ∙ ap (λ (x : Request). requests_of s.rounds ++ x ∷ []) same in
+      subst (λ (l : List Request). AreAsked (consumed ++ q.bytes) l) (sym all) asked_then
+
+  -- a step failed
+  pub cut_in_round : (count : ℕ) (replies : List ToLink) (fault : StepFault) → count ≡ length s.world.nodes
+      → HasStopped view seats_after replies (puts_given s.world.answered) s.world (IsPart count (round_of moment number asked)) fault
+      → CutShort view seats_after gives routers tells held_before held (consumed ++ q.bytes)
+  cut_in_round count replies fault as_many h = record {
+    rounds = s.rounds;
+    under_way = q ∷ [];
+    whole = s.world;
+    end = h.end;
+    came = came_part s.rounds s.events h.events s.world h.end s.next moment q s.pipes given
+        (subst (λ (n : ℕ). IsPart n (round_of moment (number_behind (replies_behind 0 (requests_of s.rounds))) q) h.events) as_many
+        (subst (λ (r : Round). IsPart count r h.events) round_is h.which)) h.run;
+    one = s.one;
+    put = s.put;
+    asked = asked_then;
+    kept = kept_at fault view seats_after h.end h.nodes;
+  }
+
+  module _ {M : Type 0} (letter : M → Letter) (old new : Post M)
+      (h : HasServed view seats_after (post_view letter old) (puts_given s.world.answered) s.world s.next (round_of moment number asked))
+      (waits : new.waiting.items ≡ old.waiting.items) (none : new.replies.items ≡ []) where
+    puts_are : puts_given h.end.answered ≡ puts_given s.world.answered ++ old.replies.items
+    puts_are = h.stands.given
+
+    bytes_are : bytes_of (puts_given h.end.answered) ≡ bytes_of (puts_given s.world.answered) ++ bytes_of old.replies.items
+    bytes_are = ap bytes_of puts_are ∙ bytes_then (puts_given s.world.answered) old.replies.items
+
+    -- all replies of the round were put
+    pub served_one : (held' : List ℕ) (after : ℕ) → Put tells held (bytes_of old.replies.items) held' → after ≡ replies_after q.more replied
+        → Serving view seats_after (post_view letter new) gives routers tells held_before held' (consumed ++ q.bytes) after
+    served_one held' after put counted = record {
+      rounds = s.rounds ++ round_of moment number asked ∷ [];
+      events = s.events ++ h.events;
+      world = h.end;
+      next = length h.end.sent;
+      pipes = serves s.rounds (round_of moment number asked) s.events h.events s.world h.end s.next s.pipes h.round;
+      one = rounds_one;
+      stands = subst (λ (l : List ToLink). StandsFor view seats_after (post_view letter new) l h.end (length h.end.sent)) (sym puts_are)
+          (handed_on view letter seats_after (puts_given s.world.answered) h.end (length h.end.sent) old new h.stands waits none);
+      put = subst (λ (b : List ℕ). Put tells held_before b held') (sym bytes_are)
+          (put_then tells held_before (bytes_of (puts_given s.world.answered)) held (bytes_of old.replies.items) held' s.put put);
+      asked = asked_rounds;
+      count = counted ∙ (ap (λ (n : ℕ). replies_after q.more n) s.count
+          ∙ (sym (behind_more 0 (requests_of s.rounds) q)
+          ∙ ap (λ (l : List Request). replies_behind 0 l)
+          (ap (λ (x : Request). requests_of s.rounds ++ x ∷ []) (sym same) ∙ sym (requests_more s.rounds (round_of moment number asked)))));
+    }
+
+    -- a prefix of them was put
+    pub put_short : (held' : List ℕ) → PutInPart tells held (bytes_of old.replies.items) held'
+        → PutShort view seats_after gives routers tells held_before held' (consumed ++ q.bytes)
+    put_short held' (part, (others, prefix), put) = record {
+      earlier = s.rounds;
+      last = round_of moment number asked;
+      events = s.events;
+      more = h.events;
+      before = s.world;
+      end = h.end;
+      next = s.next;
+      served = s.pipes;
+      round = h.round;
+      one = rounds_one;
+      part = bytes_of (puts_given s.world.answered) ++ part;
+      earlier_put = (part, refl);
+      in_part = (
+        others,
+        bytes_are ∙ (ap (λ (b : List ℕ). bytes_of (puts_given s.world.answered) ++ b) prefix
+            ∙ sym (append_assoc (bytes_of (puts_given s.world.answered)) part others)),
+      );
+      put = put_then tells held_before (bytes_of (puts_given s.world.answered)) held part held' s.put put;
+      asked = asked_rounds;
+      kept = held_kept view seats_after h.end.nodes h.stands.nodes;
+    }

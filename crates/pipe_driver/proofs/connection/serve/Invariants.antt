@@ -1,0 +1,34 @@
+use Rattle.std.proofs.Common.{◌≡◌, ℕ, List, [], ◌+◌, ◌-◌, ◌<◌, ◌≤◌, ◌++◌, length}
+use Rattle.std.specs.Prelude.{None, vec_len}
+use Rattle.outside.specs.Streams.{Took}
+use Rattle.opmsg_frames.specs.Outline.{outline, partial_outline}
+use Rattle.driver_steps.specs.Seats.{AreOpen, faults_of, places_of, seat_view}
+use Rattle.driver_steps.specs.Worlds.{post_view}
+use Rattle.pipe_driver.specs.Progress.{AreAskedAsRead, Serving}
+use Rattle.pipe_driver.proofs.connection.serve.Given as goal
+
+abbrev pub decreases-pieces : goal.decreases-pieces
+decreases-pieces g l = l.limit - l.taken
+
+-- what was taken is requests that were served, and what the framer has left, which begins no whole one
+abbrev pub invariant-pieces : goal.invariant-pieces
+invariant-pieces g l = record {
+  most : l.taken ≤ l.limit;
+  partial : outline l.framer.bytes ≡ partial_outline;
+  fed : l.framer.offset + length l.framer.bytes ≡ l.taken;
+  fault : l.framer.fault ≡ None;
+  count : l.replied ≤ l.framer.offset;
+  len : vec_len l.seats ≡ vec_len l.fn.seats;
+  are_open : AreOpen g.L.Log.is_open l.seats.items;
+  source_calm : g.S.Source.fault_count l.input ≡ g.S.Source.fault_count l.fn.input;
+  sink_calm : g.K.Sink.fault_count l.out ≡ g.K.Sink.fault_count l.fn.out;
+  disks_calm : faults_of g.L.Log.fault_count l.seats.items ≡ faults_of g.L.Log.fault_count l.fn.seats.items;
+  places : places_of g.L.Log.place l.seats.items ≡ places_of g.L.Log.place l.fn.seats.items;
+  went : AreAskedAsRead g.N.Node.asks → (routers : ℕ) → 0 < routers
+      → Serving (seat_view g.N.Node.state g.L.Log.tells g.L.Log.records g.L.Log.holds) l.fn.seats.items (post_view (λ m. g.N.Mail.Mail.letter m) l.fn.post)
+      (g.C.Clock.gives l.clock) routers g.K.Sink.tells (g.K.Sink.held l.fn.out) (g.K.Sink.held l.fn.out) [] 0
+      → (consumed : List ℕ) × (length consumed + length l.framer.bytes ≡ l.taken)
+      × Took g.S.Source.tells (g.S.Source.left l.fn.input) (consumed ++ l.framer.bytes) (g.S.Source.left l.input)
+      × Serving (seat_view g.N.Node.state g.L.Log.tells g.L.Log.records g.L.Log.holds) l.seats.items (post_view (λ m. g.N.Mail.Mail.letter m) l.post)
+      (g.C.Clock.gives l.clock) routers g.K.Sink.tells (g.K.Sink.held l.fn.out) (g.K.Sink.held l.out) consumed l.replied;
+}

@@ -1,0 +1,44 @@
+use Rattle.std.proofs.Common.{◌≡◌, ◌∙◌, refl, sym, ap, Bool, ℤ, w32, to_z, of_z}
+use Rattle.std.specs.Prelude.{vec_len}
+use Rattle.driver_steps.specs.Seats.{seat_view}
+use Rattle.driver_steps.proofs.Seats.{held_len}
+use Rattle.driver_steps.specs.Worlds.{puts_given}
+use Rattle.pipe_driver.specs.Rounds.{replies_after}
+use Rattle.pipe_driver.specs.Stops.{at_write_fault}
+use Rattle.pipe_driver.proofs.Rounds.{number_is}
+use Rattle.pipe_driver.proofs.Serving.{cut_in_round, no_other, put_short, served_one, stops_by}
+use Rattle.pipe_driver.proofs.requests.answer_one.Goals as goal
+
+pub returns-in-Err-clause-served : goal.returns-in-Err-clause-served
+returns-in-Err-clause-served g c asks q is reads routers some held_before consumed s =
+    let as_many = c.args.seats.now.ok.0
+    ∙ held_len (seat_view g.N.Node.state g.L.Log.tells g.L.Log.records g.L.Log.holds) c.args.seats.now.items s.world.nodes s.stands.nodes in
+    stops_by (seat_view g.N.Node.state g.L.Log.tells g.L.Log.records g.L.Log.holds) _ _ routers _ held_before _ _ c.in-Err.e _ c.of.ensures
+    (cut_in_round (seat_view g.N.Node.state g.L.Log.tells g.L.Log.records g.L.Log.holds) _ _ _ (g.C.Clock.gives c.args.clock.now) routers _ held_before _
+    consumed
+    c.args.replied s c.now-moment.result (to_z w32 (of_z w32 c.next_number-number.result)) (g.N.Node.asks c.args.request) q c.now-moment.ensures
+    (number_is c.next_number-number.result c.args.replied c.next_number-number.ensures) (asks c.args.request q is) reads (vec_len c.args.seats.now) _ c.in-Err.e
+    as_many (c.in-Err.ensures.stopped routers s.rounds s.events s.world s.next (puts_given s.world.answered) some s.pipes s.stands))
+
+pub returns-in-Ok-put_replies-clause-served : goal.returns-in-Ok-put_replies-clause-served
+returns-in-Ok-put_replies-clause-served g c asks q is reads routers some held_before consumed s =
+    let h = c.in-Ok.ensures.served routers s.rounds s.events s.world s.next (puts_given s.world.answered) some s.pipes s.stands in
+    served_one (seat_view g.N.Node.state g.L.Log.tells g.L.Log.records g.L.Log.holds) _ _ _ (g.C.Clock.gives c.args.clock.now) routers _ held_before _ consumed
+    c.args.replied s c.now-moment.result (to_z w32 (of_z w32 c.next_number-number.result)) (g.N.Node.asks c.args.request) q c.now-moment.ensures
+    (number_is c.next_number-number.result c.args.replied c.next_number-number.ensures) (asks c.args.request q is) reads
+    (λ m. g.N.Mail.Mail.letter m) c.serve_round.new.post c.hand_on-replies.new.self h c.hand_on-replies.ensures.waiting c.hand_on-replies.ensures.none _ _
+    (rw (c.deref.ensures.value, c.hand_on-replies.ensures.replies) at c.in-Ok-put_replies.ensures.put)
+    (c.replied_after.ensures ∙ ap (λ (b : Bool). replies_after b c.args.replied) (sym is.more))
+
+pub returns-clause-served : goal.returns-clause-served
+returns-clause-served g c asks q is reads routers some held_before consumed s =
+    let h = c.in-Ok.ensures.served routers s.rounds s.events s.world s.next (puts_given s.world.answered) some s.pipes s.stands in
+    at_write_fault (put_short (seat_view g.N.Node.state g.L.Log.tells g.L.Log.records g.L.Log.holds) _ _ _ (g.C.Clock.gives c.args.clock.now) routers _
+    held_before _
+    consumed c.args.replied s c.now-moment.result (to_z w32 (of_z w32 c.next_number-number.result)) (g.N.Node.asks c.args.request) q c.now-moment.ensures
+    (number_is c.next_number-number.result c.args.replied c.next_number-number.ensures) (asks c.args.request q is) reads
+    (λ m. g.N.Mail.Mail.letter m) c.serve_round.new.post c.hand_on-replies.new.self h c.hand_on-replies.ensures.waiting c.hand_on-replies.ensures.none _
+    (rw (c.deref.ensures.value, c.hand_on-replies.ensures.replies) at c.in-Err-put_replies.ensures.prefix))
+
+pub returns-in-Err-clause-open_err : goal.returns-in-Err-clause-open_err
+returns-in-Err-clause-open_err g c = λ disk memory. absurd (no_other c.in-Err.e _ c.of.ensures disk memory)

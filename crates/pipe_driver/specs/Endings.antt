@@ -1,0 +1,94 @@
+-- How a connection ended: the bytes taken are requests and a rest, the bytes put are the replies of a run of the schedule, and the status has
+-- its cause.
+use Rattle.std.specs.Prelude.{◌≡◌, ℕ, ◌<◌, ◌≤◌, ◌^◌, IsTrue, Option, None, IsSome, List, [], ◌∷◌, ◌++◌, length}
+use Rattle.outside.specs.Devices.{SourceCall, SinkCall, SourceGave, SinkTook}
+use Rattle.opmsg_frames.specs.Outline.{FrameFault}
+use Rattle.opmsg_frames.specs.Frames.{Frames}
+use Rattle.node_model.specs.Requests.{Request}
+use Rattle.node_model.specs.World.{Held, World, Event}
+use Rattle.node_model.specs.Schedule.{Round, IsRound, Pipes}
+use Rattle.node_progress.specs.Answered.{AreAnswered}
+use Rattle.driver_steps.specs.Worlds.{puts_given}
+use Rattle.pipe_driver.specs.Pieces.{IsPrefix}
+use Rattle.pipe_driver.specs.Rounds.{requests_of, AreOfOne, bytes_of}
+use Rattle.pipe_driver.specs.Schedules.{Came}
+use Rattle.pipe_driver.specs.declared.status.Status.{Status}
+use Rattle.pipe_driver.specs.declared.status.Status.TheVariants as statuses
+
+-- how many bytes are taken of one input at most
+abbrev pub most_taken : ℕ
+most_taken = 2 ^ 40
+
+-- each request had its round, every one is answered, and all replies were put, and nothing else
+pub record AllServed (routers : ℕ) (put : List ℕ) (requests : List Request) (rounds : List Round) (end : World) : Type 0 where
+  pub events : List Event
+  pub next : ℕ
+  pub asked : requests ≡ requests_of rounds
+  pub served : Pipes routers rounds events end next
+  pub answered : AreAnswered end
+  pub replied : put ≡ bytes_of (puts_given end.answered)
+
+-- The first requests had their rounds, and all replies of these were put, and nothing else. One request more may be under way.
+pub record SomeServed (routers : ℕ) (gives : ℕ → Type 0) (put : List ℕ) (requests : List Request) (rounds : List Round) (end : World) : Type 0 where
+  pub under_way : List Request
+  pub others : List Request
+  pub whole : World
+  pub asked : requests ≡ (requests_of rounds ++ under_way) ++ others
+  pub came : Came routers gives rounds under_way whole end
+  pub replied : put ≡ bytes_of (puts_given whole.answered)
+
+-- The first requests had their rounds, all replies but those of the last round were put, and a prefix of these.
+pub record LastCutShort (routers : ℕ) (put : List ℕ) (requests : List Request) (rounds : List Round) (end : World) : Type 0 where
+  pub earlier : List Round
+  pub last : Round
+  pub before : World
+  pub events : List Event
+  pub more : List Event
+  pub next : ℕ
+  pub others : List Request
+  pub all : rounds ≡ earlier ++ last ∷ []
+  pub asked : requests ≡ requests_of rounds ++ others
+  pub served : Pipes routers earlier events before next
+  pub round : IsRound before next last more end
+  pub earlier_put : IsPrefix (bytes_of (puts_given before.answered)) put
+  pub in_part : IsPrefix put (bytes_of (puts_given end.answered))
+
+-- The causes of a status. `fault` is that of the bytes behind the requests, if there is one, with its offset, and `at_end` whether the input is
+-- at its end.
+pub data Cause (limit : ℕ) (at_end : Type 0) (taken : List ℕ) (fault : Option (FrameFault × ℕ)) (all : Type 0) (some : Type 0) (short : Type 0) : Status
+    → Type 0 where
+  -- the input was read to its end
+  input_ended : at_end → length taken < limit → fault ≡ None → all → Cause limit at_end taken fault all some short statuses.InputEnded
+  -- a read failed
+  read_failed : length taken < limit → fault ≡ None → all → Cause limit at_end taken fault all some short statuses.ReadFailed
+  -- a write failed
+  write_failed : short → Cause limit at_end taken fault all some short statuses.WriteFailed
+  -- a disk failed
+  disk_failed : some → Cause limit at_end taken fault all some short statuses.DiskFailed
+  -- there was no memory
+  no_memory : some → Cause limit at_end taken fault all some short statuses.OutOfMemory
+  -- the next bytes are no request
+  no_request : IsSome fault → all → Cause limit at_end taken fault all some short statuses.BadInput
+  -- as many bytes were taken as may be
+  too_long : length taken ≡ limit → fault ≡ None → all → Cause limit at_end taken fault all some short statuses.InputTooLong
+
+-- One connection was served by the schedule, from empty journals: these bytes were taken and put, and these rounds led to this world. `kept`
+-- says of the nodes of that world that the journals keep what they keep.
+pub record IsPiped (source : SourceCall) (sink : SinkCall) (gives : ℕ → Type 0) (kept : List Held → Type 0) (routers limit : ℕ) (status : Status)
+    (rest : ℕ) : Type 0 where
+  pub taken : List ℕ
+  pub put : List ℕ
+  pub requests : List Request
+  pub left : List ℕ
+  pub fault : Option (FrameFault × ℕ)
+  pub rounds : List Round
+  pub end : World
+  pub took : SourceGave source taken
+  pub put_all : SinkTook sink put
+  pub frames : Frames taken requests left fault
+  pub rest_left : rest ≡ length left
+  pub most : length taken ≤ limit
+  pub one : AreOfOne gives rounds
+  pub cause : Cause limit (IsTrue source.tells → source.left_after ≡ []) taken fault (AllServed routers put requests rounds end)
+      (SomeServed routers gives put requests rounds end) (LastCutShort routers put requests rounds end) status
+  pub files : kept end.nodes

@@ -1,0 +1,14 @@
+pub mod Buffers
+pub mod Counts
+pub mod Rest
+pub mod Rounds
+pub mod Pieces
+pub mod Schedules
+pub mod Endings
+pub mod Progress
+pub mod Stops
+pub use Rattle.driver_steps.specs.Seats
+pub use Rattle.driver_steps.specs.Worlds
+pub use Rattle.node_model.specs.Schedule
+pub use Rattle.node_model.specs.World
+pub use Rattle.outside.specs.Devices

@@ -1,0 +1,70 @@
+-- How far a connection has come.
+use Rattle.std.specs.Prelude.{◌≡◌, ℕ, ◌+◌, Bool, List, [], ◌∷◌, ◌++◌, length}
+use Rattle.std.specs.List.{flat_map, AllByRecursion}
+use Rattle.outside.specs.Streams.{Put}
+use Rattle.opmsg_frames.specs.Requests.{Request, IsRequest}
+use Rattle.opmsg_frames.specs.RequestMeanings.{IsMeant}
+use Rattle.opmsg_frames.specs.declared.request.Request as frames
+use Rattle.node_model.specs.World.{World, Event}
+use Rattle.node_model.specs.Schedule.{Round, IsRound, Pipes}
+use Rattle.driver_steps.specs.Seats.{SeatView, AreKept}
+use Rattle.driver_steps.specs.Worlds.{PostView, StandsFor, puts_given}
+use Rattle.pipe_driver.specs.Pieces.{IsPrefix}
+use Rattle.pipe_driver.specs.Rounds.{requests_of, replies_behind, AreOfOne, bytes_of}
+use Rattle.pipe_driver.specs.Schedules.{Came}
+
+-- the nodes take the requests as they are read
+abbrev pub AreAskedAsRead : (frames.Request → Request) → Type 0
+AreAskedAsRead asks = (request : frames.Request) (meant : Request) → IsMeant request meant → asks request ≡ meant
+
+-- the bytes are these requests, one after another
+pub record AreAsked (bytes : List ℕ) (requests : List Request) : Type 0 where
+  pub all : bytes ≡ flat_map (λ (r : Request). r.bytes) requests
+  pub each : AllByRecursion IsRequest requests
+
+-- These bytes were served, in whole rounds: nodes, logs and messages are those of the world behind them, and all replies were put.
+pub record Serving {S : Type 0} (view : S → SeatView) (seats : List S) (post : PostView) (gives : ℕ → Type 0) (routers : ℕ) (tells : Bool)
+    (held_before held consumed : List ℕ) (replied : ℕ) : Type 0 where
+  pub rounds : List Round
+  pub events : List Event
+  pub world : World
+  pub next : ℕ
+  pub pipes : Pipes routers rounds events world next
+  pub one : AreOfOne gives rounds
+  pub stands : StandsFor view seats post (puts_given world.answered) world next
+  pub put : Put tells held_before (bytes_of (puts_given world.answered)) held
+  pub asked : AreAsked consumed (requests_of rounds)
+  pub count : replied ≡ replies_behind 0 (requests_of rounds)
+
+-- These bytes were served, the last request of them maybe in part: all replies of whole rounds were put.
+pub record CutShort {S : Type 0} (view : S → SeatView) (seats : List S) (gives : ℕ → Type 0) (routers : ℕ) (tells : Bool)
+    (held_before held consumed : List ℕ) : Type 0 where
+  pub rounds : List Round
+  pub under_way : List Request
+  pub whole : World
+  pub end : World
+  pub came : Came routers gives rounds under_way whole end
+  pub one : AreOfOne gives rounds
+  pub put : Put tells held_before (bytes_of (puts_given whole.answered)) held
+  pub asked : AreAsked consumed (requests_of rounds ++ under_way)
+  pub kept : AreKept view seats end.nodes
+
+-- These bytes were served, in whole rounds: of the replies of the last one a prefix was put, and all others.
+pub record PutShort {S : Type 0} (view : S → SeatView) (seats : List S) (gives : ℕ → Type 0) (routers : ℕ) (tells : Bool)
+    (held_before held consumed : List ℕ) : Type 0 where
+  pub earlier : List Round
+  pub last : Round
+  pub events : List Event
+  pub more : List Event
+  pub before : World
+  pub end : World
+  pub next : ℕ
+  pub served : Pipes routers earlier events before next
+  pub round : IsRound before next last more end
+  pub one : AreOfOne gives (earlier ++ last ∷ [])
+  pub part : List ℕ
+  pub earlier_put : IsPrefix (bytes_of (puts_given before.answered)) part
+  pub in_part : IsPrefix part (bytes_of (puts_given end.answered))
+  pub put : Put tells held_before part held
+  pub asked : AreAsked consumed (requests_of (earlier ++ last ∷ []))
+  pub kept : AreKept view seats end.nodes

@@ -1,0 +1,42 @@
+-- How far the schedule of one connection came (own).
+use Rattle.std.specs.Prelude.{◌≡◌, ℕ, ℤ, List, [], ◌∷◌, ◌++◌, length}
+use Rattle.std.specs.List.{AllByRecursion}
+use Rattle.node_model.specs.Requests.{Request}
+use Rattle.node_model.specs.World.{World, Event, client_event, Run, start}
+use Rattle.node_model.specs.Schedule.{openings, moments_given, Round, IsRound, Pipes}
+use Rattle.node_traits.specs.declared.outputs.ToLink.{ToLink}
+use Rattle.driver_steps.specs.Seats.{SeatView}
+use Rattle.driver_steps.specs.Worlds.{PostView, StandsFor}
+use Rattle.driver_steps.specs.Moves.{BeginWith, AreDeliveries}
+use Rattle.pipe_driver.specs.Rounds.{first_router, first_link, number_behind, replies_behind, requests_of}
+
+-- a round of the first router and link
+abbrev pub round_of : (moment : ℕ) → ℤ → Request → Round
+round_of moment number request = record { moment = moment; at = first_router; link = first_link; number = number; request = request }
+
+-- The events of a round that was cut short: the first of its moments; or all of these, the request and deliveries.
+pub data IsPart (count : ℕ) (r : Round) : List Event → Type 0 where
+  in_moments : (events : List Event) → BeginWith events (moments_given 0 count r.moment) → IsPart count r events
+  in_deliveries : (deliveries : List Event) → AreDeliveries deliveries
+      → IsPart count r (moments_given 0 count r.moment ++ client_event r.at r.link r.number r.request ∷ deliveries)
+
+-- The round happened: nodes and logs, messages and replies are those of the world behind it.
+pub record HasServed {S : Type 0} (view : S → SeatView) (seats : List S) (post : PostView) (handed : List ToLink) (before : World) (next : ℕ)
+    (r : Round) : Type 0 where
+  pub events : List Event
+  pub end : World
+  pub round : IsRound before next r events end
+  pub stands : StandsFor view seats post handed end (length end.sent)
+
+-- The schedule came to an end of rounds, to the world behind them (`whole`), and then to the last one (`end`), with no request under way, or with one.
+pub data Came (routers : ℕ) (gives : ℕ → Type 0) : (rounds : List Round) → (under_way : List Request) → (whole end : World) → Type 0 where
+  -- with the last round
+  came_whole : (rounds : List Round) (events : List Event) (w : World) (next : ℕ) → Pipes routers rounds events w next → Came routers gives rounds [] w w
+  -- within the openings
+  came_opening : (events : List Event) (w : World) → BeginWith events (openings 0 (length (start routers).nodes)) → Run (start routers) events w
+      → Came routers gives [] [] (start routers) w
+  -- within a round, at a moment of the clock
+  came_part : (rounds : List Round) (before events : List Event) (u w : World) (next moment : ℕ) (request : Request) → Pipes routers rounds before u next
+      → gives moment
+      → IsPart (length u.nodes) (round_of moment (number_behind (replies_behind 0 (requests_of rounds))) request) events → Run u events w
+      → Came routers gives rounds (request ∷ []) u w

@@ -1,0 +1,150 @@
+//! One connection, from its first byte to its last.
+
+ghost use Rattle.std.specs.Prelude.{◌≡◌, ◌≢◌, ℕ, ◌<◌, ◌≤◌, [], vec_len};
+ghost use Rattle.outside.specs.Devices.{sink_call, source_call};
+ghost use Rattle.node_model.specs.World.{start};
+ghost use Rattle.driver_steps.specs.Seats.{AreHeld, AreKept, AreOpen, faults_of, places_of, seat_view};
+ghost use Rattle.driver_steps.specs.Worlds.{post_view};
+ghost use Rattle.pipe_driver.specs.Counts.{OneRoseWhere, RoseWhere};
+ghost use Rattle.pipe_driver.specs.Endings.{IsPiped, most_taken};
+ghost use Rattle.pipe_driver.specs.Progress.{AreAskedAsRead, Serving};
+ghost use Rattle.pipe_driver.specs.Rounds.{first_router};
+ghost use Rattle.pipe_driver.specs.declared.status.Status.TheVariants as statuses;
+
+use crate::requests::answer_all;
+use crate::rest::unframed;
+use crate::status::Status;
+use crate::streams::take_more;
+use driver_steps::{Post, Seat, open_all};
+use node_traits::Node;
+use opmsg_frames::{Framer, Request};
+use outside::clock::Clock;
+use outside::log::Log;
+use outside::streams::{Sink, Source};
+use std::alloc::Global;
+use std::marker::Sync;
+use std::thread::Threads;
+
+/// The most bytes that are asked of a source at once.
+const PIECE: u64 = 65_536;
+
+/// How a connection ended: its status, and how many of the bytes taken stand after the last whole request.
+#[derive(Clone, Copy, Debug, PartialEq, Eq)]
+pub struct Ending {
+    pub status: Status,
+    pub rest: u64,
+}
+
+fn ended(status: Status, rest: usize) -> Ending
+    ensures status { result.status ≡ status }
+    ensures rest { result.rest ≡ rest }
+{
+    Ending {
+        status,
+        rest: rest as u64,
+    }
+}
+
+/// Serves one connection from `input` to `out`, in which at most `limit` bytes are taken, by the nodes in order of their numbers, whose logs
+/// are open and empty at the start. All nodes are opened; then each whole request is served in a round of its own, at one moment of the clock,
+/// before more is taken, and what the round gives is put.
+///
+/// The status is `DiskFailed` where the disk of a log failed: the logs must be opened again. It is `OutOfMemory` also where a node is at its
+/// last step.
+pub fn pipe<R: Threads + Sync, N: Node<Request = Request>, L: Log, S: Source, K: Sink, C: Clock>(
+    rt: &R,
+    alloc: Global,
+    input: &mut S,
+    out: &mut K,
+    seats: &mut Vec<Seat<N, L>>,
+    clock: &C,
+    limit: u64,
+) -> Ending
+    requires at { first_router < vec_len seats.old }
+    requires open { AreOpen L.is_open seats.old.items }
+    requires limit { limit ≤ most_taken }
+    ensures piped { AreAskedAsRead N.asks → (routers : ℕ) → 0 < routers →
+        AreHeld (seat_view N.state L.tells L.records L.holds) seats.old.items (start routers).nodes →
+        IsPiped (source_call S.tells S.left S.fault_count input.old input.new) (sink_call K.tells K.held K.fault_count out.old out.new)
+        (C.gives clock.now) (AreKept (seat_view N.state L.tells L.records L.holds) seats.new.items) routers limit result.status result.rest }
+
+    // But where a disk failed or memory ended, records can be appended to each log.
+    ensures open { result.status ≢ statuses.DiskFailed → result.status ≢ statuses.OutOfMemory → AreOpen L.is_open seats.new.items }
+    ensures len { vec_len seats.new ≡ vec_len seats.old }
+
+    // Each fault of a device has its own status.
+    ensures read_fault { RoseWhere (result.status ≡ statuses.ReadFailed) (S.fault_count input.old) (S.fault_count input.new) }
+    ensures write_fault { RoseWhere (result.status ≡ statuses.WriteFailed) (K.fault_count out.old) (K.fault_count out.new) }
+    ensures disk_fault { OneRoseWhere (result.status ≡ statuses.DiskFailed) (faults_of L.fault_count seats.old.items)
+        (faults_of L.fault_count seats.new.items) }
+    ensures places { places_of L.place seats.new.items ≡ places_of L.place seats.old.items }
+{
+    let mut post = Post::new(alloc);
+    match open_all(seats, &mut post) {
+        Ok(()) => serve(rt, alloc, input, out, seats, post, clock, limit),
+        Err(e) => ended(Status::of(e), 0),
+    }
+}
+
+/// Serves one connection by nodes that were opened.
+fn serve<R: Threads + Sync, N: Node<Request = Request>, L: Log, S: Source, K: Sink, C: Clock>(
+    rt: &R,
+    alloc: Global,
+    input: &mut S,
+    out: &mut K,
+    seats: &mut Vec<Seat<N, L>>,
+    post: Post<N::Mail>,
+    clock: &C,
+    limit: u64,
+) -> Ending
+    requires at { first_router < vec_len seats.old }
+    requires open { AreOpen L.is_open seats.old.items }
+    requires limit { limit ≤ most_taken }
+    ensures piped { AreAskedAsRead N.asks → (routers : ℕ) → 0 < routers →
+        Serving (seat_view N.state L.tells L.records L.holds) seats.old.items (post_view (λ m. N.Mail.letter m) post)
+        (C.gives clock.now) routers K.tells (K.held out.old) (K.held out.old) [] 0 →
+        IsPiped (source_call S.tells S.left S.fault_count input.old input.new) (sink_call K.tells K.held K.fault_count out.old out.new)
+        (C.gives clock.now) (AreKept (seat_view N.state L.tells L.records L.holds) seats.new.items) routers limit result.status result.rest }
+    ensures open { result.status ≢ statuses.DiskFailed → result.status ≢ statuses.OutOfMemory → AreOpen L.is_open seats.new.items }
+    ensures len { vec_len seats.new ≡ vec_len seats.old }
+    ensures read_fault { RoseWhere (result.status ≡ statuses.ReadFailed) (S.fault_count input.old) (S.fault_count input.new) }
+    ensures write_fault { RoseWhere (result.status ≡ statuses.WriteFailed) (K.fault_count out.old) (K.fault_count out.new) }
+    ensures disk_fault { OneRoseWhere (result.status ≡ statuses.DiskFailed) (faults_of L.fault_count seats.old.items)
+        (faults_of L.fault_count seats.new.items) }
+    ensures places { places_of L.place seats.new.items ≡ places_of L.place seats.old.items }
+{
+    let mut post = post;
+    let mut framer = Framer::new(alloc);
+    let mut piece = Vec::new(alloc);
+    let mut taken = 0;
+    let mut replied = 0;
+    'pieces: while taken < limit {
+        let room = (limit - taken).min(PIECE) as usize;
+        // Room is made before anything is taken, so that all that was taken is fed.
+        if framer.reserve(room).is_err() {
+            return ended(Status::OutOfMemory, framer.rest().len());
+        }
+        piece.clear();
+        match take_more(input, &mut piece, room) {
+            Ok(count) => taken += count as u64,
+            Err(status) => return ended(status, framer.rest().len()),
+        }
+        let Ok(()) = framer.feed(&piece) else {
+            return ended(Status::OutOfMemory, framer.rest().len());
+        };
+        match answer_all(
+            rt,
+            alloc,
+            &mut framer,
+            seats,
+            &mut post,
+            replied,
+            out,
+            clock,
+        ) {
+            Ok(after) => replied = after,
+            Err(status) => return ended(status, unframed(framer.rest())),
+        }
+    }
+    ended(Status::InputTooLong, framer.rest().len())
+}

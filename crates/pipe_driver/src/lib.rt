@@ -1,0 +1,13 @@
+//! One connection of a cluster on one thread: its requests are served by the nodes, one after another.
+#![tactic(auto)]
+
+mod connection;
+mod replies;
+mod requests;
+mod rest;
+mod round;
+mod status;
+mod streams;
+
+pub use connection::{Ending, pipe};
+pub use status::Status;

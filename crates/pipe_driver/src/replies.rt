@@ -1,0 +1,44 @@
+//! Replies that are put.
+
+ghost use Rattle.std.specs.Prelude.{◌≡◌, ◌<◌, ◌≤◌, ◌^◌, OnOk, OnErr};
+ghost use Rattle.outside.specs.Causes.{Rose};
+ghost use Rattle.outside.specs.Streams.{Put};
+ghost use Rattle.pipe_driver.specs.Pieces.{PutInPart};
+ghost use Rattle.pipe_driver.specs.Rounds.{bytes_of, number_behind, replies_after};
+
+use crate::streams::put_all;
+use node_traits::ToLink;
+use outside::streams::{Failed, Sink};
+
+/// Puts replies, one after another. Fails where the sink does, after a prefix of their bytes.
+pub fn put_replies<K: Sink>(out: &mut K, replies: &[ToLink]) -> Result<(), Failed>
+    ensures put { OnOk result (Put K.tells (K.held out.old) (bytes_of replies.now) (K.held out.new)) }
+    ensures prefix { OnErr result (PutInPart K.tells (K.held out.old) (bytes_of replies.now) (K.held out.new)) }
+    ensures cause { OnErr result (Rose (K.fault_count out.old) (K.fault_count out.new)) }
+    ensures calm { OnOk result (K.fault_count out.new ≡ K.fault_count out.old) }
+    ensures later { K.fault_count out.old ≤ K.fault_count out.new }
+{
+    'replies: for reply in replies {
+        match put_all(out, reply.bytes.as_slice()) {
+            Ok(()) => {}
+            Err(e) => return Err(e),
+        }
+    }
+    Ok(())
+}
+
+/// How many replies there are behind one more request, of which `more` says whether it has moreToCome.
+pub fn replied_after(more: bool, replied: u64) -> u64
+    requires { replied < 2 ^ 63 }
+    ensures { result ≡ replies_after more replied }
+{
+    if more { replied } else { replied + 1 }
+}
+
+/// The number of the next reply, where so many were put; the first one has 1.
+pub fn next_number(replied: u64) -> i32
+    requires { replied < 2 ^ 63 }
+    ensures { result ≡ number_behind replied }
+{
+    ((replied + 1) % (1 << 31)) as i32
+}

@@ -1,0 +1,71 @@
+//! One round of the schedule.
+
+ghost use Rattle.std.specs.Prelude.{◌≡◌, ℕ, ◌<◌, List, vec_len, IfErr, OnOk};
+ghost use Rattle.node_model.specs.Schedule.{Pipes, Round};
+ghost use Rattle.node_model.specs.World.{Event, World};
+ghost use Rattle.node_traits.specs.declared.outputs.ToLink.{ToLink};
+ghost use Rattle.driver_steps.specs.Seats.{AreOpen, TellsFaults, faults_of, places_of, seat_view};
+ghost use Rattle.driver_steps.specs.Moves.{HasStopped};
+ghost use Rattle.driver_steps.specs.Worlds.{StandsFor, post_view};
+ghost use Rattle.pipe_driver.specs.Rounds.{first_router};
+ghost use Rattle.pipe_driver.specs.Schedules.{HasServed, IsPart, round_of};
+
+use driver_steps::{Post, Seat, ask, give_moments, settle};
+use node_traits::{Node, StepFault};
+use outside::log::Log;
+use std::alloc::Global;
+use std::marker::Sync;
+use std::thread::Threads;
+
+/// The number of the router that the connection goes to.
+const FIRST_ROUTER: usize = 2;
+
+/// The number of its link.
+const FIRST_LINK: u32 = 0;
+
+/// A round: all nodes are given the moment, in milliseconds since 1970, the router takes the request, whose reply has this number, and all
+/// messages are delivered. The replies wait to be handed on.
+///
+/// # Errors
+/// The first fault of a step, as driver_steps has it.
+pub fn serve_round<R: Threads + Sync, N: Node, L: Log>(
+    rt: &R,
+    alloc: Global,
+    seats: &mut Vec<Seat<N, L>>,
+    post: &mut Post<N::Mail>,
+    moment: u64,
+    number: i32,
+    request: N::Request,
+) -> Result<(), StepFault>
+    requires at { first_router < vec_len seats.old }
+    requires open { AreOpen L.is_open seats.old.items }
+    ensures served { (routers : ℕ) (rounds : List Round) (events : List Event) (w : World) (next : ℕ) (handed : List ToLink) →
+        0 < routers → Pipes routers rounds events w next →
+        StandsFor (seat_view N.state L.tells L.records L.holds) seats.old.items (post_view (λ m. N.Mail.letter m) post.old) handed w next →
+        OnOk result (HasServed (seat_view N.state L.tells L.records L.holds) seats.new.items (post_view (λ m. N.Mail.letter m) post.new) handed w next
+        (round_of moment number (N.asks request))) }
+    ensures stopped { (routers : ℕ) (rounds : List Round) (events : List Event) (w : World) (next : ℕ) (handed : List ToLink) →
+        0 < routers → Pipes routers rounds events w next →
+        StandsFor (seat_view N.state L.tells L.records L.holds) seats.old.items (post_view (λ m. N.Mail.letter m) post.old) handed w next →
+        IfErr result (λ e. HasStopped (seat_view N.state L.tells L.records L.holds) seats.new.items post.new.replies.items handed w
+        (IsPart (vec_len seats.old) (round_of moment number (N.asks request))) e) }
+    ensures len { vec_len seats.new ≡ vec_len seats.old }
+    ensures open { OnOk result (AreOpen L.is_open seats.new.items) }
+
+    // Of the logs' disks.
+    ensures faults { TellsFaults result (faults_of L.fault_count seats.old.items) (faults_of L.fault_count seats.new.items) }
+    ensures places { places_of L.place seats.new.items ≡ places_of L.place seats.old.items }
+{
+    match give_moments(seats, post, moment) {
+        Ok(()) => {}
+        Err(e) => return Err(e),
+    }
+    match ask(seats, post, FIRST_ROUTER, FIRST_LINK, number, request) {
+        Ok(()) => {}
+        Err(e) => return Err(e),
+    }
+    match settle(rt, alloc, seats, post) {
+        Ok(()) => Ok(()),
+        Err(e) => Err(e),
+    }
+}

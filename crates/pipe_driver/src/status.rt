@@ -1,0 +1,38 @@
+//! The statuses that a connection ends with.
+
+ghost use Rattle.std.specs.Prelude.{◌≡◌};
+ghost use Rattle.pipe_driver.specs.Stops.{status_for};
+
+use node_traits::StepFault;
+
+/// How a connection ended, by its cause.
+#[derive(Clone, Copy, Debug, PartialEq, Eq)]
+pub enum Status {
+    /// The input was read to its end.
+    InputEnded,
+    /// A read failed.
+    ReadFailed,
+    /// A write failed.
+    WriteFailed,
+    /// A call of a disk failed.
+    DiskFailed,
+    /// There was no memory, or a node was at its last step.
+    OutOfMemory,
+    /// The next bytes are no request.
+    BadInput,
+    /// As many bytes were taken as may be, and the end was not met.
+    InputTooLong,
+}
+
+impl Status {
+    /// The status of a fault of a step.
+    pub(crate) fn of(fault: StepFault) -> Status
+        ensures { result ≡ status_for fault }
+    {
+        match fault {
+            StepFault::Disk { .. } => Status::DiskFailed,
+            StepFault::Steps => Status::OutOfMemory,
+            StepFault::Memory => Status::OutOfMemory,
+        }
+    }
+}

@@ -1,0 +1,94 @@
+-- The record of an entry that is served.
+use Rattle.std.proofs.Common.{◌≡◌, ◌≢◌, ◌+◌, ℕ, List, [], ◌∷◌, ◌++◌, refl, sym, ap, subst, ◌∙◌, arith}
+use Rattle.std.specs.Prelude.{Option, Some, None, pos}
+use Rattle.bson_values.specs.Tree.{Fields}
+use Rattle.cluster_base.specs.declared.identity.Stmt.{Stmt}
+use Rattle.value_compare.specs.declared.words.Reply.{Reply}
+use Rattle.node_model.specs.Outcomes.{Done, done_of}
+use Rattle.node_model.specs.History as history
+use Rattle.node_model.specs.Serving.{entry_for}
+use Rattle.node_traits.specs.History.{StatementNumber, insert_operation, Entry}
+use Rattle.node_traits.specs.Letters.{Statement}
+use Rattle.shard_records.specs.Meanings as words
+use Rattle.shard_records.specs.Records.{Record, OutcomeWords, entry_record, outcome_words, record_of}
+use Rattle.shard_records.specs.Spelled.{spelled, IsSound}
+use Rattle.shard_store.specs.Outcomes.{outcome_meant, reply_meant, done_meant}
+use Rattle.shard_store.specs.Plans.{IsServed, served_again, served_new, left_for_later, made_by}
+use Rattle.shard_store.specs.declared.plan.Plan.{Plan}
+use Rattle.shard_store.specs.declared.outcome.Outcome.{Outcome}
+use Rattle.shard_store.specs.declared.outcome.Outcome.TheVariants.{Inserted, Duplicate, TooLarge}
+use Rattle.shard_store.specs.declared.outcome.Told.{Told}
+use Rattle.cluster_base.specs.declared.identity.RequestId.{RequestId}
+use Rattle.node_traits.specs.Asked.{number_for}
+use Rattle.node_traits.specs.Lists.{listed}
+use Rattle.protocol_model.specs.Bodies.{id_meant}
+use Rattle.protocol_model.specs.Statements as protocol
+use Rattle.shard_store.specs.Outcomes.{statement_of}
+use Rattle.shard_node.specs.declared.writes.Served.{Served}
+use Rattle.shard_node.specs.Writes.{entry_record_of, AreKept, IsStep}
+
+-- a reply tells the outcome in the words of a record
+pub words_of : (o : Outcome) → words.outcome_meant (reply_meant o) ≡ outcome_words (outcome_meant o)
+words_of Inserted = refl
+words_of Duplicate = refl
+words_of TooLarge = refl
+
+module _ (shard : ℕ) (namespace : List ℕ) (entries : List Entry) (time : ℕ) (s : Statement) where
+  never_later : (t : ℕ) → t ≡ t + 1 → ⊥
+  never_later t e = omega (arith, e)
+
+  -- where no time was taken nothing was made
+  pub kept_none : (o : Option Done) (more : List Entry) (after : ℕ) → IsServed shard namespace entries time s o more after → after ≡ time → AreKept more []
+  kept_none o more after (served_again e seen) same = record { spelled = refl; sound = tt }
+  kept_none o more after (served_new unseen) same = absurd (never_later time (sym same))
+  kept_none o more after left_for_later same = record { spelled = refl; sound = tt }
+
+  -- where one was, the entry is what was told
+  pub kept_one : (o : Option Done) (more : List Entry) (after : ℕ) (index : ℕ) (told : Told) (statement : Stmt) (document : Fields) (bytes : List ℕ) →
+      IsServed shard namespace entries time s o more after → after ≢ time → o ≡ Some (done_meant index told) → words.number_meant statement ≡ s.number →
+      s.operation ≡ insert_operation document → bytes ≡ spelled 1 (entry_record_of told namespace statement document) → IsSound (entry_record_of told namespace statement document) →
+      AreKept more (bytes ∷ [])
+  kept_one o more after index told statement document bytes (served_again e seen) later is number operation spells sound = absurd (later refl)
+  kept_one o more after index told statement document bytes left_for_later later is number operation spells sound = absurd (later refl)
+  kept_one o more after index told statement document bytes (served_new unseen) later is number operation spells sound =
+      let e = entry_for entries (time + 1) shard namespace s in
+      let same : done_of e ≡ done_meant index told = cc in
+      let r : record_of e ≡ entry_record_of told namespace statement document =
+      λ i. entry_record (record {
+        time = (same i).time;
+        namespace = namespace;
+        number = sym number i;
+        operation = operation i;
+        outcome = outcome_words (same i).outcome;
+      }) in
+      record {
+        spelled = ap (λ (b : List ℕ). b ∷ []) (spells ∙ ap (λ (x : Record). spelled 1 x) (sym r));
+        sound = (subst (λ (x : Record). IsSound x) (sym r) sound, tt);
+      }
+
+-- the number of a statement whose client numbered none
+own_number : (id : RequestId) (index : ℕ) (statement : Stmt) → statement ≡ statement_of id index → words.number_meant statement ≡ number_for (id_meant id) index
+own_number id index statement is = ap (λ (x : Stmt). words.number_meant x) is
+
+-- a statement that takes a time makes an entry, with its record
+pub step_new : (store shard : ℕ) (namespace : List ℕ) (entries : List Entry) (plan plan_then : Plan) (time after : ℕ) (t s : Statement) (o : Option Done) (id : RequestId) (index : ℕ)
+    (told : Told) (statement : Stmt) (document : Fields) (served : Served) (bytes : List ℕ) → store ≡ shard
+    → ((more : List Entry) × (made_by store namespace plan_then ≡ made_by store namespace plan ++ more) × IsServed store namespace (entries ++ made_by store namespace plan) time t o more after)
+    → t ≡ s → o ≡ Some (done_meant index told) → protocol.done_meant served.done ≡ done_meant index told → after ≢ time → statement ≡ statement_of id index
+    → number_for (id_meant id) index ≡ s.number → s.operation ≡ insert_operation document
+    → bytes ≡ spelled 1 (entry_record_of told namespace statement document) → IsSound (entry_record_of told namespace statement document) → served.record ≡ Some bytes
+    → IsStep shard namespace entries (made_by shard namespace plan) time s (Some served) (made_by shard namespace plan_then) after
+step_new store shard namespace entries plan plan_then time after t s o id index told statement document served bytes own served_there same is done later number numbered operation spells sound written =
+    let served_is = subst
+    (λ (n : ℕ). (more : List Entry) × (made_by n namespace plan_then ≡ made_by n namespace plan ++ more) × IsServed n namespace (entries ++ made_by n namespace plan) time t o more after)
+    own served_there in
+    let serving : IsServed shard namespace (entries ++ made_by shard namespace plan) time s o served_is.0 after =
+    subst (λ (x : Statement). IsServed shard namespace (entries ++ made_by shard namespace plan) time x o served_is.0 after) same served_is.2 in
+    record {
+      more = served_is.0;
+      grown = served_is.1;
+      served_is = subst (λ (x : Option Done). IsServed shard namespace (entries ++ made_by shard namespace plan) time s x served_is.0 after) (is ∙ ap (λ (d : Done). Some d) (sym done)) serving;
+      kept = subst (λ (x : Option (List ℕ)). AreKept served_is.0 (listed x)) (sym written)
+          (kept_one shard namespace (entries ++ made_by shard namespace plan) time s o served_is.0 after index told statement document bytes serving later is
+          (own_number id index statement number ∙ numbered) operation spells sound);
+    }

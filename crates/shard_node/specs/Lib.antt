@@ -1,0 +1,6 @@
+pub mod State
+pub mod Asks
+pub mod Plans
+pub mod Writes
+pub mod Serving
+pub mod Standings

@@ -1,0 +1,12 @@
+//! A shard: the node that keeps documents, and serves statements and reads on them.
+#![tactic(auto)]
+
+mod asks;
+mod node;
+mod plan;
+mod reads;
+mod steps;
+mod tables;
+mod writes;
+
+pub use node::ShardNode;

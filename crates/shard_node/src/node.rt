@@ -1,0 +1,104 @@
+//! The node.
+
+ghost use Rattle.std.specs.Prelude.{◌≡◌, ◌≤◌};
+ghost use Rattle.node_traits.specs.States.{new_shard, shard_state};
+ghost use Rattle.shard_store.specs.Stores.{last_of, shard_of};
+
+use cluster_base::{NodeId, Time};
+use known_tables::TableList;
+use node_traits::{Node, Outputs, StepCount, StepFault, append_records};
+use opmsg_frames::Request;
+use outside::log::Log;
+use protocol_model::{Input, Message};
+use shard_store::ShardStore;
+use std::alloc::Global;
+use std::marker::Sync;
+use std::thread::Threads;
+
+/// A shard.
+#[derive(Drop)]
+pub struct ShardNode {
+    pub(crate) alloc: Global,
+    pub(crate) me: NodeId,
+    pub(crate) steps: StepCount,
+    pub(crate) time: Time,
+    pub(crate) tables: TableList,
+    pub(crate) store: ShardStore,
+    // The asks that wait for a table, in order.
+    pub(crate) parked: Vec<Message>,
+    // No entry is later than the node.
+    ghost entered: { last_of store ≤ time.0 },
+    // The entries are its own.
+    ghost own: { shard_of store ≡ me.0 },
+}
+
+impl ShardNode {
+    ghost use Rattle.shard_node.specs.State.{state_of};
+
+    /// The shard with this number, with no record.
+    pub fn open(alloc: Global, me: NodeId) -> ShardNode
+        ensures state { state_of result ≡ shard_state (new_shard me.0) }
+        ensures steps { result.steps ≡ 0 }
+    {
+        ShardNode {
+            alloc,
+            me,
+            steps: StepCount::new(),
+            time: Time(0),
+            tables: TableList::new(alloc),
+            store: ShardStore::new(alloc, me),
+            parked: Vec::new(alloc),
+        }
+    }
+}
+
+impl Node for ShardNode {
+    ghost use Rattle.protocol_model.specs.Inputs.{input_of};
+    ghost use Rattle.protocol_model.specs.Requests.{request_of};
+    ghost use Rattle.shard_node.specs.State.{state_of};
+
+    type Input = Input;
+
+    type Mail = Message;
+
+    type Request = Request;
+
+    ghost state = { state_of };
+
+    ghost steps = { λ node. node.steps };
+
+    ghost meaning = { input_of };
+
+    ghost asks = { request_of };
+
+    fn me(&self) -> NodeId {
+        self.me
+    }
+
+    fn client(link: u32, number: i32, request: Request) -> Input {
+        Input::Client {
+            link,
+            number,
+            request,
+        }
+    }
+
+    fn moment(ms: u64) -> Input {
+        Input::Moment(ms)
+    }
+
+    fn opened() -> Input {
+        Input::Opened
+    }
+
+    fn prepare<R: Threads + Sync>(_rt: &R, _alloc: Global, mail: Message) -> Input {
+        Input::Deliver(mail)
+    }
+
+    fn step<L: Log>(&mut self, log: &mut L, input: Input) -> Result<Outputs<Message>, StepFault> {
+        self.steps.count(self.time, input.time())?;
+        let plan = self.plan(input)?;
+        append_records(log, &plan.records)?;
+        Ok(self.take(plan))
+    }
+}

@@ -1,0 +1,273 @@
+//! What an input comes to, and a step that is taken.
+
+ghost use Rattle.std.specs.Prelude.{◌≡◌, ◌≢◌, ◌≤◌, ◌<◌, [], IfOk, IfSome, None, OnOk, Some, false, filter, map, not};
+ghost use Rattle.chunk_table.specs.Tables.{table_of};
+ghost use Rattle.chunk_table.specs.Verdicts.{fits, verdict_of};
+ghost use Rattle.node_traits.specs.Effects.{StepPlanned, last_time, time_in};
+ghost use Rattle.node_traits.specs.Letters.{Letter, letter_input};
+ghost use Rattle.node_traits.specs.ShardRows.{Ask, ask_in, heard, wants_table, was_seen};
+ghost use Rattle.node_traits.specs.States.{shard_state};
+ghost use Rattle.protocol_model.specs.Bodies.{body_meant, table_told_meant};
+ghost use Rattle.protocol_model.specs.Inputs.{input_of};
+ghost use Rattle.protocol_model.specs.Messages.{letter_of};
+ghost use Rattle.shard_node.specs.Plans.{Follows, FollowsBy, HasRoomFor, IsPlanned, IsReady, IsStep, after, changed};
+ghost use Rattle.shard_node.specs.Standings.{Stands};
+ghost use Rattle.shard_node.specs.State.{shard_meant, state_of};
+ghost use Rattle.shard_node.specs.declared.steps.Standing.TheVariants.{Fits, NoAsk, RouterOld, ShardOld};
+ghost use Rattle.shard_store.specs.Stores.{entries_of, last_of};
+
+use crate::asks::{ask_in, wants_table};
+use crate::node::ShardNode;
+use crate::plan::{Change, Plan};
+use bson_values::Memory;
+use chunk_table::{Verdict, Version};
+use cluster_base::{Namespace, Time};
+use node_traits::{Outputs, ReplyList};
+use protocol_model::{Body, Input, Message, TableTold};
+
+/// How a message stands to the tables that a shard knows.
+pub(crate) enum Standing {
+    /// It asks for no documents that stand on a table.
+    NoAsk,
+    /// It was sent with the table that the shard knows.
+    Fits,
+    /// The shard's table is older than the one that it was sent with.
+    ShardOld,
+    /// The shard's table is later than that, and has met this version.
+    RouterOld(Version),
+}
+
+// Messages that wait for no table of this collection.
+fn keep_others(parked: &mut Vec<Message>, namespace: &Namespace)
+    ensures { map letter_of parked.new.items ≡ filter (λ p. not (wants_table namespace.now p)) (map letter_of parked.old.items) }
+{
+    parked.retain(|message| !wants_table(message, namespace));
+}
+
+impl ShardNode {
+    // How a message stands to the tables that the shard knows.
+    fn standing(&self, body: &Body) -> Standing
+        ensures { Stands (shard_meant self.now) result (body_meant body.now) }
+    {
+        let Some(ask) = ask_in(body) else {
+            return Standing::NoAsk;
+        };
+        match self.verdict(ask.namespace, &ask.sent) {
+            Verdict::Fits => Standing::Fits,
+            Verdict::ShardOld => Standing::ShardOld,
+            Verdict::RouterOld(met) => Standing::RouterOld(met),
+        }
+    }
+
+    // A statement that was seen before is told again on any table.
+    fn plan_again(&self, time: Time, body: &Body) -> Result<Option<Plan>, Memory>
+        requires old { (a : Ask) → ask_in (body_meant body.now) ≡ Some a → verdict_of a.sent self.now.me.0 (table_of a.namespace self.now.tables.tables) ≢ fits }
+        ensures planned { (m : Letter) → m.body ≡ body_meant body.now → time.0 ≡ heard (shard_meant self.now) m →
+            IfOk result (λ p. IfSome p (λ p. IsPlanned (shard_meant self.now) (letter_input m) p)) }
+        ensures unseen { IfOk result (λ p. p ≡ None → was_seen (body_meant body.now) (entries_of self.now.store) ≡ false) }
+        ensures follows { IfOk result (λ p. IfSome p (λ p. Follows self.now p)) }
+    {
+        match body {
+            Body::WriteAsk(ask) => self.plan_repeat(time, ask),
+            Body::ReadAsk(_)
+            | Body::TableAsk(_)
+            | Body::TableTold(_)
+            | Body::WriteDone(_)
+            | Body::HalfAsk(_)
+            | Body::ReadRows(_)
+            | Body::Stale(_)
+            | Body::TimeAsk(_)
+            | Body::TimeTold(_) => Ok(None),
+        }
+    }
+
+    // An ask that was sent with a later table than the shard knows.
+    fn plan_unknown(&self, time: Time, message: Message) -> Result<Plan, Memory>
+        requires time { time.0 ≡ heard (shard_meant self.now) (letter_of message) }
+        requires stands { Stands (shard_meant self.now) ShardOld (letter_of message).body }
+        ensures planned { IfOk result (λ p. IsPlanned (shard_meant self.now) (letter_input (letter_of message)) p) }
+        ensures follows { IfOk result (λ p. Follows self.now p) }
+    {
+        match self.plan_again(time, &message.body)? {
+            Some(plan) => Ok(plan),
+            None => self.plan_wait(time, message),
+        }
+    }
+
+    // An ask that was sent with an older table.
+    fn plan_older(&self, time: Time, message: &Message, met: Version) -> Result<Plan, Memory>
+        requires time { time.0 ≡ heard (shard_meant self.now) (letter_of message.now) }
+        requires stands { Stands (shard_meant self.now) (RouterOld met) (letter_of message.now).body }
+        ensures planned { IfOk result (λ p. IsPlanned (shard_meant self.now) (letter_input (letter_of message.now)) p) }
+        ensures follows { IfOk result (λ p. Follows self.now p) }
+    {
+        match self.plan_again(time, &message.body)? {
+            Some(plan) => Ok(plan),
+            None => Ok(self.plan_stale(time, message, met)),
+        }
+    }
+
+    // An ask of documents that was sent with the table that the shard knows.
+    fn plan_fitting(&self, time: Time, body: Body) -> Result<Plan, Memory>
+        requires early { time.0 < last_time }
+        requires later { last_of self.now.store ≤ time.0 }
+        requires stands { Stands (shard_meant self.now) Fits (body_meant body) }
+        ensures planned { (m : Letter) → m.body ≡ body_meant body → time.0 ≡ heard (shard_meant self.now) m →
+            IfOk result (λ p. IsPlanned (shard_meant self.now) (letter_input m) p) }
+        ensures follows { IfOk result (λ p. Follows self.now p) }
+    {
+        match body {
+            Body::WriteAsk(ask) => self.plan_write(time, ask),
+            Body::ReadAsk(ask) => self.plan_read(time, &ask),
+            Body::TableAsk(_)
+            | Body::TableTold(_)
+            | Body::WriteDone(_)
+            | Body::HalfAsk(_)
+            | Body::ReadRows(_)
+            | Body::Stale(_)
+            | Body::TimeAsk(_)
+            | Body::TimeTold(_) => Ok(Plan::of_time(self.alloc, time)),
+        }
+    }
+
+    // A table that is told, or none.
+    fn plan_told(&self, time: Time, told: TableTold) -> Result<Plan, Memory>
+        ensures planned { (m : Letter) → m.body ≡ table_told_meant told → time.0 ≡ heard (shard_meant self.now) m →
+            IfOk result (λ p. IsPlanned (shard_meant self.now) (letter_input m) p) }
+        ensures follows { IfOk result (λ p. Follows self.now p) }
+    {
+        let TableTold { table, .. } = told;
+        match table {
+            Some(table) => self.plan_table(time, table),
+            None => Ok(Plan::of_time(self.alloc, time)),
+        }
+    }
+
+    // A message that asks for no documents that stand on a table.
+    fn plan_other(&self, time: Time, body: Body) -> Result<Plan, Memory>
+        requires stands { Stands (shard_meant self.now) NoAsk (body_meant body) }
+        ensures planned { (m : Letter) → m.body ≡ body_meant body → time.0 ≡ heard (shard_meant self.now) m →
+            IfOk result (λ p. IsPlanned (shard_meant self.now) (letter_input m) p) }
+        ensures follows { IfOk result (λ p. Follows self.now p) }
+    {
+        match body {
+            Body::TableTold(told) => self.plan_told(time, told),
+            Body::HalfAsk(ask) => Ok(self.plan_rows(time, ask)),
+            Body::TimeAsk(ask) => Ok(self.plan_time(time, ask)),
+            Body::WriteAsk(_) => Ok(Plan::of_time(self.alloc, time)),
+            Body::ReadAsk(_) => Ok(Plan::of_time(self.alloc, time)),
+            Body::TableAsk(_) => Ok(Plan::of_time(self.alloc, self.time)),
+            Body::WriteDone(_) => Ok(Plan::of_time(self.alloc, self.time)),
+            Body::ReadRows(_) => Ok(Plan::of_time(self.alloc, self.time)),
+            Body::Stale(_) => Ok(Plan::of_time(self.alloc, self.time)),
+            Body::TimeTold(_) => Ok(Plan::of_time(self.alloc, self.time)),
+        }
+    }
+
+    // A message to this shard.
+    fn plan_message(&self, message: Message) -> Result<Plan, Memory>
+        requires early { self.now.time.0 < last_time }
+        requires brought { message.time.0 < last_time }
+        ensures planned { IfOk result (λ p. IsPlanned (shard_meant self.now) (letter_input (letter_of message)) p) }
+        ensures follows { IfOk result (λ p. Follows self.now p) }
+    {
+        let time = self.later(message.time);
+        match self.standing(&message.body) {
+            Standing::NoAsk => self.plan_other(time, message.body),
+            Standing::Fits => self.plan_fitting(time, message.body),
+            Standing::ShardOld => self.plan_unknown(time, message),
+            Standing::RouterOld(met) => self.plan_older(time, &message, met),
+        }
+    }
+
+    // What an input comes to.
+    fn plan_input(&self, input: Input) -> Result<Plan, Memory>
+        requires early { self.now.time.0 < last_time }
+        requires brought { time_in (input_of input) < last_time }
+        ensures planned { IfOk result (λ p. IsStep (shard_meant self.now) (input_of input) p) }
+        ensures follows { IfOk result (λ p. Follows self.now p) }
+    {
+        match input {
+            Input::Deliver(message) => {
+                if message.receiver != self.me {
+                    return Ok(Plan::of_time(self.alloc, self.time));
+                }
+                self.plan_message(message)
+            }
+            Input::Moment(moment) => self.plan_moment(moment),
+            Input::Client { .. } => Ok(Plan::of_time(self.alloc, self.time)),
+            Input::Opened => Ok(Plan::of_time(self.alloc, self.time)),
+        }
+    }
+
+    // Makes room for what was planned. Fails for want of memory. The shard is the same either way.
+    fn make_room(&mut self, change: &Change) -> Result<(), Memory>
+        ensures room { OnOk result (HasRoomFor self.new change.now) }
+        ensures same { shard_meant self.new ≡ shard_meant self.old }
+        ensures last { last_of self.new.store ≡ last_of self.old.store }
+        ensures steps { self.new.steps ≡ self.old.steps }
+    {
+        match change {
+            Change::Nothing => {}
+            Change::Park(_) => self.parked.reserve(1)?,
+            Change::Learn(_) => self.tables.reserve()?,
+            Change::Write { namespace, entries } => self.store.reserve(namespace, entries)?,
+        }
+        Ok(())
+    }
+
+    // What an input comes to, with room for it. Else nothing changes.
+    pub(crate) fn plan(&mut self, input: Input) -> Result<Plan, Memory>
+        requires early { self.old.time.0 < last_time }
+        requires brought { time_in (input_of input) < last_time }
+        ensures planned { IfOk result (λ p. StepPlanned (state_of self.old) (input_of input) (map letter_of p.mail) [] p.records.items
+            (shard_state (after (shard_meant self.old) p))) }
+        ensures ready { IfOk result (λ p. IsReady self.new p) }
+        ensures same { shard_meant self.new ≡ shard_meant self.old }
+        ensures steps { self.new.steps ≡ self.old.steps }
+    {
+        let plan = self.plan_input(input)?;
+        self.make_room(&plan.change)?;
+        Ok(plan)
+    }
+
+    // Becomes what was planned, and gives out its messages. Takes no memory.
+    pub(crate) fn take(&mut self, plan: Plan) -> Outputs<Message>
+        requires ready { IsReady self.old plan }
+        ensures state { shard_meant self.new ≡ after (shard_meant self.old) plan }
+        ensures mail { result.mail ≡ plan.mail }
+        ensures replies { result.replies ≡ [] }
+        ensures steps { self.new.steps ≡ self.old.steps }
+    {
+        let Plan {
+            time,
+            mail,
+            records: _,
+            change,
+        } = plan;
+        self.time = time;
+        self.change(change);
+        Outputs {
+            mail,
+            replies: ReplyList::new(self.alloc),
+        }
+    }
+
+    // Changes as planned, at its time.
+    fn change(&mut self, change: Change)
+        requires follows { FollowsBy self.old self.old.time.0 change }
+        requires room { HasRoomFor self.old change }
+        ensures state { shard_meant self.new ≡ changed (shard_meant self.old) self.old.time.0 change }
+        ensures steps { self.new.steps ≡ self.old.steps }
+    {
+        match change {
+            Change::Nothing => {}
+            Change::Park(message) => self.parked.push_reserved(message),
+            Change::Learn(table) => {
+                keep_others(&mut self.parked, table.namespace());
+                self.tables.adopt(table);
+            }
+            Change::Write { namespace, entries } => self.store.commit(&namespace, entries),
+        }
+    }
+}

@@ -1,0 +1,11 @@
+pub mod Apart
+pub mod Around
+pub mod FilterNames
+pub mod Limits
+pub mod Parts
+pub mod Reading
+pub mod Sorting
+pub mod Starts
+pub mod Sums
+pub mod Told
+pub mod Turns

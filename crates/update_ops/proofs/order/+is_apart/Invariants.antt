@@ -1,0 +1,6 @@
+-- The names that are left fall.
+use Rattle.std.proofs.Common.{length}
+use Rattle.update_ops.proofs.order.+is_apart.Given as goal
+
+abbrev pub decreases-is_apart : goal.decreases-is_apart
+decreases-is_apart l = length l.a.now

@@ -1,0 +1,34 @@
+//! Why a statement changes nothing.
+
+ghost use Rattle.std.specs.Prelude.{◌≡◌};
+
+use bson_values::Memory;
+
+/// Why a statement changes nothing (MongoDB manual, "Error Codes").
+#[derive(Clone, Copy, Debug, PartialEq, Eq)]
+pub enum ApplyFault {
+    /// A document with this key is there, and may not be changed (DuplicateKey, 11000).
+    Duplicate,
+    /// The key would be another (ImmutableField, 66).
+    Immutable,
+    /// A sum is past int64 (BadValue, 2).
+    Overflow,
+    /// The result has more than 16,777,216 bytes or 100 levels (BSONObjectTooLarge, 10334).
+    TooLarge,
+    /// A value to be added to is no number (TypeMismatch, 14).
+    NotNumber,
+    /// A value on the way is no document (PathNotViable, 28).
+    NotDocument,
+    /// Want of memory.
+    Memory,
+}
+
+impl From<Memory> for ApplyFault {
+    ghost use Rattle.update_ops.specs.declared.fault.ApplyFault.TheVariants as faults;
+
+    ghost from_gives = { λ _ e. e ≡ faults.Memory };
+
+    fn from(_e: Memory) -> ApplyFault {
+        ApplyFault::Memory
+    }
+}

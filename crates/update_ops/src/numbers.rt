@@ -1,0 +1,98 @@
+//! Sums, and the lesser and the greater of two values (MongoDB manual, "$inc", "$min", "$max").
+
+ghost use Rattle.std.specs.Prelude.{◌≡◌, ◌+ℤ◌, IfOk, option_map};
+ghost use Rattle.bson_model.specs.Tree.{int32_value, int64_value};
+ghost use Rattle.bson_values.specs.View.{datum_of};
+ghost use Rattle.query_model.specs.Edits.{greater_of, lesser_of, long_sum, short_sum, sum_with};
+ghost use Rattle.update_ops.specs.ApplyFaults.{Gives};
+ghost use Rattle.update_ops.specs.View.{number_datum};
+
+use crate::change::Number;
+use crate::fault::ApplyFault;
+use bson_values::{Memory, Value};
+use value_compare::compare;
+
+// A sum of which one number at least is an int64.
+#[tactic(auto, using(crate::proofs::Sums::long_inside, crate::proofs::Sums::long_past))]
+fn long_sum(a: i64, b: i64) -> Result<Value, ApplyFault>
+    ensures gives { Gives (λ v. datum_of v) result (long_sum (a +ℤ b)) }
+{
+    match a.checked_add(b) {
+        Some(sum) => Ok(Value::Int64(sum)),
+        None => Err(ApplyFault::Overflow),
+    }
+}
+
+// The sum of two int32, which is one where it fits.
+#[tactic(auto, using(crate::proofs::Sums::short_inside, crate::proofs::Sums::short_past))]
+fn short_sum(a: i32, b: i32) -> Result<Value, ApplyFault>
+    ensures gives { Gives (λ v. datum_of v) result (short_sum (a +ℤ b)) }
+{
+    match a.checked_add(b) {
+        Some(sum) => Ok(Value::Int32(sum)),
+        None => long_sum(i64::from(a), i64::from(b)),
+    }
+}
+
+// An int32 added to what stands there.
+fn add_int32(n: i32, found: Option<&Value>) -> Result<Value, ApplyFault>
+    ensures gives { Gives (λ v. datum_of v) result (sum_with (int32_value n) (option_map (λ v. datum_of v.now) found.entry)) }
+{
+    match found {
+        None => Ok(Value::Int32(n)),
+        Some(Value::Int32(z)) => short_sum(*z, n),
+        Some(Value::Int64(z)) => long_sum(*z, i64::from(n)),
+        Some(_) => Err(ApplyFault::NotNumber),
+    }
+}
+
+// An int64 added to what stands there.
+fn add_int64(n: i64, found: Option<&Value>) -> Result<Value, ApplyFault>
+    ensures gives { Gives (λ v. datum_of v) result (sum_with (int64_value n) (option_map (λ v. datum_of v.now) found.entry)) }
+{
+    match found {
+        None => Ok(Value::Int64(n)),
+        Some(Value::Int32(z)) => long_sum(i64::from(*z), n),
+        Some(Value::Int64(z)) => long_sum(*z, n),
+        Some(_) => Err(ApplyFault::NotNumber),
+    }
+}
+
+/// The number added to what stands there, or by itself where nothing does: an int32 where both are and it fits, else an int64. Fails
+/// with `NotNumber` where that is none, and with `Overflow` past int64.
+pub fn sum_with(number: Number, found: Option<&Value>) -> Result<Value, ApplyFault>
+    ensures gives { Gives (λ v. datum_of v) result (sum_with (number_datum number) (option_map (λ v. datum_of v.now) found.entry)) }
+{
+    match number {
+        Number::Int32(n) => add_int32(n, found),
+        Number::Int64(n) => add_int64(n, found),
+    }
+}
+
+/// A copy of the value where it is less than what stands there, or nothing does; else of that. Fails for want of memory.
+pub fn lesser_of(value: &Value, found: Option<&Value>) -> Result<Value, Memory>
+    ensures { IfOk result (λ v. datum_of v ≡ lesser_of (datum_of value.now) (option_map (λ v. datum_of v.now) found.entry)) }
+{
+    let Some(there) = found else {
+        return value.copy();
+    };
+    if compare(value, there).is_lt() {
+        value.copy()
+    } else {
+        there.copy()
+    }
+}
+
+/// A copy of the value where it is greater than what stands there, or nothing does; else of that. Fails for want of memory.
+pub fn greater_of(value: &Value, found: Option<&Value>) -> Result<Value, Memory>
+    ensures { IfOk result (λ v. datum_of v ≡ greater_of (datum_of value.now) (option_map (λ v. datum_of v.now) found.entry)) }
+{
+    let Some(there) = found else {
+        return value.copy();
+    };
+    if compare(value, there).is_gt() {
+        value.copy()
+    } else {
+        there.copy()
+    }
+}
