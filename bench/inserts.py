@@ -68,6 +68,11 @@ def records(path):
     return found
 
 
+def entries(path):
+    """The records of entries in a shard's file; beside these it has one of the table of each collection."""
+    return [record for record in records(path) if record[:2] == b"\1\2"]
+
+
 def is_acknowledged(pipe):
     """Whether the next reply says that all documents of its request were inserted."""
     head = pipe.read(4)

@@ -17,11 +17,11 @@ import sys
 import tempfile
 import time
 
-from inserts import CLUSTER, EACH, insert, is_acknowledged, kept, records
+from inserts import CLUSTER, EACH, entries, insert, is_acknowledged, kept, records
 
 
 def one_round(folder, replies, cut):
-    """Kills the program behind so many replies, and after so many bytes of the next request. Gives the records that the
+    """Kills the program behind so many replies, and after so many bytes of the next request. Gives the entries that the
     shard's journal holds."""
     program = subprocess.Popen([CLUSTER, "pipe"], cwd=folder, stdin=subprocess.PIPE, stdout=subprocess.PIPE)
     for request in range(replies):
@@ -34,7 +34,7 @@ def one_round(folder, replies, cut):
     time.sleep(random.uniform(0, 0.002))
     program.send_signal(signal.SIGKILL)
     program.wait()
-    held = records(pathlib.Path(folder) / "node01.journal")
+    held = entries(pathlib.Path(folder) / "node01.journal")
     begun = records(pathlib.Path(folder) / "node00.journal")
     if len(begun) > 1 or (held and len(begun) != 1):
         sys.exit(f"kills: the catalogue holds {len(begun)} collections")

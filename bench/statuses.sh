@@ -90,7 +90,7 @@ fresh; "$top/cluster" pipe < "$work/request" 2> "$work/errors" >&-; check "a clo
 fresh; "$top/cluster" pipe <&- > "$work/reply" 2> "$work/errors"; check "a closed input" 3 "cluster: read failed" $?
 : > "$work/errors"
 fresh; "$top/cluster" pipe < "$work/long" > "$work/reply" 2>&-; check "a closed error stream" 9 "" $?
-[ "$(cat node00.journal node01.journal node02.journal | xxd -p)" = 000000 ] || { echo "wrong: bytes of a closed stream in a journal"; failed=1; }
+[ "$(cat node00.journal node01.journal node02.journal | xxd -p)" = 0000010a000000000000000130010000000000000000 ] || { echo "wrong: bytes of a closed stream in a journal"; failed=1; }
 fresh; { sh -c '"$1" pipe < "$2" 2> "$3"; echo $? > "$4"' - "$top/cluster" "$work/request" "$work/errors" "$work/status"; } | :
 check "a pipe without a reader" 4 "cluster: write failed" "$(cat "$work/status")"
 fresh; "$top/cluster" pipe < "$work/long" > "$work/reply" 2> "$work/errors"; check "a length of 48,000,001" 9 "cluster: bad input" $?

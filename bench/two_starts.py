@@ -17,7 +17,7 @@ import sys
 import tempfile
 import time
 
-from inserts import CLUSTER, EACH, insert, is_acknowledged, kept, numbers_of, records
+from inserts import CLUSTER, EACH, entries as held_in, insert, is_acknowledged, kept, numbers_of, records
 
 PROGRAM = CLUSTER.parent / "crates" / "cluster_main" / "out" / "cluster_main"
 
@@ -82,7 +82,7 @@ def one_try(top):
 
 def faults_of(folder, served, ended, entries):
     """What is wrong after two starts: of their ends, and of the journals where these entries were acknowledged."""
-    held = records(folder / JOURNALS[1])
+    held = held_in(folder / JOURNALS[1])
     lost = sum(not any(kept(number) in record for record in held) for number in entries)
     if lost:
         yield f"{lost} of {len(entries)} acknowledged entries are lost"

@@ -8,7 +8,8 @@ ghost use Rattle.bson_model.specs.Faults.{Fault, HasFirstFault};
 ghost use Rattle.bson_model.specs.Tree.{Fields};
 ghost use Rattle.bson_model.specs.Grammar.{AreBytes, BeginsWith, IsWithinDepth, ReadsAs};
 ghost use Rattle.bson_values.specs.ReadFaults.{Gives, fault_from};
-ghost use Rattle.bson_values.specs.Readers.{binary_at, boolean_at, deep_at, scalar_at, value_at, head_at, item_head_at, field_at, item_at, document_with, array_with, whole_at};
+ghost use Rattle.bson_values.specs.Readers.{binary_at, boolean_at, deep_at, scalar_at, value_at, head_at};
+ghost use Rattle.bson_values.specs.Readers.{item_head_at, field_at, item_at, document_with, array_with, whole_at};
 ghost use Rattle.bson_values.specs.Rests.{IsRest};
 ghost use Rattle.bson_values.specs.View.{datum_of};
 

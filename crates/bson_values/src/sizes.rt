@@ -44,7 +44,7 @@ impl Array {
 impl Value {
     /// The number of bytes of the value, without its type and its name, or the greatest `usize` where that is more.
     #[cycle(size)]
-    fn size(&self) -> usize
+    pub fn size(&self) -> usize
         ensures { result ≡ min (length (written_value (datum_of self.now))) (2 ^ 64 - 1) }
     {
         match self {

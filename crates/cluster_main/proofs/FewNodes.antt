@@ -1,15 +1,13 @@
 -- The arguments start three nodes at most.
-use Rattle.std.specs.Prelude.{ℕ, ◌≤◌, Bool, false, true, List, [], ◌∷◌, Some, None, codes, if◌then◌else◌}
+use Rattle.std.specs.Prelude.{ℕ, ◌≤◌, List, Option, Some, None}
 use Rattle.std.proofs.Common.{arith}
 use Rattle.std.specs.Option.{unwrap_or}
-use Rattle.std.specs.Str.{bytes_eq}
-use Rattle.cluster_top.specs.Arguments.{node_count_of}
+use Rattle.cluster_top.specs.Arguments.{command_of, node_count_of, nodes_for}
+use Rattle.cluster_top.specs.declared.arguments.Command.{Command}
 
-three_or_none : (is : Bool) → unwrap_or (if is then Some 3 else None) 0 ≤ 3
-three_or_none false = omega arith
-three_or_none true = omega arith
+three_or_none : (given : Option Command) → unwrap_or (nodes_for given) 0 ≤ 3
+three_or_none None = omega arith
+three_or_none (Some command) = omega arith
 
 pub few_nodes : (words : List (List ℕ)) → unwrap_or (node_count_of words) 0 ≤ 3
-few_nodes [] = omega arith
-few_nodes (word ∷ []) = three_or_none (bytes_eq word (codes "pipe"))
-few_nodes (word ∷ other ∷ words) = omega arith
+few_nodes words = three_or_none (command_of words)

@@ -1,12 +1,16 @@
 -- What a start says of the disks that it leaves.
-use Rattle.std.specs.Prelude.{◌≡◌, ◌≢◌, ◌⊎◌, ℕ, Bool, IsTrue, List, map}
+use Rattle.std.specs.Prelude.{◌≡◌, ◌≢◌, ◌⊎◌, ℕ, Bool, IsTrue, IfSome, List, map, Option, None, Result, Ok, Err}
 use Rattle.std.specs.List.{AllByRecursion}
-use Rattle.outside.specs.Devices.{NoneFell, SinkCall, SinkIsUntouched, SourceCall, SourceIsUntouched, disks_call}
+use Rattle.outside.specs.Devices.{NoneFell, SinkCall, SinkIsUntouched, SourceCall, SourceIsUntouched}
+use Rattle.outside.specs.Disks.{Outcomes}
 use Rattle.cluster_top.specs.Counts.{OneRoseWhere}
+use Rattle.cluster_top.specs.Crashes.{LeaveTheWay}
 use Rattle.cluster_top.specs.Disks.{AreNoWorse, IsEmptyAll, SomeFile}
-use Rattle.cluster_top.specs.Headline.{AsPlainStore, Headline, most_taken}
+use Rattle.cluster_top.specs.Arguments.{command_of}
+use Rattle.cluster_top.specs.Headline.{HeadlineOf}
 use Rattle.cluster_top.specs.OpenJournals.{IsDurable}
-use Rattle.cluster_top.specs.Statuses.{OfStatus}
+use Rattle.cluster_top.specs.Statuses.{OfConnection, OfStatus}
+use Rattle.cluster_top.specs.declared.arguments.Command.{Command}
 
 -- Nothing was taken or put, the files are as they were, a crash leaves no more of them than before, and the status is 6, or 5 for
 -- a fault.
@@ -15,9 +19,15 @@ IsNotServed status source sink content may_leave before left =
     SourceIsUntouched source × SinkIsUntouched sink × (map content left ≡ map content before) × AreNoWorse may_leave before left
     × ((status ≡ 6) ⊎ (status ≡ 5))
 
+-- the command that the arguments are, where these were read
+abbrev pub command_in : {W E : Type 0} → Result W E → (W → List (List ℕ)) → Option Command
+command_in (Ok given) items = command_of (items given)
+command_in (Err fault) items = None
+
 -- A start that ended with this status left these disks, and so many bytes after the last whole request. `started` says that its
--- arguments start nodes.
-pub record IsLeft {D : Type 0} (status : ℕ) (started : Type 0) (source : SourceCall) (sink : SinkCall) (gives : ℕ → Type 0) (tells : Bool) (content : D → List ℕ) (may_leave : D → List ℕ → Type 0) (place : D → List ℕ) (fault_count : D → ℕ) (before left : List D) (rest : ℕ) : Type 0 where
+-- arguments start nodes, and `given` is the command that they are.
+pub record IsLeft {D : Type 0} (status : ℕ) (started : Type 0) (given : Option Command) (source : SourceCall) (sink : SinkCall) (gives : ℕ → Type 0) (tells : Bool) (content : D → List ℕ) (may_leave : D → List ℕ → Type 0)
+    (moment : D → ℕ) (left_since : D → ℕ → Outcomes) (place : D → List ℕ) (fault_count : D → ℕ) (before left : List D) (rest : ℕ) : Type 0 where
   -- each is in its place, and the status is 5 exactly by a fault of one
   pub places : map place left ≡ map place before
   pub disk_fault : OneRoseWhere (status ≡ 5) (map fault_count before) (map fault_count left)
@@ -27,8 +37,10 @@ pub record IsLeft {D : Type 0} (status : ℕ) (started : Type 0) (source : Sourc
   pub untouched : (status ≡ 2) ⊎ (status ≡ 6) → rest ≡ 0
   pub six : status ≡ 6 → IsTrue tells → SomeFile (map content before)
   pub not_empty : started → IsTrue tells → SomeFile (map content before) → (rest ≡ 0) × IsNotServed status source sink content may_leave before left
-  -- on empty files the replies, their times and the records are those of one plain store, and of one legal history
-  pub plain_store : status ≢ 2 → IsEmptyAll tells (map content before) → status ≢ 6 → OfStatus status (λ s. AsPlainStore source sink (disks_call tells content place fault_count before left) gives most_taken s rest)
-  pub headline : status ≢ 2 → IsEmptyAll tells (map content before) → status ≢ 6 → OfStatus status (λ s. Headline source sink (disks_call tells content place fault_count before left) gives most_taken s rest)
+  -- on empty files a run of the nodes served, whose journals the disks keep, and which makes one legal history; a crash meanwhile left what they
+  -- kept on the way
+  pub headline : status ≢ 2 → IsEmptyAll tells (map content before) → status ≢ 6 → (command : Command) × IfSome given (λ c. command ≡ c)
+      × OfStatus status (λ s. OfConnection s (λ ending. HeadlineOf command source sink tells
+      (map content left) (LeaveTheWay tells moment left_since before left) gives ending rest))
   -- but where a disk failed or memory ended, a crash takes none of the records
   pub durable : status ≢ 2 → IsTrue tells → IsEmptyAll tells (map content before) → status ≢ 5 → status ≢ 7 → AllByRecursion (IsDurable content may_leave) left

@@ -1,5 +1,5 @@
 //! The program `cluster`. Its one argument is `pipe`: it takes the bytes of one connection from standard input and answers on
-//! standard output; what requests leave stands in the files node00.journal, node01.journal and node02.journal in the working
+//! standard output; or `sim`: it plays the script of events on standard input, and prints on standard output. What requests leave stands in the files node00.journal, node01.journal and node02.journal in the working
 //! folder, which must be empty or absent at the start. It ends with the status of the run, and where that is not 0 it writes one
 //! line to standard error. It holds the lock of each of these files from before their first use to its end, and ends with status
 //! 5 where one is held by another; where its arguments are refused no file is opened.
@@ -24,7 +24,7 @@ use outside::standard::{StdSink, StdSource, WallClock};
 use std::env;
 use std::process::ExitCode;
 
-/// The nodes of `pipe`: the catalogue, a shard and a router.
+/// The nodes of a command: the catalogue, a shard and a router.
 const NODES: usize = 3;
 
 fn main(rt: HostRuntime) -> ExitCode {

@@ -5,7 +5,7 @@ ghost use Rattle.outside.specs.Devices.{SinkIsUntouched, SourceIsUntouched, sink
 ghost use Rattle.cluster_top.specs.Counts.{RoseWhere};
 ghost use Rattle.cluster_top.specs.Arguments.{node_count_of};
 ghost use Rattle.std.specs.Process.{exit_status};
-ghost use Rattle.cluster_main.specs.Left.{IsLeft};
+ghost use Rattle.cluster_main.specs.Left.{IsLeft, command_in};
 ghost use Rattle.cluster_main.specs.declared.arguments.NoArguments.TheVariants as none;
 
 use crate::arguments::NoArguments;
@@ -44,9 +44,11 @@ fn status_of<R: Threads + Wait + Sync, S: Source, K: Sink, D: Disk + Send, C: Cl
 
     // The disks are not handed back: of these, which were left of them, it says what `run` says of its own.
     ensures disks { (left : List D) × (rest : ℕ) × IsLeft result (IsOkAnd words (λ given. IsSome (node_count_of given.items)))
+        (command_in words (λ given. given.items))
         (source_call S.tells S.left S.fault_count input.old input.new)
         (sink_call K.tells K.held K.fault_count out.old out.new)
-        (C.gives clock.now) D.tells D.content D.may_leave D.place D.fault_count disks.items left rest }
+        (C.gives clock.now) D.tells D.content D.may_leave D.moment D.left_since D.place
+        D.fault_count disks.items left rest }
 {
     let words = match words {
         Ok(words) => words,
@@ -97,9 +99,11 @@ pub fn serve<
 
     // The disks are not handed back: of these, which were left of them, it says what `run` says of its own.
     ensures disks { (left : List D) × (rest : ℕ) × IsLeft (exit_status result) (IsOkAnd words (λ given. IsSome (node_count_of given.items)))
+        (command_in words (λ given. given.items))
         (source_call S.tells S.left S.fault_count input.old input.new)
         (sink_call K.tells K.held K.fault_count out.old out.new)
-        (C.gives clock.now) D.tells D.content D.may_leave D.place D.fault_count disks.items left rest }
+        (C.gives clock.now) D.tells D.content D.may_leave D.moment D.left_since D.place
+        D.fault_count disks.items left rest }
 {
     let status = status_of(rt, alloc, words, input, out, disks, clock);
     told(rt, status)

@@ -1,49 +1,184 @@
 -- How `pipe` ends where nothing is served.
-use Rattle.std.specs.Prelude.{◌≡◌, ◌≢◌, ℕ, None, Bool, IsTrue, List, [], ◌∷◌, length}
+use Rattle.std.specs.Prelude.{◌≡◌, ◌≢◌, ◌⊎◌, ℕ, None, Bool, IsTrue, List, [], ◌∷◌, length, map}
 use Rattle.std.proofs.Common.{refl, sym, subst, inl, inr, arith}
-use Rattle.outside.specs.Streams.{Took, Put}
-use Rattle.outside.specs.Devices.{SourceCall, SinkCall, DisksCall}
+use Rattle.std.specs.List.{AllByRecursion}
+use Rattle.outside.specs.Devices.{SourceCall, SinkCall, SourceGave, SinkTook}
 use Rattle.opmsg_frames.specs.Frames.{ends}
-use Rattle.plain_store_model.specs.PlainStore.{empty_store, nothing_more, leaves_all}
-use Rattle.cluster_top.specs.Headline.{SomeAnswered, Cause, disk_failed, no_memory, AsPlainStore}
-use Rattle.cluster_top.specs.Journals.{Keep}
+use Rattle.journal_frames.specs.Files.{Stands}
+use Rattle.node_model.specs.Schedule.{openings}
+use Rattle.node_model.specs.World.{World, start, stands}
+use Rattle.pipe_driver.specs.Endings.{IsPiped, SomeServed, disk_failed, no_memory}
+use Rattle.pipe_driver.specs.Schedules.{came_opening}
+use Rattle.pipe_driver.specs.declared.status.Status as connections
+use Rattle.pipe_driver.specs.declared.status.Status.TheVariants as ended
+use Rattle.pipe_driver.proofs.Histories.{piped_history}
+use Rattle.sim_driver.specs.Simulations.{IsSimulated, CameTo, came_opening as began, disk_failed as script_disk_failed, no_memory as script_no_memory}
+use Rattle.sim_driver.proofs.Histories.{simulated_history}
 use Rattle.cluster_top.specs.Disks.{AllEmpty, IsEmptyAll, SomeFile}
+use Rattle.cluster_top.specs.Driven.{IsDriven, most_taken}
+use Rattle.cluster_top.specs.Headline.{Headline, HeadlineOf, ScriptHeadline}
+use Rattle.cluster_top.specs.Journals.{AreJournals}
+use Rattle.cluster_top.specs.Statuses.{OfConnection, of_connection}
 use Rattle.cluster_top.specs.Stops.{StopsOpening, at_opening_fault, at_damage, at_opening_memory}
+use Rattle.cluster_top.specs.declared.arguments.Command.{Command}
+use Rattle.cluster_top.specs.declared.arguments.Command.TheVariants.{Pipe, Sim}
 use Rattle.cluster_top.specs.declared.status.Status.{Status}
 use Rattle.cluster_top.specs.declared.status.Status.TheVariants as statuses
-use Rattle.cluster_top.proofs.OpenJournals.{no_journal}
+use Rattle.cluster_top.proofs.OpenJournals.{nothing}
 
--- nothing was served
-pub untouched_plain_store : (source : SourceCall) (sink : SinkCall) (disks : DisksCall) (gives : ℕ → Type 0) (limit rest : ℕ) (status : Status) → rest ≡ 0 → Took source.tells source.left_before [] source.left_after → Put sink.tells sink.held_before [] sink.held_after → (IsTrue disks.tells → Keep disks.files_after [] []) → (SomeAnswered [] [] [] → Cause limit (IsTrue source.tells → source.left_after ≡ []) [] [] [] [] None status) → AsPlainStore source sink disks gives limit status rest
-untouched_plain_store source sink disks gives limit rest status none took put files cause = (
-  [],
-  [],
-  [],
-  record {
+-- three files without records are the journals of the nodes at the start
+pub none_kept : (a b c : List ℕ) → Stands a [] → Stands b [] → Stands c [] → AreJournals (a ∷ b ∷ c ∷ []) (start 1).nodes
+none_kept a b c first second third =
+    (record { stands = first; sound = tt }, (record { stands = second; sound = tt }, (record { stands = third; sound = tt }, tt)))
+
+-- empty files are such
+pub empty_kept : (a b c : List ℕ) → AllEmpty (a ∷ b ∷ c ∷ []) → AreJournals (a ∷ b ∷ c ∷ []) (start 1).nodes
+empty_kept a b c empty = none_kept a b c (nothing a empty.0) (nothing b empty.1.0) (nothing c empty.1.1.0)
+
+pub all_empty_kept : (files : List (List ℕ)) → AllEmpty files → length files ≡ 3 → AreJournals files (start 1).nodes
+all_empty_kept (a ∷ b ∷ c ∷ []) empty three = empty_kept a b c empty
+all_empty_kept [] empty three = absurd (omega (arith, three))
+all_empty_kept (a ∷ []) empty three = absurd (omega (arith, three))
+all_empty_kept (a ∷ b ∷ []) empty three = absurd (omega (arith, three))
+all_empty_kept (a ∷ b ∷ c ∷ d ∷ files) empty three = absurd (omega (arith, three))
+
+module _ (source : SourceCall) (sink : SinkCall) (tells : Bool) (files_after : List (List ℕ)) (leaves : World → Type 0) (gives : ℕ → Type 0) (rest : ℕ) where
+  none_served : SomeServed 1 gives [] [] [] (start 1)
+  none_served = record {
+    under_way = [];
+    others = [];
+    whole = start 1;
+    asked = refl;
+    came = came_opening [] (start 1) (openings 0 (length (start 1).nodes), refl) (stands (start 1));
+    replied = refl;
+  }
+
+  pub headline_from : (ending : connections.Status) → IsPiped source sink gives (λ nodes. IsTrue tells → AreJournals files_after nodes) leaves 1 most_taken ending rest
+      → Headline source sink tells files_after leaves gives ending rest
+  headline_from ending piped = record {
+    piped = piped;
+    history = piped_history source sink gives (λ nodes. IsTrue tells → AreJournals files_after nodes) leaves 1 most_taken ending rest piped;
+  }
+
+  none_played : CameTo 1 [] [] [] (start 1)
+  none_played = began [] [] (start 1) (openings 0 (length (start 1).nodes), refl) (stands (start 1))
+
+  script_from : (ending : connections.Status) → IsSimulated source sink (λ nodes. IsTrue tells → AreJournals files_after nodes) leaves 1 most_taken ending
+      → rest ≡ 0 → ScriptHeadline source sink tells files_after leaves ending rest
+  script_from ending simulated none = record {
+    simulated = simulated;
+    history = simulated_history source sink (λ nodes. IsTrue tells → AreJournals files_after nodes) leaves 1 most_taken ending simulated;
+    no_rest = none;
+  }
+
+  pub headline_of : (command : Command) (ending : connections.Status)
+      → IsDriven command source sink gives (λ nodes. IsTrue tells → AreJournals files_after nodes) leaves ending rest
+      → HeadlineOf command source sink tells files_after leaves gives ending rest
+  headline_of Pipe ending driven = headline_from ending driven
+  headline_of Sim ending driven = script_from ending driven.0 driven.1
+
+  -- the disks were not opened
+  pub disk_unopened : rest ≡ 0 → SourceGave source [] → SinkTook sink [] → (IsTrue tells → AreJournals files_after (start 1).nodes) → leaves (start 1) → Headline source sink tells files_after leaves gives ended.DiskFailed rest
+  disk_unopened none took put files crashes = headline_from ended.DiskFailed (record {
+    taken = [];
+    put = [];
+    requests = [];
+    left = [];
+    fault = None;
+    rounds = [];
+    end = start 1;
     took = took;
     put_all = put;
-    conversation = record {
-      requests = [];
-      left = [];
-      fault = None;
-      frames = ends 0 [] refl;
-      rest_left = none;
-      most = omega arith;
-      turns = tt;
-      cause = cause (record { unanswered = []; asked = refl; replied = ([], refl) });
-    };
-  },
-  [],
-  [],
-  record { replied = []; under_way = []; all = refl; whole = inl refl; moments = []; given = tt; end = empty_store; runs = nothing_more empty_store; leaves = leaves_all },
-  files,
-)
+    frames = ends 0 [] refl;
+    rest_left = none;
+    most = omega arith;
+    one = record { moments = tt; routers = tt; links = tt; numbers = tt };
+    cause = disk_failed none_served;
+    files = files;
+    last = start 1;
+    is_last = inl refl;
+    crashes = crashes;
+  })
 
--- the journals were not opened
-pub unopened_plain_store : (source : SourceCall) (sink : SinkCall) (disks : DisksCall) (gives : ℕ → Type 0) (limit : ℕ) (status : Status) (rest : ℕ) → StopsOpening status → status ≢ statuses.DamagedJournal → rest ≡ 0 → Took source.tells source.left_before [] source.left_after → Put sink.tells sink.held_before [] sink.held_after → (IsTrue disks.tells → Keep disks.files_after [] []) → AsPlainStore source sink disks gives limit status rest
-unopened_plain_store source sink disks gives limit status rest at_opening_fault other none took put files = untouched_plain_store source sink disks gives limit rest statuses.DiskFailed none took put files (λ some. disk_failed some)
-unopened_plain_store source sink disks gives limit status rest at_damage other none took put files = absurd (other refl)
-unopened_plain_store source sink disks gives limit status rest at_opening_memory other none took put files = untouched_plain_store source sink disks gives limit rest statuses.OutOfMemory none took put files (λ some. no_memory some)
+  -- there was no memory before anything was served
+  pub memory_unopened : rest ≡ 0 → SourceGave source [] → SinkTook sink [] → (IsTrue tells → AreJournals files_after (start 1).nodes) → leaves (start 1) → Headline source sink tells files_after leaves gives ended.OutOfMemory rest
+  memory_unopened none took put files crashes = headline_from ended.OutOfMemory (record {
+    taken = [];
+    put = [];
+    requests = [];
+    left = [];
+    fault = None;
+    rounds = [];
+    end = start 1;
+    took = took;
+    put_all = put;
+    frames = ends 0 [] refl;
+    rest_left = none;
+    most = omega arith;
+    one = record { moments = tt; routers = tt; links = tt; numbers = tt };
+    cause = no_memory none_served;
+    files = files;
+    last = start 1;
+    is_last = inl refl;
+    crashes = crashes;
+  })
+
+  script_disk_unopened : rest ≡ 0 → SourceGave source [] → SinkTook sink [] → (IsTrue tells → AreJournals files_after (start 1).nodes) → leaves (start 1)
+      → ScriptHeadline source sink tells files_after leaves ended.DiskFailed rest
+  script_disk_unopened none took put files crashes = script_from ended.DiskFailed (record {
+    taken = [];
+    put = [];
+    lines = [];
+    left = [];
+    end = start 1;
+    took = took;
+    put_all = put;
+    parts = refl;
+    each = tt;
+    most = omega arith;
+    cause = script_disk_failed none_played;
+    files = files;
+    last = start 1;
+    is_last = inl refl;
+    crashes = crashes;
+  }) none
+
+  script_memory_unopened : rest ≡ 0 → SourceGave source [] → SinkTook sink [] → (IsTrue tells → AreJournals files_after (start 1).nodes) → leaves (start 1)
+      → ScriptHeadline source sink tells files_after leaves ended.OutOfMemory rest
+  script_memory_unopened none took put files crashes = script_from ended.OutOfMemory (record {
+    taken = [];
+    put = [];
+    lines = [];
+    left = [];
+    end = start 1;
+    took = took;
+    put_all = put;
+    parts = refl;
+    each = tt;
+    most = omega arith;
+    cause = script_no_memory none_played;
+    files = files;
+    last = start 1;
+    is_last = inl refl;
+    crashes = crashes;
+  }) none
+
+  no_disk : (command : Command) → rest ≡ 0 → SourceGave source [] → SinkTook sink [] → (IsTrue tells → AreJournals files_after (start 1).nodes)
+      → leaves (start 1) → HeadlineOf command source sink tells files_after leaves gives ended.DiskFailed rest
+  no_disk Pipe none took put files crashes = disk_unopened none took put files crashes
+  no_disk Sim none took put files crashes = script_disk_unopened none took put files crashes
+
+  no_room : (command : Command) → rest ≡ 0 → SourceGave source [] → SinkTook sink [] → (IsTrue tells → AreJournals files_after (start 1).nodes)
+      → leaves (start 1) → HeadlineOf command source sink tells files_after leaves gives ended.OutOfMemory rest
+  no_room Pipe none took put files crashes = memory_unopened none took put files crashes
+  no_room Sim none took put files crashes = script_memory_unopened none took put files crashes
+
+  pub unopened : (command : Command) (status : Status) → StopsOpening status → status ≢ statuses.DamagedJournal → rest ≡ 0 → SourceGave source []
+      → SinkTook sink [] → (IsTrue tells → AreJournals files_after (start 1).nodes) → leaves (start 1)
+      → OfConnection status (λ ending. HeadlineOf command source sink tells files_after leaves gives ending rest)
+  unopened command status at_opening_fault other none took put files crashes = (ended.DiskFailed, refl, no_disk command none took put files crashes)
+  unopened command status at_damage other none took put files crashes = absurd (other refl)
+  unopened command status at_opening_memory other none took put files crashes = (ended.OutOfMemory, refl, no_room command none took put files crashes)
 
 -- and that is no end of another kind
 pub opening_not_refused : (status : Status) → StopsOpening status → (status ≢ statuses.BadArguments) × (status ≢ statuses.ReadFailed) × (status ≢ statuses.WriteFailed)
@@ -65,11 +200,3 @@ pub none_of_bytes : (files : List (List ℕ)) → AllEmpty files → SomeFile fi
 none_of_bytes [] empty some = some
 none_of_bytes (file ∷ files) empty (inl bytes) = bytes empty.0
 none_of_bytes (file ∷ files) empty (inr more) = none_of_bytes files empty.1 more
-
--- three empty files are journals without records
-pub empty_keep : (files : List (List ℕ)) → AllEmpty files → length files ≡ 3 → Keep files [] []
-empty_keep [] empty three = absurd (omega arith)
-empty_keep (a ∷ []) empty three = absurd (omega arith)
-empty_keep (a ∷ b ∷ []) empty three = absurd (omega arith)
-empty_keep (a ∷ b ∷ c ∷ []) empty three = record { catalogue_file = a; shard_file = b; router_file = c; three = refl; begun = no_journal a empty.0; written = no_journal b empty.1.0; nothing = no_journal c empty.1.1.0 }
-empty_keep (a ∷ b ∷ c ∷ d ∷ files) empty three = absurd (omega arith)

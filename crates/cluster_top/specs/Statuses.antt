@@ -1,5 +1,7 @@
 -- The statuses that a run ends with: their numbers, and the lines that tell of them.
 use Rattle.std.specs.Prelude.{◌≡◌, ◌==◌, ℕ, List, Option, Some, None, codes, if◌then◌else◌}
+use Rattle.pipe_driver.specs.declared.status.Status as connections
+use Rattle.pipe_driver.specs.declared.status.Status.TheVariants as ended
 use Rattle.cluster_top.specs.declared.status.Status.{Status}
 use Rattle.cluster_top.specs.declared.status.Status.TheVariants.{InputEnded, BadArguments, ReadFailed, WriteFailed, DiskFailed, DamagedJournal, OutOfMemory, AcceptFailed, BadInput, InputTooLong}
 
@@ -46,3 +48,17 @@ line_of InputTooLong = Some (codes "cluster: input too long")
 -- the number is that of a status of which this holds
 abbrev pub OfStatus : ℕ → (Status → Type 0) → Type 0
 OfStatus number holds = (status : Status) × (number ≡ number_of status) × holds status
+
+-- the status of a run whose connection ended with this one
+abbrev pub of_connection : connections.Status → Status
+of_connection ended.InputEnded = InputEnded
+of_connection ended.ReadFailed = ReadFailed
+of_connection ended.WriteFailed = WriteFailed
+of_connection ended.DiskFailed = DiskFailed
+of_connection ended.OutOfMemory = OutOfMemory
+of_connection ended.BadInput = BadInput
+of_connection ended.InputTooLong = InputTooLong
+
+-- the status is that of a connection of which this holds
+abbrev pub OfConnection : Status → (connections.Status → Type 0) → Type 0
+OfConnection status holds = (ending : connections.Status) × (status ≡ of_connection ending) × holds ending

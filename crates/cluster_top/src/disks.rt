@@ -1,12 +1,15 @@
 //! The three disks: asked for their lengths, opened as journals, and handed back.
 
 ghost use Rattle.std.specs.Prelude.{◌≡◌, ◌↔◌, ◌≤◌, [], map, true, false, vec_len, vec_capacity, IsTrue, IfOk, IfErr, OnOk, OnErr};
+ghost use Rattle.std.specs.List.{AllByRecursion};
 ghost use Rattle.outside.specs.Causes.{Rose};
 ghost use Rattle.outside.specs.Devices.{NoneFell, OneRose};
 ghost use Rattle.outside.specs.Disks.{Within};
+ghost use Rattle.node_traits.specs.Calls.{LeavesAlso};
 ghost use Rattle.cluster_top.specs.Counts.{OneRoseWhere, RoseWhere};
-ghost use Rattle.cluster_top.specs.Journals.{IsJournal};
-ghost use Rattle.cluster_top.specs.OpenJournals.{AreLeft, AreOpen, IsOpen, disks_of};
+ghost use Rattle.cluster_top.specs.Crashes.{LeaveSuch};
+ghost use Rattle.cluster_top.specs.OpenJournals.{AreFresh, IsFresh, disks_of};
+ghost use Rattle.journal_frames.specs.Files.{Stands};
 ghost use Rattle.cluster_top.specs.Disks.{AllEmpty, AreNoWorse, IsEmpty, IsEmptyAll, SomeFile, three};
 ghost use Rattle.cluster_top.specs.Stops.{StopsOpening};
 ghost use Rattle.cluster_top.specs.declared.status.Status.TheVariants as statuses;
@@ -79,6 +82,7 @@ fn is_empty<D: Disk>(disk: &mut D) -> Result<bool, Failed>
     ensures answer { IfOk result (λ empty. IsTrue D.tells → IsTrue empty ↔ (D.content disk.old ≡ [])) }
     ensures same { IsTrue D.tells → D.content disk.new ≡ D.content disk.old }
     ensures crash { IsTrue D.tells → Within (D.may_leave disk.old) (D.may_leave disk.new) }
+    ensures leaves { IsTrue D.tells → LeavesAlso D.moment D.left_since disk.old disk.new (λ file. ⊥) }
     ensures cause { OnErr result (Rose (D.fault_count disk.old) (D.fault_count disk.new)) }
     ensures calm { OnOk result (D.fault_count disk.new ≡ D.fault_count disk.old) }
     ensures place { D.place disk.new ≡ D.place disk.old }
@@ -98,6 +102,7 @@ impl<D: Disk> Disks<D> {
         ensures some { IfOk result (λ empty. IsTrue D.tells → empty ≡ false → SomeFile (map D.content (three self.old))) }
         ensures same { IsTrue D.tells → map D.content (three self.new) ≡ map D.content (three self.old) }
         ensures crash { IsTrue D.tells → AreNoWorse D.may_leave (three self.old) (three self.new) }
+        ensures leaves { IsTrue D.tells → LeaveSuch D.moment D.left_since (λ at file. ⊥) (three self.old) (three self.new) }
         ensures cause { OnErr result (OneRose (map D.fault_count (three self.old)) (map D.fault_count (three self.new))) }
         ensures calm { OnOk result (map D.fault_count (three self.new) ≡ map D.fault_count (three self.old)) }
         ensures places { map D.place (three self.new) ≡ map D.place (three self.old) }
@@ -122,9 +127,13 @@ fn journal_of<D: Disk>(opened: (Journal<D>, RecordList)) -> Journal<D>
 
 /// Opens the journal on a disk whose file is empty.
 fn open_one<D: Disk>(alloc: Global, disk: D) -> Result<Journal<D>, Unopened<D>>
-    ensures opened { IsEmpty D.tells (D.content disk) → IfOk result (λ journal. IsOpen D.tells D.content D.may_leave [] journal) }
+    ensures opened { IsEmpty D.tells (D.content disk) → IfOk result (λ journal. IsFresh D.tells D.content journal) }
     ensures open { IfOk result (λ journal. IsTrue journal.is_open) }
-    ensures kept { IsEmpty D.tells (D.content disk) → IfErr result (λ u. IsTrue D.tells → IsJournal (D.content u.disk) []) }
+    ensures kept { IsEmpty D.tells (D.content disk) → IfErr result (λ u. IsTrue D.tells → Stands (D.content u.disk) []) }
+    ensures leaves { IsEmpty D.tells (D.content disk) → IfOk result (λ journal. IsTrue D.tells →
+        LeavesAlso D.moment D.left_since disk journal.disk (λ file. Stands file [])) }
+    ensures leaves_err { IsEmpty D.tells (D.content disk) → IfErr result (λ u. IsTrue D.tells →
+        LeavesAlso D.moment D.left_since disk u.disk (λ file. Stands file [])) }
     ensures damaged { IfErr result (λ u. IsEmpty D.tells (D.content disk) → u.status ≡ statuses.DamagedJournal → ¬ IsTrue D.tells) }
     ensures stops { IfErr result (λ u. StopsOpening u.status) }
     ensures fault { IfErr result (λ u. RoseWhere (u.status ≡ statuses.DiskFailed) (D.fault_count disk) (D.fault_count u.disk)) }
@@ -153,9 +162,13 @@ fn open_one<D: Disk>(alloc: Global, disk: D) -> Result<Journal<D>, Unopened<D>>
 
 /// Opens the journals on disks whose files are empty, in order of their nodes.
 pub fn open_all<D: Disk>(alloc: Global, disks: Disks<D>) -> Result<Journals<D>, AllUnopened<D>>
-    ensures opened { IsEmptyAll D.tells (map D.content (three disks)) → IfOk result (λ journals. AreOpen D.tells D.content D.may_leave journals [] []) }
-    ensures open { IfOk result (λ journals. IsTrue journals.catalogue.is_open × IsTrue journals.shard.is_open) }
-    ensures kept { IsEmptyAll D.tells (map D.content (three disks)) → IfErr result (λ u. AreLeft D.tells D.content (three u.disks) [] []) }
+    ensures opened { IsEmptyAll D.tells (map D.content (three disks)) → IfOk result (λ journals. AreFresh D.tells D.content journals) }
+    ensures open { IfOk result (λ journals. IsTrue journals.catalogue.is_open × IsTrue journals.shard.is_open × IsTrue journals.router.is_open) }
+    ensures kept { IsEmptyAll D.tells (map D.content (three disks)) → IfErr result (λ u. IsTrue D.tells → AllByRecursion (λ disk. Stands (D.content disk) []) (three u.disks)) }
+    ensures leaves { IsEmptyAll D.tells (map D.content (three disks)) → IfOk result (λ journals. IsTrue D.tells →
+        LeaveSuch D.moment D.left_since (λ at file. Stands file []) (three disks) (disks_of journals)) }
+    ensures leaves_err { IsEmptyAll D.tells (map D.content (three disks)) → IfErr result (λ u. IsTrue D.tells →
+        LeaveSuch D.moment D.left_since (λ at file. Stands file []) (three disks) (three u.disks)) }
     ensures damaged { IfErr result (λ u. IsEmptyAll D.tells (map D.content (three disks)) → u.status ≡ statuses.DamagedJournal → ¬ IsTrue D.tells) }
     ensures stops { IfErr result (λ u. StopsOpening u.status) }
     ensures fault { IfErr result (λ u. OneRoseWhere (u.status ≡ statuses.DiskFailed) (map D.fault_count (three disks)) (map D.fault_count (three u.disks))) }

@@ -1,21 +1,18 @@
-//! The top call of the cluster: it takes the bytes of a connection and answers reply bytes.
+//! The top call of the cluster: it takes the bytes of a connection, or of a script, and answers bytes.
 #![tactic(auto)]
 
 mod arguments;
-mod connection;
 mod disks;
-pub mod examples;
+mod drive;
 mod journals;
 pub mod laws;
-mod pipe;
-mod requests;
-mod rest;
-mod server;
+mod nodes;
+mod seats;
+mod serving;
 mod status;
-mod streams;
 mod top;
 
-pub use arguments::node_count;
+pub use arguments::{Command, node_count, read_command};
 pub use outside::spoken::{Exchange, LinkEnd, Spoken};
 pub use status::Status;
 pub use top::{Ended, run};

@@ -2,7 +2,9 @@
 
 ghost use Rattle.std.specs.Prelude.{◌≡◌};
 ghost use Rattle.std.specs.Option.{option_map};
-ghost use Rattle.cluster_top.specs.Statuses.{line_of, number_of, with_number};
+ghost use Rattle.cluster_top.specs.Statuses.{line_of, number_of, of_connection, with_number};
+
+use pipe_driver::Status as Ending;
 
 /// How a run ended, by its cause.
 #[derive(Clone, Copy, Debug, PartialEq, Eq)]
@@ -19,7 +21,7 @@ pub enum Status {
     DiskFailed,
     /// A journal was not empty at the start.
     DamagedJournal,
-    /// There was no memory.
+    /// There was no memory, or a node was at its last step.
     OutOfMemory,
     /// No link could be accepted.
     AcceptFailed,
@@ -30,6 +32,21 @@ pub enum Status {
 }
 
 impl Status {
+    /// The status of a run whose connection ended with this one.
+    pub(crate) fn of(ending: Ending) -> Status
+        ensures { result ≡ of_connection ending }
+    {
+        match ending {
+            Ending::InputEnded => Status::InputEnded,
+            Ending::ReadFailed => Status::ReadFailed,
+            Ending::WriteFailed => Status::WriteFailed,
+            Ending::DiskFailed => Status::DiskFailed,
+            Ending::OutOfMemory => Status::OutOfMemory,
+            Ending::BadInput => Status::BadInput,
+            Ending::InputTooLong => Status::InputTooLong,
+        }
+    }
+
     /// The number that a process ends with.
     pub fn number(self) -> u8
         ensures { result ≡ number_of self }

@@ -2,17 +2,19 @@
 
 ghost use Rattle.std.specs.Prelude.{◌≡◌, ◌≢◌, ◌⊎◌, ◌↔◌, ◌^◌, [], map, IfSome, IsSome, IsNone, IsTrue, vec_len};
 ghost use Rattle.std.specs.List.{AllByRecursion};
-ghost use Rattle.outside.specs.Devices.{NoneFell, SinkIsUntouched, SourceIsUntouched, disks_call, sink_call, source_call};
+ghost use Rattle.outside.specs.Devices.{NoneFell, SinkIsUntouched, SourceIsUntouched, sink_call, source_call};
 ghost use Rattle.cluster_top.specs.Counts.{OneRoseWhere, RoseWhere};
+ghost use Rattle.cluster_top.specs.Crashes.{LeaveTheWay};
 ghost use Rattle.cluster_top.specs.Disks.{AreNoWorse, IsEmptyAll, SomeFile};
-ghost use Rattle.cluster_top.specs.Headline.{AsPlainStore, Headline, most_taken};
+ghost use Rattle.cluster_top.specs.Headline.{HeadlineOf};
 ghost use Rattle.cluster_top.specs.OpenJournals.{IsDurable};
-ghost use Rattle.cluster_top.specs.Statuses.{OfStatus};
-ghost use Rattle.cluster_top.specs.Arguments.{node_count_of};
+ghost use Rattle.cluster_top.specs.Statuses.{OfConnection, OfStatus};
+ghost use Rattle.cluster_top.specs.Arguments.{command_of, node_count_of};
 
-use crate::arguments::node_count;
+use crate::arguments::read_command;
 use crate::disks::{put_back, take_apart};
-use crate::pipe::pipe;
+use crate::nodes::new_nodes;
+use crate::serving::run_nodes;
 use crate::status::Status;
 use bson_values::Text;
 use outside::clock::Clock;
@@ -35,10 +37,10 @@ pub struct Ended<D: Drop, L: Drop> {
 }
 
 /// Runs the cluster as the arguments say. So far the one argument is `pipe`: one connection from `input` to `out`, which is served to
-/// its end; what its requests leave stands on the disks, whose files must be empty at the start. The acceptor and the gate are
-/// not used. `Status` has the statuses; with 2 and 6 nothing was taken or put, and with 10 2^40 bytes were taken.
+/// its end; or `sim`: a script in `input`, which is played to its end. What the requests leave stands on the disks, whose files must be
+/// empty at the start. The acceptor and the gate are not used. `Status` has the statuses; with 2 and 6 nothing was taken or put, and with 10 2^40 bytes were taken.
 pub fn run<R, S, K, A, D, C, G>(
-    _rt: &R,
+    rt: &R,
     alloc: Global,
     words: &[Text],
     input: &mut S,
@@ -79,21 +81,16 @@ where
     ensures disk_fault { OneRoseWhere (result.status ≡ 5) (map D.fault_count disks.items) (map D.fault_count result.disks.items) }
     ensures none_fell { NoneFell (map D.fault_count disks.items) (map D.fault_count result.disks.items) }
 
-    // The replies, their times and the records on the disks are those of one plain store.
-    ensures plain_store { IsSome (node_count_of words.now) → IsEmptyAll D.tells (map D.content disks.items) → result.status ≢ 6 →
-        OfStatus result.status (λ status. AsPlainStore
+    // The headline: a run of the nodes, by the schedule or as a script says, took these bytes and put these replies, its journals are what the
+    // disks keep, and they tell one legal history, of which each reply is a right one. A crash at any moment of the call left of each disk what
+    // it might have left before, or what the disk's node kept in a world on the way of that run.
+    ensures headline { IfSome (command_of words.now) (λ command. IsEmptyAll D.tells (map D.content disks.items) → result.status ≢ 6 →
+        OfStatus result.status (λ status. OfConnection status (λ ending. HeadlineOf command
         (source_call S.tells S.left S.fault_count input.old input.new)
         (sink_call K.tells K.held K.fault_count out.old out.new)
-        (disks_call D.tells D.content D.place D.fault_count disks.items result.disks.items)
-        (C.gives clock.now) most_taken status result.rest) }
-
-    // The headline: the replies are right ones of one legal history, which the disks keep.
-    ensures headline { IsSome (node_count_of words.now) → IsEmptyAll D.tells (map D.content disks.items) → result.status ≢ 6 →
-        OfStatus result.status (λ status. Headline
-        (source_call S.tells S.left S.fault_count input.old input.new)
-        (sink_call K.tells K.held K.fault_count out.old out.new)
-        (disks_call D.tells D.content D.place D.fault_count disks.items result.disks.items)
-        (C.gives clock.now) most_taken status result.rest) }
+        D.tells (map D.content result.disks.items)
+        (LeaveTheWay D.tells D.moment D.left_since disks.items result.disks.items)
+        (C.gives clock.now) ending result.rest))) }
 
     // But where a disk failed or memory ended, a crash takes none of the records.
     ensures durable { IsSome (node_count_of words.now) → IsTrue D.tells → IsEmptyAll D.tells (map D.content disks.items) →
@@ -104,16 +101,28 @@ where
     ensures links { result.links.items ≡ [] }
 {
     let mut disks = disks;
-    if node_count(words).is_none() {
-        return Ended {
-            status: Status::BadArguments.number(),
-            rest: 0,
-            disks,
-            links: Vec::new(alloc),
-        };
-    }
+    let command = match read_command(words) {
+        Some(command) => command,
+        None => {
+            return Ended {
+                status: Status::BadArguments.number(),
+                rest: 0,
+                disks,
+                links: Vec::new(alloc),
+            };
+        }
+    };
     let three = take_apart(&mut disks);
-    let ending = pipe(alloc, input, out, three, clock);
+    let ending = run_nodes(
+        rt,
+        alloc,
+        command,
+        input,
+        out,
+        new_nodes(alloc),
+        three,
+        clock,
+    );
     put_back(&mut disks, ending.disks);
     Ended {
         status: ending.status.number(),

@@ -1,14 +1,14 @@
 -- What a step gives out is taken in.
-use Rattle.std.proofs.Common.{◌≡◌, inl, inr, ℕ, List, [], ◌++◌, map, refl, sym, ap, ◌∙◌, append_assoc, append-nil}
+use Rattle.std.proofs.Common.{◌≡◌, ◌⊎◌, inl, inr, ℕ, List, [], ◌++◌, map, refl, sym, ap, subst, ◌∙◌, append_assoc, append-nil}
 use Rattle.std.proofs.lemmas.List.{map-append}
 use Rattle.node_model.specs.Letters.{Letter, Input}
-use Rattle.node_model.specs.World.{World}
+use Rattle.node_model.specs.World.{World, Event, Moves}
 use Rattle.node_traits.specs.Effects.{ByStepFault}
 use Rattle.node_traits.specs.declared.outputs.StepFault.{StepFault}
 use Rattle.node_traits.specs.declared.outputs.StepFault.TheVariants.{Disk, Steps, Memory}
 use Rattle.node_traits.specs.declared.outputs.ToLink.{ToLink}
 use Rattle.driver_steps.specs.declared.post.Post.{Post}
-use Rattle.driver_steps.specs.Seats.{SeatView, AreHeld}
+use Rattle.driver_steps.specs.Seats.{SeatView, AreHeld, LeaveKept}
 use Rattle.driver_steps.specs.Worlds.{StandsFor, post_view, puts_given}
 use Rattle.driver_steps.specs.Moves.{HasStepped, HasMoved, IsBroken, IsCutShort, MovesOrNot}
 use Rattle.driver_steps.proofs.Stepping.{puts_moved}
@@ -21,8 +21,9 @@ module _ {S M : Type 0} (view : S → SeatView) (letter : M → Letter) (seats s
   moved mail replies h waits puts = record {
     end = h.end;
     moves = h.moves;
-    stands = record {
+    stands = λ e event. record {
       nodes = h.nodes;
+      crashes = h.crashes e event;
       past = stands.past;
       sent = h.sent ∙ (ap (λ (l : List Letter). l ++ map letter mail) stands.sent
           ∙ (append_assoc stands.past (map letter old.waiting.items) (map letter mail)
@@ -40,17 +41,54 @@ module _ {S M : Type 0} (view : S → SeatView) (letter : M → Letter) (seats s
       let more = puts_moved w at i end m in
       (more.0, more.1 ∙ ap (λ (l : List ToLink). l ++ more.0) stands.given)
 
-  pub cut_short : (fault : StepFault) → ByStepFault fault (λ faults. IsBroken view seats_after w at i) (AreHeld view seats_after w.nodes)
+  -- of a step at which a disk failed, the logs keep what they keep before it or behind it
+  step_or_not : (b : IsBroken view seats_after w at i) → (b.end ≡ w) ⊎ (b.end ≡ b.last) → MovesOrNot w at i b.end
+  step_or_not b (inl before) = inl before
+  step_or_not b (inr behind) = inr (subst (λ (x : World). Moves w at i x) (sym behind) b.moves)
+
+  one_more : (b : IsBroken view seats_after w at i) → (b.end ≡ w) ⊎ (b.end ≡ b.last) → (b.last ≡ b.end) ⊎ ((b.end ≡ w) × Moves w at i b.last)
+  one_more b (inl before) = inr (before, b.moves)
+  one_more b (inr behind) = inl (sym behind)
+
+  pub cut_short : (fault : StepFault)
+      → ByStepFault fault (λ faults. IsBroken view seats_after w at i) (AreHeld view seats_after w.nodes × LeaveKept view seats_after w)
       → IsCutShort view seats_after old.replies.items handed w at i fault
   cut_short (Disk faults) b =
-      let more = given_or_not b.end b.moves in
-      record { end = b.end; moves = b.moves; nodes = b.kept; missing = more.0; given = more.1 }
+      let more = given_or_not b.end (step_or_not b b.which) in
+      record {
+        end = b.end;
+        moves = step_or_not b b.which;
+        nodes = b.kept;
+        last = b.last;
+        up_to = one_more b b.which;
+        crashes = b.crashes;
+        missing = more.0;
+        given = more.1;
+      }
   cut_short Steps are =
       let more = given_or_not w (inl refl) in
-      record { end = w; moves = inl refl; nodes = are; missing = more.0; given = more.1 }
+      record {
+        end = w;
+        moves = inl refl;
+        nodes = are.0;
+        last = w;
+        up_to = refl;
+        crashes = λ e event. are.1;
+        missing = more.0;
+        given = more.1;
+      }
   cut_short Memory are =
       let more = given_or_not w (inl refl) in
-      record { end = w; moves = inl refl; nodes = are; missing = more.0; given = more.1 }
+      record {
+        end = w;
+        moves = inl refl;
+        nodes = are.0;
+        last = w;
+        up_to = refl;
+        crashes = λ e event. are.1;
+        missing = more.0;
+        given = more.1;
+      }
 
   -- a step was taken, and replies or messages found no room
   pub found_no_room : (mail : List Letter) (replies kept : List ToLink) → HasStepped view seats_after w at i mail replies
@@ -59,6 +97,9 @@ module _ {S M : Type 0} (view : S → SeatView) (letter : M → Letter) (seats s
     end = h.end;
     moves = inr h.moves;
     nodes = h.nodes;
+    last = h.end;
+    up_to = refl;
+    crashes = h.crashes;
     missing = missing;
     given = h.given ∙ (ap (λ (l : List ToLink). l ++ replies) stands.given ∙ (append_assoc handed old.replies.items replies
         ∙ (ap (λ (l : List ToLink). handed ++ l) e ∙ sym (append_assoc handed kept missing))));

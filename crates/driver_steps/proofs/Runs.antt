@@ -11,12 +11,13 @@ use Rattle.node_model.specs.World.{World, IsRouter, Moves, Event, client_event, 
 use Rattle.node_model.specs.World.{Happens, comes, delivers, passes, begins as was_opened, Run, stands, goes}
 use Rattle.node_model.proofs.Schedules.{run_then}
 use Rattle.node_traits.specs.declared.outputs.StepFault.{StepFault}
+use Rattle.node_traits.specs.declared.outputs.StepFault.TheVariants.{Disk, Steps, Memory}
 use Rattle.node_traits.specs.declared.outputs.ToLink.{ToLink}
 use Rattle.driver_steps.specs.declared.post.Post.{Post}
 use Rattle.driver_steps.specs.Seats.{SeatView}
 use Rattle.driver_steps.specs.Worlds.{PostView, StandsFor, post_view}
 use Rattle.std.specs.List.{AllByRecursion}
-use Rattle.driver_steps.specs.Moves.{BeginWith, IsDelivery, AreDeliveries, HasDelivered, HasHappened, HasMoved, HasRun, HasSettled, HasStopped}
+use Rattle.driver_steps.specs.Moves.{IsEvent, IsUpTo, BeginWith, IsDelivery, AreDeliveries, HasDelivered, HasHappened, HasMoved, HasRun, HasSettled, HasStopped}
 use Rattle.driver_steps.specs.Moves.{IsCutShort, MovesOrNot, DeliversOrLoses, Settles, settles_none, settles_next, loses_next}
 
 -- THE SCHEDULE
@@ -103,6 +104,7 @@ popped view letter seats handed w next m old new s first same =
           (seam s.past (letter m) (map letter new.waiting.items));
       stands = record {
         nodes = s.nodes;
+        crashes = s.crashes;
         past = s.past ++ letter m ∷ [];
         sent = all ∙ sym (append_assoc s.past (letter m ∷ []) (map letter new.waiting.items));
         place = count;
@@ -112,15 +114,29 @@ popped view letter seats handed w next m old new s first same =
 
 -- FROM STEPS TO EVENTS
 
+is_delivery : (w : World) (which at : ℕ) (m : Letter) (i : Input) → slice_get w.sent which ≡ Some m → i ≡ letter_input m → at ≡ m.receiver
+    → IsEvent w at i (deliver_event m.receiver which)
+is_delivery w which at m i got is to v moves =
+    delivers w v m.receiver which m got refl (subst (λ (n : ℕ). Moves w n (letter_input m) v) to (subst (λ (x : Input). Moves w at x v) is moves))
+
+is_request : (w : World) (at link : ℕ) (number : ℤ) (request : Request) (i : Input) → IsRouter w.nodes at → i ≡ client_input link number request
+    → IsEvent w at i (client_event at link number request)
+is_request w at link number request i router is v moves = comes w v at link number request router (subst (λ (x : Input). Moves w at x v) is moves)
+
+is_opening : (w : World) (at : ℕ) (i : Input) → i ≡ opened_input → IsEvent w at i (opened_event at)
+is_opening w at i is v moves = was_opened w v at (subst (λ (x : Input). Moves w at x v) is moves)
+
+is_passing : (w : World) (at moment : ℕ) (i : Input) → i ≡ moment_input moment → IsEvent w at i (moment_event at moment)
+is_passing w at moment i is v moves = passes w v at moment (subst (λ (x : Input). Moves w at x v) is moves)
+
 pub delivered : {S : Type 0} (view : S → SeatView) (seats : List S) (post : PostView) (handed : List ToLink) (w : World) (next which at : ℕ)
     (m : Letter) (i : Input)
     → slice_get w.sent which ≡ Some m → i ≡ letter_input m → at ≡ m.receiver → HasMoved view seats post handed w next at i
     → HasDelivered view seats post handed w next which m.receiver
 delivered view seats post handed w next which at m i got is to h = record {
   end = h.end;
-  delivers = inl (delivers w h.end m.receiver which m got refl (subst (λ (n : ℕ). Moves w n (letter_input m) h.end) to
-      (subst (λ (x : Input). Moves w at x h.end) is h.moves)));
-  stands = h.stands;
+  delivers = inl (is_delivery w which at m i got is to h.end h.moves);
+  stands = h.stands (deliver_event m.receiver which) (is_delivery w which at m i got is to);
 }
 
 -- it went to no node
@@ -129,10 +145,23 @@ pub lost : {S : Type 0} (view : S → SeatView) (seats : List S) (post : PostVie
     → HasDelivered view seats post handed w next which receiver
 lost view seats post handed w next which receiver count at same counted to behind s = record { end = w; delivers = inr (refl, omega arith); stands = s }
 
+-- a step leads to another world
+never_still : (w v : World) (at : ℕ) (i : Input) → Moves w at i v → v ≡ w → ⊥
+never_still w v at i m same =
+    let later : v.now ≡ w.now + 1 = ap (λ (x : World). x.now) m.then in
+    let now : v.now ≡ w.now = ap (λ (x : World). x.now) same in
+    omega (arith, later, now)
+
+pub up_to_more : (fault : StepFault) (end last : World) (A B : Type 0) → IsUpTo fault end last A → (A → B) → IsUpTo fault end last B
+up_to_more (Disk faults) end last A B (inl same) f = inl same
+up_to_more (Disk faults) end last A B (inr more) f = inr (f more)
+up_to_more Steps end last A B same f = same
+up_to_more Memory end last A B same f = same
+
 -- events happened, and the next one was cut short
 pub stopped : {S : Type 0} (view : S → SeatView) (seats : List S) (replies handed : List ToLink) (u : World) (events : List Event) (w : World)
     (e : Event) (at : ℕ) (i : Input) (P : List Event → Type 0) (fault : StepFault)
-    → Run u events w → ((v : World) → Moves w at i v → Happens w e v) → P events → P (events ++ e ∷ [])
+    → Run u events w → IsEvent w at i e → P events → P (events ++ e ∷ [])
     → IsCutShort view seats replies handed w at i fault → HasStopped view seats replies handed u P fault
 stopped view seats replies handed u events w e at i P fault run event before behind c = by_step c.moves
   where
@@ -143,6 +172,10 @@ stopped view seats replies handed u events w e at i P fault run event before beh
       which = before;
       run = subst (λ (x : World). Run u events x) (sym same) run;
       nodes = c.nodes;
+      last = c.last;
+      up_to = up_to_more fault c.end c.last _ _ c.up_to
+          (λ more. (e, behind, subst (λ (x : World). Happens x e c.last) (sym same) (event c.last more.1)));
+      crashes = c.crashes e event;
       missing = c.missing;
       given = c.given;
     }
@@ -152,18 +185,21 @@ stopped view seats replies handed u events w e at i P fault run event before beh
       which = behind;
       run = run_then u events w (e ∷ []) c.end run (goes w c.end c.end e [] (event c.end m) (stands c.end));
       nodes = c.nodes;
+      last = c.last;
+      up_to = up_to_more fault c.end c.last _ _ c.up_to (λ more. absurd (never_still w c.end at i m more.0));
+      crashes = c.crashes e event;
       missing = c.missing;
       given = c.given;
     }
 
 pub run_more : {S : Type 0} (view : S → SeatView) (seats : List S) (post : PostView) (handed : List ToLink) (u : World) (events : List Event)
     (w : World) (next : ℕ) (e : Event) (at : ℕ) (i : Input)
-    → Run u events w → ((v : World) → Moves w at i v → Happens w e v) → HasMoved view seats post handed w next at i
+    → Run u events w → IsEvent w at i e → HasMoved view seats post handed w next at i
     → HasRun view seats post handed u next (events ++ e ∷ [])
 run_more view seats post handed u events w next e at i run event h = record {
   end = h.end;
   run = run_then u events w (e ∷ []) h.end run (goes w h.end h.end e [] (event h.end h.moves) (stands h.end));
-  stands = h.stands;
+  stands = h.stands e event;
 }
 
 -- a run, and then a stop
@@ -177,6 +213,14 @@ stopped_behind view seats replies handed u events w P Q fault run all s = record
   which = all s.events s.which;
   run = run_then u events w s.events s.end run s.run;
   nodes = s.nodes;
+  last = s.last;
+  up_to = up_to_more fault s.end s.last _ _ s.up_to
+      (λ more. (
+        more.0,
+        subst (λ (l : List Event). Q l) (sym (append_assoc events s.events (more.0 ∷ []))) (all (s.events ++ more.0 ∷ []) more.1),
+        more.2,
+      ));
+  crashes = s.crashes;
   missing = s.missing;
   given = s.given;
 }
@@ -224,17 +268,26 @@ settling_step view letter seats seats_after post handed u next m old taken r fir
     let p = popped view letter seats handed r.end r.later m old taken r.stands first same in
     settling_more view seats_after post handed u next r.events r.end r.later (letter m) r.settles p.got (deliver r.end (r.later + 1) r.later p.stands p.got)
 
+-- the first of one delivery, as far as it goes
+first_is_delivery : (receiver which : ℕ) (events : List Event) → BeginWith events (deliver_event receiver which ∷ []) → AreDeliveries events
+first_is_delivery receiver which [] first = tt
+first_is_delivery receiver which (e ∷ []) (others, all) =
+    let same : deliver_event receiver which ≡ e = cc in
+    (subst (λ (x : Event). IsDelivery x) same tt, tt)
+first_is_delivery receiver which (e ∷ f ∷ events) (others, all) = absurd (cc)
+
 pub settling_stopped : {S M : Type 0} (view : S → SeatView) (letter : M → Letter) (seats seats_after : List S) (replies handed : List ToLink)
     (u : World) (next : ℕ) (m : M) (old taken : Post M) (fault : StepFault)
     → IsSettling view seats (post_view letter old) handed u next → old.waiting.items ≡ m ∷ taken.waiting.items → taken.replies.items ≡ old.replies.items
     → ((v : World) (n which : ℕ) → StandsFor view seats (post_view letter taken) handed v n → slice_get v.sent which ≡ Some (letter m)
-    → HasStopped view seats_after replies handed v AreDeliveries fault)
+    → HasStopped view seats_after replies handed v (λ events. BeginWith events (deliver_event (letter m).receiver which ∷ [])) fault)
     → HasStopped view seats_after replies handed u AreDeliveries fault
 settling_stopped view letter seats seats_after replies handed u next m old taken fault r first same deliver =
     let p = popped view letter seats handed r.end r.later m old taken r.stands first same in
-    stopped_behind view seats_after replies handed u r.events r.end AreDeliveries AreDeliveries fault
-    (settles_run u next r.events r.end r.later r.settles)
-    (λ more are. deliveries_then r.events more (settles_which u next r.events r.end r.later r.settles) are)
+    stopped_behind view seats_after replies handed u r.events r.end (λ events. BeginWith events (deliver_event (letter m).receiver r.later ∷ []))
+    AreDeliveries fault (settles_run u next r.events r.end r.later r.settles)
+    (λ more are. deliveries_then r.events more (settles_which u next r.events r.end r.later r.settles)
+    (first_is_delivery (letter m).receiver r.later more are))
     (deliver r.end (r.later + 1) r.later p.stands p.got)
 
 -- nothing waits any more
@@ -271,6 +324,7 @@ settled_at_end {S} {M} view letter seats handed u next old taken None r none ite
       settles = h.settles;
       stands = record {
         nodes = h.stands.nodes;
+        crashes = h.stands.crashes;
         past = h.stands.past;
         sent = h.stands.sent ∙ ap (λ (l : List M). h.stands.past ++ map letter l) items;
         place = h.stands.place;
@@ -283,11 +337,12 @@ settled_at_end {S} {M} view letter seats handed u next old taken None r none ite
 pub delivery_stopped : {S : Type 0} (view : S → SeatView) (seats : List S) (replies handed : List ToLink) (w : World) (which at : ℕ) (m : Letter)
     (i : Input) (fault : StepFault)
     → slice_get w.sent which ≡ Some m → i ≡ letter_input m → at ≡ m.receiver → IsCutShort view seats replies handed w at i fault
-    → HasStopped view seats replies handed w AreDeliveries fault
+    → HasStopped view seats replies handed w (λ events. BeginWith events (deliver_event m.receiver which ∷ [])) fault
 delivery_stopped view seats replies handed w which at m i fault got is to c =
-    stopped view seats replies handed w [] w (deliver_event m.receiver which) at i AreDeliveries fault (stands w)
-    (λ v x. delivers w v m.receiver which m got refl (subst (λ (n : ℕ). Moves w n (letter_input m) v) to (subst (λ (y : Input). Moves w at y v) is x)))
-    tt (tt, tt) c
+    stopped view seats replies handed w [] w (deliver_event m.receiver which) at i
+    (λ events. BeginWith events (deliver_event m.receiver which ∷ [])) fault (stands w)
+    (is_delivery w which at m i got is to)
+    (deliver_event m.receiver which ∷ [], refl) ([], refl) c
 
 pub ask_stopped : {S : Type 0} (view : S → SeatView) (seats : List S) (replies handed : List ToLink) (w : World) (at link : ℕ) (number : ℤ)
     (request : Request) (i : Input) (fault : StepFault)
@@ -296,7 +351,7 @@ pub ask_stopped : {S : Type 0} (view : S → SeatView) (seats : List S) (replies
 ask_stopped view seats replies handed w at link number request i fault router is c =
     stopped view seats replies handed w [] w (client_event at link number request) at i
     (λ events. BeginWith events (client_event at link number request ∷ [])) fault (stands w)
-    (λ v x. comes w v at link number request router (subst (λ (y : Input). Moves w at y v) is x))
+    (is_request w at link number request i router is)
     (client_event at link number request ∷ [], refl) ([], refl) c
 
 -- the first of so many openings, and of so many moments
@@ -351,7 +406,7 @@ pub opened_stopped : {S : Type 0} (view : S → SeatView) (seats_before seats : 
     → HasStopped view seats replies handed u (λ events. BeginWith events (openings 0 count)) fault
 opened_stopped view seats_before seats post_before replies handed u next at count i fault within r is c =
     stopped view seats replies handed u (openings 0 at) r.end (opened_event at) at i (λ events. BeginWith events (openings 0 count)) fault r.run
-    (λ v x. was_opened r.end v at (subst (λ (y : Input). Moves r.end at y v) is x))
+    (is_opening r.end at i is)
     (first_openings at count (omega (arith, within)))
     (subst (λ (l : List Event). BeginWith l (openings 0 count)) (one_more_opening at) (first_openings (at + 1) count (omega (arith, within)))) c
 
@@ -363,7 +418,7 @@ pub given_stopped : {S : Type 0} (view : S → SeatView) (seats_before seats : L
 given_stopped view seats_before seats post_before replies handed u next at count moment i fault within r is c =
     stopped view seats replies handed u (moments_given 0 at moment) r.end (moment_event at moment) at i
     (λ events. BeginWith events (moments_given 0 count moment)) fault r.run
-    (λ v x. passes r.end v at moment (subst (λ (y : Input). Moves r.end at y v) is x))
+    (is_passing r.end at moment i is)
     (first_moments at count moment (omega (arith, within)))
     (subst (λ (l : List Event). BeginWith l (moments_given 0 count moment)) (one_more_moment at moment)
     (first_moments (at + 1) count moment (omega (arith, within)))) c
@@ -375,7 +430,7 @@ pub opened_more : {S : Type 0} (view : S → SeatView) (seats_before seats : Lis
 opened_more view seats_before seats post_before post handed u next at i r is h =
     subst (λ (l : List Event). HasRun view seats post handed u next l) (sym (one_more_opening at))
     (run_more view seats post handed u (openings 0 at) r.end next (opened_event at) at i r.run
-    (λ v m. was_opened r.end v at (subst (λ (x : Input). Moves r.end at x v) is m)) h)
+    (is_opening r.end at i is) h)
 
 pub given_more : {S : Type 0} (view : S → SeatView) (seats_before seats : List S) (post_before post : PostView) (handed : List ToLink) (u : World)
     (next at moment : ℕ) (i : Input)
@@ -385,7 +440,7 @@ pub given_more : {S : Type 0} (view : S → SeatView) (seats_before seats : List
 given_more view seats_before seats post_before post handed u next at moment i r is h =
     subst (λ (l : List Event). HasRun view seats post handed u next l) (sym (one_more_moment at moment))
     (run_more view seats post handed u (moments_given 0 at moment) r.end next (moment_event at moment) at i r.run
-    (λ v m. passes r.end v at moment (subst (λ (x : Input). Moves r.end at x v) is m)) h)
+    (is_passing r.end at moment i is) h)
 
 pub run_none : {S : Type 0} (view : S → SeatView) (seats : List S) (post : PostView) (handed : List ToLink) (u : World) (next : ℕ)
     → StandsFor view seats post handed u next → HasRun view seats post handed u next []
@@ -401,8 +456,8 @@ pub asked : {S : Type 0} (view : S → SeatView) (seats : List S) (post : PostVi
     → HasHappened view seats post handed u next (client_event at link number request)
 asked view seats post handed u next at link number request i router is h = record {
   end = h.end;
-  happens = comes u h.end at link number request router (subst (λ (x : Input). Moves u at x h.end) is h.moves);
-  stands = h.stands;
+  happens = is_request u at link number request i router is h.end h.moves;
+  stands = h.stands (client_event at link number request) (is_request u at link number request i router is);
 }
 
 -- NO MESSAGE IS LOST
@@ -427,6 +482,7 @@ pub handed_on : {S M : Type 0} (view : S → SeatView) (letter : M → Letter) (
     → StandsFor view seats (post_view letter new) (handed ++ old.replies.items) w next
 handed_on view letter seats handed w next old new s same none = record {
   nodes = s.nodes;
+  crashes = s.crashes;
   past = s.past;
   sent = s.sent ∙ ap (λ l. s.past ++ map letter l) (sym same);
   place = s.place;

@@ -1,3 +1,4 @@
+pub mod Crashes
 pub mod Seats
 pub mod Worlds
 pub mod Moves

@@ -3,17 +3,23 @@ use Rattle.std.specs.Prelude.{◌≡◌, ◌⊎◌, ℕ, ◌+◌, ◌≤◌, Som
 use Rattle.std.specs.List.{slice_get, AllByRecursion}
 use Rattle.node_model.specs.Letters.{Letter, Input}
 use Rattle.node_model.specs.World.{World, Moves, Event, client_event, deliver_event, moment_event, opened_event, Happens, Run}
+use Rattle.node_traits.specs.Effects.{ByStepFault}
 use Rattle.node_traits.specs.declared.outputs.StepFault.{StepFault}
 use Rattle.node_traits.specs.declared.outputs.ToLink.{ToLink}
-use Rattle.driver_steps.specs.Seats.{SeatView, AreHeld, AreKept, AreHeldOrKept}
+use Rattle.driver_steps.specs.Seats.{SeatView, AreHeld, AreKept, AreHeldOrKept, LeaveKept}
 use Rattle.driver_steps.specs.Worlds.{PostView, puts_given, StandsFor}
 
--- The node at a place took a step on the input, and gave out these messages and replies.
+-- a step of the node at a place on the input is this event
+abbrev pub IsEvent : World → (at : ℕ) → Input → Event → Type 0
+IsEvent before at i e = (v : World) → Moves before at i v → Happens before e v
+
+-- The node at a place took a step on the input, whichever event that is, and gave out these messages and replies.
 pub record HasStepped {S : Type 0} (view : S → SeatView) (seats : List S) (before : World) (at : ℕ) (i : Input) (mail : List Letter)
     (replies : List ToLink) : Type 0 where
   pub end : World
   pub moves : Moves before at i end
   pub nodes : AreHeld view seats end.nodes
+  pub crashes : (e : Event) → IsEvent before at i e → LeaveKept view seats end
   pub sent : end.sent ≡ before.sent ++ mail
   pub given : puts_given end.answered ≡ puts_given before.answered ++ replies
 
@@ -21,18 +27,25 @@ pub record HasStepped {S : Type 0} (view : S → SeatView) (seats : List S) (bef
 abbrev pub MovesOrNot : World → (at : ℕ) → Input → World → Type 0
 MovesOrNot before at i end = (end ≡ before) ⊎ Moves before at i end
 
--- A disk failed in the step: the logs keep what they keep behind it, or before it.
+-- A disk failed in the step: the logs keep what they keep behind it (`last`), or before it. A crash meanwhile may have left either.
 pub record IsBroken {S : Type 0} (view : S → SeatView) (seats : List S) (before : World) (at : ℕ) (i : Input) : Type 0 where
   pub end : World
-  pub moves : MovesOrNot before at i end
+  pub last : World
+  pub which : (end ≡ before) ⊎ (end ≡ last)
+  pub moves : Moves before at i last
   pub kept : AreKept view seats end.nodes
+  pub crashes : (e : Event) → IsEvent before at i e → LeaveKept view seats last
 
--- The node at a place took a step on the input, and what it gave out was taken in.
+-- The node at a place took a step on the input, whichever event that is, and what it gave out was taken in.
 pub record HasMoved {S : Type 0} (view : S → SeatView) (seats : List S) (post : PostView) (handed : List ToLink) (before : World) (next at : ℕ)
     (i : Input) : Type 0 where
   pub end : World
   pub moves : Moves before at i end
-  pub stands : StandsFor view seats post handed end next
+  pub stands : (e : Event) → IsEvent before at i e → StandsFor view seats post handed end next
+
+-- The world up to which a crash may have left what the nodes keep: the last one, and where a disk failed maybe one more.
+abbrev pub IsUpTo : StepFault → (end last : World) → (more : Type 0) → Type 0
+IsUpTo fault end last more = ByStepFault fault (λ faults. (last ≡ end) ⊎ more) (last ≡ end)
 
 -- A fault came in the step, or messages or replies found no room: replies may be missing, and of what waits nothing is said.
 pub record IsCutShort {S : Type 0} (view : S → SeatView) (seats : List S) (replies handed : List ToLink) (before : World) (at : ℕ) (i : Input)
@@ -40,6 +53,9 @@ pub record IsCutShort {S : Type 0} (view : S → SeatView) (seats : List S) (rep
   pub end : World
   pub moves : MovesOrNot before at i end
   pub nodes : AreHeldOrKept fault view seats end.nodes
+  pub last : World
+  pub up_to : IsUpTo fault end last ((end ≡ before) × Moves before at i last)
+  pub crashes : (e : Event) → IsEvent before at i e → LeaveKept view seats last
   pub missing : List ToLink
   pub given : puts_given end.answered ≡ (handed ++ replies) ++ missing
 
@@ -70,7 +86,8 @@ IsDelivery (opened_event at) = ⊥
 abbrev pub AreDeliveries : List Event → Type 0
 AreDeliveries events = AllByRecursion IsDelivery events
 
--- Events happened, of which P holds, and then a fault came: replies may be missing, and of what waits nothing is said.
+-- Events happened, of which P holds, and then a fault came: replies may be missing, and of what waits nothing is said. Where a disk failed a
+-- crash may have left what one event more leaves, with which P holds too.
 pub record HasStopped {S : Type 0} (view : S → SeatView) (seats : List S) (replies handed : List ToLink) (before : World) (P : List Event → Type 0)
     (fault : StepFault) : Type 0 where
   pub events : List Event
@@ -78,6 +95,9 @@ pub record HasStopped {S : Type 0} (view : S → SeatView) (seats : List S) (rep
   pub which : P events
   pub run : Run before events end
   pub nodes : AreHeldOrKept fault view seats end.nodes
+  pub last : World
+  pub up_to : IsUpTo fault end last ((e : Event) × P (events ++ e ∷ []) × Happens end e last)
+  pub crashes : LeaveKept view seats last
   pub missing : List ToLink
   pub given : puts_given end.answered ≡ (handed ++ replies) ++ missing
 

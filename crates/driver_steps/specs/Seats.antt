@@ -1,28 +1,44 @@
 -- Nodes with their logs, as the nodes of a world with what their journals keep (own).
-use Rattle.std.specs.Prelude.{◌≡◌, ℕ, ◌+◌, ◌-◌, ◌^◌, Bool, IsTrue, List, [], ◌∷◌, map, Result, Ok, Err}
-use Rattle.std.specs.List.{AllByRecursion}
+use Rattle.std.specs.Prelude.{◌≡◌, ℕ, ◌+◌, ◌-◌, ◌^◌, Bool, IsTrue, List, [], ◌∷◌, map, Some, Result, Ok, Err}
+use Rattle.std.specs.List.{slice_get, AllByRecursion}
 use Rattle.outside.specs.Devices.{NoneFell, OneRose}
+use Rattle.outside.specs.Disks.{Outcomes}
 use Rattle.node_model.specs.Kept.{Kept}
 use Rattle.node_model.specs.States.{NodeState}
-use Rattle.node_model.specs.World.{Held}
+use Rattle.node_model.specs.World.{Held, World}
 use Rattle.node_traits.specs.Effects.{AreSound, ByStepFault, spellings}
 use Rattle.node_traits.specs.declared.outputs.StepFault.{StepFault}
+use Rattle.driver_steps.specs.Crashes.{Since, leaves_kept}
 use Rattle.driver_steps.specs.declared.seat.Seat.{Seat}
 
--- What is told of a node with its log: its state; whether the log's type tells its records, and these; and whether an opening of the log
--- would find a list.
+-- What is told of a node with its log: its state; whether the log's type tells its records, and these; whether an opening of the log
+-- would find a list; and what is said of crashes, at a place among the nodes of a world.
 pub record SeatView : Type 1 where
   pub state : NodeState
   pub tells : Bool
   pub records : List (List ℕ)
   pub holds : List (List ℕ) → Type 0
+  pub leaves : (at : ℕ) → World → Type 0
 
+-- of crashes nothing
 abbrev pub seat_view : {N L : Type 0} → (N → NodeState) → Bool → (L → List (List ℕ)) → (L → List (List ℕ) → Type 0) → Seat N L → SeatView
 seat_view state_of told records_of holds_in seat = record {
   state = state_of seat.node;
   tells = told;
   records = records_of seat.log;
   holds = holds_in seat.log;
+  leaves = λ at w. Unit {0};
+}
+
+-- of crashes what they leave since then
+abbrev pub seat_since : {N L : Type 0} → (N → NodeState) → Bool → (L → List (List ℕ)) → (L → List (List ℕ) → Type 0) → (List ℕ → List (List ℕ)
+    → Type 0) → (L → ℕ) → (L → ℕ → Outcomes) → Since L → Seat N L → SeatView
+seat_since state_of told records_of holds_in finds_in moment left_since since seat = record {
+  state = state_of seat.node;
+  tells = told;
+  records = records_of seat.log;
+  holds = holds_in seat.log;
+  leaves = leaves_kept told finds_in moment left_since since seat.log;
 }
 
 -- an opening of the log finds what is kept, and nothing else
@@ -35,6 +51,10 @@ pub record IsHeld (seat : SeatView) (held : Held) : Type 0 where
   pub same : held.state ≡ seat.state
   pub written : IsTrue seat.tells → seat.records ≡ spellings held.kept
   pub keeps : Keeps seat held.kept
+
+-- from these on, at the start of a run from a world
+abbrev pub since_then : {N L : Type 0} → List (Seat N L) → World → Since L
+since_then seats w = record { logs = map (λ s. s.log) seats; world = w }
 
 -- these nodes with their logs, in order
 abbrev pub AreHeld : {S : Type 0} → (S → SeatView) → List S → List Held → Type 0
@@ -51,6 +71,10 @@ AreKept view seats held = ⊥
 -- all where no disk failed, else what the logs keep
 abbrev pub AreHeldOrKept : {S : Type 0} → StepFault → (S → SeatView) → List S → List Held → Type 0
 AreHeldOrKept fault view seats held = ByStepFault fault (λ faults. AreKept view seats held) (AreHeld view seats held)
+
+-- what is said of crashes holds of each node of a world
+abbrev pub LeaveKept : {S : Type 0} → (S → SeatView) → List S → World → Type 0
+LeaveKept {S} view seats w = (at : ℕ) (s : S) → slice_get seats at ≡ Some s → (view s).leaves at w
 
 -- records can be appended to each log
 abbrev pub AreOpen : {N L : Type 0} → (L → Bool) → List (Seat N L) → Type 0

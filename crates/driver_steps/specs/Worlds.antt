@@ -4,7 +4,7 @@ use Rattle.node_model.specs.Asked.{Answered, reply_put}
 use Rattle.node_model.specs.Letters.{Letter}
 use Rattle.node_model.specs.World.{World}
 use Rattle.node_traits.specs.declared.outputs.ToLink.{ToLink}
-use Rattle.driver_steps.specs.Seats.{SeatView, AreHeld}
+use Rattle.driver_steps.specs.Seats.{SeatView, AreHeld, LeaveKept}
 use Rattle.driver_steps.specs.declared.post.Post.{Post}
 
 -- what is put for answers, in order: nothing for a request with moreToCome
@@ -21,10 +21,11 @@ pub record PostView : Type 0 where
 abbrev pub post_view : {M : Type 0} → (M → Letter) → Post M → PostView
 post_view letter post = record { waiting = map letter post.waiting.items; replies = post.replies.items }
 
--- The nodes with their logs are those of the world; of all messages that were sent those from a place on wait; and the replies were
--- given behind those that were handed on.
+-- The nodes with their logs are those of the world, also as for crashes; of all messages that were sent those from a place on wait; and
+-- the replies were given behind those that were handed on.
 pub record StandsFor {S : Type 0} (view : S → SeatView) (seats : List S) (post : PostView) (handed : List ToLink) (w : World) (next : ℕ) : Type 0 where
   pub nodes : AreHeld view seats w.nodes
+  pub crashes : LeaveKept view seats w
   pub past : List Letter
   pub sent : w.sent ≡ past ++ post.waiting
   pub place : length past ≡ next

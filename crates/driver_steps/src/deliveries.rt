@@ -1,11 +1,12 @@
 //! Deliveries.
 
-ghost use Rattle.std.specs.Prelude.{◌≡◌, ℕ, ◌+◌, ◌⊎◌, Some, List, vec_len, IfErr, OnOk};
+ghost use Rattle.std.specs.Prelude.{◌≡◌, ℕ, ◌+◌, ◌⊎◌, Some, List, [], ◌∷◌, vec_len, IfErr, OnOk};
 ghost use Rattle.std.specs.List.{slice_get};
-ghost use Rattle.node_model.specs.World.{World};
+ghost use Rattle.node_model.specs.World.{World, deliver_event};
 ghost use Rattle.node_traits.specs.declared.outputs.ToLink.{ToLink};
-ghost use Rattle.driver_steps.specs.Seats.{AreOpen, TellsFaults, faults_of, left_of, places_of, seat_view};
-ghost use Rattle.driver_steps.specs.Moves.{AreDeliveries, HasDelivered, HasSettled, HasStopped};
+ghost use Rattle.driver_steps.specs.Crashes.{Since};
+ghost use Rattle.driver_steps.specs.Seats.{AreOpen, TellsFaults, faults_of, left_of, places_of, seat_since};
+ghost use Rattle.driver_steps.specs.Moves.{AreDeliveries, BeginWith, HasDelivered, HasSettled, HasStopped};
 ghost use Rattle.driver_steps.specs.Worlds.{StandsFor, post_view};
 
 use crate::post::Post;
@@ -29,15 +30,18 @@ pub fn deliver<R: Threads + Sync, N: Node, L: Log>(
     message: N::Mail,
 ) -> Result<(), StepFault>
     requires { AreOpen L.is_open seats.old.items }
-    ensures delivered { (w : World) (next which : ℕ) (handed : List ToLink) →
-        StandsFor (seat_view N.state L.tells L.records L.holds) seats.old.items (post_view (λ m. N.Mail.letter m) post.old) handed w next →
+    ensures delivered { (since : Since L) (w : World) (next which : ℕ) (handed : List ToLink) →
+        StandsFor (seat_since N.state L.tells L.records L.holds L.finds L.moment L.left_since since) seats.old.items
+        (post_view (λ m. N.Mail.letter m) post.old) handed w next →
         slice_get w.sent which ≡ Some (N.Mail.letter message) →
-        OnOk result (HasDelivered (seat_view N.state L.tells L.records L.holds) seats.new.items
+        OnOk result (HasDelivered (seat_since N.state L.tells L.records L.holds L.finds L.moment L.left_since since) seats.new.items
         (post_view (λ m. N.Mail.letter m) post.new) handed w next which (N.Mail.letter message).receiver) }
-    ensures stopped { (w : World) (next which : ℕ) (handed : List ToLink) →
-        StandsFor (seat_view N.state L.tells L.records L.holds) seats.old.items (post_view (λ m. N.Mail.letter m) post.old) handed w next →
+    ensures stopped { (since : Since L) (w : World) (next which : ℕ) (handed : List ToLink) →
+        StandsFor (seat_since N.state L.tells L.records L.holds L.finds L.moment L.left_since since) seats.old.items
+        (post_view (λ m. N.Mail.letter m) post.old) handed w next →
         slice_get w.sent which ≡ Some (N.Mail.letter message) →
-        IfErr result (λ e. HasStopped (seat_view N.state L.tells L.records L.holds) seats.new.items post.new.replies.items handed w AreDeliveries e) }
+        IfErr result (λ e. HasStopped (seat_since N.state L.tells L.records L.holds L.finds L.moment L.left_since since) seats.new.items
+        post.new.replies.items handed w (λ events. BeginWith events (deliver_event (N.Mail.letter message).receiver which ∷ [])) e) }
     ensures len { vec_len seats.new ≡ vec_len seats.old }
     ensures open { OnOk result (AreOpen L.is_open seats.new.items) }
     ensures falls { OnOk result ((left_of N.steps seats.new.items + 1 ≡ left_of N.steps seats.old.items) ⊎
@@ -68,12 +72,16 @@ pub fn settle<R: Threads + Sync, N: Node, L: Log>(
     post: &mut Post<N::Mail>,
 ) -> Result<(), StepFault>
     requires { AreOpen L.is_open seats.old.items }
-    ensures settled { (w : World) (next : ℕ) (handed : List ToLink) →
-        StandsFor (seat_view N.state L.tells L.records L.holds) seats.old.items (post_view (λ m. N.Mail.letter m) post.old) handed w next →
-        OnOk result (HasSettled (seat_view N.state L.tells L.records L.holds) seats.new.items (post_view (λ m. N.Mail.letter m) post.new) handed w next) }
-    ensures stopped { (w : World) (next : ℕ) (handed : List ToLink) →
-        StandsFor (seat_view N.state L.tells L.records L.holds) seats.old.items (post_view (λ m. N.Mail.letter m) post.old) handed w next →
-        IfErr result (λ e. HasStopped (seat_view N.state L.tells L.records L.holds) seats.new.items post.new.replies.items handed w AreDeliveries e) }
+    ensures settled { (since : Since L) (w : World) (next : ℕ) (handed : List ToLink) →
+        StandsFor (seat_since N.state L.tells L.records L.holds L.finds L.moment L.left_since since) seats.old.items
+        (post_view (λ m. N.Mail.letter m) post.old) handed w next →
+        OnOk result (HasSettled (seat_since N.state L.tells L.records L.holds L.finds L.moment L.left_since since) seats.new.items
+        (post_view (λ m. N.Mail.letter m) post.new) handed w next) }
+    ensures stopped { (since : Since L) (w : World) (next : ℕ) (handed : List ToLink) →
+        StandsFor (seat_since N.state L.tells L.records L.holds L.finds L.moment L.left_since since) seats.old.items
+        (post_view (λ m. N.Mail.letter m) post.old) handed w next →
+        IfErr result (λ e. HasStopped (seat_since N.state L.tells L.records L.holds L.finds L.moment L.left_since since) seats.new.items
+        post.new.replies.items handed w AreDeliveries e) }
     ensures len { vec_len seats.new ≡ vec_len seats.old }
     ensures open { OnOk result (AreOpen L.is_open seats.new.items) }
 

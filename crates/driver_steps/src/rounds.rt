@@ -4,7 +4,8 @@ ghost use Rattle.std.specs.Prelude.{◌≡◌, ℕ, ◌<◌, List, [], ◌∷◌
 ghost use Rattle.node_model.specs.Schedule.{moments_given, openings};
 ghost use Rattle.node_model.specs.World.{IsRouter, World, client_event};
 ghost use Rattle.node_traits.specs.declared.outputs.ToLink.{ToLink};
-ghost use Rattle.driver_steps.specs.Seats.{AreOpen, TellsFaults, faults_of, places_of, seat_view};
+ghost use Rattle.driver_steps.specs.Crashes.{Since};
+ghost use Rattle.driver_steps.specs.Seats.{AreOpen, TellsFaults, faults_of, places_of, seat_since};
 ghost use Rattle.driver_steps.specs.Moves.{BeginWith, HasHappened, HasRun, HasStopped};
 ghost use Rattle.driver_steps.specs.Worlds.{StandsFor, post_view};
 
@@ -23,14 +24,17 @@ pub fn open_all<N: Node, L: Log>(
     post: &mut Post<N::Mail>,
 ) -> Result<(), StepFault>
     requires { AreOpen L.is_open seats.old.items }
-    ensures opened { (w : World) (next : ℕ) (handed : List ToLink) →
-        StandsFor (seat_view N.state L.tells L.records L.holds) seats.old.items (post_view (λ m. N.Mail.letter m) post.old) handed w next →
-        OnOk result (HasRun (seat_view N.state L.tells L.records L.holds) seats.new.items (post_view (λ m. N.Mail.letter m) post.new) handed w next
+    ensures opened { (since : Since L) (w : World) (next : ℕ) (handed : List ToLink) →
+        StandsFor (seat_since N.state L.tells L.records L.holds L.finds L.moment L.left_since since) seats.old.items
+        (post_view (λ m. N.Mail.letter m) post.old) handed w next →
+        OnOk result (HasRun (seat_since N.state L.tells L.records L.holds L.finds L.moment L.left_since since) seats.new.items
+        (post_view (λ m. N.Mail.letter m) post.new) handed w next
         (openings 0 (vec_len seats.old))) }
-    ensures stopped { (w : World) (next : ℕ) (handed : List ToLink) →
-        StandsFor (seat_view N.state L.tells L.records L.holds) seats.old.items (post_view (λ m. N.Mail.letter m) post.old) handed w next →
-        IfErr result (λ e. HasStopped (seat_view N.state L.tells L.records L.holds) seats.new.items post.new.replies.items handed w
-        (λ events. BeginWith events (openings 0 (vec_len seats.old))) e) }
+    ensures stopped { (since : Since L) (w : World) (next : ℕ) (handed : List ToLink) →
+        StandsFor (seat_since N.state L.tells L.records L.holds L.finds L.moment L.left_since since) seats.old.items
+        (post_view (λ m. N.Mail.letter m) post.old) handed w next →
+        IfErr result (λ e. HasStopped (seat_since N.state L.tells L.records L.holds L.finds L.moment L.left_since since) seats.new.items
+        post.new.replies.items handed w (λ events. BeginWith events (openings 0 (vec_len seats.old))) e) }
     ensures len { vec_len seats.new ≡ vec_len seats.old }
     ensures open { OnOk result (AreOpen L.is_open seats.new.items) }
 
@@ -58,14 +62,17 @@ pub fn give_moments<N: Node, L: Log>(
     moment: u64,
 ) -> Result<(), StepFault>
     requires { AreOpen L.is_open seats.old.items }
-    ensures given { (w : World) (next : ℕ) (handed : List ToLink) →
-        StandsFor (seat_view N.state L.tells L.records L.holds) seats.old.items (post_view (λ m. N.Mail.letter m) post.old) handed w next →
-        OnOk result (HasRun (seat_view N.state L.tells L.records L.holds) seats.new.items (post_view (λ m. N.Mail.letter m) post.new) handed w next
+    ensures given { (since : Since L) (w : World) (next : ℕ) (handed : List ToLink) →
+        StandsFor (seat_since N.state L.tells L.records L.holds L.finds L.moment L.left_since since) seats.old.items
+        (post_view (λ m. N.Mail.letter m) post.old) handed w next →
+        OnOk result (HasRun (seat_since N.state L.tells L.records L.holds L.finds L.moment L.left_since since) seats.new.items
+        (post_view (λ m. N.Mail.letter m) post.new) handed w next
         (moments_given 0 (vec_len seats.old) moment)) }
-    ensures stopped { (w : World) (next : ℕ) (handed : List ToLink) →
-        StandsFor (seat_view N.state L.tells L.records L.holds) seats.old.items (post_view (λ m. N.Mail.letter m) post.old) handed w next →
-        IfErr result (λ e. HasStopped (seat_view N.state L.tells L.records L.holds) seats.new.items post.new.replies.items handed w
-        (λ events. BeginWith events (moments_given 0 (vec_len seats.old) moment)) e) }
+    ensures stopped { (since : Since L) (w : World) (next : ℕ) (handed : List ToLink) →
+        StandsFor (seat_since N.state L.tells L.records L.holds L.finds L.moment L.left_since since) seats.old.items
+        (post_view (λ m. N.Mail.letter m) post.old) handed w next →
+        IfErr result (λ e. HasStopped (seat_since N.state L.tells L.records L.holds L.finds L.moment L.left_since since) seats.new.items
+        post.new.replies.items handed w (λ events. BeginWith events (moments_given 0 (vec_len seats.old) moment)) e) }
     ensures len { vec_len seats.new ≡ vec_len seats.old }
     ensures open { OnOk result (AreOpen L.is_open seats.new.items) }
 
@@ -97,16 +104,18 @@ pub fn ask<N: Node, L: Log>(
 ) -> Result<(), StepFault>
     requires at { at < vec_len seats.old }
     requires open { AreOpen L.is_open seats.old.items }
-    ensures asked { (w : World) (next : ℕ) (handed : List ToLink) →
-        StandsFor (seat_view N.state L.tells L.records L.holds) seats.old.items (post_view (λ m. N.Mail.letter m) post.old) handed w next
+    ensures asked { (since : Since L) (w : World) (next : ℕ) (handed : List ToLink) →
+        StandsFor (seat_since N.state L.tells L.records L.holds L.finds L.moment L.left_since since) seats.old.items
+        (post_view (λ m. N.Mail.letter m) post.old) handed w next
         → IsRouter w.nodes at →
-        OnOk result (HasHappened (seat_view N.state L.tells L.records L.holds) seats.new.items
+        OnOk result (HasHappened (seat_since N.state L.tells L.records L.holds L.finds L.moment L.left_since since) seats.new.items
         (post_view (λ m. N.Mail.letter m) post.new) handed w next (client_event at link number (N.asks request))) }
-    ensures stopped { (w : World) (next : ℕ) (handed : List ToLink) →
-        StandsFor (seat_view N.state L.tells L.records L.holds) seats.old.items (post_view (λ m. N.Mail.letter m) post.old) handed w next
+    ensures stopped { (since : Since L) (w : World) (next : ℕ) (handed : List ToLink) →
+        StandsFor (seat_since N.state L.tells L.records L.holds L.finds L.moment L.left_since since) seats.old.items
+        (post_view (λ m. N.Mail.letter m) post.old) handed w next
         → IsRouter w.nodes at →
-        IfErr result (λ e. HasStopped (seat_view N.state L.tells L.records L.holds) seats.new.items post.new.replies.items handed w
-        (λ events. BeginWith events (client_event at link number (N.asks request) ∷ [])) e) }
+        IfErr result (λ e. HasStopped (seat_since N.state L.tells L.records L.holds L.finds L.moment L.left_since since) seats.new.items
+        post.new.replies.items handed w (λ events. BeginWith events (client_event at link number (N.asks request) ∷ [])) e) }
     ensures len { vec_len seats.new ≡ vec_len seats.old }
     ensures open { OnOk result (AreOpen L.is_open seats.new.items) }
 

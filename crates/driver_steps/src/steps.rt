@@ -4,7 +4,8 @@ ghost use Rattle.std.specs.Prelude.{◌≡◌, ℕ, ◌+◌, ◌<◌, List, map,
 ghost use Rattle.node_model.specs.World.{World};
 ghost use Rattle.node_traits.specs.Effects.{ByStepFault};
 ghost use Rattle.node_traits.specs.declared.outputs.ToLink.{ToLink};
-ghost use Rattle.driver_steps.specs.Seats.{AreHeld, AreOpen, TellsFaults, faults_of, left_of, places_of, seat_view};
+ghost use Rattle.driver_steps.specs.Crashes.{Since};
+ghost use Rattle.driver_steps.specs.Seats.{AreHeld, AreOpen, LeaveKept, TellsFaults, faults_of, left_of, places_of, seat_since};
 ghost use Rattle.driver_steps.specs.Moves.{HasMoved, HasStepped, IsBroken, IsCutShort};
 ghost use Rattle.driver_steps.specs.Worlds.{StandsFor, post_view};
 
@@ -24,13 +25,18 @@ pub fn step_node<N: Node, L: Log>(
 ) -> Result<Outputs<N::Mail>, StepFault>
     requires at { at < vec_len seats.old }
     requires open { AreOpen L.is_open seats.old.items }
-    ensures stepped { (w : World) → AreHeld (seat_view N.state L.tells L.records L.holds) seats.old.items w.nodes →
-        IfOk result (λ outputs. HasStepped (seat_view N.state L.tells L.records L.holds) seats.new.items w at (N.meaning input)
-        (map (λ message. N.Mail.letter message) outputs.mail) outputs.replies) }
-    ensures failed { (w : World) → AreHeld (seat_view N.state L.tells L.records L.holds) seats.old.items w.nodes →
+    ensures stepped { (since : Since L) (w : World) →
+        AreHeld (seat_since N.state L.tells L.records L.holds L.finds L.moment L.left_since since) seats.old.items w.nodes →
+        LeaveKept (seat_since N.state L.tells L.records L.holds L.finds L.moment L.left_since since) seats.old.items w →
+        IfOk result (λ outputs. HasStepped (seat_since N.state L.tells L.records L.holds L.finds L.moment L.left_since since) seats.new.items w at
+        (N.meaning input) (map (λ message. N.Mail.letter message) outputs.mail) outputs.replies) }
+    ensures failed { (since : Since L) (w : World) →
+        AreHeld (seat_since N.state L.tells L.records L.holds L.finds L.moment L.left_since since) seats.old.items w.nodes →
+        LeaveKept (seat_since N.state L.tells L.records L.holds L.finds L.moment L.left_since since) seats.old.items w →
         IfErr result (λ e. ByStepFault e
-        (λ faults. IsBroken (seat_view N.state L.tells L.records L.holds) seats.new.items w at (N.meaning input))
-        (AreHeld (seat_view N.state L.tells L.records L.holds) seats.new.items w.nodes)) }
+        (λ faults. IsBroken (seat_since N.state L.tells L.records L.holds L.finds L.moment L.left_since since) seats.new.items w at (N.meaning input))
+        (AreHeld (seat_since N.state L.tells L.records L.holds L.finds L.moment L.left_since since) seats.new.items w.nodes
+        × LeaveKept (seat_since N.state L.tells L.records L.holds L.finds L.moment L.left_since since) seats.new.items w)) }
     ensures len { vec_len seats.new ≡ vec_len seats.old }
     ensures open { OnOk result (AreOpen L.is_open seats.new.items) }
     ensures falls { OnOk result (left_of N.steps seats.new.items + 1 ≡ left_of N.steps seats.old.items) }
@@ -58,13 +64,16 @@ pub fn happen<N: Node, L: Log>(
 ) -> Result<(), StepFault>
     requires at { at < vec_len seats.old }
     requires open { AreOpen L.is_open seats.old.items }
-    ensures moved { (w : World) (next : ℕ) (handed : List ToLink) →
-        StandsFor (seat_view N.state L.tells L.records L.holds) seats.old.items (post_view (λ m. N.Mail.letter m) post.old) handed w next →
-        OnOk result (HasMoved (seat_view N.state L.tells L.records L.holds) seats.new.items
+    ensures moved { (since : Since L) (w : World) (next : ℕ) (handed : List ToLink) →
+        StandsFor (seat_since N.state L.tells L.records L.holds L.finds L.moment L.left_since since) seats.old.items
+        (post_view (λ m. N.Mail.letter m) post.old) handed w next →
+        OnOk result (HasMoved (seat_since N.state L.tells L.records L.holds L.finds L.moment L.left_since since) seats.new.items
         (post_view (λ m. N.Mail.letter m) post.new) handed w next at (N.meaning input)) }
-    ensures cut { (w : World) (next : ℕ) (handed : List ToLink) →
-        StandsFor (seat_view N.state L.tells L.records L.holds) seats.old.items (post_view (λ m. N.Mail.letter m) post.old) handed w next →
-        IfErr result (λ e. IsCutShort (seat_view N.state L.tells L.records L.holds) seats.new.items post.new.replies.items handed w at (N.meaning input) e) }
+    ensures cut { (since : Since L) (w : World) (next : ℕ) (handed : List ToLink) →
+        StandsFor (seat_since N.state L.tells L.records L.holds L.finds L.moment L.left_since since) seats.old.items
+        (post_view (λ m. N.Mail.letter m) post.old) handed w next →
+        IfErr result (λ e. IsCutShort (seat_since N.state L.tells L.records L.holds L.finds L.moment L.left_since since) seats.new.items
+        post.new.replies.items handed w at (N.meaning input) e) }
     ensures len { vec_len seats.new ≡ vec_len seats.old }
     ensures open { OnOk result (AreOpen L.is_open seats.new.items) }
     ensures falls { OnOk result (left_of N.steps seats.new.items + 1 ≡ left_of N.steps seats.old.items) }

@@ -173,9 +173,11 @@ impl<D: Disk> Journal<D> {
         }
     }
 
-    /// The disk.
+    /// The disk. Where the journal was open, its records stand there, and every crash leaves them.
     pub fn into_disk(self) -> D
-        ensures { result ≡ self.disk }
+        ensures disk { result ≡ self.disk }
+        ensures file { IsTrue self.is_open → IsTrue D.tells → Stands (D.content result) self.records }
+        ensures durable { IsTrue self.is_open → IsTrue D.tells → (c : List ℕ) → D.may_leave result c → Stands c self.records }
     {
         self.disk
     }

@@ -3,10 +3,16 @@ use Rattle.std.proofs.Common.{◌≡◌, ◌+◌, ◌-◌, ◌<◌, ◌≤◌, �
 use Rattle.std.specs.Prelude.{Bool, true, false, Option, Some, None, IfSome, nat_le, if◌then◌else◌}
 use Rattle.std.specs.List.{slice_index_or}
 use Rattle.std.specs.List.Sorted.{IsNonDecreasingBy, IsPartitionPoint}
+use Rattle.std.specs.Arc.{arc_value}
 use Rattle.std.specs.Option.{unwrap_or, option_map, option_copied}
+use Rattle.std.proofs.lemmas.Bool.{le-leb, lt-leb}
+use Rattle.std.proofs.lemmas.List.{map-append}
+use Rattle.std.proofs.lemmas.List.Sorted.{IsNonDecreasingBy-push}
 use denote.Ref.{Bor}
 use Rattle.bson_values.specs.Tree.{Fields}
-use Rattle.mvcc_collection.specs.Chains.{Dated, left_after, last_time}
+use Rattle.mvcc_collection.specs.Chains.{Dated, document_left, left_after, last_time}
+use Rattle.mvcc_collection.specs.View.{AreRising, dated, dated_with}
+use Rattle.mvcc_collection.specs.declared.chain.Version.{Version}
 
 pub left_push : (before : Option Fields) (vs : List Dated) (v : Dated) (time : ℕ) →
     left_after before (vs ++ v ∷ []) time ≡ (if nat_le v.0 time then v.1 else left_after before vs time)
@@ -16,11 +22,6 @@ left_push before (w ∷ vs) v time = left_push (if nat_le w.0 time then w.1 else
 pub last_push : (vs : List Dated) (v : Dated) → last_time (vs ++ v ∷ []) ≡ Some v.0
 last_push [] v = refl
 last_push (w ∷ vs) v = ap (λ (t : Option ℕ). Some (unwrap_or t w.0)) (last_push vs v)
-
-pub sorted_if : {X : Type 0} (n : X → ℕ) (b : Bool) (xs ys : List X) → IsNonDecreasingBy n xs → IsNonDecreasingBy n ys →
-    IsNonDecreasingBy n (if b then xs else ys)
-sorted_if n true xs ys first second = first
-sorted_if n false xs ys first second = second
 
 module _ {X : Type 0} (seen : X → Dated) where
   -- the last of n + 1 versions
@@ -86,3 +87,24 @@ module _ {X : Type 0} (seen : X → Dated) where
 pub shown : {X Y : Type 0} (f : X → Y) (r : Option (Bor X)) → option_map (λ d. f d.now) r ≡ option_map f (option_copied r)
 shown f None = refl
 shown f (Some d) = refl
+
+-- where the last version is no later than the time it is what is left, and else the older ones leave it
+pub last_leaves : (last : Version) (older : List Version) (time : ℕ) → last.time.0 ≤ time →
+    option_map arc_value last.document ≡ document_left (dated_with (Some last) older) time
+last_leaves last older time early =
+    sym (left_push None (map dated older) (dated last) time
+    ∙ ap (λ (b : Bool). if b then option_map arc_value last.document else left_after None (map dated older) time) (le-leb last.time.0 time early))
+
+pub older_leave : (last : Version) (older : List Version) (time : ℕ) → time < last.time.0 →
+    document_left (map dated older) time ≡ document_left (dated_with (Some last) older) time
+older_leave last older time late =
+    sym (left_push None (map dated older) (dated last) time
+    ∙ ap (λ (b : Bool). if b then option_map arc_value last.document else left_after None (map dated older) time) (lt-leb last.time.0 time late))
+
+-- the last version goes behind the older ones, and one that is later is the last
+pub still_rising : (before last : Version) (older : List Version) → AreRising (Some before) older →
+    IfSome (last_time (dated_with (Some before) older)) (λ t. t < last.time.0) → AreRising (Some last) (older ++ before ∷ [])
+still_rising before last older rising later = record {
+  sorted = IsNonDecreasingBy-push (λ v. v.time.0) older before rising.sorted (λ d some. later_than dated older d before.time.0 rising.later some);
+  later = subst (λ vs. IfSome (last_time vs) (λ t. t < last.time.0)) (sym (map-append dated older (before ∷ []))) later;
+}

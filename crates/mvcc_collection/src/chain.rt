@@ -1,9 +1,11 @@
 //! The versions of the document under one key.
 
-ghost use Rattle.std.specs.Prelude.{◌≡◌, ◌+◌, ◌<◌, ◌≤◌, ◌∷◌, ◌++◌, [], None, IfOk, IfSome, OnOk};
+ghost use Rattle.std.specs.Prelude.{◌≡◌, ◌+◌, ◌<◌, ◌≤◌, ◌∷◌, ◌++◌, [], None, map, IfOk, IfSome, OnOk};
 ghost use Rattle.std.specs.Arc.{arc_value};
+ghost use Rattle.std.specs.List.Sorted.{IsNonDecreasingBy};
 ghost use Rattle.std.specs.Option.{option_map};
 ghost use Rattle.mvcc_collection.specs.Chains.{Past, document_left, last_time};
+ghost use Rattle.mvcc_collection.specs.View.{dated};
 
 use bson_values::{Document, Memory};
 use cluster_base::Time;
@@ -18,10 +20,12 @@ pub(crate) struct Version {
     document: Option<Arc<Document, Global>>,
 }
 
-/// The versions of the document under a key, by rising time.
+/// The versions of the document under a key, by rising time. The last stands apart, where the map has the chain: most look at the
+/// present, and need no other memory for it.
 #[derive(Drop)]
 pub(crate) struct Chain {
-    versions: Vec<Version>,
+    last: Option<Version>,
+    older: Vec<Version>,
 }
 
 impl Model for Chain {
@@ -31,22 +35,23 @@ impl Model for Chain {
 
     ghost coded = { past_code };
 
-    ghost use Rattle.std.specs.List.Sorted.{IsNonDecreasingBy};
-    ghost use Rattle.mvcc_collection.specs.View.{past_of};
+    ghost use Rattle.mvcc_collection.specs.View.{AreRising, past_of};
 
-    ghost view = { λ c. past_of c.versions };
+    ghost view = { λ c. past_of c.last c.older };
 
-    ghost invariant = { λ c. IsNonDecreasingBy (λ v. v.time.0) c.versions.items };
+    ghost invariant = { λ c. AreRising c.last c.older.items };
 }
 
 impl Chain {
-    /// No version, with room for one. Fails for want of memory.
-    pub(crate) fn with_room(alloc: Global) -> Result<Chain, Memory>
-        ensures empty { IfOk result (λ c. c.versions ≡ []) }
-        ensures room { IfOk result (λ c. 1 ≤ c.room) }
+    /// No version, with room for one.
+    pub(crate) fn new(alloc: Global) -> Chain
+        ensures empty { result.versions ≡ [] }
+        ensures room { 1 ≤ result.room }
     {
-        let versions = Vec::with_capacity(alloc, 1)?;
-        Ok(Chain { versions })
+        Chain {
+            last: None,
+            older: Vec::new(alloc),
+        }
     }
 
     /// Makes room for one version more. Fails for want of memory.
@@ -55,7 +60,7 @@ impl Chain {
         ensures rooms { self.old.room ≤ self.new.room }
         ensures versions { self.new.versions ≡ self.old.versions }
     {
-        self.versions.reserve(1)?;
+        self.older.reserve(1)?;
         Ok(())
     }
 
@@ -66,19 +71,30 @@ impl Chain {
         ensures versions { self.new.versions ≡ self.old.versions ++ (time.0, option_map arc_value document) ∷ [] }
         ensures room { self.old.room ≤ self.new.room + 1 }
     {
-        let _ = self.versions.push(Version { time, document });
+        if let Some(before) = self.last.replace(Version { time, document }) {
+            self.older.push_reserved(before);
+        }
     }
 
     /// The document of the last version up to the time, if that is one.
     pub(crate) fn document_at(&self, time: Time) -> Option<&Arc<Document, Global>>
         ensures { option_map (λ d. arc_value d.now) result ≡ document_left self.now.versions time.0 }
     {
-        let place = self
-            .versions
-            .partition_point(|version| version.time.0 <= time.0);
-        if place == 0 {
-            return None;
+        match &self.last {
+            Some(last) if last.time.0 <= time.0 => last.document.as_ref(),
+            _ => document_among(&self.older, time),
         }
-        self.versions[place - 1].document.as_ref()
     }
+}
+
+// The document of the last of the versions up to the time, if that is one, found by halving.
+fn document_among(versions: &[Version], time: Time) -> Option<&Arc<Document, Global>>
+    requires { IsNonDecreasingBy (λ v. v.time.0) versions.now }
+    ensures { option_map (λ d. arc_value d.now) result ≡ document_left (map dated versions.now) time.0 }
+{
+    let place = versions.partition_point(|version| version.time.0 <= time.0);
+    if place == 0 {
+        return None;
+    }
+    versions[place - 1].document.as_ref()
 }

@@ -54,7 +54,7 @@ impl Collection {
         if let Some(chain) = self.chains.get_mut(key) {
             return chain.reserve();
         }
-        let chain = Chain::with_room(self.alloc)?;
+        let chain = Chain::new(self.alloc);
         self.chains.insert(key.copy()?, chain)?;
         Ok(())
     }

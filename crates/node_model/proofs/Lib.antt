@@ -1,4 +1,4 @@
-pub use Rattle.exchange_model.proofs.AnswerTimes
-pub use Rattle.exchange_model.proofs.Requests
-pub use Rattle.exchange_model.proofs.LegalHistories
+pub use Rattle.reply_model.proofs.AnswerTimes
+pub use Rattle.reply_model.proofs.Requests
+pub use Rattle.reply_model.proofs.LegalHistories
 pub mod Schedules

@@ -1,8 +1,8 @@
 -- What a node keeps in its journal, record by record, with a shard's entries as the history has them.
 use Rattle.std.specs.Prelude.{ℕ, List, [], ◌∷◌, max}
-use Rattle.exchange_model.specs.Catalogue.{Creation}
-use Rattle.exchange_model.specs.Tables.{Table}
-use Rattle.exchange_model.specs.History.{Entry}
+use Rattle.reply_model.specs.Catalogue.{Creation}
+use Rattle.reply_model.specs.Tables.{Table}
+use Rattle.reply_model.specs.History.{Entry}
 use Rattle.record_model.specs.Records.{Record, table_record, create_record, life_record, block_record, record_of}
 
 pub data Kept : Type 0 where

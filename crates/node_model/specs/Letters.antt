@@ -1,14 +1,14 @@
 -- What nodes tell each other, and what a node takes and gives in one step. Nodes are numbered: the catalogue is 0, shards and then
 -- routers follow.
 use Rattle.std.specs.Prelude.{ℕ, ℤ, List, [], ◌∷◌, ◌++◌, Bool, Option}
-use Rattle.exchange_model.specs.Tree.{Datum, Fields}
-use Rattle.exchange_model.specs.Requests.{Request}
-use Rattle.exchange_model.specs.History.{StatementNumber, Operation}
-use Rattle.exchange_model.specs.Tables.{Table}
-use Rattle.exchange_model.specs.Versions.{Version}
-use Rattle.exchange_model.specs.Verdicts.{Sent}
-use Rattle.exchange_model.specs.Asked.{RequestId}
-use Rattle.exchange_model.specs.Outcomes.{Done}
+use Rattle.reply_model.specs.Tree.{Datum, Fields}
+use Rattle.reply_model.specs.Requests.{Request}
+use Rattle.reply_model.specs.History.{StatementNumber, Operation}
+use Rattle.reply_model.specs.Tables.{Table}
+use Rattle.reply_model.specs.Versions.{Version}
+use Rattle.reply_model.specs.Verdicts.{Sent}
+use Rattle.reply_model.specs.Asked.{RequestId}
+use Rattle.reply_model.specs.Outcomes.{Done}
 use Rattle.node_model.specs.Kept.{Kept}
 
 -- for which time a table is asked: for none, or for a read at this one

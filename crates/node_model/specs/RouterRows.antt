@@ -2,21 +2,21 @@
 use Rattle.std.specs.Prelude.{◌≡◌, ◌≢◌, ◌<◌, ◌≤◌, ℕ, ℤ, ◌+◌, max, List, [], ◌∷◌, ◌++◌, length, drop, map, Bool, true, false, ◌==◌, ◌&&◌, Option, Some, None, Result, Ok, Err, nat_lt, if◌then◌else◌}
 use Rattle.std.specs.List.{flat_map}
 use Rattle.std.specs.Str.{bytes_eq}
-use Rattle.exchange_model.specs.Tree.{Datum, Fields}
-use Rattle.exchange_model.specs.Requests.{Request}
-use Rattle.exchange_model.specs.Times.{time_of_moment}
-use Rattle.exchange_model.specs.Refusals.{Refusal, time_ahead}
-use Rattle.exchange_model.specs.Insert.{Insert}
-use Rattle.exchange_model.specs.Find.{Find}
-use Rattle.exchange_model.specs.Command.{Command, hello_command, legacy_command, ping_command, end_sessions_command, insert_command, find_command, command_of}
-use Rattle.exchange_model.specs.Answers.{Answer, hello_answer, legacy_answer, done_answer, find_answer, refusal_answer, answer_document}
-use Rattle.exchange_model.specs.History.{Operation, insert_operation, key_written}
-use Rattle.exchange_model.specs.Tables.{Table, first_shard, table_of, with_table, owner_now, owner_at}
-use Rattle.exchange_model.specs.Verdicts.{sent_by}
-use Rattle.exchange_model.specs.Versions.{Version}
-use Rattle.exchange_model.specs.Asked.{RequestId, same_request, number_for}
-use Rattle.exchange_model.specs.Outcomes.{Done, answer_of}
-use Rattle.exchange_model.specs.Right.{ends}
+use Rattle.reply_model.specs.Tree.{Datum, Fields}
+use Rattle.reply_model.specs.Requests.{Request}
+use Rattle.reply_model.specs.Times.{time_of_moment}
+use Rattle.reply_model.specs.Refusals.{Refusal, time_ahead}
+use Rattle.reply_model.specs.Insert.{Insert}
+use Rattle.reply_model.specs.Find.{Find}
+use Rattle.reply_model.specs.Command.{Command, hello_command, legacy_command, ping_command, end_sessions_command, insert_command, find_command, command_of}
+use Rattle.reply_model.specs.Answers.{Answer, hello_answer, legacy_answer, done_answer, find_answer, refusal_answer, answer_document}
+use Rattle.reply_model.specs.History.{Operation, insert_operation, key_written}
+use Rattle.reply_model.specs.Tables.{Table, first_shard, table_of, with_table, owner_now, owner_at}
+use Rattle.reply_model.specs.Verdicts.{sent_by}
+use Rattle.reply_model.specs.Versions.{Version}
+use Rattle.reply_model.specs.Asked.{RequestId, same_request, number_for}
+use Rattle.reply_model.specs.Outcomes.{Done, answer_of}
+use Rattle.reply_model.specs.Right.{ends}
 use Rattle.node_model.specs.Kept.{kept_life}
 use Rattle.node_model.specs.Letters.{At, no_time, at_time, Statement, Half, key_half, Body, table_ask, table_told, write_ask, write_done, read_ask, half_ask, read_rows, stale, time_ask, time_told, Letter, Input, client_input, letter_input, moment_input, opened_input, Taken, Reply, Effect, nothing, sends, writes}
 use Rattle.node_model.specs.States.{Work, writing, reading, Wait, for_time, for_table, for_shards, Open, Router, open_with, without, replaced}

@@ -1,7 +1,7 @@
 -- The schedule of `pipe`: one connection, with one request after another. All nodes are opened, in order of their numbers; then for each
 -- request all nodes are given one moment, in that order, a router takes the request, and what is not delivered yet is delivered.
 use Rattle.std.specs.Prelude.{◌≡◌, ℕ, ℤ, zero, suc, ◌+◌, List, [], ◌∷◌, ◌++◌, length}
-use Rattle.exchange_model.specs.Requests.{Request}
+use Rattle.reply_model.specs.Requests.{Request}
 use Rattle.node_model.specs.World.{World, Event, client_event, deliver_event, moment_event, opened_event, Happens, Run, start}
 
 -- so many nodes are opened, from this one on

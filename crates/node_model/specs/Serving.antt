@@ -1,10 +1,10 @@
 -- How a shard serves statements and reads on what it keeps.
 use Rattle.std.specs.Prelude.{◌≡◌, ℕ, ◌+◌, List, [], ◌∷◌, ◌++◌, Bool, true, false, Option, Some, None, if◌then◌else◌}
-use Rattle.exchange_model.specs.Tree.{Fields}
-pub use Rattle.exchange_model.specs.Notes.{same_session, same_number}
-use Rattle.exchange_model.specs.History.{StatementNumber, Operation, key_written, effect, Entry, document_left, document_at}
-use Rattle.exchange_model.specs.Outcomes.{Done, done_of}
-use Rattle.exchange_model.specs.Right.{ends, found}
+use Rattle.reply_model.specs.Tree.{Fields}
+pub use Rattle.reply_model.specs.Notes.{same_session, same_number}
+use Rattle.reply_model.specs.History.{StatementNumber, Operation, key_written, effect, Entry, document_left, document_at}
+use Rattle.reply_model.specs.Outcomes.{Done, done_of}
+use Rattle.reply_model.specs.Right.{ends, found}
 use Rattle.node_model.specs.Letters.{Statement, Half, key_half}
 
 -- the entry of a statement, where it was seen before

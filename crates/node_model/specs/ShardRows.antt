@@ -2,15 +2,15 @@
 use Rattle.std.specs.Prelude.{◌≡◌, ◌≢◌, ◌⊎◌, ℕ, ℤ, ◌+◌, max, List, [], ◌∷◌, ◌++◌, map, filter, not, Bool, true, false, ◌==◌, ◌&&◌, Option, Some, None, is_some}
 use Rattle.std.specs.List.{list_any}
 use Rattle.std.specs.Str.{bytes_eq}
-use Rattle.exchange_model.specs.Tree.{Fields}
-use Rattle.exchange_model.specs.Requests.{Request}
-use Rattle.exchange_model.specs.Times.{time_of_moment}
-use Rattle.exchange_model.specs.History.{Entry}
-use Rattle.exchange_model.specs.Versions.{Version}
-use Rattle.exchange_model.specs.Tables.{Table, table_of, with_table, is_longer}
-use Rattle.exchange_model.specs.Verdicts.{Sent, Verdict, fits, shard_is_old, router_is_old, verdict_of}
-use Rattle.exchange_model.specs.Asked.{RequestId, same_request}
-use Rattle.exchange_model.specs.Outcomes.{Done}
+use Rattle.reply_model.specs.Tree.{Fields}
+use Rattle.reply_model.specs.Requests.{Request}
+use Rattle.reply_model.specs.Times.{time_of_moment}
+use Rattle.reply_model.specs.History.{Entry}
+use Rattle.reply_model.specs.Versions.{Version}
+use Rattle.reply_model.specs.Tables.{Table, table_of, with_table, is_longer}
+use Rattle.reply_model.specs.Verdicts.{Sent, Verdict, fits, shard_is_old, router_is_old, verdict_of}
+use Rattle.reply_model.specs.Asked.{RequestId, same_request}
+use Rattle.reply_model.specs.Outcomes.{Done}
 use Rattle.node_model.specs.Kept.{Kept, kept_table, kept_entry}
 use Rattle.node_model.specs.Letters.{At, no_time, Statement, Half, Body, table_ask, table_told, write_ask, write_done, read_ask, half_ask, read_rows, stale, time_ask, time_told, Letter, Input, client_input, letter_input, moment_input, opened_input, Effect, nothing, sends, writes}
 use Rattle.node_model.specs.States.{Shard}

@@ -1,9 +1,9 @@
 -- What nodes are.
 use Rattle.std.specs.Prelude.{ℕ, ℤ, List, [], ◌∷◌, Bool, false, ◌==◌, Option, Some, None, if◌then◌else◌}
-use Rattle.exchange_model.specs.Requests.{Request}
-use Rattle.exchange_model.specs.History.{Entry}
-use Rattle.exchange_model.specs.Tables.{Table}
-use Rattle.exchange_model.specs.Outcomes.{Done}
+use Rattle.reply_model.specs.Requests.{Request}
+use Rattle.reply_model.specs.History.{Entry}
+use Rattle.reply_model.specs.Tables.{Table}
+use Rattle.reply_model.specs.Outcomes.{Done}
 use Rattle.node_model.specs.Letters.{Letter, Statement, Half}
 
 pub record Catalogue : Type 0 where

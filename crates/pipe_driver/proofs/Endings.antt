@@ -10,7 +10,7 @@ use Rattle.opmsg_frames.specs.Frames.{FramesFrom, ends, fails, goes_on}
 use Rattle.node_model.specs.World.{Held, World}
 use Rattle.node_model.specs.Schedule.{Round}
 use Rattle.node_progress.proofs.Rounds.{piped_requests_are_answered}
-use Rattle.driver_steps.specs.Seats.{SeatView, AreKept}
+use Rattle.driver_steps.specs.Seats.{SeatView, AreKept, LeaveKept}
 use Rattle.driver_steps.specs.Worlds.{PostView, puts_given}
 use Rattle.driver_steps.proofs.Seats.{held_kept}
 use Rattle.pipe_driver.specs.Buffers.{EndsTaking, at_source_end, at_read_fault, at_no_room}
@@ -19,6 +19,7 @@ use Rattle.pipe_driver.specs.Endings.{too_long, IsPiped}
 use Rattle.pipe_driver.specs.Progress.{AreAsked, Serving, CutShort, PutShort}
 use Rattle.pipe_driver.specs.Rest.{Unframed}
 use Rattle.pipe_driver.specs.Rounds.{requests_of, AreOfOne, bytes_of}
+use Rattle.pipe_driver.specs.Schedules.{Came, IsLast}
 use Rattle.pipe_driver.specs.Stops.{HasServedAll, IsMalformed, StopsServing, at_write_fault, at_disk_fault, at_no_memory}
 use Rattle.pipe_driver.specs.declared.status.Status.{Status}
 use Rattle.pipe_driver.specs.declared.status.Status.TheVariants as statuses
@@ -81,7 +82,7 @@ module _ {S : Type 0} (view : S → SeatView) (seats : List S) (source : SourceC
       → ((put : List ℕ) (requests : List Request) → AllServed routers put requests s.rounds s.world
       → Cause limit (IsTrue source.tells → source.left_after ≡ []) (consumed ++ rest) fault (AllServed routers put requests s.rounds s.world)
       (SomeServed routers gives put requests s.rounds s.world) (LastCutShort routers put requests s.rounds s.world) known)
-      → IsPiped source sink gives (AreKept view seats) routers limit status count
+      → IsPiped source sink gives (AreKept view seats) (LeaveKept view seats) routers limit status count
   ended post replied known fault is s took most frames counted cause =
       let f = framed limit count source consumed rest rest [] fault (requests_of s.rounds) s.asked took most frames counted in
       record {
@@ -112,6 +113,9 @@ module _ {S : Type 0} (view : S → SeatView) (seats : List S) (source : SourceC
               replied = refl;
             }));
         files = held_kept view seats s.world.nodes s.stands.nodes;
+        last = s.world;
+        is_last = inl refl;
+        crashes = s.stands.crashes;
       }
 
   -- the input is at its limit, and the rest is less than a whole message
@@ -119,7 +123,7 @@ module _ {S : Type 0} (view : S → SeatView) (seats : List S) (source : SourceC
       → Serving view seats post gives routers sink.tells sink.held_before sink.held_after consumed replied
       → Took source.tells source.left_before (consumed ++ rest) source.left_after → length consumed + length rest ≡ limit
       → outline rest ≡ partial_outline → count ≡ length rest
-      → IsPiped source sink gives (AreKept view seats) routers limit status count
+      → IsPiped source sink gives (AreKept view seats) (LeaveKept view seats) routers limit status count
   ended_at_limit post replied is s took most partial counted =
       let full : length (consumed ++ rest) ≡ limit = omega (arith, most, length-append consumed rest) in
       ended post replied statuses.InputTooLong None is s took (omega (arith, most)) (ends _ rest partial) counted
@@ -130,7 +134,7 @@ module _ {S : Type 0} (view : S → SeatView) (seats : List S) (source : SourceC
       → Serving view seats post gives routers sink.tells sink.held_before sink.held_after consumed replied
       → Took source.tells source.left_before (consumed ++ rest) source.left_after → length consumed + length rest ≤ limit
       → IsMalformed rest → count ≡ length rest
-      → IsPiped source sink gives (AreKept view seats) routers limit status count
+      → IsPiped source sink gives (AreKept view seats) (LeaveKept view seats) routers limit status count
   ended_malformed post replied is s took most malformed counted =
       let place : ℕ = 0 + length (bytes_asked (requests_of s.rounds)) in
       ended post replied statuses.BadInput (Some (malformed.0, place)) is s took most (fails place rest malformed.0 malformed.1) counted
@@ -138,14 +142,19 @@ module _ {S : Type 0} (view : S → SeatView) (seats : List S) (source : SourceC
 
   -- SOME WAS SERVED
 
+  last_with : (known : Status) → status ≡ known → (P Q : World → Type 0) (end last : World) → IsLast known P end last → (P last → Q last)
+      → IsLast status Q end last
+  last_with known is P Q end last (inl same) on = inl same
+  last_with known is P Q end last (inr (disk, further, e, more)) on = inr (is ∙ disk, on further, e, more)
+
   -- some requests had their rounds, and one more may be under way
-  ended_cut : (known : Status) → status ≡ known → (s : CutShort view seats gives routers sink.tells sink.held_before sink.held_after consumed)
+  ended_cut : (known : Status) → status ≡ known → (s : CutShort view seats gives routers sink.tells sink.held_before sink.held_after consumed known)
       → Took source.tells source.left_before (consumed ++ rest) source.left_after → length consumed + length rest ≤ limit
       → Unframed rest count
       → ((put : List ℕ) (requests : List Request) (fault : Option (FrameFault × ℕ)) → SomeServed routers gives put requests s.rounds s.end
       → Cause limit (IsTrue source.tells → source.left_after ≡ []) (consumed ++ rest) fault (AllServed routers put requests s.rounds s.end)
       (SomeServed routers gives put requests s.rounds s.end) (LastCutShort routers put requests s.rounds s.end) known)
-      → IsPiped source sink gives (AreKept view seats) routers limit status count
+      → IsPiped source sink gives (AreKept view seats) (LeaveKept view seats) routers limit status count
   ended_cut known is s took most unframed cause =
       let asked : List Request = requests_of s.rounds ++ s.under_way in
       let found = unframed (0 + length (bytes_asked asked)) in
@@ -171,13 +180,18 @@ module _ {S : Type 0} (view : S → SeatView) (seats : List S) (source : SourceC
             (cause (bytes_of (puts_given s.whole.answered)) (asked ++ found.0) found.2
             (record { under_way = s.under_way; others = found.0; whole = s.whole; asked = refl; came = s.came; replied = refl }));
         files = s.kept;
+        last = s.last;
+        is_last = last_with known is (λ w. Came routers gives s.rounds s.under_way s.whole w)
+            (λ w. SomeServed routers gives (bytes_of (puts_given s.whole.answered)) (asked ++ found.0) s.rounds w) s.end s.last s.is_last
+            (λ came. record { under_way = s.under_way; others = found.0; whole = s.whole; asked = refl; came = came; replied = refl });
+        crashes = s.crashes;
       }
 
   -- the replies of the last round were put in part
   ended_short : status ≡ statuses.WriteFailed → (s : PutShort view seats gives routers sink.tells sink.held_before sink.held_after consumed)
       → Took source.tells source.left_before (consumed ++ rest) source.left_after → length consumed + length rest ≤ limit
       → Unframed rest count
-      → IsPiped source sink gives (AreKept view seats) routers limit status count
+      → IsPiped source sink gives (AreKept view seats) (LeaveKept view seats) routers limit status count
   ended_short is s took most unframed =
       let rounds : List Round = s.earlier ++ s.last ∷ [] in
       let asked : List Request = requests_of rounds in
@@ -216,6 +230,9 @@ module _ {S : Type 0} (view : S → SeatView) (seats : List S) (source : SourceC
               in_part = s.in_part;
             }));
         files = s.kept;
+        last = s.end;
+        is_last = inl refl;
+        crashes = s.crashes;
       }
 
   -- there was no memory, between two rounds
@@ -223,7 +240,7 @@ module _ {S : Type 0} (view : S → SeatView) (seats : List S) (source : SourceC
       → Serving view seats post gives routers sink.tells sink.held_before sink.held_after consumed replied
       → Took source.tells source.left_before (consumed ++ rest) source.left_after → length consumed + length rest ≤ limit
       → outline rest ≡ partial_outline → count ≡ length rest
-      → IsPiped source sink gives (AreKept view seats) routers limit status count
+      → IsPiped source sink gives (AreKept view seats) (LeaveKept view seats) routers limit status count
   ended_full post replied is s took most partial counted =
       ended_cut statuses.OutOfMemory is
       (cut_between view seats gives routers sink.tells sink.held_before sink.held_after consumed post replied s) took most
@@ -234,7 +251,7 @@ module _ {S : Type 0} (view : S → SeatView) (seats : List S) (source : SourceC
       → Serving view seats post gives routers sink.tells sink.held_before sink.held_after consumed replied
       → Took source.tells source.left_before (consumed ++ rest) source.left_after → length (consumed ++ rest) < limit
       → outline rest ≡ partial_outline → count ≡ length rest
-      → IsPiped source sink gives (AreKept view seats) routers limit status count
+      → IsPiped source sink gives (AreKept view seats) (LeaveKept view seats) routers limit status count
   ended_taking post replied told is (at_source_end at_end) s took below partial counted =
       ended post replied statuses.InputEnded None is s took (omega (arith, below, length-append consumed rest)) (ends _ rest partial) counted
       (λ put requests all. input_ended at_end below refl all)
@@ -262,7 +279,7 @@ module _ {S : Type 0} (view : S → SeatView) (seats : List S) (source : SourceC
   pub ended_serving : (post : PostView) (told : Status) → status ≡ told
       → StopsServing told view seats post gives routers sink.tells sink.held_before sink.held_after consumed rest
       → Took source.tells source.left_before (consumed ++ rest) source.left_after → length consumed + length rest ≤ limit → Unframed rest count
-      → IsPiped source sink gives (AreKept view seats) routers limit status count
+      → IsPiped source sink gives (AreKept view seats) (LeaveKept view seats) routers limit status count
   ended_serving post told is (inl (bad, malformed, (replied, s))) took most unframed =
       ended_malformed post replied (is ∙ bad) s took most malformed (malformed_left malformed unframed)
   ended_serving post told is (inr (at_write_fault s)) took most unframed = ended_short is s took most unframed
@@ -277,3 +294,28 @@ pub taking_stops : (tells : Bool) (left : List ℕ) (status : Status) → EndsTa
 taking_stops tells left status (at_source_end at_end) = (λ e. cc, λ e. cc)
 taking_stops tells left status at_read_fault = (λ e. cc, λ e. cc)
 taking_stops tells left status at_no_room = (λ e. cc, λ e. cc)
+
+-- told otherwise of what the journals keep
+pub piped_with : (source : SourceCall) (sink : SinkCall) (gives : ℕ → Type 0) (kept plain : List Held → Type 0) (leaves : World → Type 0)
+    (routers limit : ℕ) (status : Status) (rest : ℕ) → IsPiped source sink gives kept leaves routers limit status rest
+    → ((nodes : List Held) → kept nodes → plain nodes) → IsPiped source sink gives plain leaves routers limit status rest
+piped_with source sink gives kept plain leaves routers limit status rest p told = record {
+  taken = p.taken;
+  put = p.put;
+  requests = p.requests;
+  left = p.left;
+  fault = p.fault;
+  rounds = p.rounds;
+  end = p.end;
+  took = p.took;
+  put_all = p.put_all;
+  frames = p.frames;
+  rest_left = p.rest_left;
+  most = p.most;
+  one = p.one;
+  cause = p.cause;
+  files = told p.end.nodes p.files;
+  last = p.last;
+  is_last = p.is_last;
+  crashes = p.crashes;
+}

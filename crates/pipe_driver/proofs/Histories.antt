@@ -12,10 +12,12 @@ use Rattle.node_model.specs.World.{Held, World, Event, Run, journal_at, start}
 use Rattle.node_model.proofs.Schedules.{pipes_run, run_then}
 use Rattle.node_laws.proofs.Runs.{run_makes_one_history}
 use Rattle.pipe_driver.specs.Schedules.{Came, came_whole, came_opening, came_part}
-use Rattle.pipe_driver.specs.Endings.{AllServed, SomeServed, LastCutShort, Cause, input_ended, read_failed, write_failed, disk_failed, no_memory, no_request, too_long, IsPiped}
+use Rattle.pipe_driver.specs.Endings.{AllServed, SomeServed, LastCutShort, Cause, input_ended, read_failed, write_failed}
+use Rattle.pipe_driver.specs.Endings.{disk_failed, no_memory, no_request, too_long, IsPiped}
 use Rattle.pipe_driver.specs.declared.status.Status.{Status}
 
-came_run : (routers : ℕ) (gives : ℕ → Type 0) (rounds : List Round) (under_way : List Request) (whole end : World) → Came routers gives rounds under_way whole end
+came_run : (routers : ℕ) (gives : ℕ → Type 0) (rounds : List Round) (under_way : List Request) (whole end : World)
+    → Came routers gives rounds under_way whole end
     → (events : List Event) × Run (start routers) events end
 came_run routers gives _ _ _ _ (came_whole rounds events w next pipes) = (events, pipes_run routers rounds events w next pipes)
 came_run routers gives _ _ _ _ (came_opening events w first run) = (events, run)
@@ -37,7 +39,8 @@ module _ (routers limit : ℕ) (gives : ℕ → Type 0) (put : List ℕ) (reques
   )
 
   cause_run : (at_end : Type 0) (taken : List ℕ) (fault : Option (FrameFault × ℕ)) (status : Status)
-      → Cause limit at_end taken fault (AllServed routers put requests rounds end) (SomeServed routers gives put requests rounds end) (LastCutShort routers put requests rounds end) status
+      → Cause limit at_end taken fault (AllServed routers put requests rounds end)
+      (SomeServed routers gives put requests rounds end) (LastCutShort routers put requests rounds end) status
       → (events : List Event) × Run (start routers) events end
   cause_run at_end taken fault status (input_ended at_its_end short none all) = all_run all
   cause_run at_end taken fault status (read_failed short none all) = all_run all
@@ -48,10 +51,12 @@ module _ (routers limit : ℕ) (gives : ℕ → Type 0) (put : List ℕ) (reques
   cause_run at_end taken fault status (too_long long none all) = all_run all
 
 -- whatever was asked, and however the connection ended
-module _ (source : SourceCall) (sink : SinkCall) (gives : ℕ → Type 0) (kept : List Held → Type 0) (routers limit : ℕ) (status : Status) (rest : ℕ) where
-  pub piped_run : (piped : IsPiped source sink gives kept routers limit status rest) → (events : List Event) × Run (start routers) events piped.end
+module _ (source : SourceCall) (sink : SinkCall) (gives : ℕ → Type 0) (kept : List Held → Type 0) (leaves : World → Type 0) (routers limit : ℕ)
+    (status : Status) (rest : ℕ) where
+  pub piped_run : (piped : IsPiped source sink gives kept leaves routers limit status rest) → (events : List Event) × Run (start routers) events piped.end
   piped_run piped = cause_run routers limit gives piped.put piped.requests piped.rounds piped.end _ piped.taken piped.fault status piped.cause
 
-  pub piped_history : (piped : IsPiped source sink gives kept routers limit status rest)
-      → OneHistory piped.end.given (creations_kept (journal_at piped.end.nodes 0)) (entries_kept (journal_at piped.end.nodes first_shard)) piped.end.asked piped.end.answered
+  pub piped_history : (piped : IsPiped source sink gives kept leaves routers limit status rest)
+      → OneHistory piped.end.given (creations_kept (journal_at piped.end.nodes 0)) (entries_kept (journal_at piped.end.nodes first_shard))
+      piped.end.asked piped.end.answered
   piped_history piped = let run = piped_run piped in run_makes_one_history routers run.0 piped.end run.1

@@ -12,7 +12,7 @@ use Rattle.node_model.specs.World.{passes, begins as was_opened, Run, stands, go
 use Rattle.node_model.specs.Schedule.{openings}
 use Rattle.node_traits.specs.declared.outputs.ToLink.{ToLink}
 use Rattle.driver_steps.specs.declared.post.Post.{Post}
-use Rattle.driver_steps.specs.Seats.{SeatView, AreHeld}
+use Rattle.driver_steps.specs.Seats.{SeatView, AreHeld, LeaveKept}
 use Rattle.driver_steps.specs.Worlds.{StandsFor, post_view, puts_given}
 
 -- NOTHING IS TOLD
@@ -52,10 +52,11 @@ nothing_told routers count w run = run_tells (start routers) (openings 0 count) 
 -- AT THE START
 
 pub starts : {S M : Type 0} (view : S → SeatView) (letter : M → Letter) (seats : List S) (routers : ℕ) (post : Post M)
-    → AreHeld view seats (start routers).nodes → post.waiting.items ≡ [] → post.replies.items ≡ []
+    → AreHeld view seats (start routers).nodes → LeaveKept view seats (start routers) → post.waiting.items ≡ [] → post.replies.items ≡ []
     → StandsFor view seats (post_view letter post) [] (start routers) 0
-starts {S} {M} view letter seats routers post are none silent = record {
+starts {S} {M} view letter seats routers post are leave none silent = record {
   nodes = are;
+  crashes = leave;
   past = [];
   sent = sym (ap (λ (l : List M). map letter l) none);
   place = refl;

@@ -18,7 +18,7 @@ use Rattle.node_traits.specs.declared.outputs.ToLink.{ToLink}
 use Rattle.driver_steps.specs.Seats.{SeatView}
 use Rattle.driver_steps.specs.Worlds.{PostView, StandsFor}
 use Rattle.driver_steps.specs.Moves.{BeginWith, AreDeliveries, HasHappened, HasRun, HasSettled, HasStopped}
-use Rattle.driver_steps.proofs.Runs.{stopped_behind}
+use Rattle.driver_steps.proofs.Runs.{stopped_behind, up_to_more}
 use Rattle.pipe_driver.specs.Progress.{AreAsked}
 use Rattle.pipe_driver.specs.Rounds.{first_router, first_link, requests_of, replies_after, replies_behind, number_behind, AreNumbered, AreOfOne}
 use Rattle.pipe_driver.specs.Schedules.{round_of, IsPart, in_moments, in_deliveries, HasServed}
@@ -71,6 +71,9 @@ module _ {S : Type 0} (view : S → SeatView) (seats : List S) (replies handed :
     which = in_moments s.events s.which;
     run = s.run;
     nodes = s.nodes;
+    last = s.last;
+    up_to = up_to_more fault s.end s.last _ _ s.up_to (λ more. (more.0, in_moments (s.events ++ more.0 ∷ []) more.1, more.2));
+    crashes = s.crashes;
     missing = s.missing;
     given = s.given;
   }
@@ -104,6 +107,16 @@ module _ {S : Type 0} (view : S → SeatView) (seats : List S) (replies handed :
     run = run_then w (moments_given 0 count r.moment) given (client_event r.at r.link r.number r.request ∷ s.events) s.end run
         (goes given asked s.end (client_event r.at r.link r.number r.request) s.events came s.run);
     nodes = s.nodes;
+    last = s.last;
+    up_to = up_to_more fault s.end s.last _ _ s.up_to
+        (λ more. (
+          more.0,
+          subst (λ (l : List Event). IsPart count r l)
+              (sym (append_assoc (moments_given 0 count r.moment) (client_event r.at r.link r.number r.request ∷ s.events) (more.0 ∷ [])))
+              (in_deliveries (s.events ++ more.0 ∷ []) more.1),
+          more.2,
+        ));
+    crashes = s.crashes;
     missing = s.missing;
     given = s.given;
   }

@@ -5,7 +5,8 @@ use Rattle.outside.specs.Streams.{Put}
 use Rattle.outside.proofs.Relations.{put_then}
 use Rattle.opmsg_frames.specs.Requests.{Request, IsRequest}
 use Rattle.node_model.specs.Letters.{Letter}
-use Rattle.node_model.specs.World.{World, Event, Run, start}
+use Rattle.node_model.specs.World.{World, Event, Happens, Run, stands, goes, start}
+use Rattle.node_model.proofs.Schedules.{run_then}
 use Rattle.node_model.specs.Schedule.{openings, Round, Pipes, opens, serves}
 use Rattle.node_traits.specs.declared.outputs.StepFault.{StepFault}
 use Rattle.node_traits.specs.declared.outputs.StepFault.TheVariants.{Disk, Steps, Memory}
@@ -13,13 +14,13 @@ use Rattle.node_traits.specs.declared.outputs.ToLink.{ToLink}
 use Rattle.driver_steps.specs.declared.post.Post.{Post}
 use Rattle.driver_steps.specs.Seats.{SeatView, AreHeld, AreKept, AreHeldOrKept}
 use Rattle.driver_steps.specs.Worlds.{PostView, StandsFor, post_view, puts_given}
-use Rattle.driver_steps.specs.Moves.{BeginWith, HasRun, HasStopped}
+use Rattle.driver_steps.specs.Moves.{IsUpTo, BeginWith, HasRun, HasStopped}
 use Rattle.driver_steps.proofs.Seats.{held_kept}
 use Rattle.driver_steps.proofs.Runs.{handed_on}
 use Rattle.pipe_driver.specs.Pieces.{PutInPart}
 use Rattle.pipe_driver.specs.Progress.{AreAsked, Serving, CutShort, PutShort}
 use Rattle.pipe_driver.specs.Rounds.{first_router, first_link, requests_of, replies_after, replies_behind, number_behind, AreOfOne, bytes_of}
-use Rattle.pipe_driver.specs.Schedules.{round_of, IsPart, HasServed, came_whole, came_opening, came_part}
+use Rattle.pipe_driver.specs.Schedules.{round_of, IsLast, IsPart, HasServed, Came, came_whole, came_opening, came_part}
 use Rattle.pipe_driver.specs.Stops.{status_for, StopsAtRequest, at_write_fault, at_disk_fault, at_no_memory}
 use Rattle.pipe_driver.specs.declared.status.Status.{Status}
 use Rattle.pipe_driver.specs.declared.status.Status.TheVariants as statuses
@@ -36,8 +37,22 @@ kept_at Memory view seats w are = held_kept view seats w.nodes are
 
 -- BY STATUS
 
+-- the world up to which a crash may have left what the nodes keep
+last_by : (fault : StepFault) (end last : World) (P : Event → Type 0) (goes_on : World → Type 0)
+    → IsUpTo fault end last ((e : Event) × P e × Happens end e last) → ((e : Event) → P e → Happens end e last → goes_on last)
+    → IsLast (status_for fault) goes_on end last
+last_by (Disk faults) end last P goes_on (inl same) on = inl same
+last_by (Disk faults) end last P goes_on (inr (e, is, more)) on = inr (refl, on e is more, e, more)
+last_by Steps end last P goes_on same on = inl same
+last_by Memory end last P goes_on same on = inl same
+
+-- one event more
+run_one_more : (u : World) (events : List Event) (v : World) (e : Event) (w : World) → Run u events v → Happens v e w → Run u (events ++ e ∷ []) w
+run_one_more u events v e w run more = run_then u events v (e ∷ []) w run (goes v w w e [] more (stands w))
+
 module _ {S : Type 0} (view : S → SeatView) (seats : List S) (gives : ℕ → Type 0) (routers : ℕ) (tells : Bool) (held_before held consumed : List ℕ) where
-  pub stops_by : (fault : StepFault) (status : Status) → status ≡ status_for fault → CutShort view seats gives routers tells held_before held consumed
+  pub stops_by : (fault : StepFault) (status : Status) → status ≡ status_for fault
+      → CutShort view seats gives routers tells held_before held consumed (status_for fault)
       → StopsAtRequest view seats gives routers tells held_before held consumed status
   stops_by (Disk faults) status is cut = subst (λ (s : Status). StopsAtRequest view seats gives routers tells held_before held consumed s) (sym is)
       (at_disk_fault cut)
@@ -46,7 +61,7 @@ module _ {S : Type 0} (view : S → SeatView) (seats : List S) (gives : ℕ → 
 
   -- between two rounds
   pub cut_between : (post : PostView) (replied : ℕ) → Serving view seats post gives routers tells held_before held consumed replied
-      → CutShort view seats gives routers tells held_before held consumed
+      → CutShort view seats gives routers tells held_before held consumed statuses.OutOfMemory
   cut_between post replied s = record {
     rounds = s.rounds;
     under_way = [];
@@ -57,6 +72,9 @@ module _ {S : Type 0} (view : S → SeatView) (seats : List S) (gives : ℕ → 
     put = s.put;
     asked = subst (λ (l : List Request). AreAsked consumed l) (sym (append-nil (requests_of s.rounds))) s.asked;
     kept = held_kept view seats s.world.nodes s.stands.nodes;
+    last = s.world;
+    is_last = inl refl;
+    crashes = s.stands.crashes;
   }
 
 -- that is a fault of a disk, or want of memory
@@ -91,7 +109,7 @@ module _ {S : Type 0} (view : S → SeatView) (seats : List S) (gives : ℕ → 
 
   pub opening_cut : (replies : List ToLink) (fault : StepFault)
       → HasStopped view seats replies [] (start routers) (λ events. BeginWith events (openings 0 count)) fault
-      → CutShort view seats gives routers tells held held []
+      → CutShort view seats gives routers tells held held [] (status_for fault)
   opening_cut replies fault s = record {
     rounds = [];
     under_way = [];
@@ -102,6 +120,13 @@ module _ {S : Type 0} (view : S → SeatView) (seats : List S) (gives : ℕ → 
     put = λ told. sym (append-nil held);
     asked = record { all = refl; each = tt };
     kept = kept_at fault view seats s.end s.nodes;
+    last = s.last;
+    is_last = last_by fault s.end s.last (λ e. BeginWith (s.events ++ e ∷ []) (openings 0 count))
+        (λ w. Came routers gives [] [] (start routers) w) s.up_to
+        (λ e first more. came_opening (s.events ++ e ∷ []) s.last
+        (subst (λ (n : ℕ). BeginWith (s.events ++ e ∷ []) (openings 0 n)) as_many first)
+        (run_one_more (start routers) s.events s.end e s.last s.run more));
+    crashes = s.crashes;
   }
 
 -- ONE REQUEST
@@ -128,22 +153,33 @@ module _ {S : Type 0} (view : S → SeatView) (seats seats_after : List S) (befo
       requests_more s.rounds (round_of moment number asked) ∙ ap (λ (x : Request). requests_of s.rounds ++ x ∷ []) same in
       subst (λ (l : List Request). AreAsked (consumed ++ q.bytes) l) (sym all) asked_then
 
+  part_in_round : (count : ℕ) (events : List Event) → count ≡ length s.world.nodes → IsPart count (round_of moment number asked) events
+      → IsPart (length s.world.nodes) (round_of moment (number_behind (replies_behind 0 (requests_of s.rounds))) q) events
+  part_in_round count events as_many part =
+      subst (λ (n : ℕ). IsPart n (round_of moment (number_behind (replies_behind 0 (requests_of s.rounds))) q) events) as_many
+      (subst (λ (r : Round). IsPart count r events) round_is part)
+
   -- a step failed
   pub cut_in_round : (count : ℕ) (replies : List ToLink) (fault : StepFault) → count ≡ length s.world.nodes
       → HasStopped view seats_after replies (puts_given s.world.answered) s.world (IsPart count (round_of moment number asked)) fault
-      → CutShort view seats_after gives routers tells held_before held (consumed ++ q.bytes)
+      → CutShort view seats_after gives routers tells held_before held (consumed ++ q.bytes) (status_for fault)
   cut_in_round count replies fault as_many h = record {
     rounds = s.rounds;
     under_way = q ∷ [];
     whole = s.world;
     end = h.end;
     came = came_part s.rounds s.events h.events s.world h.end s.next moment q s.pipes given
-        (subst (λ (n : ℕ). IsPart n (round_of moment (number_behind (replies_behind 0 (requests_of s.rounds))) q) h.events) as_many
-        (subst (λ (r : Round). IsPart count r h.events) round_is h.which)) h.run;
+        (part_in_round count h.events as_many h.which) h.run;
     one = s.one;
     put = s.put;
     asked = asked_then;
     kept = kept_at fault view seats_after h.end h.nodes;
+    last = h.last;
+    is_last = last_by fault h.end h.last (λ e. IsPart count (round_of moment number asked) (h.events ++ e ∷ []))
+        (λ w. Came routers gives s.rounds (q ∷ []) s.world w) h.up_to
+        (λ e part more. came_part s.rounds s.events (h.events ++ e ∷ []) s.world h.last s.next moment q s.pipes given
+        (part_in_round count (h.events ++ e ∷ []) as_many part) (run_one_more s.world h.events h.end e h.last h.run more));
+    crashes = h.crashes;
   }
 
   module _ {M : Type 0} (letter : M → Letter) (old new : Post M)
@@ -200,4 +236,5 @@ module _ {S : Type 0} (view : S → SeatView) (seats seats_after : List S) (befo
       put = put_then tells held_before (bytes_of (puts_given s.world.answered)) held part held' s.put put;
       asked = asked_rounds;
       kept = held_kept view seats_after h.end.nodes h.stands.nodes;
+      crashes = h.stands.crashes;
     }

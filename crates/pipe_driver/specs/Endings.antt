@@ -11,7 +11,7 @@ use Rattle.node_progress.specs.Answered.{AreAnswered}
 use Rattle.driver_steps.specs.Worlds.{puts_given}
 use Rattle.pipe_driver.specs.Pieces.{IsPrefix}
 use Rattle.pipe_driver.specs.Rounds.{requests_of, AreOfOne, bytes_of}
-use Rattle.pipe_driver.specs.Schedules.{Came}
+use Rattle.pipe_driver.specs.Schedules.{Came, IsLast}
 use Rattle.pipe_driver.specs.declared.status.Status.{Status}
 use Rattle.pipe_driver.specs.declared.status.Status.TheVariants as statuses
 
@@ -73,9 +73,10 @@ pub data Cause (limit : ℕ) (at_end : Type 0) (taken : List ℕ) (fault : Optio
   too_long : length taken ≡ limit → fault ≡ None → all → Cause limit at_end taken fault all some short statuses.InputTooLong
 
 -- One connection was served by the schedule, from empty journals: these bytes were taken and put, and these rounds led to this world. `kept`
--- says of the nodes of that world that the journals keep what they keep.
-pub record IsPiped (source : SourceCall) (sink : SinkCall) (gives : ℕ → Type 0) (kept : List Held → Type 0) (routers limit : ℕ) (status : Status)
-    (rest : ℕ) : Type 0 where
+-- says of the nodes of that world that the journals keep what they keep; and `leaves` of a world that a crash at any moment since the start
+-- left, of each log, what it might have left before, or a file in which an opening finds what that node kept in a world on the way.
+pub record IsPiped (source : SourceCall) (sink : SinkCall) (gives : ℕ → Type 0) (kept : List Held → Type 0) (leaves : World → Type 0) (routers limit : ℕ)
+    (status : Status) (rest : ℕ) : Type 0 where
   pub taken : List ℕ
   pub put : List ℕ
   pub requests : List Request
@@ -92,3 +93,6 @@ pub record IsPiped (source : SourceCall) (sink : SinkCall) (gives : ℕ → Type
   pub cause : Cause limit (IsTrue source.tells → source.left_after ≡ []) taken fault (AllServed routers put requests rounds end)
       (SomeServed routers gives put requests rounds end) (LastCutShort routers put requests rounds end) status
   pub files : kept end.nodes
+  pub last : World
+  pub is_last : IsLast status (λ w. SomeServed routers gives put requests rounds w) end last
+  pub crashes : leaves last

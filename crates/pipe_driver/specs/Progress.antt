@@ -7,11 +7,12 @@ use Rattle.opmsg_frames.specs.RequestMeanings.{IsMeant}
 use Rattle.opmsg_frames.specs.declared.request.Request as frames
 use Rattle.node_model.specs.World.{World, Event}
 use Rattle.node_model.specs.Schedule.{Round, IsRound, Pipes}
-use Rattle.driver_steps.specs.Seats.{SeatView, AreKept}
+use Rattle.driver_steps.specs.Seats.{SeatView, AreKept, LeaveKept}
 use Rattle.driver_steps.specs.Worlds.{PostView, StandsFor, puts_given}
 use Rattle.pipe_driver.specs.Pieces.{IsPrefix}
 use Rattle.pipe_driver.specs.Rounds.{requests_of, replies_behind, AreOfOne, bytes_of}
-use Rattle.pipe_driver.specs.Schedules.{Came}
+use Rattle.pipe_driver.specs.Schedules.{Came, IsLast}
+use Rattle.pipe_driver.specs.declared.status.Status.{Status}
 
 -- the nodes take the requests as they are read
 abbrev pub AreAskedAsRead : (frames.Request → Request) → Type 0
@@ -38,7 +39,7 @@ pub record Serving {S : Type 0} (view : S → SeatView) (seats : List S) (post :
 
 -- These bytes were served, the last request of them maybe in part: all replies of whole rounds were put.
 pub record CutShort {S : Type 0} (view : S → SeatView) (seats : List S) (gives : ℕ → Type 0) (routers : ℕ) (tells : Bool)
-    (held_before held consumed : List ℕ) : Type 0 where
+    (held_before held consumed : List ℕ) (status : Status) : Type 0 where
   pub rounds : List Round
   pub under_way : List Request
   pub whole : World
@@ -48,6 +49,9 @@ pub record CutShort {S : Type 0} (view : S → SeatView) (seats : List S) (gives
   pub put : Put tells held_before (bytes_of (puts_given whole.answered)) held
   pub asked : AreAsked consumed (requests_of rounds ++ under_way)
   pub kept : AreKept view seats end.nodes
+  pub last : World
+  pub is_last : IsLast status (λ w. Came routers gives rounds under_way whole w) end last
+  pub crashes : LeaveKept view seats last
 
 -- These bytes were served, in whole rounds: of the replies of the last one a prefix was put, and all others.
 pub record PutShort {S : Type 0} (view : S → SeatView) (seats : List S) (gives : ℕ → Type 0) (routers : ℕ) (tells : Bool)
@@ -68,3 +72,4 @@ pub record PutShort {S : Type 0} (view : S → SeatView) (seats : List S) (gives
   pub put : Put tells held_before part held
   pub asked : AreAsked consumed (requests_of (earlier ++ last ∷ []))
   pub kept : AreKept view seats end.nodes
+  pub crashes : LeaveKept view seats end

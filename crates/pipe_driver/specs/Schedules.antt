@@ -1,14 +1,16 @@
 -- How far the schedule of one connection came (own).
-use Rattle.std.specs.Prelude.{◌≡◌, ℕ, ℤ, List, [], ◌∷◌, ◌++◌, length}
+use Rattle.std.specs.Prelude.{◌≡◌, ◌⊎◌, ℕ, ℤ, List, [], ◌∷◌, ◌++◌, length}
 use Rattle.std.specs.List.{AllByRecursion}
 use Rattle.node_model.specs.Requests.{Request}
-use Rattle.node_model.specs.World.{World, Event, client_event, Run, start}
+use Rattle.node_model.specs.World.{World, Event, client_event, Happens, Run, start}
 use Rattle.node_model.specs.Schedule.{openings, moments_given, Round, IsRound, Pipes}
 use Rattle.node_traits.specs.declared.outputs.ToLink.{ToLink}
 use Rattle.driver_steps.specs.Seats.{SeatView}
 use Rattle.driver_steps.specs.Worlds.{PostView, StandsFor}
 use Rattle.driver_steps.specs.Moves.{BeginWith, AreDeliveries}
 use Rattle.pipe_driver.specs.Rounds.{first_router, first_link, number_behind, replies_behind, requests_of}
+use Rattle.pipe_driver.specs.declared.status.Status.{Status}
+use Rattle.pipe_driver.specs.declared.status.Status.TheVariants as statuses
 
 -- a round of the first router and link
 abbrev pub round_of : (moment : ℕ) → ℤ → Request → Round
@@ -40,3 +42,8 @@ pub data Came (routers : ℕ) (gives : ℕ → Type 0) : (rounds : List Round) �
       → gives moment
       → IsPart (length u.nodes) (round_of moment (number_behind (replies_behind 0 (requests_of rounds))) request) events → Run u events w
       → Came routers gives rounds (request ∷ []) u w
+
+-- The world up to which a crash may have left what the nodes keep: the end, and where a disk failed maybe one event more, with which the
+-- schedule goes on.
+abbrev pub IsLast : Status → (goes_on : World → Type 0) → (end last : World) → Type 0
+IsLast status goes_on end last = (last ≡ end) ⊎ ((status ≡ statuses.DiskFailed) × goes_on last × (e : Event) × Happens end e last)

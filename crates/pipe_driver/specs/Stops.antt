@@ -20,9 +20,9 @@ pub data StopsAtRequest {S : Type 0} (view : S → SeatView) (seats : List S) (g
     (held_before held consumed : List ℕ) : Status → Type 0 where
   at_write_fault : PutShort view seats gives routers tells held_before held consumed
       → StopsAtRequest view seats gives routers tells held_before held consumed statuses.WriteFailed
-  at_disk_fault : CutShort view seats gives routers tells held_before held consumed
+  at_disk_fault : CutShort view seats gives routers tells held_before held consumed statuses.DiskFailed
       → StopsAtRequest view seats gives routers tells held_before held consumed statuses.DiskFailed
-  at_no_memory : CutShort view seats gives routers tells held_before held consumed
+  at_no_memory : CutShort view seats gives routers tells held_before held consumed statuses.OutOfMemory
       → StopsAtRequest view seats gives routers tells held_before held consumed statuses.OutOfMemory
 
 abbrev pub AfterOne : {S : Type 0} → Result ℕ Status → (S → SeatView) → List S → PostView → (ℕ → Type 0) → ℕ → Bool → List ℕ → List ℕ → List ℕ → Type 0

@@ -3,7 +3,8 @@
 ghost use Rattle.std.specs.Prelude.{◌≡◌, ◌≢◌, ℕ, ◌<◌, ◌≤◌, [], vec_len};
 ghost use Rattle.outside.specs.Devices.{sink_call, source_call};
 ghost use Rattle.node_model.specs.World.{start};
-ghost use Rattle.driver_steps.specs.Seats.{AreHeld, AreKept, AreOpen, faults_of, places_of, seat_view};
+ghost use Rattle.driver_steps.specs.Crashes.{Since};
+ghost use Rattle.driver_steps.specs.Seats.{AreHeld, AreKept, AreOpen, LeaveKept, faults_of, places_of, seat_since, seat_view, since_then};
 ghost use Rattle.driver_steps.specs.Worlds.{post_view};
 ghost use Rattle.pipe_driver.specs.Counts.{OneRoseWhere, RoseWhere};
 ghost use Rattle.pipe_driver.specs.Endings.{IsPiped, most_taken};
@@ -66,7 +67,9 @@ pub fn pipe<R: Threads + Sync, N: Node<Request = Request>, L: Log, S: Source, K:
     ensures piped { AreAskedAsRead N.asks → (routers : ℕ) → 0 < routers →
         AreHeld (seat_view N.state L.tells L.records L.holds) seats.old.items (start routers).nodes →
         IsPiped (source_call S.tells S.left S.fault_count input.old input.new) (sink_call K.tells K.held K.fault_count out.old out.new)
-        (C.gives clock.now) (AreKept (seat_view N.state L.tells L.records L.holds) seats.new.items) routers limit result.status result.rest }
+        (C.gives clock.now) (AreKept (seat_view N.state L.tells L.records L.holds) seats.new.items)
+        (LeaveKept (seat_since N.state L.tells L.records L.holds L.finds L.moment L.left_since (since_then seats.old.items (start routers))) seats.new.items)
+        routers limit result.status result.rest }
 
     // But where a disk failed or memory ended, records can be appended to each log.
     ensures open { result.status ≢ statuses.DiskFailed → result.status ≢ statuses.OutOfMemory → AreOpen L.is_open seats.new.items }
@@ -100,11 +103,13 @@ fn serve<R: Threads + Sync, N: Node<Request = Request>, L: Log, S: Source, K: Si
     requires at { first_router < vec_len seats.old }
     requires open { AreOpen L.is_open seats.old.items }
     requires limit { limit ≤ most_taken }
-    ensures piped { AreAskedAsRead N.asks → (routers : ℕ) → 0 < routers →
-        Serving (seat_view N.state L.tells L.records L.holds) seats.old.items (post_view (λ m. N.Mail.letter m) post)
+    ensures piped { AreAskedAsRead N.asks → (since : Since L) (routers : ℕ) → 0 < routers →
+        Serving (seat_since N.state L.tells L.records L.holds L.finds L.moment L.left_since since) seats.old.items (post_view (λ m. N.Mail.letter m) post)
         (C.gives clock.now) routers K.tells (K.held out.old) (K.held out.old) [] 0 →
         IsPiped (source_call S.tells S.left S.fault_count input.old input.new) (sink_call K.tells K.held K.fault_count out.old out.new)
-        (C.gives clock.now) (AreKept (seat_view N.state L.tells L.records L.holds) seats.new.items) routers limit result.status result.rest }
+        (C.gives clock.now) (AreKept (seat_since N.state L.tells L.records L.holds L.finds L.moment L.left_since since) seats.new.items)
+        (LeaveKept (seat_since N.state L.tells L.records L.holds L.finds L.moment L.left_since since) seats.new.items) routers limit
+        result.status result.rest }
     ensures open { result.status ≢ statuses.DiskFailed → result.status ≢ statuses.OutOfMemory → AreOpen L.is_open seats.new.items }
     ensures len { vec_len seats.new ≡ vec_len seats.old }
     ensures read_fault { RoseWhere (result.status ≡ statuses.ReadFailed) (S.fault_count input.old) (S.fault_count input.new) }

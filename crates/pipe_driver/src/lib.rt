@@ -10,4 +10,6 @@ mod status;
 mod streams;
 
 pub use connection::{Ending, pipe};
+pub use replies::{next_number, replied_after};
 pub use status::Status;
+pub use streams::{put_all, take_more};

@@ -5,7 +5,8 @@ ghost use Rattle.std.specs.Prelude.{None, Err, OnOk, IfErr, IfOk};
 ghost use Rattle.opmsg_frames.specs.Outline.{outline, partial_outline};
 ghost use Rattle.opmsg_frames.specs.Requests as wire;
 ghost use Rattle.opmsg_frames.specs.RequestMeanings.{IsMeant};
-ghost use Rattle.driver_steps.specs.Seats.{AreOpen, faults_of, places_of, seat_view};
+ghost use Rattle.driver_steps.specs.Crashes.{Since};
+ghost use Rattle.driver_steps.specs.Seats.{AreOpen, faults_of, places_of, seat_since};
 ghost use Rattle.driver_steps.specs.Worlds.{post_view};
 ghost use Rattle.pipe_driver.specs.Counts.{OneRoseWhere, RoseWhere};
 ghost use Rattle.pipe_driver.specs.Endings.{most_taken};
@@ -47,11 +48,12 @@ pub fn answer_one<R: Threads + Sync, N: Node<Request = Request>, L: Log, K: Sink
     requires at { first_router < vec_len seats.old }
     requires open { AreOpen L.is_open seats.old.items }
     requires count { replied < 2 ^ 63 }
-    ensures served { AreAskedAsRead N.asks → (meant : wire.Request) → IsMeant request meant → wire.IsRequest meant → (routers : ℕ) → 0 < routers →
-        (held_before consumed : List ℕ) →
-        Serving (seat_view N.state L.tells L.records L.holds) seats.old.items (post_view (λ m. N.Mail.letter m) post.old)
+    ensures served { AreAskedAsRead N.asks → (meant : wire.Request) → IsMeant request meant → wire.IsRequest meant →
+        (since : Since L) (routers : ℕ) → 0 < routers → (held_before consumed : List ℕ) →
+        Serving (seat_since N.state L.tells L.records L.holds L.finds L.moment L.left_since since) seats.old.items (post_view (λ m. N.Mail.letter m) post.old)
         (C.gives clock.now) routers K.tells held_before (K.held out.old) consumed replied →
-        AfterOne result (seat_view N.state L.tells L.records L.holds) seats.new.items (post_view (λ m. N.Mail.letter m) post.new)
+        AfterOne result (seat_since N.state L.tells L.records L.holds L.finds L.moment L.left_since since) seats.new.items
+        (post_view (λ m. N.Mail.letter m) post.new)
         (C.gives clock.now) routers K.tells held_before (K.held out.new) (consumed ++ meant.bytes) }
     ensures replied { IfOk result (λ after. after ≤ replied + 1) }
     ensures len { vec_len seats.new ≡ vec_len seats.old }
@@ -99,10 +101,11 @@ pub fn answer_all<R: Threads + Sync, N: Node<Request = Request>, L: Log, K: Sink
     requires fed { framer.old.offset + length framer.old.bytes ≤ most_taken }
     requires fault { framer.old.fault ≡ None }
     requires count { replied ≤ framer.old.offset }
-    ensures served { AreAskedAsRead N.asks → (routers : ℕ) → 0 < routers → (held_before consumed : List ℕ) →
-        Serving (seat_view N.state L.tells L.records L.holds) seats.old.items (post_view (λ m. N.Mail.letter m) post.old)
+    ensures served { AreAskedAsRead N.asks → (since : Since L) (routers : ℕ) → 0 < routers → (held_before consumed : List ℕ) →
+        Serving (seat_since N.state L.tells L.records L.holds L.finds L.moment L.left_since since) seats.old.items (post_view (λ m. N.Mail.letter m) post.old)
         (C.gives clock.now) routers K.tells held_before (K.held out.old) consumed replied →
-        AfterRequests result (seat_view N.state L.tells L.records L.holds) seats.new.items (post_view (λ m. N.Mail.letter m) post.new)
+        AfterRequests result (seat_since N.state L.tells L.records L.holds L.finds L.moment L.left_since since) seats.new.items
+        (post_view (λ m. N.Mail.letter m) post.new)
         (C.gives clock.now) routers K.tells held_before (K.held out.new) (consumed ++ framer.old.bytes) framer.new.bytes }
     ensures partial { OnOk result (outline framer.new.bytes ≡ partial_outline) }
     ensures fed { framer.new.offset + length framer.new.bytes ≡ framer.old.offset + length framer.old.bytes }

@@ -4,7 +4,8 @@ ghost use Rattle.std.specs.Prelude.{◌≡◌, ℕ, ◌<◌, List, vec_len, IfEr
 ghost use Rattle.node_model.specs.Schedule.{Pipes, Round};
 ghost use Rattle.node_model.specs.World.{Event, World};
 ghost use Rattle.node_traits.specs.declared.outputs.ToLink.{ToLink};
-ghost use Rattle.driver_steps.specs.Seats.{AreOpen, TellsFaults, faults_of, places_of, seat_view};
+ghost use Rattle.driver_steps.specs.Crashes.{Since};
+ghost use Rattle.driver_steps.specs.Seats.{AreOpen, TellsFaults, faults_of, places_of, seat_since};
 ghost use Rattle.driver_steps.specs.Moves.{HasStopped};
 ghost use Rattle.driver_steps.specs.Worlds.{StandsFor, post_view};
 ghost use Rattle.pipe_driver.specs.Rounds.{first_router};
@@ -39,16 +40,19 @@ pub fn serve_round<R: Threads + Sync, N: Node, L: Log>(
 ) -> Result<(), StepFault>
     requires at { first_router < vec_len seats.old }
     requires open { AreOpen L.is_open seats.old.items }
-    ensures served { (routers : ℕ) (rounds : List Round) (events : List Event) (w : World) (next : ℕ) (handed : List ToLink) →
+    ensures served { (since : Since L) (routers : ℕ) (rounds : List Round) (events : List Event) (w : World) (next : ℕ) (handed : List ToLink) →
         0 < routers → Pipes routers rounds events w next →
-        StandsFor (seat_view N.state L.tells L.records L.holds) seats.old.items (post_view (λ m. N.Mail.letter m) post.old) handed w next →
-        OnOk result (HasServed (seat_view N.state L.tells L.records L.holds) seats.new.items (post_view (λ m. N.Mail.letter m) post.new) handed w next
+        StandsFor (seat_since N.state L.tells L.records L.holds L.finds L.moment L.left_since since) seats.old.items
+        (post_view (λ m. N.Mail.letter m) post.old) handed w next →
+        OnOk result (HasServed (seat_since N.state L.tells L.records L.holds L.finds L.moment L.left_since since) seats.new.items
+        (post_view (λ m. N.Mail.letter m) post.new) handed w next
         (round_of moment number (N.asks request))) }
-    ensures stopped { (routers : ℕ) (rounds : List Round) (events : List Event) (w : World) (next : ℕ) (handed : List ToLink) →
+    ensures stopped { (since : Since L) (routers : ℕ) (rounds : List Round) (events : List Event) (w : World) (next : ℕ) (handed : List ToLink) →
         0 < routers → Pipes routers rounds events w next →
-        StandsFor (seat_view N.state L.tells L.records L.holds) seats.old.items (post_view (λ m. N.Mail.letter m) post.old) handed w next →
-        IfErr result (λ e. HasStopped (seat_view N.state L.tells L.records L.holds) seats.new.items post.new.replies.items handed w
-        (IsPart (vec_len seats.old) (round_of moment number (N.asks request))) e) }
+        StandsFor (seat_since N.state L.tells L.records L.holds L.finds L.moment L.left_since since) seats.old.items
+        (post_view (λ m. N.Mail.letter m) post.old) handed w next →
+        IfErr result (λ e. HasStopped (seat_since N.state L.tells L.records L.holds L.finds L.moment L.left_since since) seats.new.items
+        post.new.replies.items handed w (IsPart (vec_len seats.old) (round_of moment number (N.asks request))) e) }
     ensures len { vec_len seats.new ≡ vec_len seats.old }
     ensures open { OnOk result (AreOpen L.is_open seats.new.items) }
 

@@ -26,7 +26,7 @@ pub enum Status {
 
 impl Status {
     /// The status of a fault of a step.
-    pub(crate) fn of(fault: StepFault) -> Status
+    pub fn of(fault: StepFault) -> Status
         ensures { result ≡ status_for fault }
     {
         match fault {

@@ -1,12 +1,6 @@
-pub mod Turns
-pub mod ReplyTimes
+pub mod StayingDocuments
+pub mod Requests
+pub mod RightAnswers
 pub mod Freshness
-pub mod WholeInserts
-pub mod MissedReads
-pub mod Sample
-pub use Rattle.history_model.proofs.LegalHistories
-pub use Rattle.history_model.proofs.Lists
-pub use Rattle.history_model.proofs.Stores
 pub use Rattle.command_model.proofs.AnswerTimes
-pub use Rattle.command_model.proofs.Taken
-pub use Rattle.command_model.proofs.ToldRefusals
+pub use Rattle.history_model.proofs.LegalHistories

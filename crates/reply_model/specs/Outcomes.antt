@@ -1,28 +1,38 @@
--- The statements of one insert, and how their outcomes are told (MongoDB manual, "insert", "ordered").
+-- What statements are told, and how their outcomes are told together (MongoDB manual, "insert", "ordered").
 use Rattle.std.specs.Prelude.{ℕ, ◌+◌, List, [], ◌∷◌, Some, None, Bool, max, is_some}
-use Rattle.history_model.specs.History.{Entry}
+use Rattle.history_model.specs.History.{Outcome, Entry}
 use Rattle.command_model.specs.Refusals.{without_evidence}
 use Rattle.command_model.specs.Insert.{WriteError}
 use Rattle.command_model.specs.Answers.{Answer, insert_answer}
 
--- the entry is told an error
-abbrev pub fails : Entry → Bool
-fails e = is_some e.outcome.error
+-- the statement with this index was done, at this time, and is told this
+pub record Done : Type 0 where
+  pub index : ℕ
+  pub time : ℕ
+  pub outcome : Outcome
+
+-- what the statement of an entry is told
+abbrev pub done_of : Entry → Done
+done_of e = record { index = e.number.index; time = e.time; outcome = e.outcome }
+
+-- the statement is told an error
+abbrev pub fails : Done → Bool
+fails d = is_some d.outcome.error
 
 -- how many documents were put in
-abbrev pub sum_of : List Entry → ℕ
+abbrev pub sum_of : List Done → ℕ
 sum_of [] = 0
-sum_of (e ∷ entries) = e.outcome.count + sum_of entries
+sum_of (d ∷ dones) = d.outcome.count + sum_of dones
 
-abbrev pub errors_of : List Entry → List WriteError
+abbrev pub errors_of : List Done → List WriteError
 errors_of [] = []
-errors_of (e ∷ entries) = elim e.outcome.error [ None ↦ errors_of entries | Some error ↦ record { index = e.number.index; refusal = without_evidence error } ∷ errors_of entries ]
+errors_of (d ∷ dones) = elim d.outcome.error [ None ↦ errors_of dones | Some error ↦ record { index = d.index; refusal = without_evidence error } ∷ errors_of dones ]
 
 -- the greatest time
-abbrev pub time_of : List Entry → ℕ
+abbrev pub time_of : List Done → ℕ
 time_of [] = 0
-time_of (e ∷ entries) = max e.time (time_of entries)
+time_of (d ∷ dones) = max d.time (time_of dones)
 
 -- what the statements are told together
-abbrev pub answer_of : List Entry → Answer
-answer_of entries = insert_answer (sum_of entries) (errors_of entries) (time_of entries)
+abbrev pub answer_of : List Done → Answer
+answer_of dones = insert_answer (sum_of dones) (errors_of dones) (time_of dones)

@@ -1,95 +1,138 @@
-//! The definitions on requests and entries that one can check by hand.
+//! The definitions on requests, answers and entries that one can check by hand.
 
-ghost use Rattle.std.specs.Prelude.{◌≡◌, ◌∷◌, ◌++◌, [], codes, ℕ, Some, None, Ok, Err, true, false, pos};
+ghost use Rattle.std.specs.Prelude.{◌≡◌, ◌∷◌, ℕ, [], codes, Some, None, Ok, true, false, pos};
+ghost use Rattle.chunk_model.specs.SampleCollections.{creation};
+ghost use Rattle.command_model.specs.Answers.{answer_document, legacy_answer, refusal_answer};
+ghost use Rattle.command_model.specs.Command.{insert_command, find_command, command_of};
+ghost use Rattle.command_model.specs.Errors.{duplicate_key};
 ghost use Rattle.command_model.specs.Faults.{Fault};
+ghost use Rattle.command_model.specs.Refusals.{Refusal, no_document_at};
 ghost use Rattle.command_model.specs.Replies.{reply_bytes};
 ghost use Rattle.command_model.specs.Requests.{msg_form};
-ghost use Rattle.reply_model.specs.Placed.{IsPlaced};
-ghost use Rattle.command_model.specs.Refusals.{no_document_at};
-ghost use Rattle.command_model.specs.Errors.{duplicate_key};
-ghost use Rattle.chunk_model.specs.SampleCollections.{creation};
 ghost use Rattle.command_model.specs.SampleReplies.{ahead_reply, done_reply, duplicate_reply};
-ghost use Rattle.history_model.specs.History.{Legal, done, fails_with};
+ghost use Rattle.command_model.specs.SampleRequests.{deep, faulty, five, long_five, second_fails, shown, six, three, too_large_reply, with_id};
 ghost use Rattle.command_model.specs.Times.{timestamp};
-ghost use Rattle.command_model.specs.Command.{find_command, insert_command, legacy_command, command_of};
-ghost use Rattle.reply_model.specs.SampleExchanges.{deep, deep_entry, entry_at, faulty, finding, first, first_entry, five, greeting, long_five, second, second_entry, second_fails, shown, silent, six, three, three_asked, three_entries, three_silent, two_entries, with_id};
-ghost use Rattle.reply_model.specs.Exchange.{InTurn, spoken};
-ghost use Rattle.reply_model.specs.Right.{AreEntriesOf, AreRight, IsEntryOf, IsFresh, IsPart, IsRight, IsUnderWay, IsWhole, OneHistory};
+ghost use Rattle.history_model.specs.History.{Legal, done, fails_with};
+ghost use Rattle.reply_model.specs.Asked.{reply_put};
+ghost use Rattle.reply_model.specs.Earlier.{IsEntryOf};
+ghost use Rattle.reply_model.specs.OneHistory.{AreDifferent, IsFresh, IsInOrder, IsKnown, IsPlaced, IsRightOf, OneHistory, WasSent, WasWanted, ids_asked, ids_told};
+ghost use Rattle.reply_model.specs.Right.{IsPart, IsRight, IsWhole};
+ghost use Rattle.reply_model.specs.SampleExchanges.{all_asked, all_told, both_entries, deep_asked, deep_entry, entry_at, finding, first, first_entry, first_told, greeted, id_at, is_shown, moments, second, second_entry, second_told, tells, third, third_told, three_asked, three_entries, two_entries};
 
-/// What requests ask for: an insert, a find, the old handshake, and a refusal where a document has a fault.
+/// What the requests ask for.
 pub fn asked()
     ensures insert { command_of first.request ≡ Ok (insert_command (record { namespace = codes "d.c"; documents = with_id five ∷ []; ordered = true })) }
-    ensures three { command_of (three_asked false None).request ≡ Ok (insert_command (record { namespace = codes "d.c"; documents = three; ordered = false })) }
-    ensures find { command_of (finding long_five None (shown [] 2)).request ≡ Ok (find_command (record { namespace = codes "d.c"; key = long_five; at = None })) }
-    ensures find_at { command_of (finding five (Some (timestamp 1000 1)) (shown [] 1)).request ≡ Ok (find_command (record { namespace = codes "d.c"; key = five; at = Some (timestamp 1000 1) })) }
-    ensures handshake { command_of greeting ≡ Ok (legacy_command (record { shows_hello_ok = false })) }
-    ensures faulty { (fault : Fault) (place : ℕ) → command_of (faulty fault place) ≡ Err (no_document_at place) }
+    ensures three { command_of (three_asked true false).request ≡ Ok (insert_command (record { namespace = codes "d.c"; documents = three; ordered = false })) }
+    ensures find { command_of third.request ≡ Ok (find_command (record { namespace = codes "d.c"; key = long_five; at = None })) }
 {}
 
-/// Of three documents the second has the key of the first. The error ends the insert where it is ordered, and else the third
-/// document is put in. An ordered insert that told of the error left no third entry.
+/// Two inserts under one key, in both widths, at two routers, and a find of the second's key at the first router: one history. It is
+/// none where an entry is lost, where one was made that nobody sent, where a reply is missing from what was asked, and where a request
+/// is told twice.
+pub fn one_history()
+    ensures whole { OneHistory moments (creation ∷ []) both_entries all_asked all_told }
+    ensures lost { OneHistory moments (creation ∷ []) [] all_asked all_told → ⊥ }
+    ensures lost_duplicate { OneHistory moments (creation ∷ []) (first_entry ∷ []) all_asked all_told → ⊥ }
+    ensures nobody_sent { OneHistory moments (creation ∷ []) both_entries (first ∷ third ∷ []) (first_told ∷ third_told ∷ []) → ⊥ }
+    ensures not_asked { OneHistory moments (creation ∷ []) both_entries (first ∷ second ∷ []) all_told → ⊥ }
+    ensures twice { OneHistory moments (creation ∷ []) both_entries all_asked (first_told ∷ all_told) → ⊥ }
+    ensures not_begun { OneHistory moments [] both_entries all_asked all_told → ⊥ }
+    ensures disordered { OneHistory moments (creation ∷ []) (second_entry ∷ first_entry ∷ []) all_asked all_told → ⊥ }
+{}
+
+/// Of three documents the second has the key of the first. The error ends the insert where it is ordered, and else the third document
+/// is put in. With moreToCome it is answered just so, and nothing is put.
 pub fn many_statements()
-    ensures right_end { IsRight two_entries (three_asked true (Some (second_fails 1 3))) }
-    ensures never_goes_on { AreRight three_entries (three_asked true (Some (second_fails 1 3)) ∷ []) → ⊥ }
-    ensures whole { IsWhole two_entries (three_asked true (Some (second_fails 1 3))) (codes "d.c") three true }
-    ensures one_more { IsWhole three_entries (three_asked true (Some (second_fails 1 3))) (codes "d.c") three true → ⊥ }
-    ensures no_third { AreEntriesOf three_entries (three_asked true None) (codes "d.c") true 0 three three_entries → ⊥ }
-    ensures a_third { AreEntriesOf three_entries (three_asked false None) (codes "d.c") false 0 three two_entries → ⊥ }
+    ensures ordered { IsRight two_entries (three_asked false true) (tells (three_asked false true) 3 3 (second_fails 1 3)) }
+    ensures unordered { IsRight three_entries (three_asked false false) (tells (three_asked false false) 3 4 (second_fails 2 4)) }
+    ensures silent { IsRight two_entries (three_asked true true) (tells (three_asked true true) 3 3 (second_fails 1 3)) }
+    ensures nothing_put { reply_put (pos 1) (three_asked true true).request (second_fails 1 3) ≡ [] }
+    ensures put { reply_put (pos 1) (three_asked false true).request (second_fails 1 3) ≡ reply_bytes msg_form (pos 1) (pos 1) (second_fails 1 3) }
+    ensures one_more { IsWhole three_entries (id_at 2 1) (record { namespace = codes "d.c"; documents = three; ordered = true }) → ⊥ }
+    ensures one_less { IsWhole two_entries (id_at 2 1) (record { namespace = codes "d.c"; documents = three; ordered = false }) → ⊥ }
+    ensures silent_lost { IsRight [] (three_asked true true) (tells (three_asked true true) 3 3 (second_fails 1 3)) → ⊥ }
 {}
 
 /// An insert of a document that is too large is told so, and ends there where it is ordered; the document isn't found.
 pub fn too_large()
-    ensures not_found { IsRight (deep_entry ∷ []) (finding five None (shown [] 2)) }
-    ensures not_shown { IsRight (deep_entry ∷ []) (finding five None (shown (deep ∷ []) 2)) → ⊥ }
+    ensures told { IsRight (deep_entry ∷ []) deep_asked (tells deep_asked 3 2 too_large_reply) }
+    ensures goes_on { IsRight (deep_entry ∷ entry_at 3 2 1 1 six done ∷ []) deep_asked (tells deep_asked 3 3 too_large_reply) → ⊥ }
+    ensures not_found { IsRight (deep_entry ∷ []) (finding five None) (is_shown five None [] 2) }
+    ensures not_shown { IsRight (deep_entry ∷ []) (finding five None) (is_shown five None (deep ∷ []) 2) → ⊥ }
 {}
 
-/// Of an insert that has no reply by now a prefix of its entries may stand, also none, but no entry behind one that is missing,
-/// and none behind the error that ends it.
+/// A handshake is told its router's last moment, and a request whose document has a fault is refused with its place.
+pub fn without_documents()
+    ensures greeting { IsRight [] greeted (tells greeted 3 0 (answer_document (legacy_answer 1000000 false))) }
+    ensures another_moment { IsRight [] greeted (tells greeted 3 0 (answer_document (legacy_answer 1000001 false))) → ⊥ }
+    ensures refused { (fault : Fault) (place : ℕ) → IsRight [] (record greeted { request = faulty fault place }) (tells greeted 3 0 (answer_document (refusal_answer (no_document_at place)))) }
+    ensures never_refused { (refusal : Refusal) → IsRight [] first (tells first 3 0 (answer_document (refusal_answer refusal))) → ⊥ }
+{}
+
+/// Of an insert that is under way a prefix of its entries may stand, also none, but no entry behind one that is missing, and none behind
+/// the error that ends it. It is not answered by then.
 pub fn under_way()
-    ensures part { IsPart (first_entry ∷ []) (three_asked true None) (codes "d.c") three true }
-    ensures ended { IsPart two_entries (three_asked true None) (codes "d.c") three true }
-    ensures first_missing { IsPart (entry_at 2 1 1 long_five done ∷ []) (three_asked true None) (codes "d.c") three true → ⊥ }
-    ensures behind_error { IsUnderWay three_entries (three_asked true None) → ⊥ }
-    ensures nothing { IsUnderWay [] (three_asked true None) }
-    ensures begun { IsUnderWay (first_entry ∷ []) (three_asked true None) }
-    ensures has_reply { IsUnderWay two_entries (three_asked true (Some (second_fails 1 3))) → ⊥ }
-    ensures last { AreRight (first_entry ∷ []) (three_silent ∷ []) }
-    ensures whole_followed { AreRight two_entries (three_silent ∷ finding six None (shown [] 3) ∷ []) }
-    ensures part_followed { AreRight (first_entry ∷ []) (three_silent ∷ finding six None (shown [] 3) ∷ []) → ⊥ }
+    ensures nothing { IsPart [] (id_at 2 1) (record { namespace = codes "d.c"; documents = three; ordered = true }) }
+    ensures begun { IsPart (first_entry ∷ []) (id_at 2 1) (record { namespace = codes "d.c"; documents = three; ordered = true }) }
+    ensures ended { IsPart two_entries (id_at 2 1) (record { namespace = codes "d.c"; documents = three; ordered = true }) }
+    ensures first_missing { IsPart (entry_at 2 2 1 1 long_five done ∷ []) (id_at 2 1) (record { namespace = codes "d.c"; documents = three; ordered = true }) → ⊥ }
+    ensures behind_error { IsPart three_entries (id_at 2 1) (record { namespace = codes "d.c"; documents = three; ordered = true }) → ⊥ }
+    ensures answered_early { IsRight (first_entry ∷ []) (three_asked false true) (tells (three_asked false true) 3 2 done_reply) → ⊥ }
 {}
 
-/// After the first insert, at Timestamp(1000, 2), a find of either five shows the document, and one of six shows none. At
-/// Timestamp(1000, 1) nothing is there yet, and Timestamp(1000, 3) is ahead.
+/// After the first insert, at Timestamp(1000, 2), a find of either five shows the document, and one of six shows none. At Timestamp(1000,
+/// 1) nothing is there yet, and Timestamp(1000, 3) is ahead of the router's time, which is told.
 pub fn found()
-    ensures right { IsRight (first_entry ∷ []) (finding long_five None (shown (with_id five ∷ []) 2)) }
-    ensures wrong { IsRight (first_entry ∷ []) (finding long_five None (shown [] 2)) → ⊥ }
-    ensures right_before { IsRight (first_entry ∷ []) (finding five (Some (timestamp 1000 1)) (shown [] 1)) }
-    ensures right_ahead { IsRight (first_entry ∷ []) (finding five (Some (timestamp 1000 3)) ahead_reply) }
-    ensures not_ahead { IsRight (first_entry ∷ []) (finding five (Some (timestamp 1000 2)) ahead_reply) → ⊥ }
-    ensures stale { IsFresh (first_entry ∷ []) (first ∷ finding five None (shown [] 1) ∷ []) → ⊥ }
+    ensures right { IsRight both_entries third third_told }
+    ensures wrong { IsRight both_entries third (is_shown long_five None [] 2) → ⊥ }
+    ensures other_key { IsRight both_entries (finding six None) (is_shown six None [] 2) }
+    ensures right_before { IsRight both_entries (finding five (Some (timestamp 1000 1))) (is_shown five (Some (timestamp 1000 1)) [] 1) }
+    ensures wrong_before { IsRight both_entries (finding five (Some (timestamp 1000 1))) (is_shown five (Some (timestamp 1000 1)) (with_id five ∷ []) 1) → ⊥ }
+    ensures old { IsRight both_entries third (is_shown long_five None [] 1) → ⊥ }
+    ensures right_ahead { IsRight both_entries (finding five (Some (timestamp 1000 3))) (tells (finding five (Some (timestamp 1000 3))) 7 2 ahead_reply) }
+    ensures not_ahead { IsRight both_entries (finding five (Some (timestamp 1000 2))) (tells (finding five (Some (timestamp 1000 2))) 7 2 ahead_reply) → ⊥ }
+    ensures another_time { IsRight both_entries (finding five (Some (timestamp 1000 3))) (tells (finding five (Some (timestamp 1000 3))) 7 1 ahead_reply) → ⊥ }
+    ensures never_named { IsRight both_entries third (tells third 7 2 ahead_reply) → ⊥ }
 {}
 
-/// A request with moreToCome is served like any other, and gets no reply: the next reply is the first.
-pub fn unanswered()
-    ensures no_bytes { spoken (silent ∷ []) ≡ [] }
-    ensures next { spoken (silent ∷ second ∷ []) ≡ reply_bytes msg_form (pos 2) (pos 1) duplicate_reply }
+/// Replies that are wrong: another request's, under another number, on another link, before the request came, to a request that was not
+/// taken.
+pub fn wrong_replies()
+    ensures another { IsRight both_entries first (record first_told { document = duplicate_reply }) → ⊥ }
+    ensures number { IsRightOf both_entries all_asked (record first_told { number = pos 2 }) → ⊥ }
+    ensures link { IsRightOf both_entries all_asked (record first_told { link = 1 }) → ⊥ }
+    ensures early { IsRightOf both_entries all_asked (record first_told { step = 1 }) → ⊥ }
+    ensures not_taken { IsRightOf both_entries [] first_told → ⊥ }
 {}
 
-/// The two inserts are one history. It is not one without their entries, nor with a second entry that is no later than the
-/// time that the first was told; and a reply is not right that tells of another request's entry. Nor is a silent insert served
-/// rightly whose entry is missing.
-pub fn one_history()
-    ensures turns { InTurn 0 1 (first ∷ second ∷ []) }
-    ensures said { spoken (first ∷ second ∷ []) ≡ reply_bytes msg_form (pos 1) (pos 1) done_reply ++ reply_bytes msg_form (pos 2) (pos 2) duplicate_reply }
-    ensures lost { OneHistory [] (first ∷ second ∷ []) → ⊥ }
-    ensures wrong { IsRight (first_entry ∷ second_entry ∷ []) (record first { reply = Some duplicate_reply }) → ⊥ }
-    ensures stale { IsFresh (first_entry ∷ entry_at 2 2 0 long_five (fails_with duplicate_key) ∷ []) (first ∷ second ∷ []) → ⊥ }
-    ensures silent { IsRight [] silent → ⊥ }
+/// What is stale: a request that comes to a router, in the life in which it had told of a time, with a lower one, or with a lower one
+/// than an earlier request. At another router, or in another life, it is not.
+pub fn stale()
+    ensures told { IsFresh (first_told ∷ []) (record third { time = timestamp 1000 1 }) → ⊥ }
+    ensures taken { IsInOrder (third ∷ []) (record first { came = 8 }) → ⊥ }
+    ensures elsewhere { IsFresh (first_told ∷ []) second }
+    ensures another_life { IsFresh (first_told ∷ []) (record second { id = record { router = 2; life = 2; count = 1 } }) }
+    ensures not_later { WasSent all_asked (entry_at 0 3 1 0 long_five done) → ⊥ }
 {}
 
-/// How entries stand to their requests and collections.
+/// What a router knew: its last moment, and a time that was met. A time that nobody met, a moment that was given to another node or
+/// comes later, and a time before its moment's are made up.
+pub fn known()
+    ensures right { IsKnown moments (creation ∷ []) both_entries third }
+    ensures made_up { IsKnown moments (creation ∷ []) both_entries (record third { time = timestamp 1000 7 }) → ⊥ }
+    ensures moment { IsKnown moments (creation ∷ []) both_entries (record third { moment = 999000 }) → ⊥ }
+    ensures another_node { IsKnown (record { node = 3; moment = 1000000; step = 0 } ∷ []) (creation ∷ []) both_entries third → ⊥ }
+    ensures too_early { IsKnown moments (creation ∷ []) both_entries (record third { came = 0 }) → ⊥ }
+    ensures behind { IsKnown moments (creation ∷ []) both_entries (record third { time = 0 }) → ⊥ }
+{}
+
+/// How entries, collections and requests stand to each other.
 pub fn related()
     ensures own { IsEntryOf first first_entry × (IsEntryOf second first_entry → ⊥) }
     ensures placed { IsPlaced (creation ∷ []) second_entry × (IsPlaced [] second_entry → ⊥) }
-    ensures legal { Legal (first_entry ∷ second_entry ∷ []) × (Legal (second_entry ∷ first_entry ∷ []) → ⊥) }
+    ensures misplaced { IsPlaced (creation ∷ []) (record second_entry { shard = 2 }) → ⊥ }
+    ensures before_collection { IsPlaced (record creation { at = timestamp 1000 3 } ∷ []) second_entry → ⊥ }
+    ensures wanted { WasWanted all_asked creation × (WasWanted (third ∷ []) creation → ⊥) }
+    ensures different { AreDifferent (ids_asked all_asked) × (AreDifferent (ids_told (first_told ∷ second_told ∷ first_told ∷ [])) → ⊥) }
+    ensures legal { Legal both_entries × (Legal (second_entry ∷ first_entry ∷ []) → ⊥) }
 {}

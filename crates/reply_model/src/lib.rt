@@ -1,8 +1,11 @@
-//! Which replies are right by one history, and when they are fresh: requests with their replies, and the entries of each. Definitions,
-//! and the laws between them: a law is a function that does nothing, whose contract is the law.
+//! Requests with what their routers knew and what they were told, and which of these are right by one history. Definitions, and the
+//! laws between them: a law is a function that does nothing, whose contract is the law.
 #![tactic(auto)]
 
 pub mod examples;
 mod laws;
 
-pub use laws::{later_writes_tell_later, own_entry, reads_miss_nothing, told_inserts_stand};
+pub use laws::{
+    later_writes_tell_later, one_answer, own_entry, reads_are_fresh, reads_miss_nothing,
+    reads_stay, told_inserts_stand, writes_come_later,
+};

@@ -57,48 +57,30 @@ fn are_first(found: &[Blob], records: &[Vec<u8>]) -> bool {
     true
 }
 
-/// How many records an opening of the disk's journal finds, if they are the first of the row's.
-fn found_in(alloc: Global, plan: &DiskPlan, disk: &MemDisk) -> Result<Option<u64>, RowFault> {
+/// Whether an opening of the disk's journal finds the first of the row's records, and as many as the row says.
+fn is_found(alloc: Global, plan: &DiskPlan, disk: &MemDisk) -> Result<bool, RowFault> {
+    let Some((least, most)) = plan.found else {
+        return Ok(true);
+    };
     let copy = disk_of(alloc, disk.bytes(), &[])?;
     let Ok((_journal, found)) = Journal::open(alloc, copy) else {
-        return Ok(None);
+        return Ok(false);
     };
-    if !are_first(found.as_slice(), &plan.records) {
-        return Ok(None);
-    }
-    Ok(Some(found.as_slice().len() as u64))
+    let count = found.as_slice().len() as u64;
+    Ok(least <= count && count <= most && are_first(found.as_slice(), &plan.records))
 }
 
-/// How many records an opening of each disk's journal finds, in order, of those where that holds.
-fn found_in_all(alloc: Global, row: &Row, disks: &[MemDisk]) -> Result<Vec<u64>, RowFault> {
-    let mut counts = Vec::new(alloc);
+/// Whether an opening of each disk's journal finds what it has to.
+fn are_found(alloc: Global, row: &Row, disks: &[MemDisk]) -> Result<bool, RowFault> {
     for (plan, disk) in row.disks.iter().zip(disks) {
-        if let Some(count) = found_in(alloc, plan, disk)? {
-            counts.push(count)?;
+        if !is_found(alloc, plan, disk)? {
+            return Ok(false);
         }
     }
-    Ok(counts)
-}
-
-/// Whether the journals hold at least so many entries, as many creations or more, and at most so many of these; and the
-/// router's none.
-fn are_between(counts: &[u64], least: u64, most: u64) -> bool {
-    match counts {
-        [creations, entries, 0] => least <= *entries && entries <= creations && *creations <= most,
-        _ => false,
-    }
+    Ok(true)
 }
 
 /// Whether the disks hold what the row says.
 pub fn are_left(alloc: Global, row: &Row, disks: &[MemDisk]) -> Result<bool, RowFault> {
-    if disks.len() != 3 || !are_kept(row, disks) {
-        return Ok(false);
-    }
-    match row.journals {
-        Some((least, most)) => {
-            let counts = found_in_all(alloc, row, disks)?;
-            Ok(are_between(&counts, least, most))
-        }
-        None => Ok(true),
-    }
+    Ok(disks.len() == 3 && are_kept(row, disks) && are_found(alloc, row, disks)?)
 }

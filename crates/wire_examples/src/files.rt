@@ -30,8 +30,11 @@ fn end_in(line: &str) -> Result<End, RowFault> {
     })
 }
 
-/// Whether the framer and the commands make that of the row's bytes which its lines tell.
+/// Whether the framer and the commands make that of the row's bytes which its lines tell. Of a script they make nothing.
 fn is_told(alloc: Global, row: &Row, cutting: Cutting, as_query: bool) -> Result<bool, RowFault> {
+    if row.is_script {
+        return Ok(true);
+    }
     let told = told_of(alloc, &row.asked, cutting, as_query)?;
     Ok(told.as_str() == row.told.as_str())
 }
@@ -159,5 +162,6 @@ pub fn check_files<R: Files + AllocGlobal + Print + Threads + Wait + Sync>(
     check_file(rt, alloc, "connections.rows")?;
     check_file(rt, alloc, "drivers.rows")?;
     check_file(rt, alloc, "devices.rows")?;
+    check_file(rt, alloc, "scripts.rows")?;
     check_file(rt, alloc, "takings.rows")
 }

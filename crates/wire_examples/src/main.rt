@@ -7,14 +7,15 @@
 //! - `ask` and bytes that come in, in hexadecimal; `3*05` stands for `050505`;
 //! - `is` and what the framer and the commands make of them: a request, a fault with its offset, or the number of bytes left;
 //! - `gets` and bytes of replies;
+//! - `sim`: the bytes are a script, and the run's argument is `sim`, where else it is `pipe`;
 //! - `cut`: in each cutting in two and byte by byte the same comes of it;
 //! - `fail` and `take`, `put` or a disk (0 the catalogue's, 1 the shard's, 2 the router's), and the number of a call that fails;
 //! - `narrow` and the most bytes that a put takes;
 //! - `file`, a disk and its bytes at the start; `keeps`, a disk and its bytes at the end; `size`, a disk and the number of
 //!   these; `untouched`: the bytes of the start, and no call that changed the disk or made it stay;
 //! - `untaken` and how many bytes were left to take;
-//! - `record`, a disk and a record, and `journals` with the least of the entries and the most of the creations: an opening of the
-//!   journals on what the disks hold finds the first of the records, so many, and of entries as many as of creations or fewer;
+//! - `record`, a disk and a record, and `finds`, a disk and two numbers: an opening of that disk's journal finds the first of its records, as
+//!   many as the first number or more, and at most as many as the second;
 //! - `unserved`: asked as if it came in an OP_QUERY, and the row ends;
 //! - `ends`, the status of the run and how many bytes stood behind the last whole request, and the row ends.
 //!

@@ -1,11 +1,11 @@
 //! The disks of a row.
 
 use crate::faults::RowFault;
-use crate::numbers::{number, put_pieces};
+use crate::numbers::{number, put_pieces, split};
 use std::alloc::Global;
 
 /// A disk: its file at the start and the numbers of its calls that fail; and, where the row says so, its file at the end
-/// or the size of that, and the records of which an opening of its journal finds the first.
+/// or the size of that, and the records of which an opening of its journal finds the first, how many at least and at most.
 #[derive(Drop)]
 pub struct DiskPlan {
     pub file: Vec<u8>,
@@ -13,6 +13,7 @@ pub struct DiskPlan {
     pub kept: Option<Vec<u8>>,
     pub size: Option<u64>,
     pub records: Vec<Vec<u8>>,
+    pub found: Option<(u64, u64)>,
 }
 
 /// The bytes that the pieces spell.
@@ -31,6 +32,7 @@ impl DiskPlan {
             kept: None,
             size: None,
             records: Vec::new(alloc),
+            found: None,
         }
     }
 
@@ -38,6 +40,11 @@ impl DiskPlan {
     pub fn take(&mut self, alloc: Global, word: &str, rest: &str) -> Result<(), RowFault> {
         if word == "size" {
             self.size = Some(number(rest)?);
+            return Ok(());
+        }
+        if word == "finds" {
+            let (least, most) = split(rest)?;
+            self.found = Some((number(least)?, number(most)?));
             return Ok(());
         }
         self.take_bytes(alloc, word, rest)

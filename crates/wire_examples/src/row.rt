@@ -26,12 +26,12 @@ pub struct Row {
     pub replies: Vec<u8>,
     /// How many bytes were not taken, if the row says so.
     pub untaken: Option<u64>,
-    /// The least of the entries and the most of the creations that an opening of the journals finds, if the row says so.
-    pub journals: Option<(u64, u64)>,
     /// Whether no disk was changed or made to stay.
     pub is_untouched: bool,
     /// Whether it is tried in each cutting.
     pub is_cut: bool,
+    /// Whether its bytes are a script.
+    pub is_script: bool,
 }
 
 /// Three disks of which the row says nothing.
@@ -58,9 +58,9 @@ impl Row {
             told: String::new(alloc),
             replies: Vec::new(alloc),
             untaken: None,
-            journals: None,
             is_untouched: false,
             is_cut: false,
+            is_script: false,
         })
     }
 
@@ -93,6 +93,9 @@ impl Row {
         } else if word == "cut" {
             self.is_cut = true;
             Ok(())
+        } else if word == "sim" {
+            self.is_script = true;
+            Ok(())
         } else {
             self.take_disk(alloc, word, rest)
         }
@@ -114,10 +117,6 @@ impl Row {
     fn take_disk(&mut self, alloc: Global, word: &str, rest: &str) -> Result<(), RowFault> {
         if word == "untaken" {
             self.untaken = Some(number(rest)?);
-            Ok(())
-        } else if word == "journals" {
-            let (least, most) = split(rest)?;
-            self.journals = Some((number(least)?, number(most)?));
             Ok(())
         } else if word == "untouched" {
             self.is_untouched = true;

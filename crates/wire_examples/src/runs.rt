@@ -70,10 +70,11 @@ fn sink_of(alloc: Global, row: &Row) -> Result<NarrowSink, RowFault> {
     })
 }
 
-/// The arguments `pipe`.
-fn pipe_arguments(alloc: Global) -> Result<Vec<Text>, RowFault> {
+/// The arguments of the row's run.
+fn arguments_of(alloc: Global, row: &Row) -> Result<Vec<Text>, RowFault> {
+    let word = if row.is_script { "sim" } else { "pipe" };
     let mut arguments = Vec::new(alloc);
-    arguments.push(Text::of(alloc, "pipe")?)?;
+    arguments.push(Text::of(alloc, word)?)?;
     Ok(arguments)
 }
 
@@ -81,20 +82,20 @@ fn pipe_arguments(alloc: Global) -> Result<Vec<Text>, RowFault> {
 fn run_over<R: Threads + Wait + Sync>(
     rt: &R,
     alloc: Global,
+    arguments: &[Text],
     source: &mut PieceSource,
     sink: &mut NarrowSink,
     disks: Vec<MemDisk>,
     clock: &RowClock<'_>,
 ) -> Result<Ended<MemDisk, MemLink>, RowFault> {
-    let arguments = pipe_arguments(alloc)?;
-    if node_count(&arguments) != Some(disks.len()) {
+    if node_count(arguments) != Some(disks.len()) {
         return Err(RowFault::Failed);
     }
     let mut acceptor = MemAcceptor::new(Vec::new(alloc), Vec::new(alloc));
     Ok(run(
         rt,
         alloc,
-        &arguments,
+        arguments,
         source,
         sink,
         &mut acceptor,
@@ -118,7 +119,8 @@ pub fn served<R: Threads + Wait + Sync>(
     let mut source = source_of(alloc, row, cutting)?;
     let mut sink = sink_of(alloc, row)?;
     let disks = disks_of(alloc, row)?;
-    let ended = run_over(rt, alloc, &mut source, &mut sink, disks, &clock)?;
+    let arguments = arguments_of(alloc, row)?;
+    let ended = run_over(rt, alloc, &arguments, &mut source, &mut sink, disks, &clock)?;
     let untaken = source.source.take(&mut [0; 1024]).unwrap_or(0);
     Ok(Left {
         status: ended.status,

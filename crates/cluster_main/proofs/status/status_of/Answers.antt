@@ -1,24 +1,28 @@
 use Rattle.std.proofs.Common.{◌≡◌, sym, refl, ap, subst, inl, inr, append-nil, arith}
-use Rattle.std.specs.Prelude.{IsOkAnd, IsSome}
+use Rattle.std.specs.Prelude.{Option, None, IfSome, IsOkAnd, IsSome}
 use Rattle.outside.specs.Devices.{sink_call, source_call}
-use Rattle.cluster_top.specs.Arguments.{node_count_of}
-use Rattle.cluster_main.proofs.Unstarted.{as_they_were, none_unless, some_unless}
+use Rattle.cluster_top.specs.Arguments.{command_of, node_count_of}
+use Rattle.cluster_top.specs.declared.arguments.Command.{Command}
+use Rattle.cluster_main.specs.Left.{command_in}
+use Rattle.cluster_main.proofs.Unstarted.{as_they_were, led_by, none_unless, some_unless}
 use Rattle.cluster_main.proofs.status.status_of.Goals as goal
 
 pub returns-in-Err-Unreadable-clause-disks : goal.returns-in-Err-Unreadable-clause-disks
 returns-in-Err-Unreadable-clause-disks g c =
-    let never : ¬ IsOkAnd c.args.words (λ given. IsSome (node_count_of given.items)) = rw c.in-Err-Unreadable.is (λ started. absurd started) in (
+    let never : ¬ IsOkAnd c.args.words (λ given. IsSome (node_count_of given.items)) = rw c.in-Err-Unreadable.is (λ started. absurd started) in
+    let unread : command_in c.args.words (λ given. given.items) ≡ None = rw c.in-Err-Unreadable.is refl in (
       c.args.disks.items,
       0,
-      as_they_were _ _ (source_call g.S.Source.tells g.S.Source.left g.S.Source.fault_count c.args.input.now c.args.input.now) (sink_call g.K.Sink.tells g.K.Sink.held g.K.Sink.fault_count c.args.out.now c.args.out.now) _ _ _ _ _ _ c.args.disks.items never (λ told. refl, refl) (λ told. sym (append-nil (g.K.Sink.held c.args.out.now)), refl) (omega (arith, c.requires, c.args.disks.ok)) (inl c.number.ensures),
+      as_they_were _ _ _ (source_call g.S.Source.tells g.S.Source.left g.S.Source.fault_count c.args.input.now c.args.input.now) (sink_call g.K.Sink.tells g.K.Sink.held g.K.Sink.fault_count c.args.out.now c.args.out.now) _ _ _ _ _ _ _ _ c.args.disks.items never unread (λ told. refl, refl) (λ told. sym (append-nil (g.K.Sink.held c.args.out.now)), refl) (omega (arith, c.requires, c.args.disks.ok)) (inl c.number.ensures),
     )
 
 pub returns-in-Err-Memory-clause-disks : goal.returns-in-Err-Memory-clause-disks
 returns-in-Err-Memory-clause-disks g c =
-    let never : ¬ IsOkAnd c.args.words (λ given. IsSome (node_count_of given.items)) = rw c.in-Err-Memory.is (λ started. absurd started) in (
+    let never : ¬ IsOkAnd c.args.words (λ given. IsSome (node_count_of given.items)) = rw c.in-Err-Memory.is (λ started. absurd started) in
+    let unread : command_in c.args.words (λ given. given.items) ≡ None = rw c.in-Err-Memory.is refl in (
       c.args.disks.items,
       0,
-      as_they_were _ _ (source_call g.S.Source.tells g.S.Source.left g.S.Source.fault_count c.args.input.now c.args.input.now) (sink_call g.K.Sink.tells g.K.Sink.held g.K.Sink.fault_count c.args.out.now c.args.out.now) _ _ _ _ _ _ c.args.disks.items never (λ told. refl, refl) (λ told. sym (append-nil (g.K.Sink.held c.args.out.now)), refl) (omega (arith, c.requires, c.args.disks.ok)) (inr c.number-in-Err-Memory.ensures),
+      as_they_were _ _ _ (source_call g.S.Source.tells g.S.Source.left g.S.Source.fault_count c.args.input.now c.args.input.now) (sink_call g.K.Sink.tells g.K.Sink.held g.K.Sink.fault_count c.args.out.now c.args.out.now) _ _ _ _ _ _ _ _ c.args.disks.items never unread (λ told. refl, refl) (λ told. sym (append-nil (g.K.Sink.held c.args.out.now)), refl) (omega (arith, c.requires, c.args.disks.ok)) (inr c.number-in-Err-Memory.ensures),
     )
 
 pub returns-clause-disks : goal.returns-clause-disks
@@ -40,8 +44,13 @@ returns-clause-disks g c =
         not_empty = λ started told bytes.
             let done = e.not_empty (starts started) told bytes in
             (done.0, (done.1, done.2, done.3, done.4, done.5));
-        plain_store = λ two empty six. e.plain_store (some_unless count (λ none. two (e.words.1 none))) empty six;
-        headline = λ two empty six. e.headline (some_unless count (λ none. two (e.words.1 none))) empty six;
+        headline = λ two empty six.
+            let read : command_in c.args.words (λ given. given.items) ≡ command_of c.deref.result.now = rw c.in-Ok.is (rw c.deref.ensures.value refl) in
+            let led = led_by (command_of c.deref.result.now) _ e.headline (some_unless count (λ none. two (e.words.1 none))) in (
+              led.0,
+              subst (λ (o : Option Command). IfSome o (λ given. led.0 ≡ given)) (sym read) led.1,
+              led.2 empty six,
+            );
         durable = λ two told empty failed wanted. e.durable (some_unless count (λ none. two (e.words.1 none))) told empty failed wanted;
       },
     )

@@ -1,26 +1,29 @@
 use Rattle.std.proofs.Common.{◌∙◌}
-use Rattle.driver_steps.specs.Seats.{seat_view}
+use Rattle.driver_steps.specs.Seats.{seat_since}
 use Rattle.driver_steps.specs.Worlds.{post_view}
 use Rattle.driver_steps.proofs.Seats.{held_len}
 use Rattle.driver_steps.proofs.Runs.{delivered, delivery_stopped, lost}
 use Rattle.driver_steps.proofs.deliveries.deliver.Goals as goal
 
 pub returns-then-at-len-clause-delivered : goal.returns-then-at-len-clause-delivered
-returns-then-at-len-clause-delivered g c w next which handed s got =
-    lost (seat_view g.N.Node.state g.L.Log.tells g.L.Log.records g.L.Log.holds) c.args.seats.now.items
+returns-then-at-len-clause-delivered g c since w next which handed s got =
+    lost (seat_since g.N.Node.state g.L.Log.tells g.L.Log.records g.L.Log.holds g.L.Log.finds g.L.Log.moment g.L.Log.left_since since) c.args.seats.now.items
     (post_view (λ m. g.N.Mail.Mail.letter m) c.args.post.now) handed w next which
     (g.N.Mail.Mail.letter c.args.message).receiver c.len.result c.to-at.result.0
-    (held_len (seat_view g.N.Node.state g.L.Log.tells g.L.Log.records g.L.Log.holds) c.args.seats.now.items w.nodes s.nodes)
+    (held_len (seat_since g.N.Node.state g.L.Log.tells g.L.Log.records g.L.Log.holds g.L.Log.finds g.L.Log.moment g.L.Log.left_since since)
+    c.args.seats.now.items w.nodes s.nodes)
     (c.len.ensures ∙ c.args.seats.now.ok.0) c.to-at.ensures c.if-at-len.true s
 
 pub returns-in-Ok-clause-delivered : goal.returns-in-Ok-clause-delivered
-returns-in-Ok-clause-delivered g c w next which handed s got =
-    delivered (seat_view g.N.Node.state g.L.Log.tells g.L.Log.records g.L.Log.holds) _ _ handed w next which c.to-at.result.0
+returns-in-Ok-clause-delivered g c since w next which handed s got =
+    delivered (seat_since g.N.Node.state g.L.Log.tells g.L.Log.records g.L.Log.holds g.L.Log.finds g.L.Log.moment g.L.Log.left_since since)
+    _ _ handed w next which c.to-at.result.0
     (g.N.Mail.Mail.letter c.args.message) _ got
-    c.prepare.ensures c.to-at.ensures (c.in-Ok.ensures.moved w next handed s)
+    c.prepare.ensures c.to-at.ensures (c.in-Ok.ensures.moved since w next handed s)
 
 pub returns-in-Err-clause-stopped : goal.returns-in-Err-clause-stopped
-returns-in-Err-clause-stopped g c w next which handed s got =
-    delivery_stopped (seat_view g.N.Node.state g.L.Log.tells g.L.Log.records g.L.Log.holds) _ _ handed w which c.to-at.result.0
+returns-in-Err-clause-stopped g c since w next which handed s got =
+    delivery_stopped (seat_since g.N.Node.state g.L.Log.tells g.L.Log.records g.L.Log.holds g.L.Log.finds g.L.Log.moment g.L.Log.left_since since)
+    _ _ handed w which c.to-at.result.0
     (g.N.Mail.Mail.letter c.args.message) _ c.in-Err.e got
-    c.prepare.ensures c.to-at.ensures (c.in-Err.ensures.cut w next handed s)
+    c.prepare.ensures c.to-at.ensures (c.in-Err.ensures.cut since w next handed s)

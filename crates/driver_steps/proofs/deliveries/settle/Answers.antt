@@ -1,6 +1,6 @@
 use Rattle.std.proofs.Common.{rules, ◌≡◌, ◌<◌, ◌^◌, refl, arith, ◌∙◌}
 use Rattle.std.specs.Prelude.{None}
-use Rattle.driver_steps.specs.Seats.{seat_view}
+use Rattle.driver_steps.specs.Seats.{seat_since}
 use Rattle.driver_steps.proofs.Runs.{less_left, settled_at_end, settling_none, settling_step, settling_stopped}
 use Rattle.driver_steps.proofs.deliveries.settle.Goals as goal
 
@@ -10,7 +10,8 @@ messages-init g c = record {
   are_open = c.requires;
   faults = refl;
   places = refl;
-  run = λ w next handed s. settling_none (seat_view g.N.Node.state g.L.Log.tells g.L.Log.records g.L.Log.holds) _ _ handed w next s;
+  run = λ since w next handed s. settling_none
+      (seat_since g.N.Node.state g.L.Log.tells g.L.Log.records g.L.Log.holds g.L.Log.finds g.L.Log.moment g.L.Log.left_since since) _ _ handed w next s;
 }
 
 pub messages-preserved : goal.messages-preserved
@@ -19,11 +20,12 @@ messages-preserved g c = record {
   are_open = c.in-Ok.ensures.«open»;
   faults = c.in-Ok.ensures.faults ∙ c.messages.invariant.faults;
   places = c.in-Ok.ensures.places ∙ c.messages.invariant.places;
-  run = λ w next handed s.
-      settling_step (seat_view g.N.Node.state g.L.Log.tells g.L.Log.records g.L.Log.holds)
-      (λ m. g.N.Mail.Mail.letter m) c.messages.seats.items _ _ handed w next c.in-Some.message c.messages.post
-      (record { waiting = c.pop_front.new.self; replies = c.messages.post.replies }) (c.messages.invariant.run w next handed s) c.in-Some.ensures.items refl
-      (λ v n which stands got. c.in-Ok.ensures.delivered v n which handed stands got);
+  run = λ since w next handed s.
+      settling_step (seat_since g.N.Node.state g.L.Log.tells g.L.Log.records g.L.Log.holds g.L.Log.finds g.L.Log.moment g.L.Log.left_since since)
+      (λ m. g.N.Mail.Mail.letter m) c.messages.seats.items c.deliver.new.seats.items _ handed w next c.in-Some.message c.messages.post
+      (record { waiting = c.pop_front.new.self; replies = c.messages.post.replies })
+      (c.messages.invariant.run since w next handed s) c.in-Some.ensures.items refl
+      (λ v n which stands got. c.in-Ok.ensures.delivered since v n which handed stands got);
 }
 
 pub messages-smaller : goal.messages-smaller
@@ -33,16 +35,17 @@ messages-smaller g c =
     c.deliver.new.post.waiting.ok.0 fits
 
 pub returns-in-Err-clause-stopped : goal.returns-in-Err-clause-stopped
-returns-in-Err-clause-stopped g c w next handed s =
-    settling_stopped (seat_view g.N.Node.state g.L.Log.tells g.L.Log.records g.L.Log.holds)
-    (λ m. g.N.Mail.Mail.letter m) c.messages.seats.items _ _ handed w next c.in-Some.message c.messages.post
+returns-in-Err-clause-stopped g c since w next handed s =
+    settling_stopped (seat_since g.N.Node.state g.L.Log.tells g.L.Log.records g.L.Log.holds g.L.Log.finds g.L.Log.moment g.L.Log.left_since since)
+    (λ m. g.N.Mail.Mail.letter m) c.messages.seats.items c.deliver.new.seats.items _ handed w next c.in-Some.message c.messages.post
     (record { waiting = c.pop_front.new.self; replies = c.messages.post.replies }) c.in-Err.e
-    (c.messages.invariant.run w next handed s) c.in-Some.ensures.items refl
-    (λ v n which stands got. c.in-Err.ensures.stopped v n which handed stands got)
+    (c.messages.invariant.run since w next handed s) c.in-Some.ensures.items refl
+    (λ v n which stands got. c.in-Err.ensures.stopped since v n which handed stands got)
 
 pub returns-clause-settled : goal.returns-clause-settled
-returns-clause-settled g c w next handed s =
+returns-clause-settled g c since w next handed s =
     let none : c.pop_front.result ≡ None = search (rules, c.in_default.is) in
-    settled_at_end (seat_view g.N.Node.state g.L.Log.tells g.L.Log.records g.L.Log.holds) (λ m. g.N.Mail.Mail.letter m) c.messages.seats.items handed w next
+    settled_at_end (seat_since g.N.Node.state g.L.Log.tells g.L.Log.records g.L.Log.holds g.L.Log.finds g.L.Log.moment g.L.Log.left_since since)
+    (λ m. g.N.Mail.Mail.letter m) c.messages.seats.items handed w next
     c.messages.post (record { waiting = c.pop_front.new.self; replies = c.messages.post.replies }) c.pop_front.result
-    (c.messages.invariant.run w next handed s) none c.pop_front.ensures.items c.pop_front.ensures.cases c.pop_front.new.self.ok.0 refl
+    (c.messages.invariant.run since w next handed s) none c.pop_front.ensures.items c.pop_front.ensures.cases c.pop_front.new.self.ok.0 refl

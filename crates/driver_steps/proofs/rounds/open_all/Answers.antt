@@ -1,7 +1,7 @@
 use Rattle.std.proofs.Common.{◌≡◌, ℕ, refl, subst, arith, ◌∙◌}
 use Rattle.std.specs.Prelude.{vec_len}
 use Rattle.node_model.specs.Schedule.{openings}
-use Rattle.driver_steps.specs.Seats.{seat_view}
+use Rattle.driver_steps.specs.Seats.{seat_since}
 use Rattle.driver_steps.specs.Worlds.{post_view}
 use Rattle.driver_steps.specs.Moves.{HasRun}
 use Rattle.driver_steps.proofs.Runs.{opened_more, opened_stopped, run_none}
@@ -13,7 +13,8 @@ nodes-init g c = record {
   are_open = c.requires;
   faults = refl;
   places = refl;
-  run = λ w next handed s. run_none (seat_view g.N.Node.state g.L.Log.tells g.L.Log.records g.L.Log.holds) _ _ handed w next s;
+  run = λ since w next handed s. run_none
+      (seat_since g.N.Node.state g.L.Log.tells g.L.Log.records g.L.Log.holds g.L.Log.finds g.L.Log.moment g.L.Log.left_since since) _ _ handed w next s;
 }
 
 pub nodes-preserved : goal.nodes-preserved
@@ -22,22 +23,25 @@ nodes-preserved g c = record {
   are_open = c.in-Ok.ensures.«open»;
   faults = c.in-Ok.ensures.faults ∙ c.nodes.invariant.faults;
   places = c.in-Ok.ensures.places ∙ c.nodes.invariant.places;
-  run = λ w next handed s.
-      opened_more (seat_view g.N.Node.state g.L.Log.tells g.L.Log.records g.L.Log.holds) _ _ _ _ handed w next c.nodes.at _
-      (c.nodes.invariant.run w next handed s) c.opened.ensures
-      (c.in-Ok.ensures.moved (c.nodes.invariant.run w next handed s).end next handed (c.nodes.invariant.run w next handed s).stands);
+  run = λ since w next handed s.
+      opened_more (seat_since g.N.Node.state g.L.Log.tells g.L.Log.records g.L.Log.holds g.L.Log.finds g.L.Log.moment g.L.Log.left_since since)
+      _ _ _ _ handed w next c.nodes.at _
+      (c.nodes.invariant.run since w next handed s) c.opened.ensures
+      (c.in-Ok.ensures.moved since (c.nodes.invariant.run since w next handed s).end next handed (c.nodes.invariant.run since w next handed s).stands);
 }
 
 pub returns-in-Err-clause-stopped : goal.returns-in-Err-clause-stopped
-returns-in-Err-clause-stopped g c w next handed s =
-    opened_stopped (seat_view g.N.Node.state g.L.Log.tells g.L.Log.records g.L.Log.holds) _ _ _ _ handed w next c.nodes.at
+returns-in-Err-clause-stopped g c since w next handed s =
+    opened_stopped (seat_since g.N.Node.state g.L.Log.tells g.L.Log.records g.L.Log.holds g.L.Log.finds g.L.Log.moment g.L.Log.left_since since)
+    _ _ _ _ handed w next c.nodes.at
     (vec_len c.args.seats.now) _ c.in-Err.e (omega (arith, c.nodes-test.true, c.len-count.ensures))
-    (c.nodes.invariant.run w next handed s) c.opened.ensures
-    (c.in-Err.ensures.cut (c.nodes.invariant.run w next handed s).end next handed (c.nodes.invariant.run w next handed s).stands)
+    (c.nodes.invariant.run since w next handed s) c.opened.ensures
+    (c.in-Err.ensures.cut since (c.nodes.invariant.run since w next handed s).end next handed (c.nodes.invariant.run since w next handed s).stands)
 
 pub returns-clause-opened : goal.returns-clause-opened
-returns-clause-opened g c w next handed s =
+returns-clause-opened g c since w next handed s =
     let all : c.nodes.at ≡ vec_len c.args.seats.now = omega (arith, c.nodes.auto.at-end, c.nodes-test.false, c.len-count.ensures) in
-    subst (λ (n : ℕ). HasRun (seat_view g.N.Node.state g.L.Log.tells g.L.Log.records g.L.Log.holds) c.nodes.seats.items
+    subst (λ (n : ℕ). HasRun (seat_since g.N.Node.state g.L.Log.tells g.L.Log.records g.L.Log.holds g.L.Log.finds g.L.Log.moment g.L.Log.left_since since)
+    c.nodes.seats.items
     (post_view (λ m. g.N.Mail.Mail.letter m) c.nodes.post) handed w next (openings 0 n)) all
-    (c.nodes.invariant.run w next handed s)
+    (c.nodes.invariant.run since w next handed s)

@@ -3,7 +3,8 @@ use Rattle.std.specs.Prelude.{vec_len}
 use Rattle.node_model.specs.Schedule.{openings}
 use Rattle.node_model.specs.World.{World}
 use Rattle.node_traits.specs.declared.outputs.ToLink.{ToLink}
-use Rattle.driver_steps.specs.Seats.{AreOpen, faults_of, places_of, seat_view}
+use Rattle.driver_steps.specs.Crashes.{Since}
+use Rattle.driver_steps.specs.Seats.{AreOpen, faults_of, places_of, seat_since}
 use Rattle.driver_steps.specs.Worlds.{StandsFor, post_view}
 use Rattle.driver_steps.specs.Moves.{HasRun}
 use Rattle.driver_steps.proofs.rounds.open_all.Given as goal
@@ -14,8 +15,9 @@ invariant-nodes g l = record {
   are_open : AreOpen g.L.Log.is_open l.seats.items;
   faults : faults_of g.L.Log.fault_count l.seats.items ≡ faults_of g.L.Log.fault_count l.fn.seats.items;
   places : places_of g.L.Log.place l.seats.items ≡ places_of g.L.Log.place l.fn.seats.items;
-  run : (w : World) (next : ℕ) (handed : List ToLink) → StandsFor (seat_view g.N.Node.state g.L.Log.tells g.L.Log.records g.L.Log.holds)
+  run : (since : Since g.row.L.Denot) (w : World) (next : ℕ) (handed : List ToLink) → StandsFor
+      (seat_since g.N.Node.state g.L.Log.tells g.L.Log.records g.L.Log.holds g.L.Log.finds g.L.Log.moment g.L.Log.left_since since)
       l.fn.seats.items (post_view (λ m. g.N.Mail.Mail.letter m) l.fn.post) handed w next
-      → HasRun (seat_view g.N.Node.state g.L.Log.tells g.L.Log.records g.L.Log.holds) l.seats.items
+      → HasRun (seat_since g.N.Node.state g.L.Log.tells g.L.Log.records g.L.Log.holds g.L.Log.finds g.L.Log.moment g.L.Log.left_since since) l.seats.items
       (post_view (λ m. g.N.Mail.Mail.letter m) l.post) handed w next (openings 0 l.at);
 }

@@ -1,18 +1,15 @@
 use Rattle.std.proofs.Common.{rules, map}
 use Rattle.std.proofs.lemmas.Option.{slice_get_read}
-use Rattle.driver_steps.specs.Seats.{seat_view}
 use Rattle.driver_steps.proofs.Seats.{faults_same, left_falls, places_same}
-use Rattle.driver_steps.proofs.Stepping.{failed, faults_told, stepped}
+use Rattle.driver_steps.proofs.Stepping.{done, failed, faults_told}
 use Rattle.driver_steps.proofs.steps.step_node.Goals as goal
 
 pub returns-in-Ok-clause-stepped : goal.returns-in-Ok-clause-stepped
-returns-in-Ok-clause-stepped g c w are =
-    let done = c.in-Ok.ensures.done in
-    stepped (seat_view g.N.Node.state g.L.Log.tells g.L.Log.records g.L.Log.holds) c.args.seats.now.items w c.args.at c.index_mut-seat.result.now
-    (record { node = c.step.new.self; log = c.step.new.log }) (g.N.Node.meaning c.args.input) done.effect are
-    (slice_get_read _ _ _ _ (search rules) c.requires.at c.index_mut-seat.ensures.value) done.sound (λ told. told)
-    (map (λ message. g.N.Mail.Mail.letter message) c.in-Ok.outputs.mail) c.in-Ok.outputs.replies done.step done.sent done.told done.kept.grown
-    (λ held. c.in-Ok.ensures.kept held)
+returns-in-Ok-clause-stepped g c since w are leave =
+    done g.N.Node.state g.L.Log.tells g.L.Log.records g.L.Log.holds g.L.Log.finds g.L.Log.moment g.L.Log.left_since since c.args.seats.now.items w
+    c.args.at c.index_mut-seat.result.now (record { node = c.step.new.self; log = c.step.new.log }) (g.N.Node.meaning c.args.input)
+    (map (λ message. g.N.Mail.Mail.letter message) c.in-Ok.outputs.mail) c.in-Ok.outputs.replies are leave
+    (slice_get_read _ _ _ _ (search rules) c.requires.at c.index_mut-seat.ensures.value) c.in-Ok.ensures.done (λ held. c.in-Ok.ensures.kept held)
 
 pub returns-in-Ok-clause-falls : goal.returns-in-Ok-clause-falls
 returns-in-Ok-clause-falls g c =
@@ -30,16 +27,17 @@ returns-in-Ok-clause-places g c =
     (slice_get_read _ _ _ _ (search rules) c.requires.at c.index_mut-seat.ensures.value) c.step.ensures.place
 
 pub returns-in-Err-clause-failed : goal.returns-in-Err-clause-failed
-returns-in-Err-clause-failed g c w are =
-    failed g.N.Node.state g.L.Log.tells g.L.Log.records g.L.Log.holds g.L.Log.finds g.L.Log.moment g.L.Log.left_since c.args.seats.now.items w c.args.at
-    c.index_mut-seat.result.now (record { node = c.step.new.self; log = c.step.new.log }) (g.N.Node.meaning c.args.input) c.in-Err.e are
+returns-in-Err-clause-failed g c since w are leave =
+    failed g.N.Node.state g.L.Log.tells g.L.Log.records g.L.Log.holds g.L.Log.finds g.L.Log.moment g.L.Log.left_since since c.args.seats.now.items w
+    c.args.at c.index_mut-seat.result.now (record { node = c.step.new.self; log = c.step.new.log }) (g.N.Node.meaning c.args.input) c.in-Err.e are leave
     (slice_get_read _ _ _ _ (search rules) c.requires.at c.index_mut-seat.ensures.value) c.in-Err.ensures.failed
 
 pub returns-in-Err-clause-faults : goal.returns-in-Err-clause-faults
 returns-in-Err-clause-faults g c =
     faults_told g.N.Node.state g.L.Log.tells g.L.Log.records g.L.Log.holds g.L.Log.finds g.L.Log.moment g.L.Log.left_since g.L.Log.fault_count
     c.args.seats.now.items c.args.at c.index_mut-seat.result.now (record { node = c.step.new.self; log = c.step.new.log }) (g.N.Node.meaning c.args.input)
-    c.in-Err.e (slice_get_read _ _ _ _ (search rules) c.requires.at c.index_mut-seat.ensures.value) c.in-Err.ensures.cause c.in-Err.ensures.failed c.step.ensures.later
+    c.in-Err.e (slice_get_read _ _ _ _ (search rules) c.requires.at c.index_mut-seat.ensures.value) c.in-Err.ensures.cause
+    c.in-Err.ensures.failed c.step.ensures.later
 
 pub returns-in-Err-clause-places : goal.returns-in-Err-clause-places
 returns-in-Err-clause-places g c =

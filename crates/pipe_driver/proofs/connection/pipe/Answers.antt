@@ -3,38 +3,50 @@ use Rattle.std.specs.Prelude.{None, vec_len}
 use Rattle.outside.specs.Devices.{sink_call, source_call}
 use Rattle.opmsg_frames.specs.Frames.{ends}
 use Rattle.node_model.specs.World.{start}
-use Rattle.driver_steps.specs.Seats.{seat_view}
+use Rattle.driver_steps.specs.Seats.{seat_since, since_then}
 use Rattle.driver_steps.specs.Worlds.{post_view}
+use Rattle.driver_steps.proofs.Crashes.{held_since, kept_plain, start_leaves}
 use Rattle.driver_steps.proofs.Seats.{held_len}
-use Rattle.pipe_driver.proofs.Endings.{ended_serving}
+use Rattle.pipe_driver.proofs.Endings.{ended_serving, piped_with}
 use Rattle.pipe_driver.proofs.Openings.{starts}
 use Rattle.pipe_driver.proofs.Serving.{opened_serving, opening_cut, stops_by}
 use Rattle.pipe_driver.proofs.connection.pipe.Goals as goal
 
 pub returns-in-Ok-clause-piped : goal.returns-in-Ok-clause-piped
 returns-in-Ok-clause-piped g c = λ asks routers some are.
-    let as_many = c.args.seats.now.ok.0
-    ∙ held_len (seat_view g.N.Node.state g.L.Log.tells g.L.Log.records g.L.Log.holds) c.args.seats.now.items (start routers).nodes are in
-    let s = starts (seat_view g.N.Node.state g.L.Log.tells g.L.Log.records g.L.Log.holds) (λ m. g.N.Mail.Mail.letter m) c.args.seats.now.items routers
-    c.new-post.result are c.new-post.ensures.waiting c.new-post.ensures.replies in
-    c.serve.ensures.piped asks routers some
-    (opened_serving (seat_view g.N.Node.state g.L.Log.tells g.L.Log.records g.L.Log.holds) _ _ routers _ _ (vec_len c.args.seats.now) as_many _
-    (c.in-Ok.ensures.opened (start routers) 0 [] s))
+    let since = since_then c.args.seats.now.items (start routers) in
+    let seated = held_since g.N.Node.state g.L.Log.tells g.L.Log.records g.L.Log.holds g.L.Log.finds g.L.Log.moment g.L.Log.left_since since
+    c.args.seats.now.items (start routers).nodes are in
+    let leave = start_leaves g.N.Node.state g.L.Log.tells g.L.Log.records g.L.Log.holds g.L.Log.finds g.L.Log.moment g.L.Log.left_since
+    c.args.seats.now.items (start routers) in
+    let as_many = c.args.seats.now.ok.0 ∙ held_len _ c.args.seats.now.items (start routers).nodes seated in
+    let s = starts _ (λ m. g.N.Mail.Mail.letter m) c.args.seats.now.items routers
+    c.new-post.result seated leave c.new-post.ensures.waiting c.new-post.ensures.replies in
+    piped_with _ _ _ _ _ _ routers _ _ _
+    (c.serve.ensures.piped asks since routers some
+    (opened_serving _ _ _ routers _ _ (vec_len c.args.seats.now) as_many _ (c.in-Ok.ensures.opened since (start routers) 0 [] s)))
+    (λ nodes kept. kept_plain g.N.Node.state g.L.Log.tells g.L.Log.records g.L.Log.holds g.L.Log.finds g.L.Log.moment g.L.Log.left_since since _ nodes kept)
 
 pub returns-in-Err-clause-piped : goal.returns-in-Err-clause-piped
 returns-in-Err-clause-piped g c = λ asks routers some are.
-    let as_many = c.args.seats.now.ok.0
-    ∙ held_len (seat_view g.N.Node.state g.L.Log.tells g.L.Log.records g.L.Log.holds) c.args.seats.now.items (start routers).nodes are in
-    let s = starts (seat_view g.N.Node.state g.L.Log.tells g.L.Log.records g.L.Log.holds) (λ m. g.N.Mail.Mail.letter m) c.args.seats.now.items routers
-    c.new-post.result are c.new-post.ensures.waiting c.new-post.ensures.replies in
-    let cut = opening_cut (seat_view g.N.Node.state g.L.Log.tells g.L.Log.records g.L.Log.holds) c.open_all.new.seats.items (g.C.Clock.gives c.args.clock.now)
+    let since = since_then c.args.seats.now.items (start routers) in
+    let seated = held_since g.N.Node.state g.L.Log.tells g.L.Log.records g.L.Log.holds g.L.Log.finds g.L.Log.moment g.L.Log.left_since since
+    c.args.seats.now.items (start routers).nodes are in
+    let leave = start_leaves g.N.Node.state g.L.Log.tells g.L.Log.records g.L.Log.holds g.L.Log.finds g.L.Log.moment g.L.Log.left_since
+    c.args.seats.now.items (start routers) in
+    let as_many = c.args.seats.now.ok.0 ∙ held_len _ c.args.seats.now.items (start routers).nodes seated in
+    let s = starts _ (λ m. g.N.Mail.Mail.letter m) c.args.seats.now.items routers
+    c.new-post.result seated leave c.new-post.ensures.waiting c.new-post.ensures.replies in
+    let cut = opening_cut _ c.open_all.new.seats.items (g.C.Clock.gives c.args.clock.now)
     routers g.K.Sink.tells (g.K.Sink.held c.args.out.now) (vec_len c.args.seats.now) as_many _ c.in-Err.e
-    (c.in-Err.ensures.stopped (start routers) 0 [] s) in
+    (c.in-Err.ensures.stopped since (start routers) 0 [] s) in
     let none : c.ended.result.rest ≡ 0 = c.ended.ensures.rest in
     let few : 0 + 0 ≤ c.args.limit = omega arith in
-    ended_serving (seat_view g.N.Node.state g.L.Log.tells g.L.Log.records g.L.Log.holds) c.open_all.new.seats.items
+    piped_with _ _ _ _ _ _ routers _ _ _
+    (ended_serving _ c.open_all.new.seats.items
     (source_call g.S.Source.tells g.S.Source.left g.S.Source.fault_count c.args.input.now c.args.input.now)
     (sink_call g.K.Sink.tells g.K.Sink.held g.K.Sink.fault_count c.args.out.now c.args.out.now) (g.C.Clock.gives c.args.clock.now) routers c.args.limit
     c.ended.result.rest c.ended.result.status [] [] (post_view (λ m. g.N.Mail.Mail.letter m) c.open_all.new.post) c.of.result c.ended.ensures.status
-    (inr (stops_by (seat_view g.N.Node.state g.L.Log.tells g.L.Log.records g.L.Log.holds) _ _ routers _ _ _ _ c.in-Err.e _ c.of.ensures cut))
-    (λ told. refl) few (λ place. ([], [], None, ends place [] refl, none))
+    (inr (stops_by _ _ _ routers _ _ _ _ c.in-Err.e _ c.of.ensures cut))
+    (λ told. refl) few (λ place. ([], [], None, ends place [] refl, none)))
+    (λ nodes kept. kept_plain g.N.Node.state g.L.Log.tells g.L.Log.records g.L.Log.holds g.L.Log.finds g.L.Log.moment g.L.Log.left_since since _ nodes kept)

@@ -1,6 +1,6 @@
 use Rattle.std.proofs.Common.{◌≡◌, ◌≤◌, ◌<◌, ℕ, ◌+◌, ◌++◌, List, [], length, refl, arith, sym, ap, ◌∙◌, length-append}
 use Rattle.outside.specs.Devices.{sink_call, source_call}
-use Rattle.driver_steps.specs.Seats.{seat_view}
+use Rattle.driver_steps.specs.Seats.{seat_since}
 use Rattle.driver_steps.specs.Worlds.{post_view}
 use Rattle.pipe_driver.specs.Rest.{Unframed}
 use Rattle.pipe_driver.specs.declared.status.Status.TheVariants as statuses
@@ -22,28 +22,30 @@ pieces-init g c = record {
   sink_calm = refl;
   disks_calm = refl;
   places = refl;
-  went = λ asks routers some s. ([], rw c.new-framer.ensures refl, (λ told. rw c.new-framer.ensures refl), s);
+  went = λ asks since routers some s. ([], rw c.new-framer.ensures refl, (λ told. rw c.new-framer.ensures refl), s);
 }
 
 pub returns-then-is_err-clause-piped : goal.returns-then-is_err-clause-piped
-returns-then-is_err-clause-piped g c = λ asks routers some s.
-    let went = c.pieces.invariant.went asks routers some s in
+returns-then-is_err-clause-piped g c = λ asks since routers some s.
+    let went = c.pieces.invariant.went asks since routers some s in
     let counted : c.ended.result.rest ≡ length c.pieces.framer.bytes =
     omega (arith, c.ended.ensures.rest, ap length c.rest.ensures, ap length c.reserve.ensures.bytes) in
-    ended_full (seat_view g.N.Node.state g.L.Log.tells g.L.Log.records g.L.Log.holds) c.pieces.seats.items
+    ended_full (seat_since g.N.Node.state g.L.Log.tells g.L.Log.records g.L.Log.holds g.L.Log.finds g.L.Log.moment g.L.Log.left_since since)
+    c.pieces.seats.items
     (source_call g.S.Source.tells g.S.Source.left g.S.Source.fault_count c.args.input.now c.pieces.input)
     (sink_call g.K.Sink.tells g.K.Sink.held g.K.Sink.fault_count c.args.out.now c.pieces.out) (g.C.Clock.gives c.args.clock.now) routers c.args.limit
     c.ended.result.rest c.ended.result.status went.0 c.pieces.framer.bytes _ c.pieces.replied c.ended.ensures.status went.3
     went.2 (omega (arith, went.1, c.pieces.invariant.most)) c.pieces.invariant.partial counted
 
 pub returns-in-Err-clause-piped : goal.returns-in-Err-clause-piped
-returns-in-Err-clause-piped g c = λ asks routers some s.
-    let went = c.pieces.invariant.went asks routers some s in
+returns-in-Err-clause-piped g c = λ asks since routers some s.
+    let went = c.pieces.invariant.went asks since routers some s in
     let size : length (went.0 ++ c.pieces.framer.bytes) ≡ c.pieces.taken = length-append went.0 c.pieces.framer.bytes ∙ went.1 in
     let below : length (went.0 ++ c.pieces.framer.bytes) < c.args.limit = omega (arith, size, c.pieces-test.true) in
     let counted : c.ended-in-Err.result.rest ≡ length c.pieces.framer.bytes =
     omega (arith, c.ended-in-Err.ensures.rest, ap length c.rest-in-Err.ensures, ap length c.reserve.ensures.bytes) in
-    ended_taking (seat_view g.N.Node.state g.L.Log.tells g.L.Log.records g.L.Log.holds) c.pieces.seats.items
+    ended_taking (seat_since g.N.Node.state g.L.Log.tells g.L.Log.records g.L.Log.holds g.L.Log.finds g.L.Log.moment g.L.Log.left_since since)
+    c.pieces.seats.items
     (source_call g.S.Source.tells g.S.Source.left g.S.Source.fault_count c.args.input.now c.take_more.new.input)
     (sink_call g.K.Sink.tells g.K.Sink.held g.K.Sink.fault_count c.args.out.now c.pieces.out) (g.C.Clock.gives c.args.clock.now) routers c.args.limit
     c.ended-in-Err.result.rest c.ended-in-Err.result.status went.0 c.pieces.framer.bytes _ c.pieces.replied c.in-Err.status
@@ -115,15 +117,15 @@ pieces-preserved g c =
       sink_calm = c.answer_all.ensures.write_fault.1 (λ e. cc) ∙ c.pieces.invariant.sink_calm;
       disks_calm = c.answer_all.ensures.disk_fault.1 (λ e. cc) ∙ c.pieces.invariant.disks_calm;
       places = c.answer_all.ensures.places ∙ c.pieces.invariant.places;
-      went = λ asks routers some s.
-          let went = c.pieces.invariant.went asks routers some s in
+      went = λ asks since routers some s.
+          let went = c.pieces.invariant.went asks since routers some s in
           let more = c.in-Ok.ensures.taken in
           let step = c.in-Ok-feed.ensures.taken in
           let rest : List ℕ = c.answer_all.new.framer.bytes in
           let fed : c.feed.new.self.bytes ≡ c.pieces.framer.bytes ++ more.bytes =
           all_fed c.pieces.framer.bytes c.reserve.new.self.bytes c.feed.new.self.bytes c.deref.result.now c.take_more.new.buffer.items c.clear.new.self.items
           more.bytes c.reserve.ensures.bytes step.0 c.deref.ensures.value more.buffer c.clear.ensures.items in
-          let round = c.in-Ok-answer_all.ensures.served asks routers some (g.K.Sink.held c.args.out.now) went.0 went.3 in
+          let round = c.in-Ok-answer_all.ensures.served asks since routers some (g.K.Sink.held c.args.out.now) went.0 went.3 in
           let sum : length round.0 + length rest ≡ c.pieces.taken + c.in-Ok.count =
           round_length went.0 c.pieces.framer.bytes more.bytes c.feed.new.self.bytes round.0 rest c.pieces.taken c.in-Ok.count went.1 more.count_of fed
           round.1 in
@@ -132,22 +134,23 @@ pieces-preserved g c =
     }
 
 pub returns-in-Err-answer_all-clause-piped : goal.returns-in-Err-answer_all-clause-piped
-returns-in-Err-answer_all-clause-piped g c = λ asks routers some s.
-    let went = c.pieces.invariant.went asks routers some s in
+returns-in-Err-answer_all-clause-piped g c = λ asks since routers some s.
+    let went = c.pieces.invariant.went asks since routers some s in
     let more = c.in-Ok.ensures.taken in
     let step = c.in-Ok-feed.ensures.taken in
     let rest : List ℕ = c.answer_all.new.framer.bytes in
     let fed : c.feed.new.self.bytes ≡ c.pieces.framer.bytes ++ more.bytes =
     all_fed c.pieces.framer.bytes c.reserve.new.self.bytes c.feed.new.self.bytes c.deref.result.now c.take_more.new.buffer.items c.clear.new.self.items
     more.bytes c.reserve.ensures.bytes step.0 c.deref.ensures.value more.buffer c.clear.ensures.items in
-    let round = c.in-Err-answer_all.ensures.served asks routers some (g.K.Sink.held c.args.out.now) went.0 went.3 in
+    let round = c.in-Err-answer_all.ensures.served asks since routers some (g.K.Sink.held c.args.out.now) went.0 went.3 in
     let sum : length round.0 + length rest ≡ c.pieces.taken + c.in-Ok.count =
     round_length went.0 c.pieces.framer.bytes more.bytes c.feed.new.self.bytes round.0 rest c.pieces.taken c.in-Ok.count went.1 more.count_of fed round.1 in
     let took = took_round _ _ _ _ went.0 c.pieces.framer.bytes more.bytes c.feed.new.self.bytes round.0 rest went.2 more.took fed round.1 in
     let most : c.pieces.taken + c.in-Ok.count ≤ c.args.limit = omega (arith, more.most, c.min-room.ensures, c.pieces-test.true) in
     let counted : Unframed rest c.ended-in-Err-answer_all.result.rest =
     rw (c.ended-in-Err-answer_all.ensures.rest, sym c.rest-in-Err-answer_all.ensures) c.unframed.ensures in
-    ended_serving (seat_view g.N.Node.state g.L.Log.tells g.L.Log.records g.L.Log.holds) c.answer_all.new.seats.items
+    ended_serving (seat_since g.N.Node.state g.L.Log.tells g.L.Log.records g.L.Log.holds g.L.Log.finds g.L.Log.moment g.L.Log.left_since since)
+    c.answer_all.new.seats.items
     (source_call g.S.Source.tells g.S.Source.left g.S.Source.fault_count c.args.input.now c.take_more.new.input)
     (sink_call g.K.Sink.tells g.K.Sink.held g.K.Sink.fault_count c.args.out.now c.answer_all.new.out) (g.C.Clock.gives c.args.clock.now) routers c.args.limit
     c.ended-in-Err-answer_all.result.rest c.ended-in-Err-answer_all.result.status round.0 rest _ c.in-Err-answer_all.status
@@ -169,10 +172,11 @@ returns-in-Err-answer_all-clause-disk_fault g c =
     c.ended-in-Err-answer_all.ensures.status c.pieces.invariant.disks_calm c.answer_all.ensures.disk_fault
 
 pub returns-clause-piped : goal.returns-clause-piped
-returns-clause-piped g c = λ asks routers some s.
-    let went = c.pieces.invariant.went asks routers some s in
+returns-clause-piped g c = λ asks since routers some s.
+    let went = c.pieces.invariant.went asks since routers some s in
     let counted : c.ended-2.result.rest ≡ length c.pieces.framer.bytes = omega (arith, c.ended-2.ensures.rest, ap length c.rest-2.ensures) in
-    ended_at_limit (seat_view g.N.Node.state g.L.Log.tells g.L.Log.records g.L.Log.holds) c.pieces.seats.items
+    ended_at_limit (seat_since g.N.Node.state g.L.Log.tells g.L.Log.records g.L.Log.holds g.L.Log.finds g.L.Log.moment g.L.Log.left_since since)
+    c.pieces.seats.items
     (source_call g.S.Source.tells g.S.Source.left g.S.Source.fault_count c.args.input.now c.pieces.input)
     (sink_call g.K.Sink.tells g.K.Sink.held g.K.Sink.fault_count c.args.out.now c.pieces.out) (g.C.Clock.gives c.args.clock.now) routers c.args.limit
     c.ended-2.result.rest c.ended-2.result.status went.0 c.pieces.framer.bytes _ c.pieces.replied c.ended-2.ensures.status went.3 went.2

@@ -1,6 +1,7 @@
 use Rattle.std.proofs.Common.{◌≡◌, ℕ, List, ◌+◌, ◌<◌, ◌≤◌, ◌++◌, length}
 use Rattle.std.specs.Prelude.{None, vec_len}
-use Rattle.driver_steps.specs.Seats.{AreOpen, faults_of, places_of, seat_view}
+use Rattle.driver_steps.specs.Crashes.{Since}
+use Rattle.driver_steps.specs.Seats.{AreOpen, faults_of, places_of, seat_since}
 use Rattle.driver_steps.specs.Worlds.{post_view}
 use Rattle.pipe_driver.specs.Progress.{AreAskedAsRead, Serving}
 use Rattle.pipe_driver.proofs.requests.answer_all.Given as goal
@@ -19,10 +20,12 @@ invariant-requests g l = record {
   sink_calm : g.K.Sink.fault_count l.out ≡ g.K.Sink.fault_count l.fn.out;
   disks_calm : faults_of g.L.Log.fault_count l.seats.items ≡ faults_of g.L.Log.fault_count l.fn.seats.items;
   places : places_of g.L.Log.place l.seats.items ≡ places_of g.L.Log.place l.fn.seats.items;
-  served : AreAskedAsRead g.N.Node.asks → (routers : ℕ) → 0 < routers → (held_before consumed : List ℕ) →
-      Serving (seat_view g.N.Node.state g.L.Log.tells g.L.Log.records g.L.Log.holds) l.fn.seats.items (post_view (λ m. g.N.Mail.Mail.letter m) l.fn.post)
+  served : AreAskedAsRead g.N.Node.asks → (since : Since g.row.L.Denot) (routers : ℕ) → 0 < routers → (held_before consumed : List ℕ) →
+      Serving (seat_since g.N.Node.state g.L.Log.tells g.L.Log.records g.L.Log.holds g.L.Log.finds g.L.Log.moment g.L.Log.left_since since)
+      l.fn.seats.items (post_view (λ m. g.N.Mail.Mail.letter m) l.fn.post)
       (g.C.Clock.gives l.clock) routers g.K.Sink.tells held_before (g.K.Sink.held l.fn.out) consumed l.fn.replied
       → (more : List ℕ) × (consumed ++ l.fn.framer.bytes ≡ more ++ l.framer.bytes)
-      × Serving (seat_view g.N.Node.state g.L.Log.tells g.L.Log.records g.L.Log.holds) l.seats.items (post_view (λ m. g.N.Mail.Mail.letter m) l.post)
+      × Serving (seat_since g.N.Node.state g.L.Log.tells g.L.Log.records g.L.Log.holds g.L.Log.finds g.L.Log.moment g.L.Log.left_since since)
+      l.seats.items (post_view (λ m. g.N.Mail.Mail.letter m) l.post)
       (g.C.Clock.gives l.clock) routers g.K.Sink.tells held_before (g.K.Sink.held l.out) more l.replied;
 }

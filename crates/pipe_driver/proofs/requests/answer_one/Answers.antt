@@ -1,6 +1,6 @@
 use Rattle.std.proofs.Common.{◌≡◌, ◌∙◌, refl, sym, ap, Bool, ℤ, w32, to_z, of_z}
 use Rattle.std.specs.Prelude.{vec_len}
-use Rattle.driver_steps.specs.Seats.{seat_view}
+use Rattle.driver_steps.specs.Seats.{seat_since}
 use Rattle.driver_steps.proofs.Seats.{held_len}
 use Rattle.driver_steps.specs.Worlds.{puts_given}
 use Rattle.pipe_driver.specs.Rounds.{replies_after}
@@ -10,20 +10,24 @@ use Rattle.pipe_driver.proofs.Serving.{cut_in_round, no_other, put_short, served
 use Rattle.pipe_driver.proofs.requests.answer_one.Goals as goal
 
 pub returns-in-Err-clause-served : goal.returns-in-Err-clause-served
-returns-in-Err-clause-served g c asks q is reads routers some held_before consumed s =
+returns-in-Err-clause-served g c asks q is reads since routers some held_before consumed s =
     let as_many = c.args.seats.now.ok.0
-    ∙ held_len (seat_view g.N.Node.state g.L.Log.tells g.L.Log.records g.L.Log.holds) c.args.seats.now.items s.world.nodes s.stands.nodes in
-    stops_by (seat_view g.N.Node.state g.L.Log.tells g.L.Log.records g.L.Log.holds) _ _ routers _ held_before _ _ c.in-Err.e _ c.of.ensures
-    (cut_in_round (seat_view g.N.Node.state g.L.Log.tells g.L.Log.records g.L.Log.holds) _ _ _ (g.C.Clock.gives c.args.clock.now) routers _ held_before _
+    ∙ held_len (seat_since g.N.Node.state g.L.Log.tells g.L.Log.records g.L.Log.holds g.L.Log.finds g.L.Log.moment g.L.Log.left_since since)
+    c.args.seats.now.items s.world.nodes s.stands.nodes in
+    stops_by (seat_since g.N.Node.state g.L.Log.tells g.L.Log.records g.L.Log.holds g.L.Log.finds g.L.Log.moment g.L.Log.left_since since)
+    _ _ routers _ held_before _ _ c.in-Err.e _ c.of.ensures
+    (cut_in_round (seat_since g.N.Node.state g.L.Log.tells g.L.Log.records g.L.Log.holds g.L.Log.finds g.L.Log.moment g.L.Log.left_since since)
+    _ _ _ (g.C.Clock.gives c.args.clock.now) routers _ held_before _
     consumed
     c.args.replied s c.now-moment.result (to_z w32 (of_z w32 c.next_number-number.result)) (g.N.Node.asks c.args.request) q c.now-moment.ensures
     (number_is c.next_number-number.result c.args.replied c.next_number-number.ensures) (asks c.args.request q is) reads (vec_len c.args.seats.now) _ c.in-Err.e
-    as_many (c.in-Err.ensures.stopped routers s.rounds s.events s.world s.next (puts_given s.world.answered) some s.pipes s.stands))
+    as_many (c.in-Err.ensures.stopped since routers s.rounds s.events s.world s.next (puts_given s.world.answered) some s.pipes s.stands))
 
 pub returns-in-Ok-put_replies-clause-served : goal.returns-in-Ok-put_replies-clause-served
-returns-in-Ok-put_replies-clause-served g c asks q is reads routers some held_before consumed s =
-    let h = c.in-Ok.ensures.served routers s.rounds s.events s.world s.next (puts_given s.world.answered) some s.pipes s.stands in
-    served_one (seat_view g.N.Node.state g.L.Log.tells g.L.Log.records g.L.Log.holds) _ _ _ (g.C.Clock.gives c.args.clock.now) routers _ held_before _ consumed
+returns-in-Ok-put_replies-clause-served g c asks q is reads since routers some held_before consumed s =
+    let h = c.in-Ok.ensures.served since routers s.rounds s.events s.world s.next (puts_given s.world.answered) some s.pipes s.stands in
+    served_one (seat_since g.N.Node.state g.L.Log.tells g.L.Log.records g.L.Log.holds g.L.Log.finds g.L.Log.moment g.L.Log.left_since since)
+    _ _ _ (g.C.Clock.gives c.args.clock.now) routers _ held_before _ consumed
     c.args.replied s c.now-moment.result (to_z w32 (of_z w32 c.next_number-number.result)) (g.N.Node.asks c.args.request) q c.now-moment.ensures
     (number_is c.next_number-number.result c.args.replied c.next_number-number.ensures) (asks c.args.request q is) reads
     (λ m. g.N.Mail.Mail.letter m) c.serve_round.new.post c.hand_on-replies.new.self h c.hand_on-replies.ensures.waiting c.hand_on-replies.ensures.none _ _
@@ -31,9 +35,10 @@ returns-in-Ok-put_replies-clause-served g c asks q is reads routers some held_be
     (c.replied_after.ensures ∙ ap (λ (b : Bool). replies_after b c.args.replied) (sym is.more))
 
 pub returns-clause-served : goal.returns-clause-served
-returns-clause-served g c asks q is reads routers some held_before consumed s =
-    let h = c.in-Ok.ensures.served routers s.rounds s.events s.world s.next (puts_given s.world.answered) some s.pipes s.stands in
-    at_write_fault (put_short (seat_view g.N.Node.state g.L.Log.tells g.L.Log.records g.L.Log.holds) _ _ _ (g.C.Clock.gives c.args.clock.now) routers _
+returns-clause-served g c asks q is reads since routers some held_before consumed s =
+    let h = c.in-Ok.ensures.served since routers s.rounds s.events s.world s.next (puts_given s.world.answered) some s.pipes s.stands in
+    at_write_fault (put_short (seat_since g.N.Node.state g.L.Log.tells g.L.Log.records g.L.Log.holds g.L.Log.finds g.L.Log.moment g.L.Log.left_since since)
+    _ _ _ (g.C.Clock.gives c.args.clock.now) routers _
     held_before _
     consumed c.args.replied s c.now-moment.result (to_z w32 (of_z w32 c.next_number-number.result)) (g.N.Node.asks c.args.request) q c.now-moment.ensures
     (number_is c.next_number-number.result c.args.replied c.next_number-number.ensures) (asks c.args.request q is) reads

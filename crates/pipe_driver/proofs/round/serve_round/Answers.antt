@@ -1,7 +1,7 @@
 use Rattle.std.proofs.Common.{◌≡◌, ◌∙◌, ℤ, refl, sym, subst, w32, to_z, of_z}
 use Rattle.std.specs.Prelude.{vec_len}
 use Rattle.std.proofs.lemmas.Int.{to_z-of_z}
-use Rattle.driver_steps.specs.Seats.{seat_view}
+use Rattle.driver_steps.specs.Seats.{seat_since}
 use Rattle.driver_steps.specs.Worlds.{post_view}
 use Rattle.driver_steps.specs.Moves.{HasStopped}
 use Rattle.driver_steps.proofs.Seats.{held_len}
@@ -10,53 +10,66 @@ use Rattle.pipe_driver.proofs.Rounds.{router_asked, round_served, stopped_in_mom
 use Rattle.pipe_driver.proofs.round.serve_round.Goals as goal
 
 pub returns-in-Err-clause-stopped : goal.returns-in-Err-clause-stopped
-returns-in-Err-clause-stopped g c routers rounds events w next handed some pipes s =
-    stopped_in_moments (seat_view g.N.Node.state g.L.Log.tells g.L.Log.records g.L.Log.holds) _ _ handed w (vec_len c.args.seats.now)
-    (round_of c.args.moment c.args.number (g.N.Node.asks c.args.request)) _ (c.in-Err.ensures.stopped w next handed s)
+returns-in-Err-clause-stopped g c since routers rounds events w next handed some pipes s =
+    stopped_in_moments (seat_since g.N.Node.state g.L.Log.tells g.L.Log.records g.L.Log.holds g.L.Log.finds g.L.Log.moment g.L.Log.left_since since)
+    _ _ handed w (vec_len c.args.seats.now)
+    (round_of c.args.moment c.args.number (g.N.Node.asks c.args.request)) _ (c.in-Err.ensures.stopped since w next handed s)
 
 pub returns-in-Err-ask-clause-stopped : goal.returns-in-Err-ask-clause-stopped
-returns-in-Err-ask-clause-stopped g c routers rounds events w next handed some pipes s =
+returns-in-Err-ask-clause-stopped g c since routers rounds events w next handed some pipes s =
     let same : to_z w32 (of_z w32 c.args.number) ≡ c.args.number = to_z-of_z w32 c.args.number (assumption c.ranges) in
     let as_many = c.args.seats.now.ok.0
-    ∙ held_len (seat_view g.N.Node.state g.L.Log.tells g.L.Log.records g.L.Log.holds) c.args.seats.now.items w.nodes s.nodes in
-    let r = c.in-Ok.ensures.given w next handed s in
-    let router = router_asked (seat_view g.N.Node.state g.L.Log.tells g.L.Log.records g.L.Log.holds) handed routers rounds events w next
+    ∙ held_len (seat_since g.N.Node.state g.L.Log.tells g.L.Log.records g.L.Log.holds g.L.Log.finds g.L.Log.moment g.L.Log.left_since since)
+    c.args.seats.now.items w.nodes s.nodes in
+    let r = c.in-Ok.ensures.given since w next handed s in
+    let router = router_asked (seat_since g.N.Node.state g.L.Log.tells g.L.Log.records g.L.Log.holds g.L.Log.finds g.L.Log.moment g.L.Log.left_since since)
+    handed routers rounds events w next
     (vec_len c.args.seats.now) (round_of c.args.moment c.args.number (g.N.Node.asks c.args.request)) some pipes as_many refl r.end r.run in
-    subst (λ (z : ℤ). HasStopped (seat_view g.N.Node.state g.L.Log.tells g.L.Log.records g.L.Log.holds) c.ask.new.seats.items
+    subst (λ (z : ℤ). HasStopped
+    (seat_since g.N.Node.state g.L.Log.tells g.L.Log.records g.L.Log.holds g.L.Log.finds g.L.Log.moment g.L.Log.left_since since) c.ask.new.seats.items
     c.ask.new.post.replies.items handed w
     (IsPart (vec_len c.args.seats.now) (round_of c.args.moment z (g.N.Node.asks c.args.request))) c.in-Err-ask.e) same
-    (stopped_in_asking (seat_view g.N.Node.state g.L.Log.tells g.L.Log.records g.L.Log.holds) _ _ handed w (vec_len c.args.seats.now)
+    (stopped_in_asking (seat_since g.N.Node.state g.L.Log.tells g.L.Log.records g.L.Log.holds g.L.Log.finds g.L.Log.moment g.L.Log.left_since since)
+    _ _ handed w (vec_len c.args.seats.now)
     (round_of c.args.moment (to_z w32 (of_z w32 c.args.number)) (g.N.Node.asks c.args.request)) _ r.end r.run
-    (c.in-Err-ask.ensures.stopped r.end next handed r.stands router))
+    (c.in-Err-ask.ensures.stopped since r.end next handed r.stands router))
 
 pub returns-in-Err-settle-clause-stopped : goal.returns-in-Err-settle-clause-stopped
-returns-in-Err-settle-clause-stopped g c routers rounds events w next handed some pipes s =
+returns-in-Err-settle-clause-stopped g c since routers rounds events w next handed some pipes s =
     let same : to_z w32 (of_z w32 c.args.number) ≡ c.args.number = to_z-of_z w32 c.args.number (assumption c.ranges) in
     let as_many = c.args.seats.now.ok.0
-    ∙ held_len (seat_view g.N.Node.state g.L.Log.tells g.L.Log.records g.L.Log.holds) c.args.seats.now.items w.nodes s.nodes in
-    let r = c.in-Ok.ensures.given w next handed s in
-    let router = router_asked (seat_view g.N.Node.state g.L.Log.tells g.L.Log.records g.L.Log.holds) handed routers rounds events w next
+    ∙ held_len (seat_since g.N.Node.state g.L.Log.tells g.L.Log.records g.L.Log.holds g.L.Log.finds g.L.Log.moment g.L.Log.left_since since)
+    c.args.seats.now.items w.nodes s.nodes in
+    let r = c.in-Ok.ensures.given since w next handed s in
+    let router = router_asked (seat_since g.N.Node.state g.L.Log.tells g.L.Log.records g.L.Log.holds g.L.Log.finds g.L.Log.moment g.L.Log.left_since since)
+    handed routers rounds events w next
     (vec_len c.args.seats.now) (round_of c.args.moment c.args.number (g.N.Node.asks c.args.request)) some pipes as_many refl r.end r.run in
-    let a = c.in-Ok-ask.ensures.asked r.end next handed r.stands router in
-    subst (λ (z : ℤ). HasStopped (seat_view g.N.Node.state g.L.Log.tells g.L.Log.records g.L.Log.holds) c.settle.new.seats.items
+    let a = c.in-Ok-ask.ensures.asked since r.end next handed r.stands router in
+    subst (λ (z : ℤ). HasStopped
+    (seat_since g.N.Node.state g.L.Log.tells g.L.Log.records g.L.Log.holds g.L.Log.finds g.L.Log.moment g.L.Log.left_since since) c.settle.new.seats.items
     c.settle.new.post.replies.items handed w
     (IsPart (vec_len c.args.seats.now) (round_of c.args.moment z (g.N.Node.asks c.args.request))) c.in-Err-settle.e) same
-    (stopped_in_deliveries (seat_view g.N.Node.state g.L.Log.tells g.L.Log.records g.L.Log.holds) _ _ handed w (vec_len c.args.seats.now)
+    (stopped_in_deliveries (seat_since g.N.Node.state g.L.Log.tells g.L.Log.records g.L.Log.holds g.L.Log.finds g.L.Log.moment g.L.Log.left_since since)
+    _ _ handed w (vec_len c.args.seats.now)
     (round_of c.args.moment (to_z w32 (of_z w32 c.args.number)) (g.N.Node.asks c.args.request)) _ r.end a.end r.run a.happens
-    (c.in-Err-settle.ensures.stopped a.end next handed a.stands))
+    (c.in-Err-settle.ensures.stopped since a.end next handed a.stands))
 
 pub returns-in-Ok-settle-clause-served : goal.returns-in-Ok-settle-clause-served
-returns-in-Ok-settle-clause-served g c routers rounds events w next handed some pipes s =
+returns-in-Ok-settle-clause-served g c since routers rounds events w next handed some pipes s =
     let same : to_z w32 (of_z w32 c.args.number) ≡ c.args.number = to_z-of_z w32 c.args.number (assumption c.ranges) in
     let as_many = c.args.seats.now.ok.0
-    ∙ held_len (seat_view g.N.Node.state g.L.Log.tells g.L.Log.records g.L.Log.holds) c.args.seats.now.items w.nodes s.nodes in
-    let r = c.in-Ok.ensures.given w next handed s in
-    let router = router_asked (seat_view g.N.Node.state g.L.Log.tells g.L.Log.records g.L.Log.holds) handed routers rounds events w next
+    ∙ held_len (seat_since g.N.Node.state g.L.Log.tells g.L.Log.records g.L.Log.holds g.L.Log.finds g.L.Log.moment g.L.Log.left_since since)
+    c.args.seats.now.items w.nodes s.nodes in
+    let r = c.in-Ok.ensures.given since w next handed s in
+    let router = router_asked (seat_since g.N.Node.state g.L.Log.tells g.L.Log.records g.L.Log.holds g.L.Log.finds g.L.Log.moment g.L.Log.left_since since)
+    handed routers rounds events w next
     (vec_len c.args.seats.now) (round_of c.args.moment c.args.number (g.N.Node.asks c.args.request)) some pipes as_many refl r.end r.run in
-    let a = c.in-Ok-ask.ensures.asked r.end next handed r.stands router in
-    subst (λ (z : ℤ). HasServed (seat_view g.N.Node.state g.L.Log.tells g.L.Log.records g.L.Log.holds) c.settle.new.seats.items
+    let a = c.in-Ok-ask.ensures.asked since r.end next handed r.stands router in
+    subst (λ (z : ℤ). HasServed
+    (seat_since g.N.Node.state g.L.Log.tells g.L.Log.records g.L.Log.holds g.L.Log.finds g.L.Log.moment g.L.Log.left_since since) c.settle.new.seats.items
     (post_view (λ m. g.N.Mail.Mail.letter m) c.settle.new.post) handed w next (round_of c.args.moment z (g.N.Node.asks c.args.request))) same
-    (round_served (seat_view g.N.Node.state g.L.Log.tells g.L.Log.records g.L.Log.holds) handed routers rounds events w next
+    (round_served (seat_since g.N.Node.state g.L.Log.tells g.L.Log.records g.L.Log.holds g.L.Log.finds g.L.Log.moment g.L.Log.left_since since)
+    handed routers rounds events w next
     (vec_len c.args.seats.now) (round_of c.args.moment (to_z w32 (of_z w32 c.args.number)) (g.N.Node.asks c.args.request))
     some pipes as_many refl _ _ r.end a.end r.run a.happens
-    (c.in-Ok-settle.ensures.settled a.end next handed a.stands))
+    (c.in-Ok-settle.ensures.settled since a.end next handed a.stands))

@@ -1,32 +1,36 @@
 -- The entries are the statements' own.
-use Rattle.std.proofs.Common.{[], ◌∷◌, refl, codes}
-use Rattle.std.specs.Prelude.{true, Some}
-use Rattle.history_model.proofs.Lists.{in_first}
-use Rattle.reply_model.specs.Exchange.{Exchange}
+use Rattle.std.proofs.Common.{refl, codes}
+use Rattle.std.specs.Prelude.{Bool, true, false}
+use Rattle.command_model.specs.SampleRequests.{three}
+use Rattle.command_model.specs.Insert.{Insert}
 use Rattle.reply_model.specs.Right.{right_insert, IsWhole}
-use Rattle.reply_model.specs.SampleExchanges.{second_fails, three, three_asked, three_entries, two_entries}
-use Rattle.reply_model.proofs.WholeInserts.{right_is_whole, told_is_right}
-use Rattle.reply_model.proofs.Sample.{two_are, third_is, third_stands, never_third}
+use Rattle.reply_model.specs.SampleExchanges.{id_at, three_entries, two_entries}
 use Rattle.reply_model.proofs.examples.many_statements.Goals as goal
 
-abbrev asking : Exchange
-asking = three_asked true (Some (second_fails 1 3))
+abbrev asks_three : Bool → Insert
+asks_three ordered = record { namespace = codes "d.c"; documents = three; ordered = ordered }
 
-two_whole : IsWhole two_entries asking (codes "d.c") three true
-two_whole = record { entries = two_entries; each = two_are asking refl refl; all = λ e i is. i; told = refl }
+two_whole : IsWhole two_entries (id_at 2 1) (asks_three true)
+two_whole = record {
+  part = (record { number = refl; name = refl; operation = refl }, (λ e. absurd (cc)), (record { number = refl; name = refl; operation = refl }, (λ e. refl), tt));
+  all = refl;
+}
 
-pub returns-clause-right_end : goal.returns-clause-right_end
-returns-clause-right_end c = right_insert (codes "d.c") three true refl two_whole
+three_whole : IsWhole three_entries (id_at 2 1) (asks_three false)
+three_whole = record {
+  part = (
+    record { number = refl; name = refl; operation = refl },
+    (λ e. absurd (cc)),
+    (record { number = refl; name = refl; operation = refl }, (λ e. absurd (cc)), (record { number = refl; name = refl; operation = refl }, (λ e. refl), tt)),
+  );
+  all = refl;
+}
 
-pub returns-clause-whole : goal.returns-clause-whole
-returns-clause-whole c = two_whole
+pub returns-clause-ordered : goal.returns-clause-ordered
+returns-clause-ordered c = right_insert (asks_three true) refl two_whole refl
 
-one_more : IsWhole three_entries asking (codes "d.c") three true → ⊥
-one_more whole = never_third asking.reply three whole.entries whole.each (whole.all _ third_stands (third_is asking.reply))
+pub returns-clause-unordered : goal.returns-clause-unordered
+returns-clause-unordered c = right_insert (asks_three false) refl three_whole refl
 
-pub returns-clause-one_more : goal.returns-clause-one_more
-returns-clause-one_more c whole = one_more whole
-
-pub returns-clause-never_goes_on : goal.returns-clause-never_goes_on
-returns-clause-never_goes_on c are =
-    one_more (right_is_whole three_entries asking (codes "d.c") three true refl (told_is_right three_entries (asking ∷ []) asking (second_fails 1 3) are (in_first asking []) refl))
+pub returns-clause-silent : goal.returns-clause-silent
+returns-clause-silent c = right_insert (asks_three true) refl two_whole refl

@@ -1,72 +1,190 @@
--- The two inserts, one after the other.
-use Rattle.std.proofs.Common.{◌≡◌, ◌⊎◌, inl, inr, ◌<◌, List, [], ◌∷◌, refl, sym, ap, ◌∙◌, codes, arith}
-use Rattle.std.specs.Prelude.{Bool, true, false, ◌&&◌, Some}
-use Rattle.command_model.specs.Errors.{duplicate_key}
+-- Two inserts and a find, at two routers.
+use Rattle.std.proofs.Common.{◌≡◌, ◌≤◌, ℕ, inl, inr, [], ◌∷◌, refl, sym, ap, subst, codes, arith}
+use Rattle.std.specs.Prelude.{true, Some, None}
 use Rattle.command_model.specs.SampleReplies.{done_reply, duplicate_reply}
-use Rattle.history_model.specs.History.{StatementNumber, Entry, IsIn, fails_with}
+use Rattle.command_model.specs.SampleRequests.{five, long_five, shown, with_id}
+use Rattle.command_model.specs.Tree.{Fields}
 use Rattle.command_model.specs.Times.{timestamp}
-use Rattle.history_model.proofs.Lists.{in_first, in_later, in_cons, in_none}
-use Rattle.command_model.specs.Answers.{answer_document}
-use Rattle.reply_model.specs.Exchange.{Exchange, number_for}
-use Rattle.reply_model.specs.Right.{ByEnd, AreEntriesOf}
-use Rattle.reply_model.specs.Outcomes.{answer_of, fails}
-use Rattle.reply_model.specs.SampleExchanges.{entry_at, first, first_entry, five, long_five, second, second_entry, silent, with_id}
-use Rattle.reply_model.proofs.WholeInserts.{right_is_whole, told_insert_stands}
-use Rattle.reply_model.proofs.ReplyTimes.{reply_told}
-use Rattle.reply_model.proofs.Sample.{is_second}
+use Rattle.command_model.specs.Insert.{Insert}
+use Rattle.chunk_model.specs.SampleCollections.{creation}
+use Rattle.history_model.specs.History.{Legal, IsIn, StatementNumber, router_session}
+use Rattle.history_model.proofs.Lists.{all_at, in_first, in_later, in_none}
+use Rattle.reply_model.specs.Asked.{RequestId, Asked, is_session_of}
+use Rattle.reply_model.specs.OneHistory.{AreDifferent, Given, WasSent, WasWanted, IsRightOf, IsKnown, IsPlaced}
+use Rattle.reply_model.specs.Right.{IsPart, IsRight, right_find, right_insert}
+use Rattle.reply_model.specs.SampleExchanges.{all_asked, both_entries, first, first_entry, first_told, id_at, moments, second, second_entry, second_told, tells, third, third_told}
+use Rattle.reply_model.proofs.RightAnswers.{same_insert}
 use Rattle.reply_model.proofs.examples.one_history.Goals as goal
 
--- of a statement there is an entry
-some_entry : (x : Exchange) (entries : List Entry) → AreEntriesOf [] x (codes "d.c") true 0 (with_id five ∷ []) entries → ⊥
-some_entry x [] are = are
-some_entry x (e ∷ entries) are = in_none e are.0
+-- THE WHOLE
 
-pub returns-clause-lost : goal.returns-clause-lost
-returns-clause-lost c one =
-    let whole = told_insert_stands [] (first ∷ second ∷ []) first (codes "d.c") (with_id five ∷ []) true done_reply one (in_first first (second ∷ [])) refl refl in
-    some_entry first whole.entries whole.each
+abbrev two_moment : Given
+two_moment = record { node = 2; moment = 1000000; step = 0 }
 
-pub returns-clause-silent : goal.returns-clause-silent
-returns-clause-silent c right =
-    let whole = right_is_whole [] silent (codes "d.c") (with_id five ∷ []) true refl right in
-    some_entry silent whole.entries whole.each
+abbrev three_moment : Given
+three_moment = record { node = 3; moment = 1000000; step = 1 }
 
--- the first request with the second's reply
-abbrev mixed : Exchange
-mixed = record first { reply = Some duplicate_reply }
+abbrev inserts_five : Insert
+inserts_five = record { namespace = codes "d.c"; documents = with_id five ∷ []; ordered = true }
 
-by_either : (test : Bool) (A : Type 0) → ByEnd test A A → A
-by_either true A by = by
-by_either false A by = by
+abbrev inserts_long_five : Insert
+inserts_long_five = record { namespace = codes "d.c"; documents = with_id long_five ∷ []; ordered = true }
 
-not_told : (entries : List Entry) → AreEntriesOf (first_entry ∷ second_entry ∷ []) mixed (codes "d.c") true 0 (with_id five ∷ []) entries → answer_document (answer_of entries) ≡ duplicate_reply → ⊥
-not_told [] are told = are
-not_told (e ∷ entries) are told = by_place (in_cons e first_entry (second_entry ∷ []) are.0)
-  where
-    alone : entries ≡ []
-    alone = by_either (true && fails e) (entries ≡ []) are.2
+first_sent : WasSent all_asked first_entry
+first_sent = record {
+  request = first;
+  taken = in_first first (second ∷ third ∷ []);
+  into = record { insert = inserts_five; asks = refl; name = refl };
+  own = refl;
+  later = omega arith;
+}
 
-    by_second : (e ≡ second_entry) ⊎ IsIn e [] → ⊥
-    by_second (inl same) =
-        let number : (number_for mixed 0).session ≡ second_entry.number.session = ap (λ (n : StatementNumber). n.session) (sym are.1.number ∙ ap (λ (d : Entry). d.number) same) in
-        cc
-    by_second (inr j) = in_none e j
+abbrev IsInAll : Asked → Type 0
+IsInAll a = IsIn a all_asked
 
-    by_place : (e ≡ first_entry) ⊎ IsIn e (second_entry ∷ []) → ⊥
-    by_place (inl same) =
-        let reply : duplicate_reply ≡ done_reply = sym told ∙ ap (λ (l : List Entry). answer_document (answer_of (e ∷ l))) alone ∙ ap (λ (d : Entry). answer_document (answer_of (d ∷ []))) same in
-        cc
-    by_place (inr i) = by_second (in_cons e second_entry [] i)
+second_taken : IsInAll second
+second_taken = in_later second first (second ∷ third ∷ []) (in_first second (third ∷ []))
 
-pub returns-clause-wrong : goal.returns-clause-wrong
-returns-clause-wrong c right =
-    let whole = right_is_whole (first_entry ∷ second_entry ∷ []) mixed (codes "d.c") (with_id five ∷ []) true refl right in
-    not_told whole.entries whole.each (reply_told false _ _ (sym whole.told))
+third_taken : IsInAll third
+third_taken = in_later third first (second ∷ third ∷ []) (in_later third second (third ∷ []) (in_first third []))
 
-abbrev stale_entry : Entry
-stale_entry = entry_at 2 2 0 long_five (fails_with duplicate_key)
+second_sent : WasSent all_asked second_entry
+second_sent = record { request = second; taken = second_taken; into = record { insert = inserts_long_five; asks = refl; name = refl }; own = refl; later = omega arith }
 
-pub returns-clause-stale : goal.returns-clause-stale
-returns-clause-stale c fresh =
-    let less : timestamp 1000 2 < timestamp 1000 2 = fresh.writes first second stale_entry (timestamp 1000 2) (in_first first (second ∷ [])) (in_later second first (second ∷ []) (in_first second [])) (omega arith) (in_later stale_entry first_entry (stale_entry ∷ []) (in_first stale_entry [])) (is_second 2 (fails_with duplicate_key)) refl in
-    omega arith
+first_placed : IsPlaced (creation ∷ []) first_entry
+first_placed = record { creation = creation; key = five; begun = in_first creation []; name = refl; before = omega arith; writes = refl; owner = refl }
+
+second_placed : IsPlaced (creation ∷ []) second_entry
+second_placed = record { creation = creation; key = long_five; begun = in_first creation []; name = refl; before = omega arith; writes = refl; owner = refl }
+
+first_part : IsPart both_entries (id_at 2 1) inserts_five
+first_part = (record { number = refl; name = refl; operation = refl }, (λ e. refl), tt)
+
+second_part : IsPart both_entries (id_at 3 1) inserts_long_five
+second_part = (record { number = refl; name = refl; operation = refl }, (λ e. refl), tt)
+
+wanted : WasWanted all_asked creation
+wanted = record {
+  request = first;
+  taken = in_first first (second ∷ third ∷ []);
+  into = record { insert = inserts_five; asks = refl; name = refl };
+  later = omega arith;
+}
+
+right_of : (a : Asked) (step counter : ℕ) (document : Fields) → IsIn a all_asked → a.came ≤ step → a.time ≤ timestamp 1000 counter
+    → IsRight both_entries a (tells a step counter document) → IsRightOf both_entries all_asked (tells a step counter document)
+right_of a step counter document there came risen right = record { request = a; taken = there; own = refl; link = refl; number = refl; same = refl; came = came; risen = risen; right = right }
+
+first_right : IsRightOf both_entries all_asked first_told
+first_right =
+    right_of first 3 2 done_reply (in_first first (second ∷ third ∷ [])) (omega arith) (omega arith)
+    (right_insert inserts_five refl (record { part = first_part; all = refl }) refl)
+
+second_right : IsRightOf both_entries all_asked second_told
+second_right =
+    right_of second 5 3 duplicate_reply second_taken (omega arith) (omega arith)
+    (right_insert inserts_long_five refl (record { part = second_part; all = refl }) refl)
+
+third_right : IsRightOf both_entries all_asked third_told
+third_right =
+    right_of third 7 2 (shown (with_id five ∷ []) 2) third_taken (omega arith) (omega arith)
+    (right_find (record { namespace = codes "d.c"; key = long_five; at = None }) refl (omega arith) refl)
+
+-- each router had its moment, and router 2 its own entry behind that
+first_known : IsKnown moments (creation ∷ []) both_entries first
+first_known = record { moment = refl; time = inr (inl (two_moment, in_first two_moment (three_moment ∷ []), refl)); reached = omega arith }
+
+second_known : IsKnown moments (creation ∷ []) both_entries second
+second_known = record {
+  moment = refl;
+  time = inr (inl (three_moment, in_later three_moment two_moment (three_moment ∷ []) (in_first three_moment []), refl));
+  reached = omega arith;
+}
+
+third_known : IsKnown moments (creation ∷ []) both_entries third
+third_known = record { moment = refl; time = inr (inr (inr (first_entry, in_first first_entry (second_entry ∷ []), refl))); reached = omega arith }
+
+another_count : id_at 2 2 ≡ id_at 2 1 → ⊥
+another_count e = let counts = ap (λ (id : RequestId). id.count) e in cc
+
+another_router : (a b : ℕ) → id_at 3 a ≡ id_at 2 b → ⊥
+another_router a b e = let routers = ap (λ (id : RequestId). id.router) e in cc
+
+all_different : AreDifferent (id_at 2 1 ∷ id_at 3 1 ∷ id_at 2 2 ∷ [])
+all_different = ((another_router 1 1, (another_count, tt)), (((λ e. another_router 1 2 (sym e)), tt), (tt, tt)))
+
+other_session : first_entry.number ≡ second_entry.number → ⊥
+other_session e = let sessions : router_session 2 1 1 ≡ router_session 3 1 1 = ap (λ (n : StatementNumber). n.session) e in cc
+
+shows_two : (time : ℕ) → Some (timestamp 1000 2) ≡ Some time → time ≤ timestamp 1000 2
+shows_two time shows = let same : timestamp 1000 2 ≡ time = cc in omega (arith, same)
+
+both_legal : Legal both_entries
+both_legal = (
+  record { rises = tt; told = refl; once = tt },
+  (
+    record { rises = (inl (omega arith), tt); told = refl; once = ((λ same. other_session same.number), tt) },
+    tt,
+  ),
+)
+
+pub returns-clause-whole : goal.returns-clause-whole
+returns-clause-whole c = record {
+  legal = both_legal;
+  sent = (first_sent, (second_sent, tt));
+  placed = (first_placed, (second_placed, tt));
+  parts = (
+    (λ insert asks. subst (IsPart both_entries (id_at 2 1)) (same_insert inserts_five insert asks) first_part),
+    (
+      (λ insert asks. subst (IsPart both_entries (id_at 3 1)) (same_insert inserts_long_five insert asks) second_part),
+      ((λ insert asks. absurd (cc)), tt),
+    ),
+  );
+  wanted = (wanted, tt);
+  names = (tt, tt);
+  right = (first_right, (second_right, (third_right, tt)));
+  one = all_different;
+  once = all_different;
+  fresh = (
+    (
+      (λ time router life before shows. omega (arith, before)),
+      ((λ time router life before shows. omega (arith, before)), ((λ time router life before shows. omega (arith, before)), tt)),
+    ),
+    (
+      (
+        (λ time router life before shows. absurd (cc)),
+        ((λ time router life before shows. omega (arith, before)), ((λ time router life before shows. omega (arith, before)), tt)),
+      ),
+      (
+        (
+          (λ time router life before shows. shows_two time shows),
+          ((λ time router life before shows. absurd (cc)), ((λ time router life before shows. omega (arith, before)), tt)),
+        ),
+        tt,
+      ),
+    ),
+  );
+  order = (
+    ((λ router life before. omega arith), ((λ router life before. omega arith), ((λ router life before. omega (arith, before)), tt))),
+    (
+      ((λ router life before. omega arith), ((λ router life before. omega arith), ((λ router life before. absurd (cc)), tt))),
+      (((λ router life before. omega arith), ((λ router life before. omega arith), ((λ router life before. omega arith), tt))), tt),
+    ),
+  );
+  known = (first_known, (second_known, (third_known, tt)));
+}
+
+-- WHAT IS NONE
+
+pub returns-clause-nobody_sent : goal.returns-clause-nobody_sent
+returns-clause-nobody_sent c one =
+    let s = one.sent.1.0 in
+    all_at (λ (a : Asked). is_session_of a.id (router_session 3 1 1) ≡ true → ⊥) s.request (first ∷ third ∷ []) ((λ own. cc), ((λ own. cc), tt)) s.taken s.own
+
+pub returns-clause-not_asked : goal.returns-clause-not_asked
+returns-clause-not_asked c one =
+    let r = one.right.1.1.0 in
+    all_at (λ (a : Asked). a.id ≡ id_at 2 2 → ⊥) r.request (first ∷ second ∷ []) ((λ own. another_count (sym own)), ((λ own. another_router 1 2 own), tt)) r.taken r.own
+
+pub returns-clause-not_begun : goal.returns-clause-not_begun
+returns-clause-not_begun c one = in_none one.placed.0.creation one.placed.0.begun

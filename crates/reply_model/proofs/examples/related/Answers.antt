@@ -1,28 +1,62 @@
 -- By their numbers and times.
-use Rattle.std.proofs.Common.{◌≡◌, [], refl, ap, arith}
+use Rattle.std.proofs.Common.{◌≡◌, ◌<◌, [], ◌∷◌, refl, ap, codes, arith}
+use Rattle.std.specs.Prelude.{true}
+use Rattle.command_model.specs.SampleRequests.{five, long_five, with_id}
+use Rattle.command_model.specs.Times.{timestamp}
+use Rattle.chunk_model.specs.Catalogue.{Creation}
 use Rattle.chunk_model.specs.SampleCollections.{creation}
-use Rattle.history_model.specs.History.{StatementNumber, done}
-use Rattle.history_model.proofs.Lists.{in_first, in_none}
-use Rattle.reply_model.specs.Exchange.{number_for}
-use Rattle.reply_model.specs.Placed.{IsPlaced}
-use Rattle.reply_model.specs.Right.{IsEntryOf}
-use Rattle.reply_model.specs.SampleExchanges.{first_entry, second, second_entry}
-use Rattle.reply_model.proofs.Sample.{is_first}
+use Rattle.history_model.specs.History.{StatementNumber}
+use Rattle.history_model.proofs.Lists.{all_at, in_first, in_none}
+use Rattle.reply_model.specs.Asked.{Asked, number_for}
+use Rattle.reply_model.specs.Earlier.{IsEntryOf}
+use Rattle.reply_model.specs.OneHistory.{IsInsertInto, IsPlaced, WasWanted}
+use Rattle.reply_model.specs.SampleExchanges.{all_asked, first, first_entry, second, second_entry, third}
 use Rattle.reply_model.proofs.examples.related.Goals as goal
 
-another_count : IsEntryOf second first_entry → ⊥
-another_count is =
-    let e : first_entry.number.session ≡ (number_for second 0).session = ap (λ (n : StatementNumber). n.session) is.statement.number in
+own : IsEntryOf first first_entry
+own = record {
+  insert = record { namespace = codes "d.c"; documents = with_id five ∷ []; ordered = true };
+  prefix = [];
+  document = with_id five;
+  back = [];
+  asks = refl;
+  both = refl;
+  statement = record { number = refl; name = refl; operation = refl };
+}
+
+another_router : IsEntryOf second first_entry → ⊥
+another_router is =
+    let e : first_entry.number.session ≡ (number_for second.id 0).session = ap (λ (n : StatementNumber). n.session) is.statement.number in
     cc
 
 pub returns-clause-own : goal.returns-clause-own
-returns-clause-own c = (is_first 2 done, another_count)
+returns-clause-own c = (own, another_router)
+
+placed : IsPlaced (creation ∷ []) second_entry
+placed = record { creation = creation; key = long_five; begun = in_first creation []; name = refl; before = omega arith; writes = refl; owner = refl }
 
 unplaced : IsPlaced [] second_entry → ⊥
 unplaced is = in_none is.creation is.begun
 
 pub returns-clause-placed : goal.returns-clause-placed
-returns-clause-placed c = (
-  record { creation = creation; begun = in_first creation []; name = refl; before = omega arith; shard = refl },
-  unplaced,
-)
+returns-clause-placed c = (placed, unplaced)
+
+abbrev late : Creation
+late = record creation { at = timestamp 1000 3 }
+
+pub returns-clause-before_collection : goal.returns-clause-before_collection
+returns-clause-before_collection c is = all_at (λ (c : Creation). c.at < second_entry.time → ⊥) is.creation (late ∷ []) ((λ less. omega (arith, less)), tt) is.begun is.before
+
+wanted : WasWanted all_asked creation
+wanted = record {
+  request = first;
+  taken = in_first first (second ∷ third ∷ []);
+  into = record { insert = record { namespace = codes "d.c"; documents = with_id five ∷ []; ordered = true }; asks = refl; name = refl };
+  later = omega arith;
+}
+
+by_no_find : WasWanted (third ∷ []) creation → ⊥
+by_no_find w = all_at (λ (a : Asked). IsInsertInto creation.namespace a → ⊥) w.request (third ∷ []) ((λ i. let e = i.asks in cc), tt) w.taken w.into
+
+pub returns-clause-wanted : goal.returns-clause-wanted
+returns-clause-wanted c = (wanted, by_no_find)

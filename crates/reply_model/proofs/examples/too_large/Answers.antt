@@ -1,10 +1,15 @@
 -- Nothing is kept under the key.
-use Rattle.std.proofs.Common.{refl, codes}
-use Rattle.std.specs.Prelude.{None}
-use Rattle.command_model.specs.Times.{timestamp}
-use Rattle.reply_model.specs.Right.{right_find}
-use Rattle.reply_model.specs.SampleExchanges.{five}
+use Rattle.std.proofs.Common.{[], ◌∷◌, refl, codes, arith}
+use Rattle.std.specs.Prelude.{None, true}
+use Rattle.command_model.specs.SampleRequests.{deep, five, six, with_id}
+use Rattle.reply_model.specs.Right.{right_find, right_insert}
 use Rattle.reply_model.proofs.examples.too_large.Goals as goal
 
+pub returns-clause-told : goal.returns-clause-told
+returns-clause-told c =
+    right_insert (record { namespace = codes "d.c"; documents = deep ∷ with_id six ∷ []; ordered = true }) refl
+    (record { part = (record { number = refl; name = refl; operation = refl }, (λ e. refl), tt); all = refl })
+    refl
+
 pub returns-clause-not_found : goal.returns-clause-not_found
-returns-clause-not_found c = right_find (codes "d.c") five None (timestamp 1000 2) refl tt refl
+returns-clause-not_found c = right_find (record { namespace = codes "d.c"; key = five; at = None }) refl (omega arith) refl

@@ -1,6 +1,10 @@
 -- Statements of one number are of one request.
-use Rattle.reply_model.proofs.Freshness.{own_entry}
+use Rattle.reply_model.proofs.Freshness.{sent}
+use Rattle.reply_model.proofs.Requests.{own_entry}
 use Rattle.reply_model.proofs.laws.own_entry.Goals as goal
 
-pub returns : goal.returns
-returns c = own_entry
+pub returns-clause-sent : goal.returns-clause-sent
+returns-clause-sent c given creations history asked answered e one i = sent given creations history asked answered one e i
+
+pub returns-clause-alone : goal.returns-clause-alone
+returns-clause-alone c a b e is are = own_entry a b e is are

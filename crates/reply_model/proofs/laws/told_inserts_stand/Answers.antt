@@ -1,9 +1,9 @@
--- Only the last request may be under way, and it has no reply.
-use Rattle.reply_model.proofs.WholeInserts.{told_insert_stands, followed_insert_stands}
+-- The request of an answer is the one that was taken.
+use Rattle.reply_model.proofs.Freshness.{told_whole}
 use Rattle.reply_model.proofs.laws.told_inserts_stand.Goals as goal
 
-pub returns-clause-told : goal.returns-clause-told
-returns-clause-told c = told_insert_stands
+pub returns-clause-whole : goal.returns-clause-whole
+returns-clause-whole c given creations history asked answered t insert one i asks = (told_whole given creations history asked answered one t insert i asks).0
 
-pub returns-clause-followed : goal.returns-clause-followed
-returns-clause-followed c = followed_insert_stands
+pub returns-clause-told : goal.returns-clause-told
+returns-clause-told c given creations history asked answered t insert one i asks = (told_whole given creations history asked answered one t insert i asks).1

@@ -1,30 +1,27 @@
-use Rattle.std.proofs.Common.{arith, rules, leb, sym, ap, ◌∙◌, ◌≡◌, ◌<◌, None}
+use Rattle.std.proofs.Common.{arith, map, ap, sym, ◌∙◌, ◌≡◌, Some}
 use Rattle.std.specs.Arc.{arc_value}
 use Rattle.std.specs.Option.{option_map}
-use Rattle.std.proofs.lemmas.List.Sorted.{IsPartitionPoint-from_clause, IsPartitionedBy-leb}
-use Rattle.mvcc_collection.specs.declared.chain.Version.{Version}
-use Rattle.mvcc_collection.specs.View.{dated}
+use Rattle.mvcc_collection.specs.View.{dated, dated_with}
 use Rattle.mvcc_collection.specs.Chains.{document_left}
-use Rattle.mvcc_collection.proofs.Chains.{none_left, last_left, shown}
+use Rattle.mvcc_collection.proofs.Chains.{last_leaves, older_leave, shown}
+use Rattle.mvcc_collection.proofs.chain.Chain.document_at.Goals.{in_default-via-in-Some+else-last-time, in_default-via-in_default}
 use Rattle.mvcc_collection.proofs.chain.Chain.document_at.Goals as goal
 
-pub returns-then-place-eq0 : goal.returns-then-place-eq0
-returns-then-place-eq0 c =
+pub returns-in-Some : goal.returns-in-Some
+returns-in-Some c =
     let t = c.args.time.0 in
-    let d : Version = record { time = c.args.time; document = None } in
-    let parted = IsPartitionedBy-leb (λ v. v.time.0) c.deref.result.now t (rw c.deref.ensures.value c.self.invariant) in
-    let point = IsPartitionPoint-from_clause (λ v. leb v.time.0 t) _ _ c.partition_point-place.ensures.partitioned parted (λ a r q k. search rules) in
-    let first : c.partition_point-place.result ≡ 0 = omega (arith, c.if-place-eq0.true) in
-    sym (none_left dated c.self.inside.versions.items c.deref.result.now c.partition_point-place.result t d c.deref.ensures.value first point)
-    ∙ ap (λ p. document_left p.versions t) c.self.view_is
+    let older = c.self.inside.older.items in
+    shown arc_value c.as_ref.result ∙ ap (option_map arc_value) c.as_ref.ensures.value ∙ last_leaves c.in-Some.last older t c.if-last-time.true
+    ∙ ap (λ l. document_left (dated_with l older) t) (sym c.in-Some.is) ∙ ap (λ p. document_left p.versions t) c.self.view_is
 
-pub returns : goal.returns
-returns c =
+pub returns-in_default : goal.returns-in_default
+returns-in_default c =
     let t = c.args.time.0 in
-    let parted = IsPartitionedBy-leb (λ v. v.time.0) c.deref.result.now t (rw c.deref.ensures.value c.self.invariant) in
-    let point = IsPartitionPoint-from_clause (λ v. leb v.time.0 t) _ _ c.partition_point-place.ensures.partitioned parted (λ a r q k. search rules) in
-    let some : 0 < c.partition_point-place.result = omega (arith, c.if-place-eq0.false) in
-    shown arc_value c.as_ref.result ∙ ap (option_map arc_value) c.as_ref.ensures.value ∙ ap (λ v. option_map arc_value v.document) c.index.ensures
-    ∙ sym (last_left dated c.self.inside.versions.items c.deref.result.now c.partition_point-place.result t c.index.result.now c.deref.ensures.value
-    some c.partition_point-place.ensures.bound point)
-    ∙ ap (λ p. document_left p.versions t) c.self.view_is
+    let older = c.self.inside.older.items in
+    let among = c.document_among.ensures ∙ ap (λ vs. document_left (map dated vs) t) c.deref.ensures.value in
+    let left : document_left (map dated older) t ≡ document_left (dated_with c.self.inside.last older) t =
+    elim c.in_default.branch [
+      | in_default-via-in-Some+else-last-time w ↦ older_leave w.in-Some.last older t (omega (arith, w.if-last-time.false)) ∙ ap (λ l. document_left (dated_with l older) t) (sym w.in-Some.is)
+      | in_default-via-in_default w ↦ ap (λ l. document_left (dated_with l older) t) (sym w.in_default.is)
+    ] in
+    among ∙ left ∙ ap (λ p. document_left p.versions t) c.self.view_is

@@ -36,7 +36,7 @@ returns-clause-same c = λ k t.
     let key = c.in_ok-copy.field-0 in
     let as_before = c.get_mut.follows.holds-at-none in
     let is : get_by (order key) old ≡ None = rw (c.in_ok-copy.ensures, as_before) (sym c.in_default.ensures.value) in
-    documents_stay old c.insert.new.self key None is c.in_ok-chain.chain c.in_ok-insert.ensures.updates.0 c.in_ok-chain.ensures.empty k t
+    documents_stay old c.insert.new.self key None is c.new-chain.result c.in_ok-insert.ensures.updates.0 c.new-chain.ensures.empty k t
     ∙ ap (λ m. document_in (get_by (order k) m) t) as_before
 
 pub returns-clause-last : goal.returns-clause-last
@@ -46,7 +46,7 @@ returns-clause-last c = λ k.
     let key = c.in_ok-copy.field-0 in
     let as_before = c.get_mut.follows.holds-at-none in
     let is : get_by (order key) old ≡ None = rw (c.in_ok-copy.ensures, as_before) (sym c.in_default.ensures.value) in
-    last_stays old c.insert.new.self key None is c.in_ok-chain.chain c.in_ok-insert.ensures.updates.0 c.in_ok-chain.ensures.empty k
+    last_stays old c.insert.new.self key None is c.new-chain.result c.in_ok-insert.ensures.updates.0 c.new-chain.ensures.empty k
     ∙ ap (λ m. last_of (get_by (order k) m)) as_before
 
 pub returns-clause-rooms : goal.returns-clause-rooms
@@ -57,4 +57,4 @@ returns-clause-rooms c = λ k.
     let as_before = c.get_mut.follows.holds-at-none in
     let is : get_by (order key) old ≡ None = rw (c.in_ok-copy.ensures, as_before) (sym c.in_default.ensures.value) in
     subst (λ m. room_of (get_by (order k) m) ≤ room_of (get_by (order k) c.insert.new.self)) as_before
-    (rooms_grow old c.insert.new.self key None is c.in_ok-chain.chain c.in_ok-insert.ensures.updates.0 (omega arith) k)
+    (rooms_grow old c.insert.new.self key None is c.new-chain.result c.in_ok-insert.ensures.updates.0 (omega arith) k)

@@ -1,0 +1,8 @@
+use Rattle.std.proofs.Common.{arith, refl}
+use Rattle.cluster_top.proofs.drive.drive.Goals as goal
+
+pub returns-in-Pipe-clause-driven : goal.returns-in-Pipe-clause-driven
+returns-in-Pipe-clause-driven g c = rw c.in-Pipe.is (λ asked are. c.pipe.ensures.piped asked 1 (omega arith) are)
+
+pub returns-in-Sim-clause-driven : goal.returns-in-Sim-clause-driven
+returns-in-Sim-clause-driven g c = rw c.in-Sim.is (λ asked are. (c.simulate.ensures.simulated asked 1 (omega arith) are, refl))

@@ -1,0 +1,24 @@
+-- What a crash at any moment leaves of the disks (own).
+use Rattle.std.specs.Prelude.{ℕ, zero, suc, Bool, IsTrue, List, [], ◌∷◌}
+use Rattle.outside.specs.Disks.{Outcomes}
+use Rattle.journal_frames.specs.Files.{Stands}
+use Rattle.node_model.specs.World.{World, journal_at, start}
+use Rattle.node_traits.specs.Calls.{LeavesAlso}
+use Rattle.node_traits.specs.Effects.{spellings}
+use Rattle.driver_steps.specs.Crashes.{Passes}
+
+-- Disks before and after, in one order: a crash at any moment since before left of each what it might have left until then, or a file of which P
+-- holds at the disk's place.
+abbrev pub LeaveSuch : {D : Type 0} → (D → ℕ) → (D → ℕ → Outcomes) → (P : ℕ → Outcomes) → List D → List D → Type 0
+LeaveSuch moment left_since P [] [] = Unit {0}
+LeaveSuch moment left_since P (before ∷ befores) (after ∷ afters) =
+    LeavesAlso moment left_since before after (P zero) × LeaveSuch moment left_since (λ at. P (suc at)) befores afters
+LeaveSuch moment left_since P befores afters = ⊥
+
+-- an opening of the file finds just what the node at a place kept in a world on the way from the start to this one
+abbrev pub IsOfTheWay : World → ℕ → Outcomes
+IsOfTheWay w at file = Passes (start 1) w (λ v. Stands file (spellings (journal_at v.nodes at)))
+
+-- such files, of disks that tell theirs
+abbrev pub LeaveTheWay : {D : Type 0} → Bool → (D → ℕ) → (D → ℕ → Outcomes) → List D → List D → World → Type 0
+LeaveTheWay tells moment left_since befores afters w = IsTrue tells → LeaveSuch moment left_since (λ at file. IsOfTheWay w at file) befores afters

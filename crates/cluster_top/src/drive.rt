@@ -1,0 +1,62 @@
+//! The drivers of the nodes.
+
+ghost use Rattle.std.specs.Prelude.{◌≡◌, ◌≢◌, ◌<◌, vec_len};
+ghost use Rattle.outside.specs.Devices.{sink_call, source_call};
+ghost use Rattle.node_model.specs.World.{start};
+ghost use Rattle.driver_steps.specs.Seats.{AreHeld, AreKept, AreOpen, LeaveKept, faults_of, places_of, seat_since, seat_view, since_then};
+ghost use Rattle.pipe_driver.specs.Counts.{OneRoseWhere, RoseWhere};
+ghost use Rattle.pipe_driver.specs.Progress.{AreAskedAsRead};
+ghost use Rattle.pipe_driver.specs.Rounds.{first_router};
+ghost use Rattle.pipe_driver.specs.declared.status.Status.TheVariants as statuses;
+ghost use Rattle.cluster_top.specs.Driven.{IsDriven};
+
+use crate::arguments::Command;
+use driver_steps::Seat;
+use node_traits::Node;
+use opmsg_frames::Request;
+use outside::clock::Clock;
+use outside::log::Log;
+use outside::streams::{Sink, Source};
+use pipe_driver::Ending;
+use sim_driver::simulate;
+use std::alloc::Global;
+use std::marker::Sync;
+use std::thread::Threads;
+
+/// The most bytes that are taken of one input.
+const MOST_TAKEN: u64 = 1 << 40;
+
+/// Serves one connection, or plays a script, as the command says, by the nodes in order of their numbers, whose logs are open and empty at
+/// the start.
+pub fn drive<R: Threads + Sync, N: Node<Request = Request>, L: Log, S: Source, K: Sink, C: Clock>(
+    rt: &R,
+    alloc: Global,
+    command: Command,
+    input: &mut S,
+    out: &mut K,
+    seats: &mut Vec<Seat<N, L>>,
+    clock: &C,
+) -> Ending
+    requires at { first_router < vec_len seats.old }
+    requires open { AreOpen L.is_open seats.old.items }
+    ensures driven { AreAskedAsRead N.asks → AreHeld (seat_view N.state L.tells L.records L.holds) seats.old.items (start 1).nodes →
+        IsDriven command (source_call S.tells S.left S.fault_count input.old input.new) (sink_call K.tells K.held K.fault_count out.old out.new)
+        (C.gives clock.now) (AreKept (seat_view N.state L.tells L.records L.holds) seats.new.items)
+        (LeaveKept (seat_since N.state L.tells L.records L.holds L.finds L.moment L.left_since (since_then seats.old.items (start 1))) seats.new.items)
+        result.status result.rest }
+    ensures open { result.status ≢ statuses.DiskFailed → result.status ≢ statuses.OutOfMemory → AreOpen L.is_open seats.new.items }
+    ensures len { vec_len seats.new ≡ vec_len seats.old }
+    ensures read_fault { RoseWhere (result.status ≡ statuses.ReadFailed) (S.fault_count input.old) (S.fault_count input.new) }
+    ensures write_fault { RoseWhere (result.status ≡ statuses.WriteFailed) (K.fault_count out.old) (K.fault_count out.new) }
+    ensures disk_fault { OneRoseWhere (result.status ≡ statuses.DiskFailed) (faults_of L.fault_count seats.old.items)
+        (faults_of L.fault_count seats.new.items) }
+    ensures places { places_of L.place seats.new.items ≡ places_of L.place seats.old.items }
+{
+    match command {
+        Command::Pipe => pipe_driver::pipe(rt, alloc, input, out, seats, clock, MOST_TAKEN),
+        Command::Sim => Ending {
+            status: simulate(rt, alloc, input, out, seats, MOST_TAKEN),
+            rest: 0,
+        },
+    }
+}

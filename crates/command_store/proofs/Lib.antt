@@ -1,6 +1,0 @@
-mod Entered
-mod Begun
-mod Telling
-mod EntryBytes
-mod UnderWay
-mod Serving

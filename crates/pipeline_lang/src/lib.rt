@@ -1,0 +1,10 @@
+//! Pipelines: their stages as documents spell them, and the parts of one that is split (MongoDB manual, "Aggregation Pipeline Stages").
+#![tactic(auto)]
+
+mod halves;
+mod parser;
+mod stage;
+
+pub use halves::{Half, HalfEnd, Joining, Merge};
+pub use parser::MOST_STAGES;
+pub use stage::{Pipeline, Stage};

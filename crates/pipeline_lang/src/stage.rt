@@ -1,0 +1,100 @@
+//! Stages, and pipelines of them.
+
+ghost use Rattle.std.specs.Prelude.{◌≡◌, IfErr, IfOk, Ok, map};
+ghost use Rattle.field_paths.specs.ReadFaults.{Fails};
+ghost use Rattle.pipeline_model.specs.Stages.{read_pipeline};
+ghost use Rattle.pipeline_lang.specs.View.{stage_of};
+
+use crate::parser::parse_pipeline;
+use bson_values::{Array, Memory, Name};
+use field_paths::ParseFault;
+use group_accum::GroupSpec;
+use match_expr::Expr;
+use projection::Projection;
+use sort_keys::SortSpec;
+use std::alloc::Global;
+use std::marker::Model;
+use std::sync::Arc;
+
+/// A stage (MongoDB manual, "Aggregation Pipeline Stages"). What it asks for is shared, so that a part of a pipeline copies none of it.
+#[derive(Drop)]
+pub enum Stage {
+    /// The documents that the filter holds of.
+    Match(Arc<Expr, Global>),
+    /// What is left of each document.
+    Project(Arc<Projection, Global>),
+    /// A document of each group.
+    Group(Arc<GroupSpec, Global>),
+    /// The documents in order.
+    Sort(Arc<SortSpec, Global>),
+    /// All but so many at the front.
+    Skip(u64),
+    /// So many at the front.
+    Limit(u64),
+    /// One document, with their number under this name.
+    Count(Name),
+}
+
+/// Stages, one behind the other, seen as the list of them.
+#[derive(Drop)]
+pub struct Pipeline {
+    pub(crate) stages: Vec<Stage>,
+}
+
+impl Model for Pipeline {
+    ghost use Rattle.std.specs.Prelude.{List, map};
+    ghost use Rattle.pipeline_model.specs.Stages as model;
+    ghost use Rattle.pipeline_lang.specs.Code.{stages_code};
+    ghost use Rattle.pipeline_lang.specs.View.{stage_of};
+
+    ghost Value = { List model.Stage };
+
+    ghost coded = { stages_code };
+
+    ghost view = { λ p. map stage_of p.stages.items };
+}
+
+impl Stage {
+    /// The same stage once more; what it asks for is shared. Fails for want of memory.
+    pub fn share(&self) -> Result<Stage, Memory>
+        ensures { IfOk result (λ s. stage_of s ≡ stage_of self.now) }
+    {
+        match self {
+            Stage::Match(asked) => Ok(Stage::Match(Arc::try_clone(asked)?)),
+            Stage::Project(rules) => Ok(Stage::Project(Arc::try_clone(rules)?)),
+            Stage::Group(spec) => Ok(Stage::Group(Arc::try_clone(spec)?)),
+            Stage::Sort(spec) => Ok(Stage::Sort(Arc::try_clone(spec)?)),
+            Stage::Skip(number) => Ok(Stage::Skip(*number)),
+            Stage::Limit(number) => Ok(Stage::Limit(*number)),
+            Stage::Count(name) => Ok(Stage::Count(name.copy()?)),
+        }
+    }
+}
+
+impl Pipeline {
+    /// The pipeline of these stages.
+    pub fn of(stages: Vec<Stage>) -> Pipeline
+        ensures { result ≡ map stage_of stages.items }
+    {
+        Pipeline { stages }
+    }
+
+    /// Its stages.
+    pub fn stages(&self) -> &[Stage]
+        ensures { map stage_of result.now ≡ self.now }
+    {
+        self.stages.as_slice()
+    }
+
+    /// The pipeline that an array is. Fails where it is none: with `BadOperand` where it has more than 1,000 stages, else with the first
+    /// fault of the stages in order (`BadOperand`, `UnknownOperator`, or what its operand is at fault with, as the filter, the
+    /// projection, the specification of groups or of a sort have it). Fails with `Memory` for want of memory.
+    pub fn parse(alloc: Global, array: &Array) -> Result<Pipeline, ParseFault>
+        // A pipeline is what the array reads as.
+        ensures pipeline { IfOk result (λ p. read_pipeline array.now ≡ Ok p) }
+        // A fault is the first, unless memory ran out.
+        ensures fault { IfErr result (λ e. Fails e (read_pipeline array.now)) }
+    {
+        parse_pipeline(alloc, array)
+    }
+}

@@ -1,0 +1,138 @@
+-- Numbers of requests and their entries: each entry is of one request.
+use Rattle.std.proofs.Common.{◌≡◌, ◌⊎◌, inl, inr, ℕ, ◌+◌, List, [], ◌∷◌, ◌++◌, length, refl, sym, ap, subst, ◌∙◌, arith, Bool}
+use Rattle.std.specs.Prelude.{true, false, ◌==◌, ◌&&◌, map, if◌then◌else◌}
+use Rattle.std.specs.List.{AllByRecursion}
+use Rattle.std.proofs.lemmas.Bool.{eqb-true}
+use Rattle.command_model.specs.Tree.{Fields}
+use Rattle.history_model.specs.History.{Session, client_session, router_session, StatementNumber, Entry, IsIn}
+use Rattle.history_model.proofs.Lists.{in_cons, in_first, in_later, in_none}
+use Rattle.reply_model.specs.Asked.{RequestId, same_request, Asked, Answered, number_for, is_session_of, entries_by}
+use Rattle.reply_model.specs.Right.{IsStatement, AreStatements}
+use Rattle.reply_model.specs.OneHistory.{ids_asked, ids_told, AreDifferent}
+use Rattle.reply_model.specs.Earlier.{IsEntryOf}
+
+-- numbers that compare equal are one
+pub same_id : (a b : RequestId) → same_request a b ≡ true → a ≡ b
+same_id a b e = by_test (a.router == b.router) (a.life == b.life) (a.count == b.count) refl refl refl e
+  where
+    by_test : (x y z : Bool) → (a.router == b.router) ≡ x → (a.life == b.life) ≡ y → (a.count == b.count) ≡ z → (x && (y && z)) ≡ true → a ≡ b
+    by_test true true true p q r e =
+        let router : a.router ≡ b.router = eqb-true _ _ p in
+        let life : a.life ≡ b.life = eqb-true _ _ q in
+        let count : a.count ≡ b.count = eqb-true _ _ r in
+        λ i. record { router = router i; life = life i; count = count i }
+    by_test true true false p q r e = absurd (cc)
+    by_test true false z p q r e = absurd (cc)
+    by_test false y z p q r e = absurd (cc)
+
+-- a session is of one request
+pub same_session : (a b : RequestId) (session : Session) → is_session_of a session ≡ true → is_session_of b session ≡ true → a ≡ b
+same_session a b (client_session name) own other = absurd (cc)
+same_session a b (router_session node life request) own other = sym (same_id (record { router = node; life = life; count = request }) a own) ∙ same_id (record { router = node; life = life; count = request }) b other
+
+number_same : (a b : RequestId) (i j : ℕ) → number_for a i ≡ number_for b j → a ≡ b
+number_same a b i j e =
+    let s : router_session a.router a.life a.count ≡ router_session b.router b.life b.count = ap (λ (n : StatementNumber). n.session) e in
+    let router : a.router ≡ b.router = cc in
+    let life : a.life ≡ b.life = cc in
+    let count : a.count ≡ b.count = cc in
+    λ i. record { router = router i; life = life i; count = count i }
+
+pub own_entry : (a b : Asked) (e : Entry) → IsEntryOf a e → IsEntryOf b e → a.id ≡ b.id
+own_entry a b e is are = number_same a.id b.id (length is.prefix) (length are.prefix) (sym is.statement.number ∙ are.statement.number)
+
+-- of different numbers each stands in one place
+one_place : {X : Type 0} (id_of : X → RequestId) (a b : X) (xs : List X) → AreDifferent (map id_of xs) → IsIn a xs → IsIn b xs → id_of a ≡ id_of b → a ≡ b
+one_place id_of a b [] different i j same = absurd (in_none a i)
+one_place {X = X} id_of a b (c ∷ xs) different i j same =
+    by_place (in_cons a c xs i) (in_cons b c xs j) (λ k l. one_place id_of a b xs different.1 k l same)
+  where
+    other : (x : X) (ys : List X) → AllByRecursion (λ id. ¬ (id ≡ id_of c)) (map id_of ys) → IsIn x ys → id_of x ≡ id_of c → ⊥
+    other x [] all k e = in_none x k
+    other x (y ∷ ys) all k e = by_first (in_cons x y ys k) (λ l. other x ys all.1 l e)
+      where
+        by_first : (x ≡ y) ⊎ IsIn x ys → (IsIn x ys → ⊥) → ⊥
+        by_first (inl z) later = all.0 (ap id_of (sym z) ∙ e)
+        by_first (inr l) later = later l
+
+    by_place : (a ≡ c) ⊎ IsIn a xs → (b ≡ c) ⊎ IsIn b xs → (IsIn a xs → IsIn b xs → a ≡ b) → a ≡ b
+    by_place (inl x) (inl y) later = x ∙ sym y
+    by_place (inl x) (inr k) later = absurd (other b xs different.0 k (sym same ∙ ap id_of x))
+    by_place (inr k) (inl y) later = absurd (other a xs different.0 k (same ∙ ap id_of y))
+    by_place (inr k) (inr l) later = later k l
+
+pub one_asked : (a b : Asked) (asked : List Asked) → AreDifferent (ids_asked asked) → IsIn a asked → IsIn b asked → a.id ≡ b.id → a ≡ b
+one_asked a b asked different i j same = one_place (λ (x : Asked). x.id) a b asked different i j same
+
+pub one_told : (s t : Answered) (answered : List Answered) → AreDifferent (ids_told answered) → IsIn s answered → IsIn t answered → s.id ≡ t.id → s ≡ t
+one_told s t answered different i j same = one_place (λ (x : Answered). x.id) s t answered different i j same
+
+-- no answer stands behind another of the same request
+pub once_told : (prefix middle back : List Answered) (s t : Answered) → AreDifferent (ids_told (prefix ++ s ∷ (middle ++ t ∷ back))) → s.id ≡ t.id → ⊥
+once_told (x ∷ prefix) middle back s t different same = once_told prefix middle back s t different.1 same
+once_told [] middle back s t different same = behind middle different.0
+  where
+    behind : (ys : List Answered) → AllByRecursion (λ id. ¬ (id ≡ s.id)) (ids_told (ys ++ t ∷ back)) → ⊥
+    behind [] all = all.0 (sym same)
+    behind (y ∷ ys) all = behind ys all.1
+
+-- the entries of a request are those of the history with its session
+pub by_in : (id : RequestId) (history : List Entry) (e : Entry) → IsIn e (entries_by id history) → IsIn e history × (is_session_of id e.number.session ≡ true)
+by_in id [] e i = absurd (in_none e i)
+by_in id (d ∷ history) e i = by_test (is_session_of id d.number.session) refl i (λ j. by_in id history e j)
+  where
+    by_place : is_session_of id d.number.session ≡ true → (e ≡ d) ⊎ IsIn e (entries_by id history)
+        → (IsIn e (entries_by id history) → IsIn e history × (is_session_of id e.number.session ≡ true))
+        → IsIn e (d ∷ history) × (is_session_of id e.number.session ≡ true)
+    by_place own (inl same) later = (subst (λ (x : Entry). IsIn x (d ∷ history)) (sym same) (in_first d history), ap (λ (x : Entry). is_session_of id x.number.session) same ∙ own)
+    by_place own (inr j) later = let l = later j in (in_later e d history l.0, l.1)
+
+    by_test : (test : Bool) → is_session_of id d.number.session ≡ test → IsIn e (if test then d ∷ entries_by id history else entries_by id history)
+        → (IsIn e (entries_by id history) → IsIn e history × (is_session_of id e.number.session ≡ true))
+        → IsIn e (d ∷ history) × (is_session_of id e.number.session ≡ true)
+    by_test true own j later = by_place own (in_cons e d (entries_by id history) j) later
+    by_test false own j later = let l = later j in (in_later e d history l.0, l.1)
+
+pub in_by : (id : RequestId) (history : List Entry) (e : Entry) → IsIn e history → is_session_of id e.number.session ≡ true → IsIn e (entries_by id history)
+in_by id [] e i own = absurd (in_none e i)
+in_by id (d ∷ history) e i own = by_test (is_session_of id d.number.session) refl (in_cons e d history i) (λ j. in_by id history e j own)
+  where
+    by_test : (test : Bool) → is_session_of id d.number.session ≡ test → (e ≡ d) ⊎ IsIn e history → (IsIn e history → IsIn e (entries_by id history))
+        → IsIn e (if test then d ∷ entries_by id history else entries_by id history)
+    by_test true t (inl same) later = subst (λ (x : Entry). IsIn x (d ∷ entries_by id history)) (sym same) (in_first d (entries_by id history))
+    by_test true t (inr j) later = in_later e d (entries_by id history) (later j)
+    by_test false t (inl same) later = absurd (let both : true ≡ false = sym own ∙ ap (λ (x : Entry). is_session_of id x.number.session) same ∙ t in cc)
+    by_test false t (inr j) later = later j
+
+-- what stands of an insert is of its statements
+pub record IsAmong (id : RequestId) (namespace : List ℕ) (index : ℕ) (documents : List Fields) (e : Entry) : Type 0 where
+  pub prefix : List Fields
+  pub document : Fields
+  pub back : List Fields
+  pub both : documents ≡ prefix ++ document ∷ back
+  pub statement : IsStatement id namespace (index + length prefix) document e
+
+pub among : (id : RequestId) (namespace : List ℕ) (ordered : Bool) (index : ℕ) (documents : List Fields) (entries : List Entry) (e : Entry)
+    → AreStatements id namespace ordered index documents entries → IsIn e entries → IsAmong id namespace index documents e
+among id namespace ordered index documents [] e are i = absurd (in_none e i)
+among id namespace ordered index [] (d ∷ entries) e are i = absurd are
+among id namespace ordered index (document ∷ documents) (d ∷ entries) e are i = by_place (in_cons e d entries i) (λ j. among id namespace ordered (index + 1) documents entries e are.2 j)
+  where
+    by_place : (e ≡ d) ⊎ IsIn e entries → (IsIn e entries → IsAmong id namespace (index + 1) documents e) → IsAmong id namespace index (document ∷ documents) e
+    by_place (inl same) later = record {
+      prefix = [];
+      document = document;
+      back = documents;
+      both = refl;
+      statement = let first : index + 0 ≡ index = omega arith in subst (λ n. IsStatement id namespace n document e) (sym first) (subst (λ (x : Entry). IsStatement id namespace index document x) (sym same) are.0);
+    }
+    by_place (inr j) later =
+        let l = later j in
+        let next : index + 1 + length l.prefix ≡ index + length (document ∷ l.prefix) = omega arith in
+        record {
+          prefix = document ∷ l.prefix;
+          document = l.document;
+          back = l.back;
+          both = ap (λ ds. document ∷ ds) l.both;
+          statement = subst (λ n. IsStatement id namespace n l.document e) next l.statement;
+        }

@@ -1,0 +1,134 @@
+-- What it means that whatever clients were told is one history of an unsharded collection, over any number of routers.
+use Rattle.std.specs.Prelude.{◌≡◌, ◌≢◌, ◌⊎◌, ℕ, ◌<◌, ◌≤◌, List, [], ◌∷◌, map, Some, Ok, true, ◌==◌, ◌&&◌, nat_lt, if◌then◌else◌}
+use Rattle.std.specs.List.{AllByRecursion}
+use Rattle.command_model.specs.Tree.{Datum}
+use Rattle.command_model.specs.Times.{time_of_moment}
+use Rattle.command_model.specs.ReplyParts.{operation_time}
+use Rattle.command_model.specs.Insert.{Insert}
+use Rattle.command_model.specs.Command.{insert_command, command_of}
+use Rattle.chunk_model.specs.Catalogue.{Creation}
+use Rattle.chunk_model.specs.Tables.{first_table, owner_at}
+use Rattle.history_model.specs.History.{Entry, Legal, IsIn, key_written}
+use Rattle.reply_model.specs.Asked.{RequestId, Asked, Answered, is_session_of}
+use Rattle.reply_model.specs.Right.{IsPart, IsRight}
+
+-- the request is an insert into the namespace
+pub record IsInsertInto (namespace : List ℕ) (a : Asked) : Type 0 where
+  pub insert : Insert
+  pub asks : command_of a.request ≡ Ok (insert_command insert)
+  pub name : insert.namespace ≡ namespace
+
+-- the entry is one of a request that a router took, and later than what the router knew then
+pub record WasSent (asked : List Asked) (e : Entry) : Type 0 where
+  pub request : Asked
+  pub taken : IsIn request asked
+  pub into : IsInsertInto e.namespace request
+  pub own : is_session_of request.id e.number.session ≡ true
+  pub later : request.time < e.time
+
+-- so is a collection that begins
+pub record WasWanted (asked : List Asked) (c : Creation) : Type 0 where
+  pub request : Asked
+  pub taken : IsIn request asked
+  pub into : IsInsertInto c.namespace request
+  pub later : request.time < c.at
+
+-- of an insert a prefix of the statements stands by now
+abbrev pub StandsInPart : List Entry → Asked → Type 0
+StandsInPart history a = (insert : Insert) → command_of a.request ≡ Ok (insert_command insert) → IsPart history a.id insert
+
+-- what was told is a right answer to a request that was taken, on its link and with its number, and not before
+pub record IsRightOf (history : List Entry) (asked : List Asked) (t : Answered) : Type 0 where
+  pub request : Asked
+  pub taken : IsIn request asked
+  pub own : request.id ≡ t.id
+  pub link : request.link ≡ t.link
+  pub number : request.number ≡ t.number
+  pub same : request.request ≡ t.request
+  pub came : request.came ≤ t.step
+  pub risen : request.time ≤ t.time
+  pub right : IsRight history request t
+
+-- what was told in the life of the request's router, before it came, is not later than what the router knew when it took it
+abbrev pub IsNotBefore : Asked → Answered → Type 0
+IsNotBefore a t = (time : ℕ) → t.id.router ≡ a.id.router → t.id.life ≡ a.id.life → t.step < a.came → operation_time (Some t.document) ≡ Some time → time ≤ a.time
+
+-- So neither what a request reads is older, nor what it writes, since an entry is later.
+abbrev pub IsFresh : List Answered → Asked → Type 0
+IsFresh answered a = AllByRecursion (IsNotBefore a) answered
+
+-- a request that came before in that life was taken at a time that is not later
+abbrev pub IsInOrder : List Asked → Asked → Type 0
+IsInOrder asked a = AllByRecursion (λ (b : Asked). b.id.router ≡ a.id.router → b.id.life ≡ a.id.life → b.came < a.came → b.time ≤ a.time) asked
+
+-- a moment that was given to a node, in a step
+pub record Given : Type 0 where
+  pub node : ℕ
+  pub moment : ℕ
+  pub step : ℕ
+
+abbrev pub last_from : (node step moment : ℕ) → List Given → ℕ
+last_from node step moment [] = moment
+last_from node step moment (g ∷ given) = if (g.node == node) && nat_lt g.step step then last_from node step g.moment given else last_from node step moment given
+
+-- the last moment that a node was given before a step, 0 if it was given none
+abbrev pub last_given : (node step : ℕ) → List Given → ℕ
+last_given node step given = last_from node step 0 given
+
+-- the time was met: that of a moment that was given, of a collection that began or of an entry
+abbrev pub WasMet : List Given → List Creation → List Entry → ℕ → Type 0
+WasMet given creations history time =
+    (time ≡ 0)
+    ⊎ (((g : Given) × IsIn g given × (time ≡ time_of_moment g.moment))
+    ⊎ (((c : Creation) × IsIn c creations × (time ≡ c.at))
+    ⊎ ((e : Entry) × IsIn e history × (time ≡ e.time))))
+
+-- what a router knew when it took a request: its last moment, and a time that was met and is not before that
+pub record IsKnown (given : List Given) (creations : List Creation) (history : List Entry) (a : Asked) : Type 0 where
+  pub moment : a.moment ≡ last_given a.id.router a.came given
+  pub time : WasMet given creations history a.time
+  pub reached : time_of_moment a.moment ≤ a.time
+
+-- no request has the number of another
+abbrev pub AreDifferent : List RequestId → Type 0
+AreDifferent [] = Unit {0}
+AreDifferent (id ∷ ids) = AllByRecursion (λ other. ¬ (other ≡ id)) ids × AreDifferent ids
+
+abbrev pub ids_asked : List Asked → List RequestId
+ids_asked asked = map (λ (a : Asked). a.id) asked
+
+abbrev pub ids_told : List Answered → List RequestId
+ids_told answered = map (λ (t : Answered). t.id) answered
+
+-- no two collections have one name
+abbrev pub AreDifferentNames : List Creation → Type 0
+AreDifferentNames [] = Unit {0}
+AreDifferentNames (c ∷ creations) = AllByRecursion (λ (d : Creation). d.namespace ≢ c.namespace) creations × AreDifferentNames creations
+
+-- the entry stands on the shard that owned its key at its time, in a collection that began before it
+pub record IsPlaced (creations : List Creation) (e : Entry) : Type 0 where
+  pub creation : Creation
+  pub key : Datum
+  pub begun : IsIn creation creations
+  pub name : creation.namespace ≡ e.namespace
+  pub before : creation.at < e.time
+  pub writes : key_written e.operation ≡ Some key
+  pub owner : owner_at (first_table creation) key e.time ≡ Some e.shard
+
+-- Whatever clients send: the entries are one legal history of an unsharded collection with each statement at most once; each is
+-- of a request that a router took, stands where it belongs and is later than what its router knew; each collection was wanted by
+-- an insert; of each insert a prefix of the statements stands; each request is told once at most, and rightly; and what its router
+-- knew then is not before what it had told and taken.
+pub record OneHistory (given : List Given) (creations : List Creation) (history : List Entry) (asked : List Asked) (answered : List Answered) : Type 0 where
+  pub legal : Legal history
+  pub sent : AllByRecursion (WasSent asked) history
+  pub placed : AllByRecursion (IsPlaced creations) history
+  pub parts : AllByRecursion (StandsInPart history) asked
+  pub wanted : AllByRecursion (WasWanted asked) creations
+  pub names : AreDifferentNames creations
+  pub right : AllByRecursion (IsRightOf history asked) answered
+  pub one : AreDifferent (ids_asked asked)
+  pub once : AreDifferent (ids_told answered)
+  pub fresh : AllByRecursion (IsFresh answered) asked
+  pub order : AllByRecursion (IsInOrder asked) asked
+  pub known : AllByRecursion (IsKnown given creations history) asked

@@ -1,0 +1,99 @@
+-- What is heard of a message is a row.
+use Rattle.std.proofs.Common.{Global, ◌≡◌, refl, ap, sym, subst, ◌∙◌, ℕ, List, [], map, Bool, true, false, if◌then◌else◌}
+use Rattle.std.specs.Prelude.{Option, Some, None}
+use Rattle.node_model.specs.Asked.{RequestId, same_request}
+use Rattle.node_model.specs.Letters as letters
+use Rattle.node_model.specs.Letters.{Letter, Input, letter_input, nothing}
+use Rattle.node_model.specs.Outcomes.{Done}
+use Rattle.node_model.specs.RouterRows.{heard, knows, open_of, id_of, with_work, router_late, IsLate}
+use Rattle.node_model.specs.States.{Open, Router, Work, writing, reading, open_with, replaced}
+use Rattle.node_traits.specs.declared.outputs.ToLink.{ToLink}
+use Rattle.open_requests.specs.Works.{wait_meant}
+use Rattle.open_requests.specs.declared.work.Wait.{Wait}
+use Rattle.protocol_model.specs.Messages.{letter_of}
+use Rattle.protocol_model.specs.Statements.{done_meant}
+use Rattle.protocol_model.specs.declared.statement.Done.{Done as Done_told}
+use Rattle.std.specs.declared.vec.Vec.{Vec}
+use Rattle.router_node.specs.Rows.{TookRow}
+use Rattle.router_node.specs.StepPlans.{Follows, FollowsBy, Hears, IsHeard, changed}
+use Rattle.router_node.specs.declared.step_plan.Change.{Change}
+use Rattle.router_node.specs.declared.step_plan.Change.TheVariants.{Stays, Waits, Notes}
+use Rattle.router_node.specs.declared.step_plan.StepPlan.{StepPlan}
+
+-- the change that was planned may follow
+pub follows_so : (n : Router) (p : StepPlan) (begun : Bool) (change : Change) → p.begun ≡ begun → p.change ≡ change → FollowsBy n begun change → Follows n p
+follows_so n p begun change life is follows =
+    subst (λ (b : Bool). FollowsBy n b p.change) (sym life) (subst (λ (c : Change). FollowsBy n begun c) (sym is) follows)
+
+module _ (r : Router) (m : Letter) (p : StepPlan) (time : ℕ) (late : time ≡ heard r m) where
+  pub heard_by : (change : Change) (mail : List Letter) (replies : List ToLink) → Hears r time change mail replies p → FollowsBy r r.begun change
+      → TookRow r (letter_input m) mail replies (changed r (heard r m) r.begun r.moment change) → IsHeard r m p
+  heard_by change mail replies h follows took = record {
+    row = subst (λ (q : Router). TookRow r (letter_input m) (map letter_of p.mail) p.replies q) (sym (h.new ∙ ap (λ (t : ℕ). changed r t r.begun r.moment change) late))
+        (subst (λ (ls : List Letter). TookRow r (letter_input m) ls p.replies (changed r (heard r m) r.begun r.moment change)) (sym h.sent)
+        (subst (λ (rs : List ToLink). TookRow r (letter_input m) mail rs (changed r (heard r m) r.begun r.moment change)) (sym h.told) took));
+    unkept = h.unkept;
+    follows = follows_so r p r.begun change h.begun h.is follows;
+  }
+
+  pub heard_late : Hears r time Stays [] [] p → IsLate r m.body → IsHeard r m p
+  heard_late h is = heard_by Stays [] [] h (λ e. e) (record { effect = nothing; row = router_late r m is; written = refl; sent = refl; told = refl })
+
+some_open : (b : Bool) (o : Option Open) (q : Open) → (if b then o else None) ≡ Some q → o ≡ Some q
+some_open true o q e = e
+some_open false o q e = absurd (cc e)
+
+module _ (r : Router) (id : RequestId) (q : Open) (opened : open_of r id ≡ Some q) where
+  pub found : open_with id.count r.requests ≡ Some q
+  found = some_open (same_request id (id_of r id.count)) (open_with id.count r.requests) q opened
+
+  -- it waits for this
+  pub waits_so : (i : Input) (ls : List Letter) (rs : List ToLink) (time : ℕ) (wait : Wait)
+      → TookRow r i ls rs (knows r time r.tables (replaced (with_work q (wait_meant wait) q.work) r.requests))
+      → TookRow r i ls rs (changed r time r.begun r.moment (Waits id.count wait))
+  waits_so i ls rs time wait took =
+      subst (λ (o : Option Open). TookRow r i ls rs (record {
+        me = r.me;
+        time = time;
+        life = r.life;
+        begun = r.begun;
+        moment = r.moment;
+        count = r.count;
+        tables = r.tables;
+        requests = elim o as (λ _. List Open) [ None ↦ r.requests | Some x ↦ replaced (with_work x (wait_meant wait) x.work) r.requests ];
+      })) (sym found) took
+
+  -- it has these answers now, and waits for this
+  pub notes_so : (i : Input) (ls : List Letter) (rs : List ToLink) (time : ℕ) (wait : Wait) (answers : Vec Done_told Global) (ordered : Bool) (statements : List letters.Statement) (before : List Done)
+      → q.work ≡ writing ordered statements before
+      → TookRow r i ls rs (knows r time r.tables (replaced (with_work q (wait_meant wait) (writing ordered statements (map done_meant answers.items))) r.requests))
+      → TookRow r i ls rs (changed r time r.begun r.moment (Notes id.count wait answers))
+  notes_so i ls rs time wait answers ordered statements before work took =
+      subst (λ (o : Option Open). TookRow r i ls rs (record {
+        me = r.me;
+        time = time;
+        life = r.life;
+        begun = r.begun;
+        moment = r.moment;
+        count = r.count;
+        tables = r.tables;
+        requests = elim o as (λ _. List Open) [
+          | None ↦ r.requests
+          | Some x ↦ elim x.work as (λ _. List Open) [
+            | writing a s b ↦ replaced (with_work x (wait_meant wait) (writing a s (map done_meant answers.items))) r.requests
+            | reading at half ↦ r.requests
+          ]
+        ];
+      })) (sym found) (subst (λ (w : Work). TookRow r i ls rs (record {
+        me = r.me;
+        time = time;
+        life = r.life;
+        begun = r.begun;
+        moment = r.moment;
+        count = r.count;
+        tables = r.tables;
+        requests = elim w as (λ _. List Open) [
+          | writing a s b ↦ replaced (with_work q (wait_meant wait) (writing a s (map done_meant answers.items))) r.requests
+          | reading at half ↦ r.requests
+        ];
+      })) (sym work) took)

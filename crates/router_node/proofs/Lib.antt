@@ -1,0 +1,10 @@
+mod Asked
+mod Changed
+mod Documents
+mod Fates
+mod Heard
+mod Known
+mod Learning
+mod Puts
+mod Rest
+mod Started

@@ -1,0 +1,230 @@
+-- A row in front of which the life begins, if it did not begin.
+use Rattle.std.proofs.Common.{◌≡◌, refl, ap, sym, subst, ◌∙◌, ℕ, ℤ, ◌+◌, List, [], ◌∷◌, ◌++◌, Bool, true, false, append-nil, if◌then◌else◌}
+use Rattle.std.specs.Prelude.{max, Result, Ok, Err, IfOk}
+use Rattle.std.specs.List.{flat_map}
+use Rattle.node_model.specs.Answers.{Answer, answer_document}
+use Rattle.node_model.specs.Command.{command_of}
+use Rattle.node_model.specs.Kept.{kept_life}
+use Rattle.node_model.specs.Letters.{Letter, Input, client_input, letter_input, moment_input, opened_input, Effect, nothing, sends, writes}
+use Rattle.node_model.specs.Requests.{Request}
+use Rattle.node_model.specs.RouterRows.{RouterRow, router_begin, router_opened, router_plain, router_take, router_moment, router_skip, TellsNothing, begins, takes, plan_of, at_once, needs, id_of, asks_for, asks_times, asks_again, wait_of, opened_request, is_ahead, table_for, taken_now}
+use Rattle.node_model.specs.States.{Router, Work, Wait, Open, router_state}
+use Rattle.node_model.specs.Steps.{Step, IsFor, BeginsBefore, router_step, begin_step, other_step}
+use Rattle.node_model.specs.Times.{time_of_moment}
+use Rattle.node_traits.specs.Effects.{AreSound, puts_of, spellings}
+use Rattle.node_traits.specs.declared.outputs.ToLink.{ToLink}
+use Rattle.open_requests.proofs.Askers.{asked_alike}
+use Rattle.open_requests.specs.Works.{open_meant, wait_meant, work_meant}
+use Rattle.open_requests.specs.declared.work.OpenRequest.{OpenRequest}
+use Rattle.protocol_model.specs.Requests.{request_of}
+use Rattle.router_node.specs.Rows.{TookRow, started, life_kept}
+use Rattle.router_node.proofs.Heard.{follows_so}
+use Rattle.router_node.specs.StepPlans.{FollowsBy, Hears, IsHeard, IsPlanned, Starts, changed, count_then, router_then}
+use Rattle.router_node.specs.declared.step_plan.Change.{Change}
+use Rattle.router_node.specs.declared.step_plan.Change.TheVariants.{Stays, Counts, Opens, Closes, Waits, Notes, Learns}
+use Rattle.router_node.specs.declared.step_plan.StepPlan.{StepPlan}
+
+-- the effect with what is kept of a life that begins
+abbrev with_life : Router → Effect → Effect
+with_life r f = record { written = life_kept r ++ f.written; mail = f.mail; taken = f.taken; replies = f.replies }
+
+-- a router in its life
+in_life : (r : Router) → r.begun ≡ true → started r ≡ r
+in_life r is = ap (λ (b : Bool). record { me = r.me; time = r.time; life = r.life; begun = b; moment = r.moment; count = r.count; tables = r.tables; requests = r.requests }) (sym is)
+
+-- one whose life begins
+not_yet : (r : Router) → r.count ≡ 0 → started r ≡ begins r
+not_yet r is = ap (λ (n : ℕ). record { me = r.me; time = r.time; life = r.life; begun = true; moment = r.moment; count = n; tables = r.tables; requests = r.requests }) is
+
+started_step : (r q : Router) (i : Input) (f : Effect) → (r.begun ≡ false → r.count ≡ 0) → IsFor r.me i → BeginsBefore i → RouterRow (started r) i f q
+    → Step (router_state r) i (with_life r f) (router_state q)
+started_step r q i f quiet for before row = by_begun r.begun refl where
+  by_begun : (begun : Bool) → r.begun ≡ begun
+      → Step (router_state r) i (record { written = (if begun then [] else kept_life r.life ∷ []) ++ f.written; mail = f.mail; taken = f.taken; replies = f.replies }) (router_state q)
+  by_begun true is = router_step r q i f for (subst (λ (s : Router). RouterRow s i f q) (in_life r is) row)
+  by_begun false is = begin_step r q i f is before (subst (λ (s : Router). RouterRow s i f q) (not_yet r (quiet is)) row)
+
+opened_step : (r : Router) → (r.begun ≡ false → r.count ≡ 0) → Step (router_state r) opened_input (writes (life_kept r) []) (router_state (started r))
+opened_step r quiet = by_begun r.begun refl where
+  by_begun : (begun : Bool) → r.begun ≡ begun → Step (router_state r) opened_input (writes (if begun then [] else kept_life r.life ∷ []) []) (router_state (started r))
+  by_begun true is = subst (λ (s : Router). Step (router_state r) opened_input (writes [] []) (router_state s)) (sym (in_life r is)) (router_step r r opened_input nothing tt (router_opened r is))
+  by_begun false is = subst (λ (s : Router). Step (router_state r) opened_input (writes (kept_life r.life ∷ []) []) (router_state s)) (sym (not_yet r (quiet is)))
+      (router_step r (begins r) opened_input _ tt (router_begin r is))
+
+module _ (r : Router) (p : StepPlan) where
+  -- a row of a client or a moment is a step
+  pub starts_step : (quiet : r.begun ≡ false → r.count ≡ 0) (i : Input) (time moment : ℕ) (change : Change) (mail : List Letter) (replies : List ToLink) → IsFor r.me i → BeginsBefore i
+      → Starts r time moment change mail replies p → FollowsBy r true change
+      → TookRow (started r) i mail replies (changed r time true moment change) → IsPlanned r i p
+  starts_step quiet i time moment change mail replies for before s follows took = record {
+    step = record {
+      effect = with_life r took.effect;
+      step = started_step r (router_then r p) i took.effect quiet for before (subst (λ (q : Router). RouterRow (started r) i took.effect q) (sym s.new) took.row);
+      sent = took.sent ∙ sym s.sent;
+      told = s.told ∙ took.told;
+      sound = subst (λ w. AreSound (life_kept r ++ w)) (sym took.written) (subst (λ w. AreSound w) (sym (append-nil (life_kept r))) s.sound);
+      spelled = s.kept ∙ ap spellings (sym (append-nil (life_kept r)) ∙ ap (λ w. life_kept r ++ w) (sym took.written));
+    };
+    follows = follows_so r p true change s.begun s.is follows;
+  }
+
+  -- the router was opened
+  pub opened_is : (r.begun ≡ false → r.count ≡ 0) → Starts r r.time r.moment Stays [] [] p → IsPlanned r opened_input p
+  opened_is quiet s = record {
+    step = record {
+      effect = writes (life_kept r) [];
+      step = subst (λ (q : Router). Step (router_state r) opened_input (writes (life_kept r) []) (router_state q)) (sym s.new) (opened_step r quiet);
+      sent = sym s.sent;
+      told = s.told;
+      sound = s.sound;
+      spelled = s.kept;
+    };
+    follows = follows_so r p true Stays s.begun s.is (λ e. absurd (cc e));
+  }
+
+  -- a message that is heard is a step
+  pub heard_step : (m : Letter) → m.receiver ≡ r.me → IsHeard r m p → IsPlanned r (letter_input m) p
+  heard_step m here h = record {
+    step = record {
+      effect = h.row.effect;
+      step = router_step r (router_then r p) (letter_input m) h.row.effect here h.row.row;
+      sent = h.row.sent;
+      told = h.row.told;
+      sound = subst (λ w. AreSound w) (sym h.row.written) tt;
+      spelled = h.unkept ∙ ap spellings (sym h.row.written);
+    };
+    follows = h.follows;
+  }
+
+  -- one to another node
+  pub other_is : (m : Letter) → (m.receiver ≡ r.me → ⊥) → Hears r r.time Stays [] [] p → IsPlanned r (letter_input m) p
+  other_is m other h = record {
+    step = record {
+      effect = nothing;
+      step = subst (λ (q : Router). Step (router_state r) (letter_input m) nothing (router_state q)) (sym h.new) (other_step (router_state r) m other);
+      sent = sym h.sent;
+      told = h.told;
+      sound = tt;
+      spelled = h.unkept;
+    };
+    follows = follows_so r p r.begun Stays h.begun h.is (λ e. e);
+  }
+
+  -- one of another kind
+  pub skipped : (m : Letter) → TellsNothing m.body → Hears r r.time Stays [] [] p → IsHeard r m p
+  skipped m none h = record {
+    row = record {
+      effect = nothing;
+      row = subst (λ (q : Router). RouterRow r (letter_input m) nothing q) (sym h.new) (router_skip r m none);
+      written = refl;
+      sent = sym h.sent;
+      told = h.told;
+    };
+    unkept = h.unkept;
+    follows = follows_so r p r.begun Stays h.begun h.is (λ e. e);
+  }
+
+module _ (r : Router) (link : ℕ) (number : ℤ) (request : Request) (answer : Answer) where
+  abbrev answered : Effect
+  answered = record {
+    written = [];
+    mail = [];
+    taken = taken_now (started r) link number request ∷ [];
+    replies = record { id = id_of r (r.count + 1); link = link; number = number; request = request; time = r.time; document = answer_document answer } ∷ [];
+  }
+
+  -- answered at once
+  pub took_plain : (replies : List ToLink) → plan_of (started r) (id_of r (r.count + 1)) (command_of request) ≡ at_once answer
+      → replies ≡ puts_of (record { id = id_of r (r.count + 1); link = link; number = number; request = request; time = r.time; document = answer_document answer } ∷ [])
+      → TookRow (started r) (client_input link number request) [] replies (changed r r.time true r.moment Counts)
+  took_plain replies plan told = record {
+    effect = answered;
+    row = subst (λ (l : List Open). RouterRow (started r) (client_input link number request) answered
+        (record { me = r.me; time = r.time; life = r.life; begun = true; moment = r.moment; count = r.count + 1; tables = r.tables; requests = l }))
+        (append-nil r.requests) (router_plain (started r) link number request answer refl plan);
+    written = refl;
+    sent = refl;
+    told = told;
+  }
+
+asked_started : (r : Router) (time count : ℕ) (namespace : List ℕ) (work : Work) → asks_for (started r) time count namespace work ≡ asks_for r time count namespace work
+asked_started r time count namespace work =
+    ap (λ (l : List Letter). if is_ahead time work then asks_times r time (id_of r count) else l)
+    (sym (asked_alike (started r) time count namespace work (table_for r.tables namespace work)) ∙ asked_alike r time count namespace work (table_for r.tables namespace work))
+
+module _ (r : Router) (o : OpenRequest) (next : o.count ≡ r.count + 1) where
+  abbrev work : Work
+  work = work_meant (id_of r o.count) o.work
+
+  abbrev request : Request
+  request = request_of o.request
+
+  opens : wait_meant o.wait ≡ wait_of r r.time o.namespace work → open_meant r.me r.life o ≡ opened_request (started r) o.link o.number request o.namespace work
+  opens waits =
+      ap (λ (n : ℕ). record { count = n; link = o.link; number = o.number; request = request; namespace = o.namespace; wait = wait_meant o.wait; work = work }) next
+      ∙ ap (λ (w : Wait). record { count = r.count + 1; link = o.link; number = o.number; request = request; namespace = o.namespace; wait = w; work = work }) waits
+
+  abbrev effect : Effect
+  effect = record { written = []; mail = asks_for (started r) r.time (r.count + 1) o.namespace work; taken = taken_now (started r) o.link o.number request ∷ []; replies = [] }
+
+  -- kept open
+  pub took_open : (letters : List Letter) → plan_of (started r) (id_of r o.count) (command_of (request_of o.request)) ≡ needs o.namespace (work_meant (id_of r o.count) o.work)
+      → letters ≡ asks_for r r.time o.count o.namespace (work_meant (id_of r o.count) o.work)
+      → wait_meant o.wait ≡ wait_of r r.time o.namespace (work_meant (id_of r o.count) o.work)
+      → TookRow (started r) (client_input o.link o.number (request_of o.request)) letters [] (changed r r.time true r.moment (Opens o))
+  took_open letters plan asked waits = record {
+    effect = effect;
+    row = subst (λ (x : Open). RouterRow (started r) (client_input o.link o.number request) effect (takes (started r) (x ∷ []))) (sym (opens waits))
+        (router_take (started r) o.link o.number request o.namespace work refl
+        (subst (λ (n : ℕ). plan_of (started r) (id_of r n) (command_of request) ≡ needs o.namespace work) next plan));
+    written = refl;
+    sent = asked_started r r.time (r.count + 1) o.namespace work ∙ sym (subst (λ (n : ℕ). letters ≡ asks_for r r.time n o.namespace work) next asked);
+    told = refl;
+  }
+
+-- what is unanswered is asked again
+pub took_moment : (r : Router) (moment time : ℕ) (letters : List Letter) → time ≡ max r.time (time_of_moment moment) → letters ≡ flat_map (λ q. asks_again (started r) time q) r.requests
+    → TookRow (started r) (moment_input moment) letters [] (changed r time true moment Stays)
+took_moment r moment time letters is asked = record {
+  effect = sends (flat_map (λ q. asks_again (started r) (max r.time (time_of_moment moment)) q) r.requests);
+  row = subst (λ (t : ℕ). RouterRow (started r) (moment_input moment) (sends (flat_map (λ q. asks_again (started r) (max r.time (time_of_moment moment)) q) r.requests)) (changed r t true moment Stays)) (sym is) (router_moment (started r) moment refl);
+  written = refl;
+  sent = sym (subst (λ (t : ℕ). letters ≡ flat_map (λ q. asks_again (started r) t q) r.requests) is asked);
+  told = refl;
+}
+
+-- OVER RESULTS
+
+module _ {E : Type 0} (r : Router) (x : Result StepPlan E) where
+  pub ok_same : (i j : Input) → j ≡ i → IfOk x (λ p. IsPlanned r i p) → IfOk x (λ p. IsPlanned r j p)
+  ok_same i j is planned = subst (λ (k : Input). IfOk x (λ p. IsPlanned r k p)) (sym is) planned
+
+  pub ok_heard : (m : Letter) → m.receiver ≡ r.me → IfOk x (λ p. IsHeard r m p) → IfOk x (λ p. IsPlanned r (letter_input m) p)
+  ok_heard m here heard = by_result x heard where
+    by_result : (y : Result StepPlan E) → IfOk y (λ p. IsHeard r m p) → IfOk y (λ p. IsPlanned r (letter_input m) p)
+    by_result (Ok p) h = heard_step r p m here h
+    by_result (Err e) h = tt
+
+  pub ok_opened : (mail : List Letter) → (r.begun ≡ false → r.count ≡ 0) → mail ≡ [] → IfOk x (λ p. Starts r r.time r.moment Stays mail [] p) → IfOk x (λ p. IsPlanned r opened_input p)
+  ok_opened mail quiet none starts = by_result x (subst (λ (ls : List Letter). IfOk x (λ p. Starts r r.time r.moment Stays ls [] p)) none starts) where
+    by_result : (y : Result StepPlan E) → IfOk y (λ p. Starts r r.time r.moment Stays [] [] p) → IfOk y (λ p. IsPlanned r opened_input p)
+    by_result (Ok p) h = opened_is r p quiet h
+    by_result (Err e) h = tt
+
+  pub ok_starts : (quiet : r.begun ≡ false → r.count ≡ 0) (i : Input) (time moment : ℕ) (change : Change) (mail : List Letter) (replies : List ToLink) → IsFor r.me i → BeginsBefore i
+      → FollowsBy r true change → TookRow (started r) i mail replies (changed r time true moment change)
+      → IfOk x (λ p. Starts r time moment change mail replies p) → IfOk x (λ p. IsPlanned r i p)
+  ok_starts quiet i time moment change mail replies for before follows took starts = by_result x starts where
+    by_result : (y : Result StepPlan E) → IfOk y (λ p. Starts r time moment change mail replies p) → IfOk y (λ p. IsPlanned r i p)
+    by_result (Ok p) h = starts_step r p quiet i time moment change mail replies for before h follows took
+    by_result (Err e) h = tt
+
+-- where no life began no request was taken, then too
+pub quiet_then : (r : Router) (begun : Bool) (change : Change) → (r.begun ≡ false → r.count ≡ 0) → FollowsBy r begun change → begun ≡ false → count_then change r.count ≡ 0
+quiet_then r begun Stays quiet follows not_begun = quiet (follows not_begun)
+quiet_then r begun Counts quiet follows not_begun = absurd (cc (sym follows.0 ∙ not_begun))
+quiet_then r begun (Opens q) quiet follows not_begun = absurd (cc (sym follows.0 ∙ not_begun))
+quiet_then r begun (Closes count) quiet follows not_begun = quiet (follows not_begun)
+quiet_then r begun (Waits count wait) quiet follows not_begun = quiet (follows.0 not_begun)
+quiet_then r begun (Notes count wait answers) quiet follows not_begun = quiet (follows.0 not_begun)
+quiet_then r begun (Learns namespace at table) quiet follows not_begun = quiet (follows not_begun)

@@ -1,0 +1,28 @@
+use Rattle.std.proofs.Common.{ap, ◌∙◌, ℕ, [], ◌∷◌, arith, rules}
+use Rattle.node_model.specs.Answers.{refusal_answer}
+use Rattle.node_model.specs.RouterRows as rows
+use Rattle.node_traits.specs.Effects.{puts_of}
+use Rattle.open_requests.specs.Works.{open_meant}
+use Rattle.protocol_model.specs.Bodies.{id_meant}
+use Rattle.router_node.specs.RouterStates.{router_of}
+use Rattle.router_node.proofs.Heard.{heard_by}
+use Rattle.node_model.specs.Answers.{answer_document}
+use Rattle.command_answers.specs.Refusals.{refusal_meant}
+use Rattle.std.proofs.Common.{w32}
+use mir.Val.{SFits}
+use Rattle.node_model.specs.Refusals.{Refusal, time_ahead}
+use Rattle.router_node.proofs.Puts.{told_as}
+use Rattle.router_node.proofs.Fates.{time_ahead_told}
+use Rattle.router_node.proofs.node.RouterNode.plan_ahead.Goals as goal
+
+pub returns : goal.returns
+returns c = λ m is late.
+    let n = c.args.self.now in
+    let r = router_of n in
+    let q = open_meant n.me.0 n.life c.args.request.now in
+    let id = id_meant c.args.id in
+    let fits : SFits w32 c.args.request.now.number = search rules in
+    heard_by r m c.hears.result c.args.time.0 late _ _ _ c.hears.ensures (λ e. e)
+    (time_ahead_told r m id q c.requires.open c.args.at.0 c.requires.work.0 _ is c.requires.work.1 c.requires.waits (omega (arith, c.requires.ahead, late))
+    (told_as _ (rows.id_of r q.count) (rows.heard r m) q.link q.number q.request (answer_document (refusal_answer (refusal_meant c.time_ahead.result))) fits (c.in_ok-reply.ensures (rows.id_of r q.count) (rows.heard r m))
+    ∙ ap (λ (x : Refusal). puts_of (rows.reply_to r (rows.heard r m) q (refusal_answer x) ∷ [])) (c.time_ahead.ensures ∙ ap (λ (t : ℕ). time_ahead t) late)))

@@ -1,0 +1,38 @@
+use Rattle.std.proofs.Common.{subst, ◌∙◌, [], refl, map, rules}
+use Rattle.node_model.specs.Letters.{client_input}
+use Rattle.node_model.specs.RouterRows as rows
+use Rattle.open_requests.specs.declared.work.OpenRequest.{OpenRequest}
+use Rattle.protocol_model.specs.Messages.{letter_of}
+use Rattle.protocol_model.specs.Requests.{request_of}
+use Rattle.router_node.specs.RouterStates.{router_of}
+use Rattle.router_node.specs.declared.step_plan.Change.TheVariants.{Opens}
+use Rattle.std.proofs.Common.{w32, ℤ}
+use Rattle.std.proofs.lemmas.Int.{to_z-of_z}
+use mir.Val.{SFits, of_z, to_z}
+use Rattle.std.specs.Prelude.{IfOk}
+use Rattle.router_node.specs.StepPlans.{IsPlanned}
+use Rattle.router_node.proofs.Started.{ok_starts, took_open}
+use Rattle.router_node.proofs.node.RouterNode.plan_open.Goals as goal
+
+pub returns : goal.returns
+returns c =
+    let n = c.args.self.now in
+    let r = router_of n in
+    let link = c.args.asked.link in
+    let request = request_of c.args.asked.request in
+    let fits : SFits w32 c.args.asked.number = search rules in
+    let number : ℤ = to_z w32 (of_z w32 c.args.asked.number) in
+    let o : OpenRequest = record {
+      count = c.args.count;
+      link = c.args.asked.link;
+      number = number;
+      request = c.args.asked.request;
+      namespace = c.args.namespace;
+      wait = c.in_ok-wait.wait;
+      work = c.args.work;
+    } in
+    subst (λ (z : ℤ). IfOk c.starts.result (λ p. IsPlanned r (client_input link z request) p)) (to_z-of_z w32 c.args.asked.number fits)
+    (ok_starts r c.starts.result n.quiet (client_input link number request) r.time r.moment (Opens o) (map letter_of c.mail_of-mail.result) [] tt tt
+    (refl, c.requires.few, c.requires.next)
+    (took_open r o c.requires.next (map letter_of c.mail_of-mail.result) c.requires.plan (c.mail_of-mail.ensures ∙ c.in_ok-wait.ensures.letters) (c.in_ok-wait.ensures.wait (rows.id_of r c.args.count)))
+    c.starts.ensures)

@@ -1,0 +1,34 @@
+use Rattle.std.proofs.Common.{ap, sym, subst, List, refl, map, rules, true, ◌+◌}
+use Rattle.node_model.specs.Letters.{Letter, client_input}
+use Rattle.node_model.specs.RouterRows as rows
+use Rattle.node_traits.specs.Lists.{listed}
+use Rattle.command_answers.specs.AnswerMeanings.{answer_meant}
+use Rattle.protocol_model.specs.Messages.{letter_of}
+use Rattle.protocol_model.specs.Requests.{request_of}
+use Rattle.protocol_model.specs.declared.message.Message.{Message}
+use Rattle.router_node.specs.Rows.{TookRow, started}
+use Rattle.router_node.specs.RouterStates.{router_of}
+use Rattle.router_node.specs.StepPlans.{changed}
+use Rattle.router_node.specs.declared.step_plan.Change.TheVariants.{Counts}
+use Rattle.node_model.specs.Answers.{answer_document}
+use Rattle.std.proofs.Common.{w32}
+use mir.Val.{SFits}
+use Rattle.router_node.proofs.Puts.{told_as}
+use Rattle.router_node.proofs.Started.{ok_starts, took_plain}
+use Rattle.router_node.proofs.node.RouterNode.plan_plain.Goals as goal
+
+pub returns : goal.returns
+returns c =
+    let n = c.args.self.now in
+    let r = router_of n in
+    let request = request_of c.args.asked.request in
+    let number = c.args.asked.number in
+    let i = client_input c.args.asked.link number request in
+    let reply = listed c.in_ok-reply.reply in
+    let fits : SFits w32 c.args.asked.number = search rules in
+    ok_starts r c.starts.result n.quiet i r.time r.moment Counts (map letter_of c.new-mail.result) reply tt tt (refl, c.requires.few)
+    (subst (λ (ls : List Letter). TookRow (started r) i ls reply (changed r r.time true r.moment Counts)) (sym (ap (λ (ms : List Message). map letter_of ms) c.new-mail.ensures))
+    (took_plain r c.args.asked.link number request (answer_meant c.args.answer) reply c.requires.plan
+    (told_as reply (rows.id_of r (r.count + 1)) r.time c.args.asked.link number request (answer_document (answer_meant c.args.answer)) fits
+    (c.in_ok-reply.ensures (rows.id_of r (r.count + 1)) r.time))))
+    c.starts.ensures

@@ -1,0 +1,24 @@
+-- What a row leaves.
+use Rattle.std.specs.Prelude.{◌≡◌, List, [], ◌∷◌, true, if◌then◌else◌}
+use Rattle.node_model.specs.Kept.{Kept, kept_life}
+use Rattle.node_model.specs.Letters.{Letter, Input, Effect}
+use Rattle.node_model.specs.RouterRows.{RouterRow}
+use Rattle.node_model.specs.States.{Router}
+use Rattle.node_traits.specs.Effects.{puts_of}
+use Rattle.node_traits.specs.declared.outputs.ToLink.{ToLink}
+
+-- a row was taken on the input; these letters and the bytes of its replies are given out, and nothing is kept
+pub record TookRow (old : Router) (i : Input) (mail : List Letter) (replies : List ToLink) (new : Router) : Type 0 where
+  pub effect : Effect
+  pub row : RouterRow old i effect new
+  pub written : effect.written ≡ []
+  pub sent : effect.mail ≡ mail
+  pub told : replies ≡ puts_of effect.replies
+
+-- the router in its life; where that did not begin, no request was taken
+abbrev pub started : Router → Router
+started r = record { me = r.me; time = r.time; life = r.life; begun = true; moment = r.moment; count = r.count; tables = r.tables; requests = r.requests }
+
+-- what is kept of a life that begins
+abbrev pub life_kept : Router → List Kept
+life_kept r = if r.begun then [] else kept_life r.life ∷ []

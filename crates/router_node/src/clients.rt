@@ -1,0 +1,99 @@
+//! Requests of clients.
+
+use crate::mail::mail_of;
+use crate::node::RouterNode;
+use crate::plans::Plan;
+use crate::replies::reply_to;
+use crate::step_plan::{Change, StepPlan};
+use bson_values::Memory;
+use cluster_base::Namespace;
+use command_answers::Answer;
+use node_traits::MailList;
+use open_requests::{OpenRequest, Work};
+use opmsg_frames::Request;
+
+/// A request that comes on a link; the number is that of its reply.
+#[derive(Drop)]
+pub(crate) struct Asked {
+    pub(crate) link: u32,
+    pub(crate) number: i32,
+    pub(crate) request: Request,
+}
+
+impl RouterNode {
+    ghost use Rattle.std.specs.Prelude.{◌≡◌, ◌<◌, ◌+◌, ◌-◌, ◌^◌, IfOk, Ok};
+    ghost use Rattle.command_answers.specs.AnswerMeanings.{answer_meant};
+    ghost use Rattle.command_words.specs.Command.{command_of};
+    ghost use Rattle.node_model.specs.Letters.{client_input};
+    ghost use Rattle.node_model.specs.RouterRows as rows;
+    ghost use Rattle.open_requests.specs.Lists.{taken_of};
+    ghost use Rattle.open_requests.specs.Works.{work_meant};
+    ghost use Rattle.protocol_model.specs.Requests.{request_of};
+    ghost use Rattle.router_node.specs.RouterStates.{router_of};
+    ghost use Rattle.router_node.specs.Rows.{started};
+    ghost use Rattle.router_node.specs.StepPlans.{IsPlanned};
+
+    // A request that is answered at once. Fails for want of memory.
+    fn plan_plain(&self, asked: Asked, answer: Answer) -> Result<StepPlan, Memory>
+        requires few { taken_of self.now.requests < 2 ^ 64 - 1 }
+        requires plan { rows.plan_of (started (router_of self.now)) (rows.id_of (router_of self.now) (taken_of self.now.requests + 1)) (command_of (request_of asked.request)) ≡ rows.at_once (answer_meant answer) }
+        ensures { IfOk result (λ p. IsPlanned (router_of self.now) (client_input asked.link asked.number (request_of asked.request)) p) }
+    {
+        let Asked {
+            link,
+            number,
+            request,
+        } = asked;
+        let reply = reply_to(self.alloc, link, number, &request, &answer)?;
+        let mail = MailList::new(self.alloc);
+        self.starts(self.time, self.moment, Change::Counts, mail, reply)
+    }
+
+    // A request that has work to do. Fails for want of memory.
+    fn plan_open(
+        &self,
+        asked: Asked,
+        count: u64,
+        namespace: Namespace,
+        work: Work,
+    ) -> Result<StepPlan, Memory>
+        requires few { taken_of self.now.requests < 2 ^ 64 - 1 }
+        requires next { count ≡ taken_of self.now.requests + 1 }
+        requires plan { rows.plan_of (started (router_of self.now)) (rows.id_of (router_of self.now) count) (command_of (request_of asked.request))
+            ≡ rows.needs namespace (work_meant (rows.id_of (router_of self.now) count) work) }
+        ensures { IfOk result (λ p. IsPlanned (router_of self.now) (client_input asked.link asked.number (request_of asked.request)) p) }
+    {
+        let (wait, message) = self.asks_for(self.time, count, &namespace, &work)?;
+        let mail = mail_of(self.alloc, message);
+        let Asked {
+            link,
+            number,
+            request,
+        } = asked;
+        let opened = OpenRequest {
+            count,
+            link,
+            number,
+            request,
+            namespace,
+            wait,
+            work,
+        };
+        self.starts(self.time, self.moment, Change::Opens(opened), mail, None)
+    }
+
+    // A request that comes. Fails for want of memory.
+    pub(crate) fn plan_client(&self, asked: Asked) -> Result<StepPlan, Memory>
+        ensures { IfOk result (λ p. IsPlanned (router_of self.now) (client_input asked.link asked.number (request_of asked.request)) p) }
+    {
+        let taken = self.requests.taken();
+        if taken == u64::MAX {
+            // So many are never taken: each is one of 2^56 steps.
+            return Err(Memory);
+        }
+        match self.plan_of(&asked.request)? {
+            Plan::AtOnce(answer) => self.plan_plain(asked, answer),
+            Plan::Needs { namespace, work } => self.plan_open(asked, taken + 1, namespace, work),
+        }
+    }
+}

@@ -1,0 +1,213 @@
+//! What is told of tables.
+
+ghost use Rattle.std.specs.Prelude.{◌≡◌, if◌then◌else◌};
+ghost use Rattle.node_model.specs.Tables.{is_longer};
+
+use crate::node::RouterNode;
+use crate::reads::find_answer;
+use crate::replies::reply_to;
+use crate::step_plan::{Change, StepPlan};
+use bson_values::Memory;
+use chunk_table::Table;
+use cluster_base::Time;
+use node_traits::{MailList, ReplyList, ToLink};
+use open_requests::{Next, OpenRequest, next_of};
+use protocol_model::{Message, TableTold};
+
+/// The longer of two tables, else the other.
+fn longer_of<'a>(table: &'a Table, other: &'a Table) -> &'a Table
+    ensures { result.now ≡ (if is_longer table.now other.now then table.now else other.now) }
+{
+    if table.longer_than(other) {
+        table
+    } else {
+        other
+    }
+}
+
+impl RouterNode {
+    ghost use Rattle.std.specs.Prelude.{◌≡◌, ◌++◌, IfOk, OnOk, map};
+    ghost use Rattle.std.specs.Arc.{arc_value};
+    ghost use Rattle.std.specs.List.{flat_map};
+    ghost use Rattle.std.specs.Option.{option_map};
+    ghost use Rattle.node_model.specs.Letters.{Letter};
+    ghost use Rattle.node_model.specs.RouterRows as rows;
+    ghost use Rattle.node_model.specs.Tables.{table_of};
+    ghost use Rattle.node_traits.specs.Effects.{puts_of};
+    ghost use Rattle.node_traits.specs.Lists.{listed};
+    ghost use Rattle.open_requests.specs.Askers.{letters_of};
+    ghost use Rattle.open_requests.specs.Lists.{opens_of};
+    ghost use Rattle.open_requests.specs.Works.{open_meant};
+    ghost use Rattle.protocol_model.specs.Bodies.{table_told_meant};
+    ghost use Rattle.protocol_model.specs.Messages.{letter_of};
+    ghost use Rattle.router_node.specs.Nexts.{next_at, tables_told};
+    ghost use Rattle.router_node.specs.RouterStates.{router_of};
+    ghost use Rattle.router_node.specs.StepPlans.{IsHeard};
+
+    // The table that is known of a collection once what was told is kept.
+    #[tactic(auto, using(crate::proofs::Known::known_own, crate::proofs::Known::known_other))]
+    fn known_after<'a>(&'a self, told: &'a TableTold) -> Option<&'a Table>
+        ensures { option_map (λ t. t.now) result ≡ table_of told.now.namespace (tables_told told.now self.now.tables.tables) }
+    {
+        match &told.table {
+            None => self.table_of(&told.namespace),
+            Some(table) => {
+                if table.namespace().as_str() != told.namespace.as_str() {
+                    return self.table_of(&told.namespace);
+                }
+                match self.table_of(&told.namespace) {
+                    None => Some(table),
+                    Some(old) => Some(longer_of(table, old)),
+                }
+            }
+        }
+    }
+
+    // What an open request asks for where a table is told, by the one that is known then. Fails for want of memory.
+    fn asks_next(
+        &self,
+        time: Time,
+        told: &TableTold,
+        known: Option<&Table>,
+        request: &OpenRequest,
+    ) -> Result<Option<Message>, Memory>
+        requires { table_of told.now.namespace (tables_told told.now self.now.tables.tables) ≡ option_map (λ t. t.now) known }
+        ensures { IfOk result (λ m. letters_of m ≡ rows.letters_in (next_at (router_of self.now) time.0 told.now (open_meant self.now.me.0 self.now.life request.now))) }
+    {
+        match next_of(&told.namespace, told.at, known, request) {
+            Next::Stays => Ok(None),
+            Next::IsTold(_) => Ok(None),
+            Next::GoesOn => match known {
+                Some(table) => self.asker().asks_shards(
+                    self.alloc,
+                    time,
+                    request.count,
+                    &request.namespace,
+                    table,
+                    &request.work,
+                ),
+                None => Ok(None),
+            },
+        }
+    }
+
+    // What an open request is told where a table is told, by the one that is known then. Fails for want of memory.
+    fn reply_next(
+        &self,
+        time: Time,
+        told: &TableTold,
+        known: Option<&Table>,
+        request: &OpenRequest,
+    ) -> Result<Option<ToLink>, Memory>
+        requires { table_of told.now.namespace (tables_told told.now self.now.tables.tables) ≡ option_map (λ t. t.now) known }
+        ensures { IfOk result (λ reply. listed reply ≡ puts_of (rows.replies_in (next_at (router_of self.now) time.0 told.now (open_meant self.now.me.0 self.now.life request.now)))) }
+    {
+        match next_of(&told.namespace, told.at, known, request) {
+            Next::Stays => Ok(None),
+            Next::GoesOn => Ok(None),
+            Next::IsTold(at) => {
+                let none = Vec::new(self.alloc);
+                let answer = find_answer(self.alloc, &request.namespace, none, at)?;
+                reply_to(
+                    self.alloc,
+                    request.link,
+                    request.number,
+                    &request.request,
+                    &answer,
+                )
+            }
+        }
+    }
+
+    // Puts what an open request asks for behind other messages. Fails for want of memory.
+    fn add_next(
+        &self,
+        mail: &mut MailList<Message>,
+        time: Time,
+        told: &TableTold,
+        known: Option<&Table>,
+        request: &OpenRequest,
+    ) -> Result<(), Memory>
+        requires { table_of told.now.namespace (tables_told told.now self.now.tables.tables) ≡ option_map (λ t. t.now) known }
+        ensures { OnOk result (map (λ m. letter_of m) mail.new ≡ map (λ m. letter_of m) mail.old
+            ++ rows.letters_in (next_at (router_of self.now) time.0 told.now (open_meant self.now.me.0 self.now.life request.now))) }
+    {
+        match self.asks_next(time, told, known, request)? {
+            Some(message) => mail.push(message),
+            None => Ok(()),
+        }
+    }
+
+    // Puts what an open request is told behind other replies. Fails for want of memory.
+    fn add_reply(
+        &self,
+        replies: &mut ReplyList,
+        time: Time,
+        told: &TableTold,
+        known: Option<&Table>,
+        request: &OpenRequest,
+    ) -> Result<(), Memory>
+        requires { table_of told.now.namespace (tables_told told.now self.now.tables.tables) ≡ option_map (λ t. t.now) known }
+        ensures { OnOk result (replies.new ≡ replies.old
+            ++ puts_of (rows.replies_in (next_at (router_of self.now) time.0 told.now (open_meant self.now.me.0 self.now.life request.now)))) }
+    {
+        match self.reply_next(time, told, known, request)? {
+            Some(reply) => replies.push(reply),
+            None => Ok(()),
+        }
+    }
+
+    // What these open requests ask for where a table is told. Fails for want of memory.
+    fn mail_next(
+        &self,
+        time: Time,
+        told: &TableTold,
+        requests: &[OpenRequest],
+    ) -> Result<MailList<Message>, Memory>
+        ensures { IfOk result (λ mail. map (λ m. letter_of m) mail
+            ≡ flat_map (λ q. rows.letters_in (next_at (router_of self.now) time.0 told.now q)) (map (λ q. open_meant self.now.me.0 self.now.life q) requests.now)) }
+    {
+        let known = self.known_after(told);
+        let mut mail = MailList::new(self.alloc);
+        for request in requests {
+            self.add_next(&mut mail, time, told, known, request)?;
+        }
+        Ok(mail)
+    }
+
+    // What these open requests are told where a table is told. Fails for want of memory.
+    #[tactic(auto, using(crate::proofs::Puts::puts_append))]
+    fn replies_next(
+        &self,
+        time: Time,
+        told: &TableTold,
+        requests: &[OpenRequest],
+    ) -> Result<ReplyList, Memory>
+        ensures { IfOk result (λ replies. replies
+            ≡ puts_of (flat_map (λ q. rows.replies_in (next_at (router_of self.now) time.0 told.now q)) (map (λ q. open_meant self.now.me.0 self.now.life q) requests.now))) }
+    {
+        let known = self.known_after(told);
+        let mut replies = ReplyList::new(self.alloc);
+        for request in requests {
+            self.add_reply(&mut replies, time, told, known, request)?;
+        }
+        Ok(replies)
+    }
+
+    // What a table that is told comes to. Fails for want of memory.
+    pub(crate) fn plan_table(&self, time: Time, told: TableTold) -> Result<StepPlan, Memory>
+        ensures { (m : Letter) → m.body ≡ table_told_meant told → time.0 ≡ rows.heard (router_of self.now) m → IfOk result (λ p. IsHeard (router_of self.now) m p) }
+    {
+        let requests = self.requests.as_slice();
+        let mail = self.mail_next(time, &told, requests)?;
+        let replies = self.replies_next(time, &told, requests)?;
+        let TableTold {
+            namespace,
+            create: _,
+            at,
+            table,
+        } = told;
+        let change = Change::Learns(namespace, at, table);
+        Ok(self.hears_all(time, change, mail, replies))
+    }
+}

@@ -1,0 +1,19 @@
+//! A router: it takes the requests of clients, asks the catalogue and the shards for what they need, and tells them their answers.
+#![tactic(auto)]
+
+mod begin;
+mod clients;
+mod learns;
+mod mail;
+mod moments;
+mod node;
+mod plans;
+mod reads;
+mod replies;
+mod step;
+mod step_plan;
+mod steps;
+mod take;
+mod writes;
+
+pub use node::RouterNode;

@@ -1,0 +1,77 @@
+//! Moments.
+
+use crate::node::RouterNode;
+use bson_values::Memory;
+use cluster_base::Time;
+use node_traits::MailList;
+use open_requests::{OpenRequest, Wait};
+use protocol_model::Message;
+
+impl RouterNode {
+    ghost use Rattle.std.specs.Prelude.{◌≡◌, ◌++◌, map, IfOk, OnOk};
+    ghost use Rattle.std.specs.List.{flat_map};
+    ghost use Rattle.node_model.specs.RouterRows as rows;
+    ghost use Rattle.open_requests.specs.Askers.{letters_of};
+    ghost use Rattle.open_requests.specs.Lists.{opens_of};
+    ghost use Rattle.open_requests.specs.Works.{open_meant};
+    ghost use Rattle.protocol_model.specs.Messages.{letter_of};
+    ghost use Rattle.router_node.specs.RouterStates.{router_of};
+    ghost use Rattle.router_node.specs.Rows.{started};
+
+    // What an open request waits for, asked again. Fails for want of memory.
+    #[tactic(auto, using(open_requests::proofs::Askers::shards_alike, open_requests::proofs::Askers::table_alike))]
+    fn asks_again(&self, time: Time, request: &OpenRequest) -> Result<Option<Message>, Memory>
+        ensures { IfOk result (λ m. letters_of m ≡ rows.asks_again (started (router_of self.now)) time.0 (open_meant self.now.me.0 self.now.life request.now)) }
+    {
+        let asker = self.asker();
+        let count = request.count;
+        let namespace = &request.namespace;
+        match request.wait {
+            Wait::ForTime => Ok(Some(asker.asks_times(time, count))),
+            Wait::ForTable => {
+                let letter = asker.asks_table(time, namespace, &request.work)?;
+                Ok(Some(letter))
+            }
+            Wait::ForShards => match self.tables.find(namespace) {
+                Some(table) => {
+                    asker.asks_shards(self.alloc, time, count, namespace, table, &request.work)
+                }
+                None => Ok(None),
+            },
+        }
+    }
+
+    // Puts what an open request waits for, asked again, behind other messages. Fails for want of memory.
+    fn add_asked(
+        &self,
+        mail: &mut MailList<Message>,
+        time: Time,
+        request: &OpenRequest,
+    ) -> Result<(), Memory>
+        ensures { OnOk result (map (λ m. letter_of m) mail.new ≡ map (λ m. letter_of m) mail.old ++ rows.asks_again (started (router_of self.now)) time.0 (open_meant self.now.me.0 self.now.life request.now)) }
+    {
+        match self.asks_again(time, request)? {
+            Some(message) => mail.push(message),
+            None => Ok(()),
+        }
+    }
+
+    // What these open requests wait for, asked again. Fails for want of memory.
+    fn ask_each(&self, time: Time, requests: &[OpenRequest]) -> Result<MailList<Message>, Memory>
+        ensures { IfOk result (λ mail. map (λ m. letter_of m) mail
+            ≡ flat_map (λ q. rows.asks_again (started (router_of self.now)) time.0 q) (map (λ q. open_meant self.now.me.0 self.now.life q) requests.now)) }
+    {
+        let mut mail = MailList::new(self.alloc);
+        for request in requests {
+            self.add_asked(&mut mail, time, request)?;
+        }
+        Ok(mail)
+    }
+
+    // What all open requests wait for, asked again. Fails for want of memory.
+    pub(crate) fn ask_again(&self, time: Time) -> Result<MailList<Message>, Memory>
+        ensures { IfOk result (λ mail. map (λ m. letter_of m) mail ≡ flat_map (λ q. rows.asks_again (started (router_of self.now)) time.0 q) (opens_of self.now.me.0 self.now.life self.now.requests)) }
+    {
+        self.ask_each(time, self.requests.as_slice())
+    }
+}

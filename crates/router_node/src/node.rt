@@ -1,0 +1,165 @@
+//! The router.
+
+ghost use Rattle.std.specs.Prelude.{◌≡◌, false};
+ghost use Rattle.std.specs.Option.{option_map};
+ghost use Rattle.known_tables.specs.Tables.{table_of};
+ghost use Rattle.node_model.specs.RouterRows as rows;
+ghost use Rattle.open_requests.specs.Lists.{taken_of};
+ghost use Rattle.open_requests.specs.Works.{wait_meant};
+
+use bson_values::Memory;
+use chunk_table::Table;
+use cluster_base::{Namespace, NodeId, RequestId, Time};
+use known_tables::TableList;
+use node_traits::StepCount;
+use open_requests::{Asker, OpenList, OpenRequest, Wait, Work, is_enough};
+use protocol_model::Message;
+use std::alloc::Global;
+
+/// The table that is known of a collection, if one is.
+pub(crate) fn known_in<'a>(tables: &'a TableList, namespace: &Namespace) -> Option<&'a Table>
+    ensures { option_map (λ t. t.now) result ≡ table_of namespace.now tables.now.tables }
+{
+    match tables.find(namespace) {
+        Some(table) => Some(table),
+        None => None,
+    }
+}
+
+/// What waits by a table, if it is there: for the shards, or else for the table.
+pub(crate) fn wait_by(table: Option<&Table>) -> Wait
+    ensures { wait_meant result ≡ rows.wait_by (option_map (λ t. t.now) table.entry) }
+{
+    match table {
+        None => Wait::ForTable,
+        Some(_) => Wait::ForShards,
+    }
+}
+
+/// A router of a cluster.
+#[derive(Drop)]
+pub struct RouterNode {
+    pub(crate) alloc: Global,
+    pub(crate) me: NodeId,
+    pub(crate) time: Time,
+    // The life that it is in, or will begin where `begun` is false.
+    pub(crate) life: u64,
+    pub(crate) begun: bool,
+    // The last moment that it was given.
+    pub(crate) moment: u64,
+    pub(crate) tables: TableList,
+    pub(crate) requests: OpenList,
+    pub(crate) steps: StepCount,
+    ghost quiet: { begun ≡ false → taken_of requests ≡ 0 },
+}
+
+impl RouterNode {
+    ghost use Rattle.std.specs.Prelude.{◌≡◌, IfOk, Some, true, false, map, nat_lt};
+    ghost use Rattle.std.specs.Option.{option_map};
+    ghost use Rattle.known_tables.specs.Tables.{table_of};
+    ghost use Rattle.node_model.specs.Asked as asked;
+    ghost use Rattle.node_model.specs.RouterRows as rows;
+    ghost use Rattle.node_model.specs.States.{new_router};
+    ghost use Rattle.open_requests.specs.Askers.{asker_meant, letters_of};
+    ghost use Rattle.open_requests.specs.Works.{open_meant, wait_meant, work_meant};
+    ghost use Rattle.protocol_model.specs.Bodies.{id_meant};
+    ghost use Rattle.router_node.specs.RouterStates.{router_of};
+
+    /// The router of this number, before its first step, with nothing kept.
+    pub fn open(alloc: Global, me: NodeId) -> RouterNode
+        ensures state { router_of result ≡ new_router me.0 }
+        ensures steps { result.steps ≡ 0 }
+    {
+        RouterNode {
+            alloc,
+            me,
+            time: Time(0),
+            life: 1,
+            begun: false,
+            moment: 0,
+            tables: TableList::new(alloc),
+            requests: OpenList::new(alloc),
+            steps: StepCount::new(),
+        }
+    }
+
+    // Itself, as it asks others.
+    pub(crate) fn asker(&self) -> Asker
+        ensures { asker_meant result ≡ asker_meant (record { me = self.now.me; life = self.now.life }) }
+    {
+        Asker {
+            me: self.me,
+            life: self.life,
+        }
+    }
+
+    // The open request with this id, where it is open in this life.
+    pub(crate) fn open_of(&self, id: RequestId) -> Option<&OpenRequest>
+        ensures { option_map (λ q. open_meant self.now.me.0 self.now.life q.now) result ≡ rows.open_of (router_of self.now) (id_meant id) }
+    {
+        if id == self.asker().id(id.count) {
+            self.requests.find(id.count)
+        } else {
+            None
+        }
+    }
+
+    // The table that is known of a collection, if one is.
+    pub(crate) fn table_of(&self, namespace: &Namespace) -> Option<&Table>
+        ensures { option_map (λ t. t.now) result ≡ table_of namespace.now self.now.tables.tables }
+    {
+        known_in(&self.tables, namespace)
+    }
+
+    // The table that work can go on with.
+    pub(crate) fn table_for(&self, namespace: &Namespace, work: &Work) -> Option<&Table>
+        ensures { (id : asked.RequestId) → option_map (λ t. t.now) result ≡ rows.table_for self.now.tables.tables namespace.now (work_meant id work.now) }
+    {
+        let table = self.tables.find(namespace)?;
+        match work {
+            Work::Writing { .. } => Some(table),
+            Work::Reading { at, half } => {
+                if is_enough(table, *at, half) {
+                    Some(table)
+                } else {
+                    None
+                }
+            }
+        }
+    }
+
+    // Whether work reads at a time that is not reached.
+    fn is_ahead(time: Time, work: &Work) -> bool
+        ensures { (id : asked.RequestId) → result ≡ rows.is_ahead time.0 (work_meant id work.now) }
+    {
+        match work {
+            Work::Writing { .. } => false,
+            Work::Reading { at, .. } => time.0 < at.0,
+        }
+    }
+
+    // What work waits for at a time, and what it asks for. Fails for want of memory.
+    pub(crate) fn asks_for(
+        &self,
+        time: Time,
+        count: u64,
+        namespace: &Namespace,
+        work: &Work,
+    ) -> Result<(Wait, Option<Message>), Memory>
+        ensures wait { (id : asked.RequestId) → IfOk result (λ asked. wait_meant asked.0 ≡ rows.wait_of (router_of self.now) time.0 namespace.now (work_meant id work.now)) }
+        ensures letters { IfOk result (λ asked. letters_of asked.1
+            ≡ rows.asks_for (router_of self.now) time.0 count namespace.now (work_meant (rows.id_of (router_of self.now) count) work.now)) }
+    {
+        let asker = self.asker();
+        if RouterNode::is_ahead(time, work) {
+            return Ok((Wait::ForTime, Some(asker.asks_times(time, count))));
+        }
+        let table = self.table_for(namespace, work);
+        let wait = match table {
+            None => Wait::ForTable,
+            Some(_) => Wait::ForShards,
+        };
+        let letter = asker.asks_by(self.alloc, time, count, namespace, work, table)?;
+        Ok((wait, letter))
+    }
+}

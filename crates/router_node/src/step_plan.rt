@@ -1,0 +1,151 @@
+//! What a step comes to, before it is taken.
+
+ghost use Rattle.std.specs.Prelude.{◌≡◌};
+ghost use Rattle.node_traits.specs.Lists.{listed};
+
+use crate::mail::mail_of;
+use crate::node::RouterNode;
+use bson_values::{Blob, Memory};
+use chunk_table::Table;
+use cluster_base::{Namespace, Time};
+use node_traits::{MailList, ReplyList, ToLink};
+use open_requests::{OpenRequest, Wait};
+use protocol_model::{At, DoneList, Message};
+use std::alloc::Global;
+use std::sync::Arc;
+
+/// What becomes of the open requests.
+#[derive(Drop)]
+pub(crate) enum Change {
+    /// Nothing.
+    Stays,
+    /// One more was taken, and is answered at once.
+    Counts,
+    /// One more was taken, and is open.
+    Opens(OpenRequest),
+    /// The one with this count is told its answer.
+    Closes(u64),
+    /// The one with this count waits for this.
+    Waits(u64, Wait),
+    /// The write with this count has these answers, and waits for this.
+    Notes(u64, Wait, DoneList),
+    /// Those that wait for the table of this collection go on with it, or are told that nothing is there where it was told for their
+    /// time. A table that was told is kept.
+    Learns(Namespace, At, Option<Arc<Table, Global>>),
+}
+
+/// What a step will write and send, and what the router will then be: at which time and moment, in its life or not, and what becomes
+/// of its open requests and tables.
+#[derive(Drop)]
+pub(crate) struct StepPlan {
+    pub(crate) time: Time,
+    pub(crate) moment: u64,
+    pub(crate) begun: bool,
+    pub(crate) change: Change,
+    pub(crate) mail: MailList<Message>,
+    pub(crate) replies: ReplyList,
+    pub(crate) records: Vec<Blob>,
+}
+
+/// The reply, if there is one.
+fn replies_of(alloc: Global, reply: Option<ToLink>) -> ReplyList
+    ensures { result ≡ listed reply }
+{
+    match reply {
+        Some(reply) => ReplyList::of_one(alloc, reply),
+        None => ReplyList::new(alloc),
+    }
+}
+
+impl RouterNode {
+    ghost use Rattle.std.specs.Prelude.{◌≡◌, [], IfOk, OnOk, false, true, map};
+    ghost use Rattle.node_traits.specs.Lists.{listed};
+    ghost use Rattle.open_requests.specs.Askers.{letters_of};
+    ghost use Rattle.protocol_model.specs.Messages.{letter_of};
+    ghost use Rattle.router_node.specs.RouterStates.{router_of};
+    ghost use Rattle.router_node.specs.StepPlans.{FollowsBy, Follows, Hears, Starts};
+    ghost use Rattle.router_node.specs.declared.step_plan.Change.TheVariants.{Stays};
+
+    // A plan at a time: this becomes of the router, and these are asked and told. Takes no memory.
+    pub(crate) fn hears_all(
+        &self,
+        time: Time,
+        change: Change,
+        mail: MailList<Message>,
+        replies: ReplyList,
+    ) -> StepPlan
+        ensures { Hears (router_of self.now) time.0 change (map letter_of mail) replies result }
+    {
+        StepPlan {
+            time,
+            moment: self.moment,
+            begun: self.begun,
+            change,
+            mail,
+            replies,
+            records: Vec::new(self.alloc),
+        }
+    }
+
+    // A plan at a time: this becomes of the router, and this is asked and told. Takes no memory.
+    pub(crate) fn hears(
+        &self,
+        time: Time,
+        change: Change,
+        message: Option<Message>,
+        reply: Option<ToLink>,
+    ) -> StepPlan
+        ensures { Hears (router_of self.now) time.0 change (letters_of message) (listed reply) result }
+    {
+        let mail = mail_of(self.alloc, message);
+        let replies = replies_of(self.alloc, reply);
+        StepPlan {
+            time,
+            moment: self.moment,
+            begun: self.begun,
+            change,
+            mail,
+            replies,
+            records: Vec::new(self.alloc),
+        }
+    }
+
+    // Nothing but the time.
+    pub(crate) fn late(&self, time: Time) -> StepPlan
+        ensures { Hears (router_of self.now) time.0 Stays [] [] result }
+    {
+        StepPlan {
+            time,
+            moment: self.moment,
+            begun: self.begun,
+            change: Change::Stays,
+            mail: MailList::new(self.alloc),
+            replies: ReplyList::new(self.alloc),
+            records: Vec::new(self.alloc),
+        }
+    }
+
+    // A plan in whose front the life begins, if it did not begin. Fails for want of memory.
+    pub(crate) fn starts(
+        &self,
+        time: Time,
+        moment: u64,
+        change: Change,
+        mail: MailList<Message>,
+        reply: Option<ToLink>,
+    ) -> Result<StepPlan, Memory>
+        ensures { IfOk result (λ p. Starts (router_of self.now) time.0 moment change (map letter_of mail) (listed reply) p) }
+    {
+        let records = self.life_records()?;
+        let replies = replies_of(self.alloc, reply);
+        Ok(StepPlan {
+            time,
+            moment,
+            begun: true,
+            change,
+            mail,
+            replies,
+            records,
+        })
+    }
+}

@@ -1,0 +1,119 @@
+//! What an input comes to, and a step that is taken.
+
+use crate::clients::Asked;
+use crate::node::RouterNode;
+use crate::step_plan::{Change, StepPlan};
+use bson_values::Memory;
+use cluster_base::{Time, moment_time};
+use node_traits::MailList;
+use protocol_model::{Body, Input, Message};
+
+impl RouterNode {
+    ghost use Rattle.std.specs.Prelude.{◌≡◌, IfOk, OnOk, map, true};
+    ghost use Rattle.node_model.specs.Letters.{Letter, letter_input, moment_input, opened_input};
+    ghost use Rattle.node_model.specs.RouterRows as rows;
+    ghost use Rattle.node_model.specs.States.{router_state};
+    ghost use Rattle.node_traits.specs.Effects.{StepPlanned};
+    ghost use Rattle.protocol_model.specs.Bodies.{body_meant};
+    ghost use Rattle.protocol_model.specs.Inputs.{input_of};
+    ghost use Rattle.protocol_model.specs.Messages.{letter_of};
+    ghost use Rattle.router_node.specs.RouterStates.{router_of};
+    ghost use Rattle.router_node.specs.StepPlans.{HasRoomFor, IsHeard, IsPlanned, IsReady, router_then};
+
+    // What a message to it comes to, at the time that it brings. Fails for want of memory.
+    fn plan_body(&self, time: Time, body: Body) -> Result<StepPlan, Memory>
+        ensures { (m : Letter) → m.body ≡ body_meant body → time.0 ≡ rows.heard (router_of self.now) m → IfOk result (λ p. IsHeard (router_of self.now) m p) }
+    {
+        match body {
+            Body::TableTold(told) => self.plan_table(time, told),
+            Body::WriteDone(told) => self.plan_dones(time, &told),
+            Body::ReadRows(told) => self.plan_rows(time, &told),
+            Body::TimeTold(told) => self.plan_time(time, &told),
+            Body::Stale(_) => Ok(self.late(time)),
+            Body::TableAsk(_) => Ok(self.late(self.time)),
+            Body::WriteAsk(_) => Ok(self.late(self.time)),
+            Body::ReadAsk(_) => Ok(self.late(self.time)),
+            Body::HalfAsk(_) => Ok(self.late(self.time)),
+            Body::TimeAsk(_) => Ok(self.late(self.time)),
+        }
+    }
+
+    // What a message comes to. Fails for want of memory.
+    fn plan_message(&self, message: Message) -> Result<StepPlan, Memory>
+        ensures { IfOk result (λ p. IsPlanned (router_of self.now) (letter_input (letter_of message)) p) }
+    {
+        if message.receiver != self.me {
+            return Ok(self.late(self.time));
+        }
+        self.plan_body(self.time.max(message.time), message.body)
+    }
+
+    // What a moment comes to. Fails for want of memory.
+    fn plan_moment(&self, moment: u64) -> Result<StepPlan, Memory>
+        ensures { IfOk result (λ p. IsPlanned (router_of self.now) (moment_input moment) p) }
+    {
+        let time = self.time.max(moment_time(moment));
+        let mail = self.ask_again(time)?;
+        self.starts(time, moment, Change::Stays, mail, None)
+    }
+
+    // What it comes to that the router was opened. Fails for want of memory.
+    fn plan_opened(&self) -> Result<StepPlan, Memory>
+        ensures { IfOk result (λ p. IsPlanned (router_of self.now) opened_input p) }
+    {
+        let mail = MailList::new(self.alloc);
+        self.starts(self.time, self.moment, Change::Stays, mail, None)
+    }
+
+    // What an input comes to. Fails for want of memory.
+    fn plan_input(&self, input: Input) -> Result<StepPlan, Memory>
+        ensures { IfOk result (λ p. IsPlanned (router_of self.now) (input_of input) p) }
+    {
+        match input {
+            Input::Client {
+                link,
+                number,
+                request,
+            } => self.plan_client(Asked {
+                link,
+                number,
+                request,
+            }),
+            Input::Deliver(message) => self.plan_message(message),
+            Input::Moment(moment) => self.plan_moment(moment),
+            Input::Opened => self.plan_opened(),
+        }
+    }
+
+    // Makes room for what was planned. Fails for want of memory. The router is the same either way.
+    fn make_room(&mut self, change: &Change) -> Result<(), Memory>
+        ensures room { OnOk result (HasRoomFor self.new change.now) }
+        ensures same { router_of self.new ≡ router_of self.old }
+        ensures begun { self.new.begun ≡ self.old.begun }
+        ensures steps { self.new.steps ≡ self.old.steps }
+    {
+        match change {
+            Change::Stays => {}
+            Change::Counts => {}
+            Change::Opens(_) => self.requests.reserve()?,
+            Change::Closes(_) => {}
+            Change::Waits(..) => {}
+            Change::Notes(..) => {}
+            Change::Learns(..) => self.tables.reserve()?,
+        }
+        Ok(())
+    }
+
+    // What an input comes to, with room for it. Else nothing changes. Fails for want of memory.
+    pub(crate) fn plan(&mut self, input: Input) -> Result<StepPlan, Memory>
+        ensures planned { IfOk result (λ p. StepPlanned (router_state (router_of self.old)) (input_of input) (map letter_of p.mail) p.replies p.records.items
+            (router_state (router_then (router_of self.old) p))) }
+        ensures ready { IfOk result (λ p. IsReady self.new p) }
+        ensures same { router_of self.new ≡ router_of self.old }
+        ensures steps { self.new.steps ≡ self.old.steps }
+    {
+        let plan = self.plan_input(input)?;
+        self.make_room(&plan.change)?;
+        Ok(plan)
+    }
+}

@@ -1,0 +1,177 @@
+//! What writes are told.
+
+ghost use Rattle.std.specs.Prelude.{◌≡◌, ◌≢◌, length, map, true, false, IfOk};
+ghost use Rattle.command_answers.specs.AnswerMeanings.{answer_meant};
+ghost use Rattle.node_model.specs.Asked as asked;
+ghost use Rattle.node_model.specs.Outcomes as outcomes;
+ghost use Rattle.node_model.specs.RouterRows as rows;
+ghost use Rattle.protocol_model.specs.Statements.{done_meant, statement_meant};
+
+use crate::node::{RouterNode, wait_by};
+use crate::replies::reply_to;
+use crate::step_plan::{Change, StepPlan};
+use bson_values::Memory;
+use chunk_table::Table;
+use cluster_base::{RequestId, Time};
+use command_answers::Answer;
+use open_requests::{OpenRequest, Work, answer_of, is_answered, note};
+use protocol_model::{DoneList, Message, StatementList, WriteDone};
+use std::alloc::Global;
+
+/// Whether answers are as many as there were.
+fn are_as_many(before: &DoneList, answers: &DoneList) -> bool
+    ensures same { result ≡ true → length before.now.items ≡ length answers.now.items }
+    ensures other { result ≡ false → length before.now.items ≢ length answers.now.items }
+{
+    before.len() == answers.len()
+}
+
+/// The answers with those that are told next. Fails for want of memory.
+fn with_told(alloc: Global, answers: &DoneList, dones: &DoneList) -> Result<DoneList, Memory>
+    ensures { IfOk result (λ list. map done_meant list.items ≡ rows.noted (map done_meant answers.now.items) (map done_meant dones.now.items)) }
+{
+    note(alloc, answers, dones)
+}
+
+/// Whether all statements are answered, or the last answer ends the command.
+fn is_all(ordered: bool, statements: &StatementList, answers: &DoneList) -> bool
+    ensures { (id : asked.RequestId) → result ≡ rows.is_answered ordered (map (λ s. statement_meant id s) statements.now.items) (map done_meant answers.now.items) }
+{
+    is_answered(ordered, statements, answers)
+}
+
+/// What the statements are told together. Fails for want of memory.
+fn answer_to(alloc: Global, answers: &DoneList) -> Result<Answer, Memory>
+    ensures { IfOk result (λ answer. answer_meant answer ≡ outcomes.answer_of (map done_meant answers.now.items)) }
+{
+    answer_of(alloc, answers)
+}
+
+impl RouterNode {
+    ghost use Rattle.std.specs.Prelude.{◌≡◌, IfOk, false, true, map, List};
+    ghost use Rattle.node_model.specs.Letters as letters;
+    ghost use Rattle.node_model.specs.RouterRows as rows;
+    ghost use Rattle.node_model.specs.States as states;
+    ghost use Rattle.open_requests.specs.Askers.{asking, letters_of};
+    ghost use Rattle.open_requests.specs.Works.{open_meant};
+    ghost use Rattle.std.specs.Option.{option_map};
+    ghost use Rattle.protocol_model.specs.Bodies.{id_meant, write_done_meant};
+    ghost use Rattle.protocol_model.specs.Statements.{done_meant, statement_meant};
+    ghost use Rattle.router_node.specs.Noted.{IsNews};
+    ghost use Rattle.router_node.specs.RouterStates.{router_of};
+    ghost use Rattle.router_node.specs.StepPlans.{IsHeard};
+
+    // All statements of a write are answered. Fails for want of memory.
+    fn plan_all(
+        &self,
+        time: Time,
+        id: RequestId,
+        request: &OpenRequest,
+        ordered: bool,
+        noted: &DoneList,
+    ) -> Result<StepPlan, Memory>
+        ensures { (m : letters.Letter) (statements : List letters.Statement) → time.0 ≡ rows.heard (router_of self.now) m →
+            IsNews (router_of self.now) m (id_meant id) (open_meant self.now.me.0 self.now.life request.now) ordered statements (map done_meant noted.now.items) →
+            rows.is_answered ordered statements (map done_meant noted.now.items) ≡ true → IfOk result (λ p. IsHeard (router_of self.now) m p) }
+    {
+        let answer = answer_to(self.alloc, noted)?;
+        let reply = reply_to(
+            self.alloc,
+            request.link,
+            request.number,
+            &request.request,
+            &answer,
+        )?;
+        Ok(self.hears(time, Change::Closes(request.count), None, reply))
+    }
+
+    // What an open write asks for by its table, if it is there, with these answers. Fails for want of memory.
+    fn asks_more(
+        &self,
+        time: Time,
+        request: &OpenRequest,
+        table: Option<&Table>,
+        ordered: bool,
+        statements: &StatementList,
+        noted: &DoneList,
+    ) -> Result<Option<Message>, Memory>
+        ensures { IfOk result (λ m. letters_of m ≡ rows.asks_by (asking self.now.me.0 self.now.life) time.0 request.now.count request.now.namespace
+            (states.writing ordered (map (λ s. statement_meant (rows.id_of (router_of self.now) request.now.count) s) statements.now.items) (map done_meant noted.now.items))
+            (option_map (λ t. t.now) table.entry)) }
+    {
+        let namespace = &request.namespace;
+        let count = request.count;
+        let asker = self.asker();
+        asker.asks_rest(
+            self.alloc, time, count, namespace, table, ordered, statements, noted,
+        )
+    }
+
+    // Some statements of a write are answered, and the next are asked for. Fails for want of memory.
+    fn plan_rest(
+        &self,
+        time: Time,
+        id: RequestId,
+        request: &OpenRequest,
+        ordered: bool,
+        statements: &StatementList,
+        noted: DoneList,
+    ) -> Result<StepPlan, Memory>
+        ensures { (m : letters.Letter) → time.0 ≡ rows.heard (router_of self.now) m →
+            IsNews (router_of self.now) m (id_meant id) (open_meant self.now.me.0 self.now.life request.now) ordered
+            (map (λ s. statement_meant (rows.id_of (router_of self.now) request.now.count) s) statements.now.items) (map done_meant noted.items) →
+            rows.is_answered ordered (map (λ s. statement_meant (rows.id_of (router_of self.now) request.now.count) s) statements.now.items) (map done_meant noted.items) ≡ false →
+            IfOk result (λ p. IsHeard (router_of self.now) m p) }
+    {
+        let table = self.table_of(&request.namespace);
+        let wait = wait_by(table);
+        let message = self.asks_more(time, request, table, ordered, statements, &noted)?;
+        Ok(self.hears(time, Change::Notes(id.count, wait, noted), message, None))
+    }
+
+    // Some statements of a write are answered, or all. Fails for want of memory.
+    fn plan_noted(
+        &self,
+        time: Time,
+        id: RequestId,
+        request: &OpenRequest,
+        ordered: bool,
+        statements: &StatementList,
+        noted: DoneList,
+    ) -> Result<StepPlan, Memory>
+        ensures { (m : letters.Letter) → time.0 ≡ rows.heard (router_of self.now) m →
+            IsNews (router_of self.now) m (id_meant id) (open_meant self.now.me.0 self.now.life request.now) ordered
+            (map (λ s. statement_meant (rows.id_of (router_of self.now) request.now.count) s) statements.now.items) (map done_meant noted.items) →
+            IfOk result (λ p. IsHeard (router_of self.now) m p) }
+    {
+        if is_all(ordered, statements, &noted) {
+            self.plan_all(time, id, request, ordered, &noted)
+        } else {
+            self.plan_rest(time, id, request, ordered, statements, noted)
+        }
+    }
+
+    // What becomes of a write whose outcomes are told, at a time of the router. Fails for want of memory.
+    pub(crate) fn plan_dones(&self, time: Time, told: &WriteDone) -> Result<StepPlan, Memory>
+        ensures { (m : letters.Letter) → m.body ≡ write_done_meant told.now → time.0 ≡ rows.heard (router_of self.now) m → IfOk result (λ p. IsHeard (router_of self.now) m p) }
+    {
+        match self.open_of(told.id) {
+            None => Ok(self.late(time)),
+            Some(request) => match &request.work {
+                Work::Reading { .. } => Ok(self.late(time)),
+                Work::Writing {
+                    ordered,
+                    statements,
+                    answers,
+                } => {
+                    let noted = with_told(self.alloc, answers, &told.dones)?;
+                    if are_as_many(answers, &noted) {
+                        Ok(self.late(time))
+                    } else {
+                        self.plan_noted(time, told.id, request, *ordered, statements, noted)
+                    }
+                }
+            },
+        }
+    }
+}

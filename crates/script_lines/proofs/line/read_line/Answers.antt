@@ -1,0 +1,12 @@
+use Rattle.std.proofs.Common.{◌≡◌, ◌∙◌, refl, sym, ap, subst, List, ℕ, rules}
+use Rattle.std.proofs.lemmas.Bool.Decides.{Decides-eqb}
+use Rattle.std.proofs.lemmas.Slice.Eq.{slice_eq-Decides}
+use Rattle.script_lines.proofs.Reading.{word_refused}
+use Rattle.script_lines.proofs.line.read_line.Goals as goal
+
+pub returns-clause-refused : goal.returns-clause-refused
+returns-clause-refused c e other =
+    word_refused c.args.line.now _ _ c.in-Some.ensures.found
+    (λ same. let yes = (slice_eq-Decides Decides-eqb _ _ _ c.eq.ensures).1 (same ∙ sym c.as_slice.ensures) in absurd (cc (yes, c.if-eq.false)))
+    (λ same. let yes = (slice_eq-Decides Decides-eqb _ _ _ c.eq-2.ensures).1 (same ∙ sym c.as_slice-2.ensures) in absurd (cc (yes, c.if-eq-2.false)))
+    other

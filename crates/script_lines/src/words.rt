@@ -1,0 +1,40 @@
+//! Words of a line.
+
+ghost use Rattle.std.specs.Prelude.{◌≡◌, ℕ, Some, IfSome, IsNone};
+ghost use Rattle.script_lines.specs.Words.{HasNone, IsCutAt, IsNumber};
+
+use itoa::Buffer;
+use std::str;
+
+#[tactic(auto, using(crate::proofs::Cuts::none_more))]
+/// What stands before the first such byte, and what stands behind it.
+pub fn cut_at(byte: u8, bytes: &[u8]) -> Option<(&[u8], &[u8])>
+    ensures found { IfSome result (λ x. IsCutAt byte bytes.now x.0.now x.1.now) }
+    ensures none { IsNone result → HasNone byte bytes.now }
+{
+    'bytes: for (i, b) in bytes.iter().enumerate() {
+        if *b == byte {
+            return Some((&bytes[..i], &bytes[i + 1..]));
+        }
+    }
+    None
+}
+
+/// The number that a word writes.
+pub(crate) fn number_of(word: &[u8]) -> Option<u64>
+    ensures is { IfSome result (λ n. IsNumber word.now n) }
+    ensures only { (n : ℕ) → IsNumber word.now n → result ≡ Some n }
+{
+    let Ok(text) = str::from_utf8(word) else {
+        return None;
+    };
+    let Ok(n) = text.parse::<u64>() else {
+        return None;
+    };
+    let mut buffer = Buffer::new();
+    if buffer.format(n).as_bytes() == word {
+        Some(n)
+    } else {
+        None
+    }
+}

@@ -1,0 +1,109 @@
+-- What the logs keep after a fault, and its status.
+use Rattle.std.proofs.Common.{◌≡◌, ◌⊎◌, inl, inr, List, [], ◌∷◌, ◌++◌, refl, sym, subst, append_assoc}
+use Rattle.node_model.specs.World.{World, Event, Happens, Run, stands, goes}
+use Rattle.node_model.proofs.Schedules.{run_then}
+use Rattle.node_traits.specs.declared.outputs.StepFault.{StepFault}
+use Rattle.node_traits.specs.declared.outputs.StepFault.TheVariants.{Disk, Steps, Memory}
+use Rattle.node_traits.specs.declared.outputs.ToLink.{ToLink}
+use Rattle.driver_steps.specs.Seats.{SeatView, AreKept, AreHeldOrKept}
+use Rattle.driver_steps.specs.Worlds.{PostView, StandsFor}
+use Rattle.driver_steps.specs.Moves.{HasStopped, IsUpTo}
+use Rattle.driver_steps.proofs.Seats.{held_kept}
+use Rattle.pipe_driver.specs.Stops.{status_for}
+use Rattle.pipe_driver.specs.declared.status.Status.{Status}
+use Rattle.pipe_driver.specs.declared.status.Status.TheVariants as statuses
+use Rattle.sim_driver.specs.Moves.{AreStill, IsCut, IsLastOf}
+
+pub kept_at : {S : Type 0} (fault : StepFault) (view : S → SeatView) (seats : List S) (w : World) → AreHeldOrKept fault view seats w.nodes
+    → AreKept view seats w.nodes
+kept_at (Disk faults) view seats w are = are
+kept_at Steps view seats w are = held_kept view seats w.nodes are
+kept_at Memory view seats w are = held_kept view seats w.nodes are
+
+-- nothing happened where all stands for the world
+pub still : {S : Type 0} (view : S → SeatView) (seats : List S) (post : PostView) (handed : List ToLink) (w : World)
+    → StandsFor view seats post handed w 0 → AreStill view seats w
+still view seats post handed w s = record { nodes = s.nodes; crashes = s.crashes }
+
+-- one event more
+pub run_more : (u : World) (events : List Event) (v : World) (e : Event) (w : World) → Run u events v → Happens v e w → Run u (events ++ e ∷ []) w
+run_more u events v e w run more = run_then u events v (e ∷ []) w run (goes v w w e [] more (stands w))
+
+-- the world up to which a crash may have left what the nodes keep
+pub last_of : (fault : StepFault) (status : Status) → status ≡ status_for fault → (end last : World) (events events' : List Event)
+    (P Q : List Event → Type 0) → ((e : Event) → P (events ++ e ∷ []) → Q (events' ++ e ∷ []))
+    → IsUpTo fault end last ((e : Event) × P (events ++ e ∷ []) × Happens end e last) → IsLastOf status events' Q end last
+last_of (Disk faults) status is end last events events' P Q says (inl same) = inl same
+last_of (Disk faults) status is end last events events' P Q says (inr (e, has, h)) = inr (is, e, says e has, h)
+last_of Steps status is end last events events' P Q says same = inl same
+last_of Memory status is end last events events' P Q says same = inl same
+
+pub last_as : (status : Status) (end last : World) (events events' : List Event) (P Q : List Event → Type 0)
+    → ((e : Event) → P (events ++ e ∷ []) → Q (events' ++ e ∷ [])) → IsLastOf status events P end last → IsLastOf status events' Q end last
+last_as status end last events events' P Q says (inl same) = inl same
+last_as status end last events events' P Q says (inr (is, e, has, h)) = inr (is, e, says e has, h)
+
+-- what holds of events behind others
+behind : (es more : List Event) (e : Event) (Q : List Event → Type 0) → Q (es ++ (more ++ e ∷ [])) → Q ((es ++ more) ++ e ∷ [])
+behind es more e Q has = subst (λ (l : List Event). Q l) (sym (append_assoc es more (e ∷ []))) has
+
+-- events, and then a fault of a step
+pub cut_behind : {S : Type 0} (view : S → SeatView) (seats : List S) (replies handed : List ToLink) (u : World) (es : List Event) (w : World)
+    (P Q : List Event → Type 0) (fault : StepFault) (status : Status) → status ≡ status_for fault → Run u es w
+    → ((more : List Event) → P more → Q (es ++ more)) → HasStopped view seats replies handed w P fault → IsCut view seats u Q status
+cut_behind view seats replies handed u es w P Q fault status is run all s = record {
+  events = es ++ s.events;
+  end = s.end;
+  which = all s.events s.which;
+  run = run_then u es w s.events s.end run s.run;
+  kept = kept_at fault view seats s.end s.nodes;
+  last = s.last;
+  is_last = last_of fault status is s.end s.last s.events (es ++ s.events) P Q (λ e has. behind es s.events e Q (all (s.events ++ e ∷ []) has)) s.up_to;
+  crashes = s.crashes;
+}
+
+-- events, and then a fault that is none of a step
+pub cut_here : {S : Type 0} (view : S → SeatView) (seats : List S) (u : World) (es : List Event) (w : World) (Q : List Event → Type 0) (status : Status)
+    → Run u es w → Q es → AreStill view seats w → IsCut view seats u Q status
+cut_here view seats u es w Q status run which are = record {
+  events = es;
+  end = w;
+  which = which;
+  run = run;
+  kept = held_kept view seats w.nodes are.nodes;
+  last = w;
+  is_last = inl refl;
+  crashes = are.crashes;
+}
+
+pub cut_then : {S : Type 0} (view : S → SeatView) (seats : List S) (u : World) (es : List Event) (w : World) (P Q : List Event → Type 0) (status : Status)
+    → Run u es w → ((more : List Event) → P more → Q (es ++ more)) → IsCut view seats w P status → IsCut view seats u Q status
+cut_then view seats u es w P Q status run all c = record {
+  events = es ++ c.events;
+  end = c.end;
+  which = all c.events c.which;
+  run = run_then u es w c.events c.end run c.run;
+  kept = c.kept;
+  last = c.last;
+  is_last = last_as status c.end c.last c.events (es ++ c.events) P Q (λ e has. behind es c.events e Q (all (c.events ++ e ∷ []) has)) c.is_last;
+  crashes = c.crashes;
+}
+
+-- the same events, said otherwise
+pub cut_as : {S : Type 0} (view : S → SeatView) (seats : List S) (u : World) (P Q : List Event → Type 0) (status : Status)
+    → ((events : List Event) → P events → Q events) → IsCut view seats u P status → IsCut view seats u Q status
+cut_as view seats u P Q status says c = record {
+  events = c.events;
+  end = c.end;
+  which = says c.events c.which;
+  run = c.run;
+  kept = c.kept;
+  last = c.last;
+  is_last = last_as status c.end c.last c.events c.events P Q (λ e has. says (c.events ++ e ∷ []) has) c.is_last;
+  crashes = c.crashes;
+}
+
+pub one_of_two : (fault : StepFault) (status : Status) → status ≡ status_for fault → (status ≡ statuses.DiskFailed) ⊎ (status ≡ statuses.OutOfMemory)
+one_of_two (Disk faults) status is = inl is
+one_of_two Steps status is = inr is
+one_of_two Memory status is = inr is

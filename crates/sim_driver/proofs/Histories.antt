@@ -1,0 +1,54 @@
+-- However a script ends, its nodes took part in one run, which makes one history.
+use Rattle.std.proofs.Common.{ℕ, List, ◌++◌}
+use Rattle.outside.specs.Devices.{SourceCall, SinkCall}
+use Rattle.node_model.specs.Kept.{creations_kept, entries_kept}
+use Rattle.node_model.specs.OneHistory.{OneHistory}
+use Rattle.node_model.specs.Tables.{first_shard}
+use Rattle.node_model.specs.World.{Held, World, Event, Run, journal_at, start}
+use Rattle.node_model.proofs.Schedules.{run_then}
+use Rattle.node_laws.proofs.Runs.{run_makes_one_history}
+use Rattle.pipe_driver.specs.declared.status.Status.{Status}
+use Rattle.sim_driver.specs.Simulations.{AllPlayed, CameTo, came_opening, came_lines, came_part, LastPutShort, Cause, IsSimulated}
+use Rattle.sim_driver.specs.Simulations.{input_ended, read_failed, write_failed, disk_failed, no_memory, line_refused, line_unended, too_long}
+use Rattle.sim_driver.proofs.Plays.{played_run, plays_run}
+
+module _ (routers : ℕ) where
+  all_run : (lines : List (List ℕ)) (put : List ℕ) (end : World) → AllPlayed routers lines put end → (events : List Event) × Run (start routers) events end
+  all_run lines put end all = (all.events, plays_run routers lines all.events end all.script put all.played)
+
+  came_run : (lines : List (List ℕ)) (left put : List ℕ) (end : World) → CameTo routers lines left put end
+      → (events : List Event) × Run (start routers) events end
+  came_run _ _ _ _ (came_opening left events w first run) = (events, run)
+  came_run _ _ _ _ (came_lines lines left put w all) = all_run lines put w all
+  came_run _ _ _ _ (came_part lines before events left put bytes others u w s plays next part run) =
+      (before ++ events, run_then (start routers) before u events w (plays_run routers lines before u s put plays) run)
+
+  short_run : (lines : List (List ℕ)) (left put : List ℕ) (end : World) → LastPutShort routers lines left put end
+      → (events : List Event) × Run (start routers) events end
+  short_run lines left put end short = (
+    short.before ++ short.events,
+    run_then (start routers) short.before short.earlier short.events end
+        (plays_run routers lines short.before short.earlier short.script short.out short.played)
+        (played_run short.earlier short.script short.line short.events end short.new short.closed short.last),
+  )
+
+  cause_run : (limit : ℕ) (at_end : Type 0) (taken : List ℕ) (lines : List (List ℕ)) (left put : List ℕ) (end : World) (status : Status)
+      → Cause routers limit at_end taken lines left put end status → (events : List Event) × Run (start routers) events end
+  cause_run limit at_end taken lines left put end _ (input_ended ends below none all) = all_run lines put end all
+  cause_run limit at_end taken lines left put end _ (read_failed below none all) = all_run lines put end all
+  cause_run limit at_end taken lines left put end _ (write_failed short) = short_run lines left put end short
+  cause_run limit at_end taken lines left put end _ (disk_failed came) = came_run lines left put end came
+  cause_run limit at_end taken lines left put end _ (no_memory came) = came_run lines left put end came
+  cause_run limit at_end taken lines left put end _ (line_refused bytes others next refused all) = all_run lines put end all
+  cause_run limit at_end taken lines left put end _ (line_unended ends below some none all) = all_run lines put end all
+  cause_run limit at_end taken lines left put end _ (too_long long none all) = all_run lines put end all
+
+-- whatever the script says, and however it ended
+module _ (source : SourceCall) (sink : SinkCall) (kept : List Held → Type 0) (leaves : World → Type 0) (routers limit : ℕ) (status : Status) where
+  pub simulated_run : (s : IsSimulated source sink kept leaves routers limit status) → (events : List Event) × Run (start routers) events s.end
+  simulated_run s =
+      cause_run routers limit _ s.taken s.lines s.left s.put s.end status s.cause
+
+  pub simulated_history : (s : IsSimulated source sink kept leaves routers limit status)
+      → OneHistory s.end.given (creations_kept (journal_at s.end.nodes 0)) (entries_kept (journal_at s.end.nodes first_shard)) s.end.asked s.end.answered
+  simulated_history s = let run = simulated_run s in run_makes_one_history routers run.0 s.end run.1

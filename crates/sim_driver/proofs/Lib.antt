@@ -1,0 +1,10 @@
+pub mod Asks
+pub mod Deliveries
+pub mod Endings
+pub mod Faults
+pub mod Histories
+pub mod Places
+pub mod PlayedLines
+pub mod Plays
+pub mod Reports
+pub mod Steps

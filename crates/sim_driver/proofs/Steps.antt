@@ -1,0 +1,280 @@
+-- A script goes on by one line, or stops at it.
+use Rattle.std.proofs.Common.{◌≡◌, inl, inr, ℕ, List, [], ◌∷◌, ◌++◌, length, refl, sym, ap, subst, ◌∙◌, append_assoc, append-nil}
+use Rattle.std.specs.Prelude.{Bool}
+use Rattle.std.proofs.lemmas.Grind.{flat_map-append}
+use Rattle.outside.specs.Streams.{Put}
+use Rattle.outside.proofs.Relations.{put_then}
+use Rattle.node_model.specs.Letters.{Letter}
+use Rattle.node_model.specs.World.{World, Event, Happens, Run, start}
+use Rattle.node_model.specs.Schedule.{openings}
+use Rattle.node_traits.specs.declared.outputs.StepFault.{StepFault}
+use Rattle.node_traits.specs.declared.outputs.StepFault.TheVariants.{Disk, Steps, Memory}
+use Rattle.node_traits.specs.declared.outputs.ToLink.{ToLink}
+use Rattle.driver_steps.specs.declared.post.Post.{Post}
+use Rattle.driver_steps.specs.Seats.{SeatView}
+use Rattle.driver_steps.specs.Worlds.{PostView, StandsFor, post_view, puts_given}
+use Rattle.driver_steps.specs.Moves.{BeginWith, HasRun, HasStopped, IsUpTo}
+use Rattle.driver_steps.proofs.Seats.{held_kept}
+use Rattle.driver_steps.proofs.Runs.{handed_on}
+use Rattle.pipe_driver.specs.Pieces.{PutInPart}
+use Rattle.pipe_driver.specs.Schedules.{IsLast}
+use Rattle.pipe_driver.specs.Stops.{status_for}
+use Rattle.pipe_driver.specs.declared.status.Status.{Status}
+use Rattle.pipe_driver.specs.declared.status.Status.TheVariants as statuses
+use Rattle.pipe_driver.proofs.Frames.{all_more}
+use Rattle.pipe_driver.proofs.Openings.{nothing_told}
+use Rattle.script_lines.specs.Words.{HasNone, IsCutAt}
+use Rattle.sim_driver.specs.Scripts.{ScriptView, new_script, printed}
+use Rattle.sim_driver.specs.Moves.{AreStill, IsCut, IsLastOf}
+use Rattle.sim_driver.specs.Played.{HasPlayedBytes, IsPartOfBytes, part_read, StopsBytes, bytes_refused, bytes_at_disk, bytes_at_memory}
+use Rattle.sim_driver.specs.Simulations.{newline, bytes_of_lines, plays_none, plays_more, CameTo, came_opening, came_lines, came_part}
+use Rattle.sim_driver.specs.Playing.{Playing, StopsAt, at_refused_line, at_write_fault, at_disk_fault, at_no_memory, Stopped}
+use Rattle.sim_driver.proofs.Faults.{kept_at, run_more, still}
+use Rattle.sim_driver.proofs.Plays.{whole_is_part}
+
+lines_more : (lines : List (List ℕ)) (bytes : List ℕ) → bytes_of_lines (lines ++ bytes ∷ []) ≡ bytes_of_lines lines ++ (bytes ++ newline ∷ [])
+lines_more lines bytes =
+    flat_map-append (λ (l : List ℕ). l ++ newline ∷ []) lines (bytes ∷ []) ∙ ap (λ (b : List ℕ). bytes_of_lines lines ++ b) (append-nil
+    (bytes ++ newline ∷ []))
+
+next_line : (bytes others : List ℕ) → HasNone newline bytes → IsCutAt newline (bytes ++ newline ∷ others) bytes others
+next_line bytes others none = record { whole = refl; first = none }
+
+-- the world up to which a crash may have left what the nodes keep
+last_by : (fault : StepFault) (status : Status) → status ≡ status_for fault → (end last : World) (events : List Event) (P : List Event → Type 0)
+    (goes_on : World → Type 0) → ((e : Event) → P (events ++ e ∷ []) → Happens end e last → goes_on last)
+    → IsUpTo fault end last ((e : Event) × P (events ++ e ∷ []) × Happens end e last) → IsLast status goes_on end last
+last_by (Disk faults) status is end last events P goes_on on (inl same) = inl same
+last_by (Disk faults) status is end last events P goes_on on (inr (e, has, h)) = inr (is, on e has h, e, h)
+last_by Steps status is end last events P goes_on on same = inl same
+last_by Memory status is end last events P goes_on on same = inl same
+
+last_in_line : (status : Status) (end last : World) (events : List Event) (P : List Event → Type 0) (goes_on : World → Type 0)
+    → ((e : Event) → P (events ++ e ∷ []) → Happens end e last → goes_on last) → IsLastOf status events P end last → IsLast status goes_on end last
+last_in_line status end last events P goes_on on (inl same) = inl same
+last_in_line status end last events P goes_on on (inr (is, e, has, h)) = inr (is, on e has h, e, h)
+
+-- THE START
+
+module _ {S : Type 0} (view : S → SeatView) (seats : List S) (routers : ℕ) (tells : Bool) (held : List ℕ) (count : ℕ)
+    (as_many : count ≡ length (start routers).nodes) where
+  pub opened_playing : (post : PostView) → HasRun view seats post [] (start routers) 0 (openings 0 count)
+      → Playing view seats post routers tells held held new_script []
+  opened_playing post r =
+      let none : r.end.answered ≡ [] = nothing_told routers count r.end r.run in
+      let silent : puts_given r.end.answered ≡ [] = ap puts_given none in
+      let run : Run (start routers) (openings 0 (length (start routers).nodes)) r.end =
+      subst (λ (n : ℕ). Run (start routers) (openings 0 n) r.end) as_many r.run in
+      record {
+        lines = [];
+        events = openings 0 (length (start routers).nodes);
+        world = r.end;
+        out = [];
+        plays = plays_none r.end run;
+        stands = subst (λ (l : List ToLink). StandsFor view seats post l r.end 0) (sym silent) r.stands;
+        put = λ told. sym (append-nil held);
+        all = refl;
+        each = tt;
+      }
+
+  opening_came : (left : List ℕ) (replies : List ToLink) (fault : StepFault)
+      → (s : HasStopped view seats replies [] (start routers) (λ events. BeginWith events (openings 0 count)) fault) → CameTo routers [] left [] s.end
+  opening_came left replies fault s =
+      came_opening left s.events s.end (subst (λ (n : ℕ). BeginWith s.events (openings 0 n)) as_many s.which) s.run
+
+  stops_by : (fault : StepFault) (status : Status) → status ≡ status_for fault → (lines : List (List ℕ)) (left put : List ℕ) (end : World)
+      → CameTo routers lines left put end → StopsAt routers lines left put end status
+  stops_by (Disk faults) status is lines left put end came =
+      subst (λ (n : Status). StopsAt routers lines left put end n) (sym is) (at_disk_fault came)
+  stops_by Steps status is lines left put end came = subst (λ (n : Status). StopsAt routers lines left put end n) (sym is) (at_no_memory came)
+  stops_by Memory status is lines left put end came = subst (λ (n : Status). StopsAt routers lines left put end n) (sym is) (at_no_memory came)
+
+  pub opening_stopped : (left : List ℕ) (replies : List ToLink) (fault : StepFault) (status : Status) → status ≡ status_for fault
+      → HasStopped view seats replies [] (start routers) (λ events. BeginWith events (openings 0 count)) fault
+      → Stopped view seats routers tells held held [] left status
+  opening_stopped left replies fault status is s = record {
+    lines = [];
+    end = s.end;
+    out = [];
+    cause = stops_by fault status is [] left [] s.end (opening_came left replies fault s);
+    put = λ told. sym (append-nil held);
+    all = refl;
+    each = tt;
+    kept = kept_at fault view seats s.end s.nodes;
+    last = s.last;
+    is_last = last_by fault status is s.end s.last s.events (λ events. BeginWith events (openings 0 count)) (λ w. CameTo routers [] left [] w)
+        (λ e first h.
+        came_opening left (s.events ++ e ∷ []) s.last (subst (λ (n : ℕ). BeginWith (s.events ++ e ∷ []) (openings 0 n)) as_many first)
+        (run_more (start routers) s.events s.end e s.last s.run h)) s.up_to;
+    crashes = s.crashes;
+  }
+
+-- ONE LINE
+
+module _ {S : Type 0} (view : S → SeatView) (seats seats_after : List S) (before : PostView) (routers : ℕ) (tells : Bool)
+    (held_before held consumed : List ℕ) (s : ScriptView) (p : Playing view seats before routers tells held_before held s consumed)
+    (bytes : List ℕ) (none : HasNone newline bytes) where
+  came_in : (others : List ℕ) (events : List Event) (end : World) → IsPartOfBytes p.world s bytes events → Run p.world events end
+      → CameTo routers p.lines (bytes ++ newline ∷ others) p.out end
+  came_in others events end part run =
+      came_part p.lines p.events events (bytes ++ newline ∷ others) p.out bytes others p.world end s p.plays (next_line bytes others none) part run
+
+  -- the script stops within the line, of which nothing was put
+  stops_within : (others : List ℕ) (status : Status) → (c : IsCut view seats_after p.world (IsPartOfBytes p.world s bytes) status)
+      → StopsAt routers p.lines (bytes ++ newline ∷ others) p.out c.end status
+      → Stopped view seats_after routers tells held_before held consumed (bytes ++ newline ∷ others) status
+  stops_within others status c cause = record {
+    lines = p.lines;
+    end = c.end;
+    out = p.out;
+    cause = cause;
+    put = p.put;
+    all = p.all;
+    each = p.each;
+    kept = c.kept;
+    last = c.last;
+    is_last = last_in_line status c.end c.last c.events (IsPartOfBytes p.world s bytes) (λ w. CameTo routers p.lines (bytes ++ newline ∷ others) p.out w)
+        (λ e part h. came_in others (c.events ++ e ∷ []) c.last part (run_more p.world c.events c.end e c.last c.run h)) c.is_last;
+    crashes = c.crashes;
+  }
+
+  -- the script stops where nothing is cut short, and of the line nothing was put
+  stops_here : (others : List ℕ) (status : Status) (end : World) → StopsAt routers p.lines (bytes ++ newline ∷ others) p.out end status
+      → AreStill view seats_after end → Stopped view seats_after routers tells held_before held consumed (bytes ++ newline ∷ others) status
+  stops_here others status end cause are = record {
+    lines = p.lines;
+    end = end;
+    out = p.out;
+    cause = cause;
+    put = p.put;
+    all = p.all;
+    each = p.each;
+    kept = held_kept view seats_after end.nodes are.nodes;
+    last = end;
+    is_last = inl refl;
+    crashes = are.crashes;
+  }
+
+  pub line_stopped : (others : List ℕ) (status : Status) → StopsBytes view seats_after p.world bytes s status
+      → Stopped view seats_after routers tells held_before held consumed (bytes ++ newline ∷ others) status
+  line_stopped others _ (bytes_refused refused are) =
+      stops_here others statuses.BadInput p.world
+      (at_refused_line bytes others (next_line bytes others none) refused (record { events = p.events; script = s; played = p.plays })) are
+  line_stopped others _ (bytes_at_disk c) = stops_within others statuses.DiskFailed c (at_disk_fault (came_in others c.events c.end c.which c.run))
+  line_stopped others _ (bytes_at_memory c) = stops_within others statuses.OutOfMemory c (at_no_memory (came_in others c.events c.end c.which c.run))
+
+  module _ {M : Type 0} (letter : M → Letter) (old new : Post M) (t : ScriptView) (closed : Bool)
+      (h : HasPlayedBytes view seats_after (post_view letter old) (puts_given p.world.answered) p.world bytes s t closed) where
+    puts_are : puts_given h.played.end.answered ≡ puts_given p.world.answered ++ old.replies.items
+    puts_are = h.played.stands.given
+
+    -- what it prints was put
+    pub line_answered : (held' : List ℕ) → new.waiting.items ≡ old.waiting.items → new.replies.items ≡ []
+        → Put tells held (printed s.link old.replies.items closed) held'
+        → Playing view seats_after (post_view letter new) routers tells held_before held' t (consumed ++ (bytes ++ newline ∷ []))
+    line_answered held' waits silent put = record {
+      lines = p.lines ++ bytes ∷ [];
+      events = p.events ++ h.played.events;
+      world = h.played.end;
+      out = p.out ++ printed s.link old.replies.items closed;
+      plays = plays_more p.lines p.events h.played.events p.world h.played.end s t p.out bytes h.line closed old.replies.items p.plays h.says
+          h.played.played puts_are;
+      stands = subst (λ (l : List ToLink). StandsFor view seats_after (post_view letter new) l h.played.end 0) (sym puts_are)
+          (handed_on view letter seats_after (puts_given p.world.answered) h.played.end 0 old new h.played.stands waits silent);
+      put = put_then tells held_before p.out held (printed s.link old.replies.items closed) held' p.put put;
+      all = ap (λ (b : List ℕ). b ++ (bytes ++ newline ∷ [])) p.all ∙ sym (lines_more p.lines bytes);
+      each = all_more (HasNone newline) p.lines bytes p.each none;
+    }
+
+    -- a prefix of what it prints was put
+    pub line_put_short : (others held' : List ℕ) → PutInPart tells held (printed s.link old.replies.items closed) held'
+        → Stopped view seats_after routers tells held_before held' consumed (bytes ++ newline ∷ others) statuses.WriteFailed
+    line_put_short others held' (part, prefix, put) = record {
+      lines = p.lines;
+      end = h.played.end;
+      out = p.out ++ part;
+      cause = at_write_fault (record {
+        before = p.events;
+        events = h.played.events;
+        earlier = p.world;
+        script = s;
+        new = t;
+        out = p.out;
+        bytes = bytes;
+        others = others;
+        line = h.line;
+        closed = closed;
+        given = old.replies.items;
+        part = part;
+        played = p.plays;
+        next = next_line bytes others none;
+        says = h.says;
+        last = h.played.played;
+        gave = puts_are;
+        in_part = prefix;
+        all = refl;
+      });
+      put = put_then tells held_before p.out held part held' p.put put;
+      all = p.all;
+      each = p.each;
+      kept = held_kept view seats_after h.played.end.nodes h.played.stands.nodes;
+      last = h.played.end;
+      is_last = inl refl;
+      crashes = h.played.stands.crashes;
+    }
+
+    -- there was no memory for what it prints
+    pub line_unprinted : (others : List ℕ) → Stopped view seats_after routers tells held_before held consumed (bytes ++ newline ∷ others) statuses.OutOfMemory
+    line_unprinted others =
+        stops_here others statuses.OutOfMemory h.played.end
+        (at_no_memory (came_in others h.played.events h.played.end
+        (part_read h.line h.played.events h.says (whole_is_part p.world s h.line h.played.events h.played.end t closed h.played.played)) h.played.run))
+        (still view seats_after (post_view letter old) (puts_given p.world.answered) h.played.end h.played.stands)
+
+-- BETWEEN LINES
+
+-- there was no memory for the next line
+pub playing_full : {S : Type 0} (view : S → SeatView) (seats : List S) (post : PostView) (routers : ℕ) (tells : Bool)
+    (held_before held consumed left : List ℕ)
+    (s : ScriptView) → Playing view seats post routers tells held_before held s consumed
+    → Stopped view seats routers tells held_before held consumed left statuses.OutOfMemory
+playing_full view seats post routers tells held_before held consumed left s p = record {
+  lines = p.lines;
+  end = p.world;
+  out = p.out;
+  cause = at_no_memory (came_lines p.lines left p.out p.world (record { events = p.events; script = s; played = p.plays }));
+  put = p.put;
+  all = p.all;
+  each = p.each;
+  kept = held_kept view seats p.world.nodes p.stands.nodes;
+  last = p.world;
+  is_last = inl refl;
+  crashes = p.stands.crashes;
+}
+
+-- BYTES
+
+-- a line more of all bytes
+pub bytes_more : (all more begun rest first behind grown cleared : List ℕ) → all ≡ more ++ (begun ++ rest) → rest ≡ first ++ newline ∷ behind
+    → grown ≡ begun ++ first → cleared ≡ [] → all ≡ (more ++ (grown ++ newline ∷ [])) ++ (cleared ++ behind)
+bytes_more all more begun rest first behind grown cleared whole cut grows none =
+    whole ∙ (ap (λ (b : List ℕ). more ++ (begun ++ b)) cut ∙ (regroup more begun first behind
+    ∙ (ap (λ (b : List ℕ). (more ++ (b ++ newline ∷ [])) ++ behind) (sym grows)
+    ∙ ap (λ (b : List ℕ). (more ++ (grown ++ newline ∷ [])) ++ (b ++ behind)) (sym none))))
+  where
+    regroup : (a b c d : List ℕ) → a ++ (b ++ (c ++ newline ∷ d)) ≡ (a ++ ((b ++ c) ++ newline ∷ [])) ++ d
+    regroup a b c d = sym (simp append_assoc)
+
+-- the next line of all bytes
+pub bytes_next : (all more begun rest first behind grown : List ℕ) → all ≡ more ++ (begun ++ rest) → rest ≡ first ++ newline ∷ behind
+    → grown ≡ begun ++ first → all ≡ more ++ (grown ++ newline ∷ behind)
+bytes_next all more begun rest first behind grown whole cut grows =
+    whole ∙ (ap (λ (b : List ℕ). more ++ (begun ++ b)) cut ∙ (ap (λ (b : List ℕ). more ++ b) (sym (append_assoc begun first (newline ∷ behind)))
+    ∙ ap (λ (b : List ℕ). more ++ (b ++ newline ∷ behind)) (sym grows)))
+
+-- what the script has, said otherwise
+pub playing_from : {S : Type 0} (view : S → SeatView) (seats : List S) (post : PostView) (routers : ℕ) (tells : Bool) (held_before held consumed : List ℕ)
+    (s t : ScriptView) → s ≡ t → Playing view seats post routers tells held_before held s consumed
+    → Playing view seats post routers tells held_before held t consumed
+playing_from view seats post routers tells held_before held consumed s t same p =
+    subst (λ (x : ScriptView). Playing view seats post routers tells held_before held x consumed) same p

@@ -1,0 +1,29 @@
+use Rattle.std.proofs.Common.{◌≡◌, List, length}
+use Rattle.std.specs.Prelude.{None, vec_len}
+use Rattle.node_model.specs.World.{IsRouter, World}
+use Rattle.node_traits.specs.declared.outputs.ToLink.{ToLink}
+use Rattle.driver_steps.specs.Crashes.{Since}
+use Rattle.driver_steps.specs.Seats.{AreOpen, faults_of, places_of, seat_since}
+use Rattle.driver_steps.specs.Worlds.{StandsFor, post_view}
+use Rattle.pipe_driver.specs.Progress.{AreAskedAsRead}
+use Rattle.pipe_driver.specs.Rounds.{first_router}
+use Rattle.sim_driver.proofs.Asks.{AreAsking}
+use Rattle.sim_driver.proofs.client.ask_all.Given as goal
+
+abbrev pub decreases-requests : goal.decreases-requests
+decreases-requests g l = length l.framer.bytes
+
+abbrev pub invariant-requests : goal.invariant-requests
+invariant-requests g l = record {
+  len : vec_len l.seats ≡ vec_len l.fn.seats;
+  are_open : AreOpen g.L.Log.is_open l.seats.items;
+  fault : l.framer.fault ≡ None;
+  disks_calm : faults_of g.L.Log.fault_count l.seats.items ≡ faults_of g.L.Log.fault_count l.fn.seats.items;
+  places : places_of g.L.Log.place l.seats.items ≡ places_of g.L.Log.place l.fn.seats.items;
+  went : AreAskedAsRead g.N.Node.asks → (since : Since g.row.L.Denot) (w : World) (handed : List ToLink) → IsRouter w.nodes first_router
+      → StandsFor (seat_since g.N.Node.state g.L.Log.tells g.L.Log.records g.L.Log.holds g.L.Log.finds g.L.Log.moment g.L.Log.left_since since)
+      l.fn.seats.items
+      (post_view (λ m. g.N.Mail.Mail.letter m) l.fn.post) handed w 0
+      → AreAsking (seat_since g.N.Node.state g.L.Log.tells g.L.Log.records g.L.Log.holds g.L.Log.finds g.L.Log.moment g.L.Log.left_since since) l.seats.items
+      (post_view (λ m. g.N.Mail.Mail.letter m) l.post) handed w l.link l.fn.replied l.fn.framer.bytes l.framer.bytes l.replied;
+}

@@ -1,0 +1,40 @@
+use Rattle.std.proofs.Common.{◌∙◌, [], ◌∷◌, refl, ap, arith, map}
+use Rattle.std.specs.List.{slice_get}
+use Rattle.std.proofs.lemmas.List.{length-map}
+use Rattle.node_model.specs.World.{deliver_event, stands}
+use Rattle.driver_steps.specs.Seats.{seat_since}
+use Rattle.driver_steps.specs.Moves.{BeginWith}
+use Rattle.sim_driver.specs.Moves.{IsPartOfDelivery}
+use Rattle.sim_driver.proofs.Deliveries.{all_sent, message_at}
+use Rattle.sim_driver.proofs.Faults.{cut_behind, cut_here, still}
+use Rattle.sim_driver.proofs.deliver.deliver_at.Goals as goal
+
+pub returns-in-Err-clause-cut : goal.returns-in-Err-clause-cut
+returns-in-Err-clause-cut g c since w handed s =
+    let m = message_at (map (λ m. g.N.Mail.Mail.letter m) c.args.post.now.waiting.items) c.args.at
+    (omega (arith, c.requires.at, c.args.post.now.waiting.ok.0, length-map c.args.post.now.waiting.items (λ m. g.N.Mail.Mail.letter m))) in
+    let got = ap (λ l. slice_get l c.args.at) (all_sent (seat_since g.N.Node.state g.L.Log.tells g.L.Log.records g.L.Log.holds g.L.Log.finds g.L.Log.moment
+    g.L.Log.left_since since) _ _ handed w s) ∙ m.1 in
+    cut_here (seat_since g.N.Node.state g.L.Log.tells g.L.Log.records g.L.Log.holds g.L.Log.finds g.L.Log.moment g.L.Log.left_since since) _ w [] w
+    (IsPartOfDelivery w c.args.at) _ (stands w)
+    (record { message = m.0; got = got; first = (deliver_event m.0.receiver c.args.at ∷ [], refl) })
+    (still (seat_since g.N.Node.state g.L.Log.tells g.L.Log.records g.L.Log.holds g.L.Log.finds g.L.Log.moment g.L.Log.left_since since) _ _ handed w s)
+
+pub returns-in-Ok-deliver-clause-delivered : goal.returns-in-Ok-deliver-clause-delivered
+returns-in-Ok-deliver-clause-delivered g c since w handed s =
+    let got = ap (λ l. slice_get l c.args.at) (all_sent (seat_since g.N.Node.state g.L.Log.tells g.L.Log.records g.L.Log.holds g.L.Log.finds g.L.Log.moment
+    g.L.Log.left_since since) _ _ handed w s)
+    ∙ c.in-Ok.ensures in
+    let d = c.in-Ok-deliver.ensures.delivered since w 0 c.args.at handed s got in
+    record { message = g.N.Mail.Mail.letter c.in-Ok.message; end = d.end; got = got; delivers = d.delivers; stands = d.stands }
+
+pub returns-in-Err-deliver-clause-cut : goal.returns-in-Err-deliver-clause-cut
+returns-in-Err-deliver-clause-cut g c since w handed s =
+    let got = ap (λ l. slice_get l c.args.at) (all_sent (seat_since g.N.Node.state g.L.Log.tells g.L.Log.records g.L.Log.holds g.L.Log.finds g.L.Log.moment
+    g.L.Log.left_since since) _ _ handed w s)
+    ∙ c.in-Ok.ensures in
+    cut_behind (seat_since g.N.Node.state g.L.Log.tells g.L.Log.records g.L.Log.holds g.L.Log.finds g.L.Log.moment g.L.Log.left_since since) _ _ handed w [] w
+    (λ events. BeginWith events (deliver_event (g.N.Mail.Mail.letter c.in-Ok.message).receiver c.args.at ∷ []))
+    (IsPartOfDelivery w c.args.at) c.in-Err-deliver.e _ c.of.ensures (stands w)
+    (λ more first. record { message = g.N.Mail.Mail.letter c.in-Ok.message; got = got; first = first })
+    (c.in-Err-deliver.ensures.stopped since w 0 c.args.at handed s got)

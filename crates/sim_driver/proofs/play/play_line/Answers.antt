@@ -1,0 +1,31 @@
+use Rattle.driver_steps.specs.Seats.{seat_since}
+use Rattle.script_lines.specs.Meanings.{meaning_of}
+use Rattle.sim_driver.specs.Played.{bytes_refused, says_none}
+use Rattle.sim_driver.specs.Scripts.{script_view}
+use Rattle.sim_driver.proofs.Faults.{still}
+use Rattle.sim_driver.proofs.PlayedLines.{bytes_stop, bytes_unread}
+use Rattle.sim_driver.proofs.play.play_line.Goals as goal
+
+pub returns-in-Ok-play_said-clause-played : goal.returns-in-Ok-play_said-clause-played
+returns-in-Ok-play_said-clause-played g c asks since w handed router known s = record {
+  line = meaning_of c.in-Ok.said;
+  says = c.in-Ok.ensures.says;
+  played = c.in-Ok-play_said.ensures.played asks since w handed router known s;
+}
+
+pub returns-in-Err-clause-stops : goal.returns-in-Err-clause-stops
+returns-in-Err-clause-stops g c asks since w handed router known s =
+    bytes_stop (seat_since g.N.Node.state g.L.Log.tells g.L.Log.records g.L.Log.holds g.L.Log.finds g.L.Log.moment g.L.Log.left_since since) _ w
+    c.args.line.now (meaning_of c.in-Ok.said) (script_view c.args.script.now) c.in-Err.status c.in-Ok.ensures.says
+    (c.in-Err.ensures.stops asks since w handed router known s)
+
+pub returns-in-Err-Refused-clause-stops : goal.returns-in-Err-Refused-clause-stops
+returns-in-Err-Refused-clause-stops g c asks since w handed router known s =
+    bytes_refused (says_none (λ other. c.in-Err-Refused.ensures.refused (cc c.in-Err-Refused.field-0-is) other))
+    (still (seat_since g.N.Node.state g.L.Log.tells g.L.Log.records g.L.Log.holds g.L.Log.finds g.L.Log.moment g.L.Log.left_since since) _ _ handed w s)
+
+pub returns-in-Err-Memory-clause-stops : goal.returns-in-Err-Memory-clause-stops
+returns-in-Err-Memory-clause-stops g c asks since w handed router known s =
+    bytes_unread (seat_since g.N.Node.state g.L.Log.tells g.L.Log.records g.L.Log.holds g.L.Log.finds g.L.Log.moment g.L.Log.left_since since) _ w
+    c.args.line.now (script_view c.args.script.now)
+    (still (seat_since g.N.Node.state g.L.Log.tells g.L.Log.records g.L.Log.holds g.L.Log.finds g.L.Log.moment g.L.Log.left_since since) _ _ handed w s)

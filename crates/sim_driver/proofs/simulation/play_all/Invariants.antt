@@ -1,0 +1,38 @@
+use Rattle.std.proofs.Common.{◌≡◌, ℕ, List, [], ◌+◌, ◌-◌, ◌<◌, ◌≤◌, ◌++◌, length}
+use Rattle.std.specs.Prelude.{None, vec_len}
+use Rattle.outside.specs.Streams.{Took}
+use Rattle.driver_steps.specs.Crashes.{Since}
+use Rattle.driver_steps.specs.Seats.{AreOpen, faults_of, places_of, seat_since}
+use Rattle.driver_steps.specs.Worlds.{post_view}
+use Rattle.pipe_driver.specs.Progress.{AreAskedAsRead}
+use Rattle.script_lines.specs.Words.{HasNone}
+use Rattle.sim_driver.specs.Playing.{Playing}
+use Rattle.sim_driver.specs.Scripts.{new_script, script_view}
+use Rattle.sim_driver.specs.Simulations.{newline}
+use Rattle.sim_driver.proofs.simulation.play_all.Given as goal
+
+abbrev pub decreases-pieces : goal.decreases-pieces
+decreases-pieces g l = l.limit - l.taken
+
+-- what was taken is lines that were played, and the beginning of one
+abbrev pub invariant-pieces : goal.invariant-pieces
+invariant-pieces g l = record {
+  most : l.taken ≤ l.limit;
+  begun : HasNone newline l.begun.items;
+  fault : l.script.framer.fault ≡ None;
+  len : vec_len l.seats ≡ vec_len l.fn.seats;
+  are_open : AreOpen g.L.Log.is_open l.seats.items;
+  source_calm : g.S.Source.fault_count l.input ≡ g.S.Source.fault_count l.fn.input;
+  sink_calm : g.K.Sink.fault_count l.out ≡ g.K.Sink.fault_count l.fn.out;
+  disks_calm : faults_of g.L.Log.fault_count l.seats.items ≡ faults_of g.L.Log.fault_count l.fn.seats.items;
+  places : places_of g.L.Log.place l.seats.items ≡ places_of g.L.Log.place l.fn.seats.items;
+  went : AreAskedAsRead g.N.Node.asks → (since : Since g.row.L.Denot) (routers : ℕ) → 0 < routers
+      → Playing (seat_since g.N.Node.state g.L.Log.tells g.L.Log.records g.L.Log.holds g.L.Log.finds g.L.Log.moment g.L.Log.left_since since)
+      l.fn.seats.items (post_view (λ m. g.N.Mail.Mail.letter m) l.fn.post) routers g.K.Sink.tells (g.K.Sink.held l.fn.out) (g.K.Sink.held l.fn.out)
+      new_script []
+      → (consumed : List ℕ) × (length consumed + length l.begun.items ≡ l.taken)
+      × Took g.S.Source.tells (g.S.Source.left l.fn.input) (consumed ++ l.begun.items) (g.S.Source.left l.input)
+      × Playing (seat_since g.N.Node.state g.L.Log.tells g.L.Log.records g.L.Log.holds g.L.Log.finds g.L.Log.moment g.L.Log.left_since since)
+      l.seats.items (post_view (λ m. g.N.Mail.Mail.letter m) l.post) routers g.K.Sink.tells (g.K.Sink.held l.fn.out) (g.K.Sink.held l.out)
+      (script_view l.script) consumed;
+}

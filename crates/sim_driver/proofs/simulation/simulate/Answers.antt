@@ -1,0 +1,45 @@
+use Rattle.std.proofs.Common.{◌∙◌, [], refl, arith}
+use Rattle.std.specs.Prelude.{vec_len}
+use Rattle.outside.specs.Devices.{sink_call, source_call}
+use Rattle.node_model.specs.World.{start}
+use Rattle.driver_steps.specs.Seats.{since_then}
+use Rattle.driver_steps.proofs.Crashes.{held_since, kept_plain, start_leaves}
+use Rattle.driver_steps.proofs.Seats.{held_len}
+use Rattle.pipe_driver.proofs.Openings.{starts}
+use Rattle.sim_driver.proofs.Endings.{ended_stopped, simulated_as}
+use Rattle.sim_driver.proofs.Steps.{opened_playing, opening_stopped}
+use Rattle.sim_driver.proofs.simulation.simulate.Goals as goal
+
+pub returns-in-Ok-clause-simulated : goal.returns-in-Ok-clause-simulated
+returns-in-Ok-clause-simulated g c = λ asks routers some are.
+    let since = since_then c.args.seats.now.items (start routers) in
+    let seated = held_since g.N.Node.state g.L.Log.tells g.L.Log.records g.L.Log.holds g.L.Log.finds g.L.Log.moment g.L.Log.left_since since
+    c.args.seats.now.items (start routers).nodes are in
+    let leave = start_leaves g.N.Node.state g.L.Log.tells g.L.Log.records g.L.Log.holds g.L.Log.finds g.L.Log.moment g.L.Log.left_since
+    c.args.seats.now.items (start routers) in
+    let as_many = c.args.seats.now.ok.0 ∙ held_len _ c.args.seats.now.items (start routers).nodes seated in
+    let s = starts _ (λ m. g.N.Mail.Mail.letter m) c.args.seats.now.items routers
+    c.new-post.result seated leave c.new-post.ensures.waiting c.new-post.ensures.replies in
+    simulated_as _ _ _ _ _ routers _ _
+    (λ nodes kept. kept_plain g.N.Node.state g.L.Log.tells g.L.Log.records g.L.Log.holds g.L.Log.finds g.L.Log.moment g.L.Log.left_since since _ nodes kept)
+    (c.play_all.ensures.simulated asks since routers some
+    (opened_playing _ _ routers _ _ (vec_len c.args.seats.now) as_many _ (c.in-Ok.ensures.opened since (start routers) 0 [] s)))
+
+pub returns-in-Err-clause-simulated : goal.returns-in-Err-clause-simulated
+returns-in-Err-clause-simulated g c = λ asks routers some are.
+    let since = since_then c.args.seats.now.items (start routers) in
+    let seated = held_since g.N.Node.state g.L.Log.tells g.L.Log.records g.L.Log.holds g.L.Log.finds g.L.Log.moment g.L.Log.left_since since
+    c.args.seats.now.items (start routers).nodes are in
+    let leave = start_leaves g.N.Node.state g.L.Log.tells g.L.Log.records g.L.Log.holds g.L.Log.finds g.L.Log.moment g.L.Log.left_since
+    c.args.seats.now.items (start routers) in
+    let as_many = c.args.seats.now.ok.0 ∙ held_len _ c.args.seats.now.items (start routers).nodes seated in
+    let s = starts _ (λ m. g.N.Mail.Mail.letter m) c.args.seats.now.items routers
+    c.new-post.result seated leave c.new-post.ensures.waiting c.new-post.ensures.replies in
+    simulated_as _ _ _ _ _ routers _ _
+    (λ nodes kept. kept_plain g.N.Node.state g.L.Log.tells g.L.Log.records g.L.Log.holds g.L.Log.finds g.L.Log.moment g.L.Log.left_since since _ nodes kept)
+    (ended_stopped _ c.open_all.new.seats.items
+    (source_call g.S.Source.tells g.S.Source.left g.S.Source.fault_count c.args.input.now c.args.input.now)
+    (sink_call g.K.Sink.tells g.K.Sink.held g.K.Sink.fault_count c.args.out.now c.args.out.now) routers c.args.limit
+    c.of.result [] [] c.of.result refl
+    (opening_stopped _ _ routers _ _ (vec_len c.args.seats.now) as_many [] _ c.in-Err.e _ c.of.ensures
+    (c.in-Err.ensures.stopped since (start routers) 0 [] s)) (λ told. refl) (omega arith))

@@ -1,0 +1,13 @@
+pub mod Scripts
+pub mod Plays
+pub mod Moves
+pub mod Played
+pub mod Simulations
+pub mod Playing
+pub use Rattle.driver_steps.specs.Seats
+pub use Rattle.driver_steps.specs.Worlds
+pub use Rattle.node_model.specs.Schedule
+pub use Rattle.node_model.specs.World
+pub use Rattle.outside.specs.Devices
+pub use Rattle.script_lines.specs.Lines
+pub use Rattle.script_lines.specs.Words

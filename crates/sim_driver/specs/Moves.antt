@@ -1,0 +1,97 @@
+-- What calls of a script do to the world that stands for nodes and messages (own).
+use Rattle.std.specs.Prelude.{◌≡◌, ◌⊎◌, ℕ, List, [], ◌∷◌, ◌++◌, length, Some, None, Option, Bool, true, false}
+use Rattle.std.specs.List.{slice_get}
+use Rattle.opmsg_frames.specs.Outline.{FrameFault}
+use Rattle.opmsg_frames.specs.Frames.{FramesFrom}
+use Rattle.node_model.specs.Letters.{Letter}
+use Rattle.node_model.specs.Requests.{Request}
+use Rattle.node_model.specs.World.{World, Event, deliver_event, Happens, Run}
+use Rattle.node_traits.specs.declared.outputs.ToLink.{ToLink}
+use Rattle.driver_steps.specs.Seats.{SeatView, AreHeld, AreKept, LeaveKept}
+use Rattle.driver_steps.specs.Worlds.{PostView, StandsFor}
+use Rattle.driver_steps.specs.Moves.{BeginWith, DeliversOrLoses}
+use Rattle.pipe_driver.specs.Progress.{AreAsked}
+use Rattle.pipe_driver.specs.Rounds.{replies_behind}
+use Rattle.pipe_driver.specs.declared.status.Status.{Status}
+use Rattle.pipe_driver.specs.declared.status.Status.TheVariants as statuses
+use Rattle.sim_driver.specs.Plays.{SettlesBut, client_events, is_early}
+
+-- the message at a place among all that were sent was delivered, or lost where it goes to no node
+pub record HasDeliveredOne {S : Type 0} (view : S → SeatView) (seats : List S) (post : PostView) (handed : List ToLink) (before : World)
+    (which : ℕ) : Type 0 where
+  pub message : Letter
+  pub end : World
+  pub got : slice_get before.sent which ≡ Some message
+  pub delivers : DeliversOrLoses before which message.receiver end
+  pub stands : StandsFor view seats post handed end 0
+
+-- the message at a place is delivered, or is about to be
+pub record IsPartOfDelivery (u : World) (which : ℕ) (events : List Event) : Type 0 where
+  pub message : Letter
+  pub got : slice_get u.sent which ≡ Some message
+  pub first : BeginWith events (deliver_event message.receiver which ∷ [])
+
+-- the message at a place was delivered before, or now
+abbrev pub PassesOrDelivers : {S : Type 0} → (S → SeatView) → List S → PostView → List ToLink → World → (early : List ℕ) → (which : ℕ) → Type 0
+PassesOrDelivers view seats post handed before early which =
+    ((is_early early which ≡ true) × StandsFor view seats post handed before 0)
+    ⊎ ((is_early early which ≡ false) × HasDeliveredOne view seats post handed before which)
+
+-- all that was not delivered was
+pub record HasSettledBut {S : Type 0} (view : S → SeatView) (seats : List S) (post : PostView) (handed : List ToLink) (before : World)
+    (early : List ℕ) (next : ℕ) : Type 0 where
+  pub events : List Event
+  pub end : World
+  pub settles : SettlesBut early before next events end (length end.sent)
+  pub stands : StandsFor view seats post handed end 0
+
+-- nothing happened
+pub record AreStill {S : Type 0} (view : S → SeatView) (seats : List S) (w : World) : Type 0 where
+  pub nodes : AreHeld view seats w.nodes
+  pub crashes : LeaveKept view seats w
+
+-- The world up to which a crash may have left what the nodes keep: the end, and where a disk failed maybe one event more, with which P holds too.
+abbrev pub IsLastOf : Status → (events : List Event) → (List Event → Type 0) → (end last : World) → Type 0
+IsLastOf status events P end last =
+    (last ≡ end) ⊎ ((status ≡ statuses.DiskFailed) × (e : Event) × P (events ++ e ∷ []) × Happens end e last)
+
+-- Events happened, of which P holds, and then a fault came, with this status: the logs keep what the journals of that world keep.
+pub record IsCut {S : Type 0} (view : S → SeatView) (seats : List S) (before : World) (P : List Event → Type 0) (status : Status) : Type 0 where
+  pub events : List Event
+  pub end : World
+  pub which : P events
+  pub run : Run before events end
+  pub kept : AreKept view seats end.nodes
+  pub last : World
+  pub is_last : IsLastOf status events P end last
+  pub crashes : LeaveKept view seats last
+
+-- whether there is a fault
+abbrev pub HasFault : Option (FrameFault × ℕ) → Bool → Type 0
+HasFault None malformed = malformed ≡ false
+HasFault (Some fault) malformed = malformed ≡ true
+
+-- the whole requests in the bytes of a link came
+pub record HasAsked {S : Type 0} (view : S → SeatView) (seats : List S) (post : PostView) (handed : List ToLink) (before : World)
+    (link replied_before : ℕ) (bytes left : List ℕ) (replied : ℕ) (malformed : Bool) : Type 0 where
+  pub requests : List Request
+  pub fault : Option (FrameFault × ℕ)
+  pub end : World
+  pub frames : FramesFrom 0 bytes requests left fault
+  pub run : Run before (client_events link replied_before requests) end
+  pub count : replied ≡ replies_behind replied_before requests
+  pub ends : HasFault fault malformed
+  pub stands : StandsFor view seats post handed end 0
+
+-- first requests of these bytes came
+pub record IsFirstAsked (link replied : ℕ) (bytes : List ℕ) (events : List Event) : Type 0 where
+  pub consumed : List ℕ
+  pub rest : List ℕ
+  pub requests : List Request
+  pub all : bytes ≡ consumed ++ rest
+  pub asked : AreAsked consumed requests
+  pub first : BeginWith events (client_events link replied requests)
+
+-- a message at a place goes to this node
+abbrev pub IsReceiverAt : List Letter → (at node : ℕ) → Type 0
+IsReceiverAt letters at node = (m : Letter) × (slice_get letters at ≡ Some m) × (node ≡ m.receiver)

@@ -1,0 +1,56 @@
+-- A line that was played, or was not.
+use Rattle.std.specs.Prelude.{◌≡◌, ◌⊎◌, ℕ, List, [], Bool}
+use Rattle.node_model.specs.World.{World, Event, Run}
+use Rattle.node_traits.specs.declared.outputs.ToLink.{ToLink}
+use Rattle.driver_steps.specs.Seats.{SeatView}
+use Rattle.driver_steps.specs.Worlds.{PostView, StandsFor}
+use Rattle.pipe_driver.specs.declared.status.Status.{Status}
+use Rattle.pipe_driver.specs.declared.status.Status.TheVariants as statuses
+use Rattle.script_lines.specs.Lines.{Line, Says}
+use Rattle.sim_driver.specs.Scripts.{ScriptView}
+use Rattle.sim_driver.specs.Plays.{IsPlayed, IsPartOfLine, NamesNothing}
+use Rattle.sim_driver.specs.Moves.{AreStill, IsCut}
+
+pub record HasPlayed {S : Type 0} (view : S → SeatView) (seats : List S) (post : PostView) (handed : List ToLink) (before : World) (line : Line)
+    (old new : ScriptView) (closed : Bool) : Type 0 where
+  pub events : List Event
+  pub end : World
+  pub run : Run before events end
+  pub played : IsPlayed before old line events end new closed
+  pub stands : StandsFor view seats post handed end 0
+
+-- why a line is not played to its end
+pub data StopsLine {S : Type 0} (view : S → SeatView) (seats : List S) (before : World) (line : Line) (old : ScriptView) : Status → Type 0 where
+  -- it names what is not there, and nothing happened
+  stops_unplayed : NamesNothing before line → AreStill view seats before → StopsLine view seats before line old statuses.BadInput
+  stops_at_disk : IsCut view seats before (IsPartOfLine before old line) statuses.DiskFailed → StopsLine view seats before line old statuses.DiskFailed
+  stops_at_memory : IsCut view seats before (IsPartOfLine before old line) statuses.OutOfMemory → StopsLine view seats before line old statuses.OutOfMemory
+
+abbrev pub IsOfLine : Status → Type 0
+IsOfLine status = (status ≡ statuses.BadInput) ⊎ ((status ≡ statuses.DiskFailed) ⊎ (status ≡ statuses.OutOfMemory))
+
+-- THE BYTES OF A LINE
+
+-- the bytes say a line, which was played
+pub record HasPlayedBytes {S : Type 0} (view : S → SeatView) (seats : List S) (post : PostView) (handed : List ToLink) (before : World) (bytes : List ℕ)
+    (old new : ScriptView) (closed : Bool) : Type 0 where
+  pub line : Line
+  pub says : Says bytes line
+  pub played : HasPlayed view seats post handed before line old new closed
+
+-- the bytes say no line, or one that names what is not there
+pub data IsRefused (u : World) (bytes : List ℕ) : Type 0 where
+  says_none : ((line : Line) → ¬ Says bytes line) → IsRefused u bytes
+  names_nothing : (line : Line) → Says bytes line → NamesNothing u line → IsRefused u bytes
+
+-- the first events of the line that the bytes say
+pub data IsPartOfBytes (u : World) (s : ScriptView) (bytes : List ℕ) : List Event → Type 0 where
+  part_unread : IsPartOfBytes u s bytes []
+  part_read : (line : Line) (events : List Event) → Says bytes line → IsPartOfLine u s line events → IsPartOfBytes u s bytes events
+
+-- why the bytes of a line are not played to their end
+pub data StopsBytes {S : Type 0} (view : S → SeatView) (seats : List S) (before : World) (bytes : List ℕ) (old : ScriptView) : Status → Type 0 where
+  bytes_refused : IsRefused before bytes → AreStill view seats before → StopsBytes view seats before bytes old statuses.BadInput
+  bytes_at_disk : IsCut view seats before (IsPartOfBytes before old bytes) statuses.DiskFailed → StopsBytes view seats before bytes old statuses.DiskFailed
+  bytes_at_memory : IsCut view seats before (IsPartOfBytes before old bytes) statuses.OutOfMemory
+      → StopsBytes view seats before bytes old statuses.OutOfMemory

@@ -1,0 +1,93 @@
+//! Requests that come on a link.
+
+ghost use Rattle.std.specs.Prelude.{◌≡◌, ◌⊎◌, ℕ, ◌<◌, List, None, false, vec_len, IfErr, OnOk, IfOk, Err};
+ghost use Rattle.node_model.specs.World.{IsRouter, World};
+ghost use Rattle.node_traits.specs.declared.outputs.ToLink.{ToLink};
+ghost use Rattle.driver_steps.specs.Crashes.{Since};
+ghost use Rattle.driver_steps.specs.Seats.{AreOpen, faults_of, places_of, seat_since};
+ghost use Rattle.driver_steps.specs.Worlds.{StandsFor, post_view};
+ghost use Rattle.pipe_driver.specs.Counts.{OneRoseWhere};
+ghost use Rattle.pipe_driver.specs.Progress.{AreAskedAsRead};
+ghost use Rattle.pipe_driver.specs.Rounds.{first_router};
+ghost use Rattle.pipe_driver.specs.declared.status.Status.TheVariants as statuses;
+ghost use Rattle.sim_driver.specs.Moves.{HasAsked, IsCut, IsFirstAsked};
+
+use driver_steps::{Post, Seat, ask};
+use node_traits::Node;
+use opmsg_frames::{FrameFault, Framer, Request};
+use outside::log::Log;
+use pipe_driver::{Status, next_number, replied_after};
+
+/// The number of the router that takes requests.
+const FIRST_ROUTER: usize = 2;
+
+/// So many replies are not counted on one link.
+const MOST_REPLIES: u64 = 1 << 62;
+
+/// What came of the bytes on a link: how many replies its requests get, and whether what stands behind them is no request.
+#[derive(Clone, Copy, Debug, PartialEq, Eq)]
+pub struct Asked {
+    pub replied: u64,
+    pub malformed: bool,
+}
+
+/// The whole requests that the framer gives come to the router, in order, on a link whose requests got so many replies.
+///
+/// # Errors
+/// - `Status::DiskFailed` if a disk failed.
+/// - `Status::OutOfMemory` for want of memory, or where a node is at its last step, or 2^62 requests of the link got a reply.
+pub fn ask_all<N: Node<Request = Request>, L: Log>(
+    framer: &mut Framer,
+    seats: &mut Vec<Seat<N, L>>,
+    post: &mut Post<N::Mail>,
+    link: u32,
+    replied: u64,
+) -> Result<Asked, Status>
+    requires at { first_router < vec_len seats.old }
+    requires open { AreOpen L.is_open seats.old.items }
+    requires fault { framer.old.fault ≡ None }
+    ensures asked { AreAskedAsRead N.asks → (since : Since L) (w : World) (handed : List ToLink) → IsRouter w.nodes first_router →
+        StandsFor (seat_since N.state L.tells L.records L.holds L.finds L.moment L.left_since since) seats.old.items (post_view
+        (λ m. N.Mail.letter m) post.old) handed w 0 →
+        IfOk result (λ asked. HasAsked (seat_since N.state L.tells L.records L.holds L.finds L.moment L.left_since since) seats.new.items (post_view
+        (λ m. N.Mail.letter m) post.new) handed w
+        link replied framer.old.bytes framer.new.bytes asked.replied asked.malformed) }
+    ensures cut { AreAskedAsRead N.asks → (since : Since L) (w : World) (handed : List ToLink) → IsRouter w.nodes first_router →
+        StandsFor (seat_since N.state L.tells L.records L.holds L.finds L.moment L.left_since since) seats.old.items (post_view
+        (λ m. N.Mail.letter m) post.old) handed w 0 →
+        IfErr result (λ status. IsCut (seat_since N.state L.tells L.records L.holds L.finds L.moment L.left_since since) seats.new.items w
+        (IsFirstAsked link replied framer.old.bytes) status) }
+    ensures fault { IfOk result (λ asked. asked.malformed ≡ false → framer.new.fault ≡ None) }
+    ensures len { vec_len seats.new ≡ vec_len seats.old }
+    ensures open { OnOk result (AreOpen L.is_open seats.new.items) }
+
+    // Of the logs' disks.
+    ensures other { IfErr result (λ status. (status ≡ statuses.DiskFailed) ⊎ (status ≡ statuses.OutOfMemory)) }
+    ensures disk_fault { OneRoseWhere (result ≡ Err statuses.DiskFailed) (faults_of L.fault_count seats.old.items) (faults_of L.fault_count seats.new.items) }
+    ensures places { places_of L.place seats.new.items ≡ places_of L.place seats.old.items }
+{
+    let mut replied = replied;
+    'requests: loop {
+        let request = match framer.next() {
+            Ok(Some(request)) => request,
+            Ok(None) => return Ok(Asked {
+                replied,
+                malformed: false,
+            }),
+            Err(FrameFault::Malformed { .. }) => return Ok(Asked {
+                replied,
+                malformed: true,
+            }),
+            Err(FrameFault::Memory) => return Err(Status::OutOfMemory),
+        };
+        if replied >= MOST_REPLIES {
+            return Err(Status::OutOfMemory);
+        }
+        let more = request.more;
+        let number = next_number(replied);
+        match ask(seats, post, FIRST_ROUTER, link, number, request) {
+            Ok(()) => replied = replied_after(more, replied),
+            Err(e) => return Err(Status::of(e)),
+        }
+    }
+}

@@ -1,0 +1,197 @@
+//! Messages that are delivered, each of all that were ever sent.
+
+ghost use Rattle.std.specs.Prelude.{◌≡◌, ◌≢◌, ◌⊎◌, ℕ, ◌+◌, ◌<◌, ◌≤◌, List, Some, length, map, vec_len, IfErr, IfOk, IfSome, OnOk, Err};
+ghost use Rattle.std.specs.List.{slice_get};
+ghost use Rattle.std.specs.VecDeque.{deque_len};
+ghost use Rattle.node_model.specs.World.{World};
+ghost use Rattle.node_traits.specs.declared.outputs.ToLink.{ToLink};
+ghost use Rattle.driver_steps.specs.Crashes.{Since};
+ghost use Rattle.driver_steps.specs.Seats.{AreOpen, faults_of, left_of, places_of, seat_since};
+ghost use Rattle.driver_steps.specs.Worlds.{StandsFor, post_view};
+ghost use Rattle.pipe_driver.specs.Counts.{OneRoseWhere};
+ghost use Rattle.pipe_driver.specs.declared.status.Status.TheVariants as statuses;
+ghost use Rattle.sim_driver.specs.Moves.{HasDeliveredOne, HasSettledBut, IsCut, IsPartOfDelivery, IsReceiverAt, PassesOrDelivers};
+ghost use Rattle.sim_driver.specs.Plays.{IsPartOfSettling};
+ghost use Rattle.sim_driver.specs.Scripts.{place_from};
+
+use bson_values::Memory;
+use driver_steps::{Post, Seat, deliver};
+use node_traits::{Mail, Node};
+use outside::log::Log;
+use pipe_driver::Status;
+use std::alloc::Global;
+use std::collections::VecDeque;
+use std::marker::Sync;
+use std::thread::Threads;
+
+/// The message at a place, once more. Fails for want of memory.
+fn copy_at<M: Mail>(alloc: Global, sent: &VecDeque<M>, at: usize) -> Result<M, Memory>
+    requires { at < deque_len sent.now }
+    ensures { IfOk result (λ message. slice_get (map M.letter sent.now.items) at ≡ Some (M.letter message)) }
+{
+    match sent.get(at) {
+        Some(message) => match message.copy(alloc) {
+            Ok(copy) => Ok(copy),
+            Err(e) => Err(e),
+        },
+        None => Err(Memory),
+    }
+}
+
+/// The node that the message at a place goes to.
+fn receiver_at<M: Mail>(sent: &VecDeque<M>, at: usize) -> u64
+    requires { at < deque_len sent.now }
+    ensures { IsReceiverAt (map M.letter sent.now.items) at result }
+{
+    match sent.get(at) {
+        Some(message) => message.to().0 as u64,
+        None => 0,
+    }
+}
+
+/// The place of the k-th message, from 0, to a node among all that were sent.
+pub fn find<M: Mail>(sent: &VecDeque<M>, node: u64, k: u64) -> Option<usize>
+    ensures place { result ≡ place_from 0 node k (map M.letter sent.now.items) }
+    ensures within { IfSome result (λ at. at < deque_len sent.now) }
+{
+    let mut left = k;
+    'sent: for at in 0..sent.len() {
+        if receiver_at(sent, at) != node {
+            continue;
+        }
+        if left == 0 {
+            return Some(at);
+        }
+        left -= 1;
+    }
+    None
+}
+
+/// Delivers the message at a place among all that were sent; those that the step sends stand behind them.
+///
+/// # Errors
+/// - `Status::DiskFailed` if a disk failed.
+/// - `Status::OutOfMemory` for want of memory, or where a node is at its last step.
+pub fn deliver_at<R: Threads + Sync, N: Node, L: Log>(
+    rt: &R,
+    alloc: Global,
+    seats: &mut Vec<Seat<N, L>>,
+    post: &mut Post<N::Mail>,
+    at: usize,
+) -> Result<(), Status>
+    requires at { at < deque_len post.old.waiting }
+    requires open { AreOpen L.is_open seats.old.items }
+    ensures delivered { (since : Since L) (w : World) (handed : List ToLink) →
+        StandsFor (seat_since N.state L.tells L.records L.holds L.finds L.moment L.left_since since) seats.old.items (post_view
+        (λ m. N.Mail.letter m) post.old) handed w 0 →
+        OnOk result (HasDeliveredOne (seat_since N.state L.tells L.records L.holds L.finds L.moment L.left_since since) seats.new.items
+        (post_view (λ m. N.Mail.letter m) post.new) handed w at) }
+    ensures cut { (since : Since L) (w : World) (handed : List ToLink) →
+        StandsFor (seat_since N.state L.tells L.records L.holds L.finds L.moment L.left_since since) seats.old.items (post_view
+        (λ m. N.Mail.letter m) post.old) handed w 0 →
+        IfErr result (λ status. IsCut (seat_since N.state L.tells L.records L.holds L.finds L.moment L.left_since since) seats.new.items w
+        (IsPartOfDelivery w at) status) }
+    ensures len { vec_len seats.new ≡ vec_len seats.old }
+    ensures open { OnOk result (AreOpen L.is_open seats.new.items) }
+    ensures falls { OnOk result ((left_of N.steps seats.new.items + 1 ≡ left_of N.steps seats.old.items) ⊎
+        ((left_of N.steps seats.new.items ≡ left_of N.steps seats.old.items) × (post.new.waiting.items ≡ post.old.waiting.items))) }
+
+    // Of the logs' disks.
+    ensures other { IfErr result (λ status. (status ≡ statuses.DiskFailed) ⊎ (status ≡ statuses.OutOfMemory)) }
+    ensures disk_fault { OneRoseWhere (result ≡ Err statuses.DiskFailed) (faults_of L.fault_count seats.old.items) (faults_of L.fault_count seats.new.items) }
+    ensures places { places_of L.place seats.new.items ≡ places_of L.place seats.old.items }
+{
+    let message = match copy_at(alloc, &post.waiting, at) {
+        Ok(message) => message,
+        Err(_) => return Err(Status::OutOfMemory),
+    };
+    match deliver(rt, alloc, seats, post, message) {
+        Ok(()) => Ok(()),
+        Err(e) => Err(Status::of(e)),
+    }
+}
+
+/// Delivers the message at a place among all that were sent, but where the place is among those `early`.
+///
+/// # Errors
+/// As `deliver_at` has them.
+fn deliver_unless<R: Threads + Sync, N: Node, L: Log>(
+    rt: &R,
+    alloc: Global,
+    seats: &mut Vec<Seat<N, L>>,
+    post: &mut Post<N::Mail>,
+    at: usize,
+    early: &[usize],
+) -> Result<(), Status>
+    requires at { at < deque_len post.old.waiting }
+    requires open { AreOpen L.is_open seats.old.items }
+    ensures delivered { (since : Since L) (w : World) (handed : List ToLink) →
+        StandsFor (seat_since N.state L.tells L.records L.holds L.finds L.moment L.left_since since) seats.old.items (post_view
+        (λ m. N.Mail.letter m) post.old) handed w 0 →
+        OnOk result (PassesOrDelivers (seat_since N.state L.tells L.records L.holds L.finds L.moment L.left_since since) seats.new.items
+        (post_view (λ m. N.Mail.letter m) post.new) handed w early.now at) }
+    ensures cut { (since : Since L) (w : World) (handed : List ToLink) →
+        StandsFor (seat_since N.state L.tells L.records L.holds L.finds L.moment L.left_since since) seats.old.items (post_view
+        (λ m. N.Mail.letter m) post.old) handed w 0 →
+        IfErr result (λ status. IsCut (seat_since N.state L.tells L.records L.holds L.finds L.moment L.left_since since) seats.new.items w
+        (IsPartOfDelivery w at) status) }
+    ensures len { vec_len seats.new ≡ vec_len seats.old }
+    ensures open { OnOk result (AreOpen L.is_open seats.new.items) }
+    ensures falls { OnOk result ((left_of N.steps seats.new.items + 1 ≡ left_of N.steps seats.old.items) ⊎
+        ((left_of N.steps seats.new.items ≡ left_of N.steps seats.old.items) × (post.new.waiting.items ≡ post.old.waiting.items))) }
+
+    // Of the logs' disks.
+    ensures other { IfErr result (λ status. (status ≡ statuses.DiskFailed) ⊎ (status ≡ statuses.OutOfMemory)) }
+    ensures disk_fault { OneRoseWhere (result ≡ Err statuses.DiskFailed) (faults_of L.fault_count seats.old.items) (faults_of L.fault_count seats.new.items) }
+    ensures places { places_of L.place seats.new.items ≡ places_of L.place seats.old.items }
+{
+    if early.contains(&at) {
+        return Ok(());
+    }
+    match deliver_at(rt, alloc, seats, post, at) {
+        Ok(()) => Ok(()),
+        Err(status) => Err(status),
+    }
+}
+
+/// Delivers what was not delivered, in order of sending, and what is sent meanwhile, until none is left. What stands before `next` was
+/// delivered, and so were the messages at the places `early`.
+///
+/// # Errors
+/// The first of a delivery, as `deliver_at` has it.
+pub fn settle_but<R: Threads + Sync, N: Node, L: Log>(
+    rt: &R,
+    alloc: Global,
+    seats: &mut Vec<Seat<N, L>>,
+    post: &mut Post<N::Mail>,
+    next: usize,
+    early: &[usize],
+) -> Result<(), Status>
+    requires open { AreOpen L.is_open seats.old.items }
+    ensures settled { (since : Since L) (w : World) (handed : List ToLink) → next ≤ length w.sent →
+        StandsFor (seat_since N.state L.tells L.records L.holds L.finds L.moment L.left_since since) seats.old.items (post_view
+        (λ m. N.Mail.letter m) post.old) handed w 0 →
+        OnOk result (HasSettledBut (seat_since N.state L.tells L.records L.holds L.finds L.moment L.left_since since) seats.new.items
+        (post_view (λ m. N.Mail.letter m) post.new) handed w early.now next) }
+    ensures cut { (since : Since L) (w : World) (handed : List ToLink) → next ≤ length w.sent →
+        StandsFor (seat_since N.state L.tells L.records L.holds L.finds L.moment L.left_since since) seats.old.items (post_view
+        (λ m. N.Mail.letter m) post.old) handed w 0 →
+        IfErr result (λ status. IsCut (seat_since N.state L.tells L.records L.holds L.finds L.moment L.left_since since) seats.new.items w
+        (IsPartOfSettling early.now w next) status) }
+    ensures len { vec_len seats.new ≡ vec_len seats.old }
+    ensures open { OnOk result (AreOpen L.is_open seats.new.items) }
+
+    // Of the logs' disks.
+    ensures other { IfErr result (λ status. (status ≡ statuses.DiskFailed) ⊎ (status ≡ statuses.OutOfMemory)) }
+    ensures disk_fault { OneRoseWhere (result ≡ Err statuses.DiskFailed) (faults_of L.fault_count seats.old.items) (faults_of L.fault_count seats.new.items) }
+    ensures places { places_of L.place seats.new.items ≡ places_of L.place seats.old.items }
+{
+    let mut at = next;
+    'messages: while at < post.waiting.len() {
+        match deliver_unless(rt, alloc, seats, post, at, early) {
+            Ok(()) => at += 1,
+            Err(status) => return Err(status),
+        }
+    }
+    Ok(())
+}

@@ -1,0 +1,148 @@
+//! The lines of a script, one after another.
+
+ghost use Rattle.std.specs.Prelude.{◌≡◌, ◌≢◌, ℕ, ◌<◌, List, [], ◌∷◌, ◌++◌, None, vec_len, IfErr, OnOk, Err};
+ghost use Rattle.driver_steps.specs.Crashes.{Since};
+ghost use Rattle.driver_steps.specs.Seats.{AreOpen, faults_of, places_of, seat_since};
+ghost use Rattle.driver_steps.specs.Worlds.{post_view};
+ghost use Rattle.pipe_driver.specs.Counts.{OneRoseWhere, RoseWhere};
+ghost use Rattle.pipe_driver.specs.Progress.{AreAskedAsRead};
+ghost use Rattle.pipe_driver.specs.Rounds.{first_router};
+ghost use Rattle.pipe_driver.specs.declared.status.Status.TheVariants as statuses;
+ghost use Rattle.script_lines.specs.Words.{HasNone};
+ghost use Rattle.sim_driver.specs.Playing.{HasPlayedLines, HasStoppedIn, IsOfPlaying, Playing, Stopped};
+ghost use Rattle.sim_driver.specs.Scripts.{script_view};
+ghost use Rattle.sim_driver.specs.Simulations.{newline};
+
+use crate::play::play_line;
+use crate::report::text_of;
+use crate::script::Script;
+use driver_steps::{Post, Seat};
+use node_traits::Node;
+use opmsg_frames::Request;
+use outside::log::Log;
+use outside::streams::Sink;
+use pipe_driver::{Status, put_all};
+use script_lines::cut_at;
+use std::alloc::Global;
+use std::marker::Sync;
+use std::thread::Threads;
+
+/// The line that bytes say is played, and what it prints is put.
+///
+/// # Errors
+/// - `Status::BadInput` if the bytes say no line, or one that names what is not there; nothing happened.
+/// - `Status::WriteFailed` if a write failed; the line was played.
+/// - `Status::DiskFailed` if a disk failed: of the line nothing was put.
+/// - `Status::OutOfMemory` for want of memory, or where a node is at its last step: of the line nothing was put.
+pub fn answer_line<R: Threads + Sync, N: Node<Request = Request>, L: Log, K: Sink>(
+    rt: &R,
+    alloc: Global,
+    line: &[u8],
+    seats: &mut Vec<Seat<N, L>>,
+    post: &mut Post<N::Mail>,
+    script: &mut Script,
+    out: &mut K,
+) -> Result<(), Status>
+    requires at { first_router < vec_len seats.old }
+    requires open { AreOpen L.is_open seats.old.items }
+    requires fault { script.old.framer.fault ≡ None }
+    requires line { HasNone newline line.now }
+    ensures answered { AreAskedAsRead N.asks → (since : Since L) (routers : ℕ) → 0 < routers → (held_before consumed : List ℕ) →
+        Playing (seat_since N.state L.tells L.records L.holds L.finds L.moment L.left_since since) seats.old.items (post_view (λ m. N.Mail.letter m) post.old)
+        routers K.tells held_before (K.held out.old) (script_view script.old) consumed →
+        OnOk result (Playing (seat_since N.state L.tells L.records L.holds L.finds L.moment L.left_since since) seats.new.items (post_view
+        (λ m. N.Mail.letter m) post.new)
+        routers K.tells held_before (K.held out.new) (script_view script.new) (consumed ++ (line.now ++ newline ∷ []))) }
+    ensures stopped { AreAskedAsRead N.asks → (since : Since L) (routers : ℕ) → 0 < routers → (held_before consumed others : List ℕ) →
+        Playing (seat_since N.state L.tells L.records L.holds L.finds L.moment L.left_since since) seats.old.items (post_view (λ m. N.Mail.letter m) post.old)
+        routers K.tells held_before (K.held out.old) (script_view script.old) consumed →
+        IfErr result (Stopped (seat_since N.state L.tells L.records L.holds L.finds L.moment L.left_since since) seats.new.items routers K.tells held_before
+        (K.held out.new) consumed
+        (line.now ++ newline ∷ others)) }
+    ensures fault { OnOk result (script.new.framer.fault ≡ None) }
+    ensures len { vec_len seats.new ≡ vec_len seats.old }
+    ensures open { OnOk result (AreOpen L.is_open seats.new.items) }
+    ensures open_err { IfErr result (λ status. status ≢ statuses.DiskFailed → status ≢ statuses.OutOfMemory → AreOpen L.is_open seats.new.items) }
+    ensures other { IfErr result IsOfPlaying }
+
+    // Of the devices.
+    ensures write_fault { RoseWhere (result ≡ Err statuses.WriteFailed) (K.fault_count out.old) (K.fault_count out.new) }
+    ensures disk_fault { OneRoseWhere (result ≡ Err statuses.DiskFailed) (faults_of L.fault_count seats.old.items) (faults_of L.fault_count seats.new.items) }
+    ensures places { places_of L.place seats.new.items ≡ places_of L.place seats.old.items }
+{
+    let link = script.link;
+    let closed = match play_line(rt, alloc, line, seats, post, script) {
+        Ok(closed) => closed,
+        Err(status) => return Err(status),
+    };
+    let replies = post.hand_on(alloc);
+    let text = match text_of(alloc, link, &replies, closed) {
+        Ok(text) => text,
+        Err(_) => return Err(Status::OutOfMemory),
+    };
+    match put_all(out, text.as_slice()) {
+        Ok(()) => Ok(()),
+        Err(_) => Err(Status::WriteFailed),
+    }
+}
+
+/// The lines that end in a piece are played, of which the first was begun before; the beginning of one more may stand behind them.
+///
+/// # Errors
+/// As `answer_line` has them; `Status::OutOfMemory` also where a line finds no room.
+pub fn play_piece<R: Threads + Sync, N: Node<Request = Request>, L: Log, K: Sink>(
+    rt: &R,
+    alloc: Global,
+    piece: &[u8],
+    begun: &mut Vec<u8>,
+    seats: &mut Vec<Seat<N, L>>,
+    post: &mut Post<N::Mail>,
+    script: &mut Script,
+    out: &mut K,
+) -> Result<(), Status>
+    requires at { first_router < vec_len seats.old }
+    requires open { AreOpen L.is_open seats.old.items }
+    requires fault { script.old.framer.fault ≡ None }
+    requires begun { HasNone newline begun.old.items }
+    ensures played { AreAskedAsRead N.asks → (since : Since L) (routers : ℕ) → 0 < routers → (held_before consumed : List ℕ) →
+        Playing (seat_since N.state L.tells L.records L.holds L.finds L.moment L.left_since since) seats.old.items (post_view (λ m. N.Mail.letter m) post.old)
+        routers K.tells held_before (K.held out.old) (script_view script.old) consumed →
+        OnOk result (HasPlayedLines (seat_since N.state L.tells L.records L.holds L.finds L.moment L.left_since since) seats.new.items (post_view
+        (λ m. N.Mail.letter m) post.new)
+        routers K.tells held_before (K.held out.new) (script_view script.new) (consumed ++ (begun.old.items ++ piece.now)) begun.new.items) }
+    ensures stopped { AreAskedAsRead N.asks → (since : Since L) (routers : ℕ) → 0 < routers → (held_before consumed : List ℕ) →
+        Playing (seat_since N.state L.tells L.records L.holds L.finds L.moment L.left_since since) seats.old.items (post_view (λ m. N.Mail.letter m) post.old)
+        routers K.tells held_before (K.held out.old) (script_view script.old) consumed →
+        IfErr result (HasStoppedIn (seat_since N.state L.tells L.records L.holds L.finds L.moment L.left_since since) seats.new.items routers K.tells
+        held_before (K.held out.new)
+        (consumed ++ (begun.old.items ++ piece.now))) }
+    ensures begun { OnOk result (HasNone newline begun.new.items) }
+    ensures fault { OnOk result (script.new.framer.fault ≡ None) }
+    ensures len { vec_len seats.new ≡ vec_len seats.old }
+    ensures open { OnOk result (AreOpen L.is_open seats.new.items) }
+    ensures open_err { IfErr result (λ status. status ≢ statuses.DiskFailed → status ≢ statuses.OutOfMemory → AreOpen L.is_open seats.new.items) }
+    ensures other { IfErr result IsOfPlaying }
+
+    // Of the devices.
+    ensures write_fault { RoseWhere (result ≡ Err statuses.WriteFailed) (K.fault_count out.old) (K.fault_count out.new) }
+    ensures disk_fault { OneRoseWhere (result ≡ Err statuses.DiskFailed) (faults_of L.fault_count seats.old.items) (faults_of L.fault_count seats.new.items) }
+    ensures places { places_of L.place seats.new.items ≡ places_of L.place seats.old.items }
+{
+    let mut rest = piece;
+    'lines: while let Some((first, behind)) = cut_at(b'\n', rest) {
+        match begun.extend_from_slice(first) {
+            Ok(()) => {}
+            Err(_) => return Err(Status::OutOfMemory),
+        }
+        match answer_line(rt, alloc, begun.as_slice(), seats, post, script, out) {
+            Ok(()) => {}
+            Err(status) => return Err(status),
+        }
+        begun.clear();
+        rest = behind;
+    }
+    match begun.extend_from_slice(rest) {
+        Ok(()) => Ok(()),
+        Err(_) => Err(Status::OutOfMemory),
+    }
+}

@@ -1,0 +1,136 @@
+//! A script, from its first byte to its last.
+
+ghost use Rattle.std.specs.Prelude.{◌≡◌, ◌≢◌, ◌⊎◌, ℕ, ◌<◌, [], None, vec_len};
+ghost use Rattle.outside.specs.Devices.{sink_call, source_call};
+ghost use Rattle.node_model.specs.World.{start};
+ghost use Rattle.driver_steps.specs.Crashes.{Since};
+ghost use Rattle.driver_steps.specs.Seats.{AreHeld, AreKept, AreOpen, LeaveKept, faults_of, places_of, seat_since, seat_view, since_then};
+ghost use Rattle.driver_steps.specs.Worlds.{post_view};
+ghost use Rattle.pipe_driver.specs.Counts.{OneRoseWhere, RoseWhere};
+ghost use Rattle.pipe_driver.specs.Progress.{AreAskedAsRead};
+ghost use Rattle.pipe_driver.specs.Rounds.{first_router};
+ghost use Rattle.pipe_driver.specs.declared.status.Status.TheVariants as statuses;
+ghost use Rattle.sim_driver.specs.Playing.{Playing};
+ghost use Rattle.sim_driver.specs.Scripts.{new_script};
+ghost use Rattle.sim_driver.specs.Simulations.{IsSimulated};
+
+use crate::lines::play_piece;
+use crate::script::Script;
+use driver_steps::{Post, Seat, open_all};
+use node_traits::Node;
+use opmsg_frames::Request;
+use outside::log::Log;
+use outside::streams::{Sink, Source};
+use pipe_driver::{Status, take_more};
+use std::alloc::Global;
+use std::marker::Sync;
+use std::thread::Threads;
+
+/// The most bytes that are asked of a source at once.
+const PIECE: u64 = 65_536;
+
+/// The status of a script whose input gives no more, with this cause, behind the beginning of a line.
+fn unended(cause: Status, begun: &[u8]) -> Status
+    ensures none { begun.now ≡ [] → result ≡ cause }
+    ensures some { begun.now ≢ [] → cause ≡ statuses.InputEnded → result ≡ statuses.BadInput }
+    ensures other { cause ≢ statuses.InputEnded → result ≡ cause }
+    ensures either { (result ≡ cause) ⊎ (result ≡ statuses.BadInput) }
+{
+    match cause {
+        Status::InputEnded if !begun.is_empty() => Status::BadInput,
+        _ => cause,
+    }
+}
+
+/// Plays the script in `input`, of which at most `limit` bytes are taken, for the nodes in order of their numbers, whose logs are open and empty
+/// at the start. All nodes are opened; then each line is played, and what it prints is put into `out`, before the next.
+///
+/// The status is `BadInput` where the next line is refused, and `DiskFailed` where the disk of a log failed: the logs must be opened again. It
+/// is `OutOfMemory` also where a node is at its last step.
+pub fn simulate<R: Threads + Sync, N: Node<Request = Request>, L: Log, S: Source, K: Sink>(
+    rt: &R,
+    alloc: Global,
+    input: &mut S,
+    out: &mut K,
+    seats: &mut Vec<Seat<N, L>>,
+    limit: u64,
+) -> Status
+    requires at { first_router < vec_len seats.old }
+    requires open { AreOpen L.is_open seats.old.items }
+    ensures simulated { AreAskedAsRead N.asks → (routers : ℕ) → 0 < routers →
+        AreHeld (seat_view N.state L.tells L.records L.holds) seats.old.items (start routers).nodes →
+        IsSimulated (source_call S.tells S.left S.fault_count input.old input.new) (sink_call K.tells K.held K.fault_count out.old out.new)
+        (AreKept (seat_view N.state L.tells L.records L.holds) seats.new.items)
+        (LeaveKept (seat_since N.state L.tells L.records L.holds L.finds L.moment L.left_since (since_then seats.old.items (start routers))) seats.new.items)
+        routers limit result }
+
+    // But where a disk failed or memory ended, records can be appended to each log.
+    ensures open { result ≢ statuses.DiskFailed → result ≢ statuses.OutOfMemory → AreOpen L.is_open seats.new.items }
+    ensures len { vec_len seats.new ≡ vec_len seats.old }
+
+    // Each fault of a device has its own status.
+    ensures read_fault { RoseWhere (result ≡ statuses.ReadFailed) (S.fault_count input.old) (S.fault_count input.new) }
+    ensures write_fault { RoseWhere (result ≡ statuses.WriteFailed) (K.fault_count out.old) (K.fault_count out.new) }
+    ensures disk_fault { OneRoseWhere (result ≡ statuses.DiskFailed) (faults_of L.fault_count seats.old.items) (faults_of L.fault_count seats.new.items) }
+    ensures places { places_of L.place seats.new.items ≡ places_of L.place seats.old.items }
+{
+    let mut post = Post::new(alloc);
+    match open_all(seats, &mut post) {
+        Ok(()) => play_all(rt, alloc, input, out, seats, post, limit),
+        Err(e) => Status::of(e),
+    }
+}
+
+/// Plays the script for nodes that were opened.
+fn play_all<R: Threads + Sync, N: Node<Request = Request>, L: Log, S: Source, K: Sink>(
+    rt: &R,
+    alloc: Global,
+    input: &mut S,
+    out: &mut K,
+    seats: &mut Vec<Seat<N, L>>,
+    post: Post<N::Mail>,
+    limit: u64,
+) -> Status
+    requires at { first_router < vec_len seats.old }
+    requires open { AreOpen L.is_open seats.old.items }
+    ensures simulated { AreAskedAsRead N.asks → (since : Since L) (routers : ℕ) → 0 < routers →
+        Playing (seat_since N.state L.tells L.records L.holds L.finds L.moment L.left_since since) seats.old.items (post_view (λ m. N.Mail.letter m) post)
+        routers K.tells (K.held out.old) (K.held out.old) new_script [] →
+        IsSimulated (source_call S.tells S.left S.fault_count input.old input.new) (sink_call K.tells K.held K.fault_count out.old out.new)
+        (AreKept (seat_since N.state L.tells L.records L.holds L.finds L.moment L.left_since since) seats.new.items)
+        (LeaveKept (seat_since N.state L.tells L.records L.holds L.finds L.moment L.left_since since) seats.new.items) routers limit result }
+    ensures open { result ≢ statuses.DiskFailed → result ≢ statuses.OutOfMemory → AreOpen L.is_open seats.new.items }
+    ensures len { vec_len seats.new ≡ vec_len seats.old }
+    ensures read_fault { RoseWhere (result ≡ statuses.ReadFailed) (S.fault_count input.old) (S.fault_count input.new) }
+    ensures write_fault { RoseWhere (result ≡ statuses.WriteFailed) (K.fault_count out.old) (K.fault_count out.new) }
+    ensures disk_fault { OneRoseWhere (result ≡ statuses.DiskFailed) (faults_of L.fault_count seats.old.items) (faults_of L.fault_count seats.new.items) }
+    ensures places { places_of L.place seats.new.items ≡ places_of L.place seats.old.items }
+{
+    let mut post = post;
+    let mut script = Script::new(alloc);
+    let mut piece = Vec::new(alloc);
+    let mut begun = Vec::new(alloc);
+    let mut taken = 0;
+    'pieces: while taken < limit {
+        let room = (limit - taken).min(PIECE) as usize;
+        piece.clear();
+        match take_more(input, &mut piece, room) {
+            Ok(count) => taken += count as u64,
+            Err(status) => return unended(status, begun.as_slice()),
+        }
+        match play_piece(
+            rt,
+            alloc,
+            &piece,
+            &mut begun,
+            seats,
+            &mut post,
+            &mut script,
+            out,
+        ) {
+            Ok(()) => {}
+            Err(status) => return status,
+        }
+    }
+    Status::InputTooLong
+}
