@@ -5,8 +5,10 @@ Wanted: one link's acknowledged inserts a second are 0.45 times the disk's syncs
 at most 1 / 0.8 times as long as one append of as many bytes; an insert among 20,000 costs at most 1.3 times one among 2,000; and the
 program takes 1.5 GB at most for a message of up to 48,000,000 bytes, also of many small fields. Where PostgreSQL stands on the path
 (`initdb`, `pg_ctl`, `psql`; as another user where this is root) it also tells how long one statement of 1,000 rows takes there, with
-synchronous commit. The program is $CLUSTER, or `cluster` at the top of the repository. Each figure is the best of some rounds. Ends with
-status 1 where a wanted bound does not hold. Usage: speed.py [ROUNDS]
+synchronous commit. The program is $CLUSTER, or `cluster` at the top of the repository. Client and program share one processor, so that no
+figure is of how long a sleeping one takes to wake. With $SPEED_SYNC_MS each sync takes so many milliseconds more, here and in the program
+(a library that is loaded before libc; wants `cc`): so a disk is measured that syncs as slowly as one that turns. Each figure is the best of
+some rounds. Ends with status 1 where a wanted bound does not hold. Usage: speed.py [ROUNDS]
 """
 import os
 import pathlib
@@ -20,6 +22,41 @@ import time
 from inserts import CLUSTER, document, element, text
 
 PROGRAM = os.environ.get("CLUSTER", str(CLUSTER))
+
+SYNC_MS = int(os.environ.get("SPEED_SYNC_MS", "0"))
+
+SLOW_SYNC = """
+#define _GNU_SOURCE
+#include <dlfcn.h>
+#include <time.h>
+static int later(const char *name, int file) {
+    struct timespec time = {%d / 1000, %d %% 1000 * 1000000L};
+    int (*sync)(int) = (int (*)(int))dlsym(RTLD_NEXT, name);
+    nanosleep(&time, 0);
+    return sync(file);
+}
+int fsync(int file) { return later("fsync", file); }
+int fdatasync(int file) { return later("fdatasync", file); }
+"""
+
+
+def environment(folder):
+    """The program's environment: with the library that makes syncs slow, if they are to be."""
+    if SYNC_MS == 0:
+        return None
+    source, library = pathlib.Path(folder) / "slow.c", pathlib.Path(folder) / "slow.so"
+    source.write_text(SLOW_SYNC % (SYNC_MS, SYNC_MS))
+    subprocess.run(["cc", "-shared", "-fPIC", "-o", library, source, "-ldl"], check=True)
+    return {**os.environ, "LD_PRELOAD": str(library)}
+
+
+TOOLS = tempfile.TemporaryDirectory()
+ENVIRONMENT = environment(TOOLS.name)
+
+
+def sync(file):
+    time.sleep(SYNC_MS / 1000)
+    os.fsync(file.fileno())
 
 
 def int32(number):
@@ -47,7 +84,7 @@ class Link:
 
     def __init__(self):
         self.folder = tempfile.TemporaryDirectory(dir=os.environ.get("SPEED_FOLDER"))
-        self.program = subprocess.Popen([PROGRAM, "pipe"], cwd=self.folder.name, stdin=subprocess.PIPE, stdout=subprocess.PIPE)
+        self.program = subprocess.Popen([PROGRAM, "pipe"], cwd=self.folder.name, env=ENVIRONMENT, stdin=subprocess.PIPE, stdout=subprocess.PIPE)
 
     def ask(self, request):
         self.program.stdin.write(request)
@@ -72,7 +109,7 @@ def syncs(count):
         start = time.perf_counter()
         for _ in range(count):
             file.write(b"x" * 100)
-            os.fsync(file.fileno())
+            sync(file)
         return (time.perf_counter() - start) / count
 
 
@@ -81,9 +118,9 @@ def appended(size):
     with tempfile.NamedTemporaryFile(dir=os.environ.get("SPEED_FOLDER"), buffering=0) as file:
         start = time.perf_counter()
         file.write(b"x" * size)
-        os.fsync(file.fileno())
+        sync(file)
         os.pwrite(file.fileno(), b"\1", 0)
-        os.fsync(file.fileno())
+        sync(file)
         return time.perf_counter() - start
 
 
@@ -171,13 +208,14 @@ def tell(name, value, bound, holds):
 
 def main():
     rounds = int(sys.argv[1]) if len(sys.argv) > 1 else 3
-    sync, few, many = [], [], []
+    os.sched_setaffinity(0, {max(os.sched_getaffinity(0))})
+    synced, few, many = [], [], []
     for _ in range(rounds):
-        sync.append(syncs(500))
+        synced.append(syncs(500))
         few.append(inserts(2_000, 500))
         many.append(inserts(20_000, 500))
-    ratio = min(sync) / min(few)
-    held = [tell("inserts a second of one link to syncs a second", f"{1 / min(few):.0f} to {1 / min(sync):.0f}, {ratio:.2f}", "0.45", ratio >= 0.45)]
+    ratio = min(synced) / min(few)
+    held = [tell("inserts a second of one link to syncs a second", f"{1 / min(few):.0f} to {1 / min(synced):.0f}, {ratio:.2f}", "0.45", ratio >= 0.45)]
     growth = min(many) / min(few)
     held.append(tell("an insert among 20,000 to one among 2,000", f"{growth:.2f}", "at most 1.3", growth <= 1.3))
     took, size = min(thousand() for _ in range(rounds))

@@ -1,16 +1,9 @@
 -- The test of a namespace, and what makes one.
-use Rattle.std.proofs.Common.{◌≡◌, ℕ, List, [], ◌∷◌, length, refl, sym, ◌∙◌, subst, Bool, true, false, ◌&&◌, ◌||◌, not, arith}
+use Rattle.std.proofs.Common.{◌≡◌, ℕ, List, [], ◌∷◌, length, refl, sym, ◌∙◌, subst, Bool, true, false, ◌&&◌, not, arith}
 use Rattle.std.specs.Prelude.{nat_le}
 use Rattle.std.specs.List.{AllByRecursion, list_any}
 use Rattle.base_model.specs.Names.{IsDatabaseByte, IsCollectionByte, IsDatabaseName, IsCollectionName, MakeNamespace, BeginsWell, all_pass, begins_with_dot, full_name, is_collection_byte, is_collection_name, is_database_byte, is_database_name, is_open_namespace, is_reserved}
-
-not_or : (x y : Bool) → not (not x || y) ≡ (x && not y)
-not_or true y = refl
-not_or false y = refl
-
-both : (x y : Bool) → (x && y) ≡ true → (x ≡ true) × (y ≡ true)
-both true y e = (refl, e)
-both false y e = cc
+use Rattle.bson_model.proofs.Booleans.{both, is_false, not_or}
 
 all_from : (test : ℕ → Bool) (P : ℕ → Type 0) → ((b : ℕ) → test b ≡ true → P b) → (bytes : List ℕ) → all_pass test bytes ≡ true → AllByRecursion P bytes
 all_from test P fact [] e = tt
@@ -55,24 +48,24 @@ begins_without_dot : (bytes : List ℕ) → BeginsWell bytes → not (begins_wit
 begins_without_dot [] f = refl
 begins_without_dot (b ∷ bytes) f = grind (arith, f)
 
-database_name : (name : List ℕ) → is_database_name name ≡ true → IsDatabaseName name
+pub database_name : (name : List ℕ) → is_database_name name ≡ true → IsDatabaseName name
 database_name name e =
     let h = both (nat_le 1 (length name) && nat_le (length name) 63) (all_pass is_database_byte name) e in
     let g = both (nat_le 1 (length name)) (nat_le (length name) 63) h.0 in
     record { some = grind (arith, g.0); short = grind (arith, g.1); bytes = all_from is_database_byte IsDatabaseByte database_byte name h.1 }
 
-is_database_name_of : (name : List ℕ) → IsDatabaseName name → is_database_name name ≡ true
+pub is_database_name_of : (name : List ℕ) → IsDatabaseName name → is_database_name name ≡ true
 is_database_name_of name f =
     let bytes : all_pass is_database_byte name ≡ true = all_to is_database_byte IsDatabaseByte is_database_byte_of name f.bytes in
     grind (arith, f.some, f.short, bytes)
 
-collection_name : (name : List ℕ) → is_collection_name name ≡ true → IsCollectionName name
+pub collection_name : (name : List ℕ) → is_collection_name name ≡ true → IsCollectionName name
 collection_name name e =
     let h = both (nat_le 1 (length name) && not (begins_with_dot name)) (all_pass is_collection_byte name) e in
     let g = both (nat_le 1 (length name)) (not (begins_with_dot name)) h.0 in
     record { some = grind (arith, g.0); first = begins_well name g.1; bytes = all_from is_collection_byte IsCollectionByte collection_byte name h.1 }
 
-is_collection_name_of : (name : List ℕ) → IsCollectionName name → is_collection_name name ≡ true
+pub is_collection_name_of : (name : List ℕ) → IsCollectionName name → is_collection_name name ≡ true
 is_collection_name_of name f =
     let bytes : all_pass is_collection_byte name ≡ true = all_to is_collection_byte IsCollectionByte is_collection_byte_of name f.bytes in
     let first : not (begins_with_dot name) ≡ true = begins_without_dot name f.first in
@@ -92,10 +85,6 @@ makes database collection e =
     let b = both (is_database_name database && is_collection_name collection) (nat_le (length (full_name database collection)) 255) a.0 in
     let c = both (is_database_name database) (is_collection_name collection) b.0 in
     (record { database_name = database_name database c.0; collection_name = collection_name collection c.1; short = grind (arith, b.1) }, grind (arith, a.1))
-
-is_false : (b : Bool) → (b ≡ true → ⊥) → b ≡ false
-is_false true no_such = absurd (no_such refl)
-is_false false no_such = refl
 
 -- others don't
 pub reserved_namespace : (database collection : List ℕ) → is_reserved database ≡ true → is_open_namespace database collection ≡ false

@@ -1,3 +1,4 @@
+pub mod Booleans
 pub mod Joined
 pub mod Lengths
 pub mod Parts

@@ -55,7 +55,7 @@ is_faulty bytes result is_bytes gives fault offset first =
     subst (λ (read : Result (Fields × ℕ) BsonFault). Gives (λ x. x) result read)
     (read_fails bytes (whole_at bytes) fault offset (whole_goes bytes is_bytes) first) gives
 
-abbrev TellsFirst : List ℕ → BsonFault → Type 0
+abbrev pub TellsFirst : List ℕ → BsonFault → Type 0
 TellsFirst bytes e = (fault : Fault) × (offset : ℕ) × (e ≡ fault_from fault offset) × HasFirstFault bytes fault offset
 
 -- what an error tells, where the walk comes to its fault
@@ -92,7 +92,7 @@ one_fault bytes f g p q first second = let same : faulty f p ≡ faulty g q = on
 
 -- ---- a document or a fault
 
-never_memory : (bytes : List ℕ) → AreBytes bytes → whole_at bytes ≡ Err Memory → ⊥
+pub never_memory : (bytes : List ℕ) → AreBytes bytes → whole_at bytes ≡ Err Memory → ⊥
 never_memory bytes are e =
     let goes = subst (λ (read : Result (Fields × ℕ) BsonFault). Goes bytes (first_step bytes) read (λ x. ends_at x.1)) e (whole_goes bytes are) in
     let later : 0 < 0 = ends_later bytes 0 (goes (ends_at 0) (walks_to_end 0)) in

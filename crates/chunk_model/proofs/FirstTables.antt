@@ -12,7 +12,7 @@ use Rattle.chunk_model.specs.Tables.{Chunk, first_shard, first_chunk, first_tabl
 abbrev now_by : Creation → Bool → Option ℕ
 now_by c has = elim (if has then Some (first_chunk c) else None) as (λ (o : Option Chunk). Option ℕ) [ None ↦ None | Some chunk ↦ newest chunk.owners ]
 
-abbrev at_by : Creation → ℕ → Bool → Option ℕ
+abbrev pub at_by : Creation → ℕ → Bool → Option ℕ
 at_by c time has = elim (if has then Some (first_chunk c) else None) as (λ (o : Option Chunk). Option ℕ) [ None ↦ None | Some chunk ↦ owner_among time chunk.owners ]
 
 only_now_by : (c : Creation) (has : Bool) (shard : ℕ) → now_by c has ≡ Some shard → shard ≡ first_shard

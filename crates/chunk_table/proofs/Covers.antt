@@ -1,6 +1,6 @@
 -- Chunks that follow one another from below all keys to above them give every key an owner.
 use Rattle.std.proofs.Common.{◌≡◌, ℕ, List, [], ◌∷◌, refl, sym, ap, subst, ◌∙◌, Ordering, Less, Equal, Greater}
-use Rattle.std.specs.Prelude.{Bool, true, false, ◌&&◌, Option, Some, None, is_some, if◌then◌else◌}
+use Rattle.std.specs.Prelude.{Bool, true, ◌&&◌, Option, Some, None, is_some, if◌then◌else◌}
 use Rattle.std.specs.Ordering.{ordering_reverse, is_le, is_lt, is_eq}
 use Rattle.std.specs.Cmp.{Equal-is}
 use Rattle.bson_values.specs.Tree.{Datum, document_value, array_value, min_key_value, max_key_value}
@@ -9,10 +9,7 @@ use Rattle.value_compare.specs.Keys.{is_key, Bound, min_bound, max_bound, value_
 use Rattle.value_compare.proofs.Flat.{order_total}
 use Rattle.chunk_model.specs.Tables.{Chunk, Table, newest, chunk_of, owner_now}
 use Rattle.chunk_table.specs.Whole.{follow_from}
-
-both : (a b : Bool) → (a && b) ≡ true → (a ≡ true) × (b ≡ true)
-both true b e = (refl, e)
-both false b e = absurd (cc e)
+use Rattle.bson_model.proofs.Booleans.{both}
 
 -- who has the key now, of the chunk that was found
 abbrev owner_of : Option Chunk → Option ℕ

@@ -1,5 +1,5 @@
 pub mod Code
-pub mod Found
+pub mod VerdictMeanings
 pub mod Meanings
 pub mod Whole
 pub use Rattle.chunk_model.specs.Catalogue

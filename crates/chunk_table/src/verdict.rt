@@ -4,7 +4,7 @@
 ghost use Rattle.std.specs.Prelude.{◌≡◌};
 ghost use Rattle.std.specs.Option.{option_map};
 ghost use Rattle.chunk_model.specs.Verdicts.{sent_by, verdict_of};
-ghost use Rattle.chunk_table.specs.Found.{sent_meant, verdict_meant};
+ghost use Rattle.chunk_table.specs.VerdictMeanings.{sent_meant, verdict_meant};
 
 use crate::table::Table;
 use crate::version::Version;

@@ -4,6 +4,7 @@ use Rattle.std.proofs.Common.{refl, sym, subst, inl, inr, ◌∙◌, arith}
 use Rattle.std.proofs.lemmas.List.{length-map}
 use Rattle.outside.specs.Devices.{SourceCall, SinkCall, SinkIsUntouched, SourceIsUntouched}
 use Rattle.outside.specs.Disks.{Outcomes}
+use Rattle.outside.proofs.Relations.{none_fell_self}
 use Rattle.cluster_top.specs.Crashes.{LeaveTheWay}
 use Rattle.cluster_top.specs.Disks.{IsEmptyAll}
 use Rattle.cluster_top.specs.Headline.{Headline}
@@ -13,9 +14,9 @@ use Rattle.cluster_top.specs.declared.arguments.Command.TheVariants.{Pipe, Sim}
 use Rattle.cluster_top.specs.declared.status.Status.TheVariants as statuses
 use Rattle.pipe_driver.specs.declared.status.Status.TheVariants as ended
 use Rattle.cluster_top.proofs.Crashes.{none_on_the_way}
-use Rattle.cluster_top.proofs.Counts.{all_still, none_fell}
+use Rattle.cluster_top.proofs.Counts.{all_still}
 use Rattle.cluster_top.proofs.Unserved.{all_empty_kept, memory_unopened}
-use Rattle.cluster_main.specs.Left.{IsLeft}
+use Rattle.cluster_main.specs.Disks.{IsLeft}
 
 -- where it is not none there is some
 pub some_unless : (count : Option ℕ) → ¬ IsNone count → IsSome count
@@ -38,7 +39,7 @@ pub as_they_were : {D : Type 0} (status : ℕ) (started : Type 0) (given : Optio
 as_they_were {D} status started given source sink gives tells content may_leave moment left_since place fault_count disks never none took put three (inl two) = record {
   places = refl;
   disk_fault = all_still (status ≡ 5) (map fault_count disks) (map fault_count disks) (λ is. omega (arith, is, two)) refl;
-  none_fell = none_fell (map fault_count disks);
+  none_fell = none_fell_self (map fault_count disks);
   refused = λ any. refl;
   untouched = λ is. refl;
   six = λ is. absurd (omega (arith, is, two));
@@ -55,7 +56,7 @@ as_they_were {D} status started given source sink gives tells content may_leave 
     record {
       places = refl;
       disk_fault = all_still (status ≡ 5) (map fault_count disks) (map fault_count disks) (λ is. omega (arith, is, seven)) refl;
-      none_fell = none_fell (map fault_count disks);
+      none_fell = none_fell_self (map fault_count disks);
       refused = λ any. refl;
       untouched = λ is. refl;
       six = λ is. absurd (omega (arith, is, seven));

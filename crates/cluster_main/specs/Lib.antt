@@ -1,3 +1,3 @@
-pub mod Left
+pub mod Disks
 pub mod Lines
 pub mod Names

@@ -2,10 +2,10 @@
 
 ghost use Rattle.std.specs.Prelude.{◌≡◌, ◌↔◌, ◌⊎◌, ℕ, List, Err, IfOk, IsNone, IsOkAnd, IsSome, vec_len};
 ghost use Rattle.outside.specs.Devices.{SinkIsUntouched, SourceIsUntouched, sink_call, source_call};
-ghost use Rattle.cluster_top.specs.Counts.{RoseWhere};
+ghost use Rattle.pipe_driver.specs.Counts.{RoseWhere};
 ghost use Rattle.cluster_top.specs.Arguments.{node_count_of};
 ghost use Rattle.std.specs.Process.{exit_status};
-ghost use Rattle.cluster_main.specs.Left.{IsLeft, command_in};
+ghost use Rattle.cluster_main.specs.Disks.{IsLeft, command_in};
 ghost use Rattle.cluster_main.specs.declared.arguments.NoArguments.TheVariants as none;
 
 use crate::arguments::NoArguments;

@@ -6,7 +6,7 @@ use Rattle.outside.specs.Disks.{Elapses, LeavesOnly, Outcomes, Within}
 use Rattle.journal_frames.specs.Files.{HaveSameRecords, Stands}
 use Rattle.journal_frames.specs.Views.{JournalView}
 use Rattle.journal_frames.proofs.Unique.{one_list}
-use Rattle.node_model.specs.Kept.{Kept}
+use Rattle.node_model.specs.Journal.{Kept}
 use Rattle.node_model.specs.States.{NodeState}
 use Rattle.node_model.specs.World.{World, journal_at, start}
 use Rattle.node_traits.specs.Calls.{LeavesAlso}

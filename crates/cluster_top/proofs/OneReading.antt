@@ -7,11 +7,11 @@ use Rattle.history_model.specs.History.{Entry, LegalAfter, key_written, document
 use Rattle.journal_frames.specs.Files.{Stands}
 use Rattle.journal_frames.proofs.Unique as unique
 use Rattle.node_model.specs.Catalogue.{Creation}
-use Rattle.node_model.specs.Kept.{Kept, kept_table, kept_entry, kept_creation, kept_life, kept_block, record_kept, entries_kept, creations_kept}
+use Rattle.node_model.specs.Journal.{Kept, kept_table, kept_entry, kept_creation, kept_life, kept_block, record_kept, entries_kept, creations_kept}
 use Rattle.node_model.specs.OneHistory.{IsPlaced}
 use Rattle.node_model.specs.World.{Held, journal_at}
 use Rattle.node_traits.specs.Effects.{AreSound, spellings}
-use Rattle.record_model.specs.Kept.{IsKnown, KeepEntries, creates_of}
+use Rattle.record_model.specs.RecordContents.{IsKnown, KeepEntries, creates_of}
 use Rattle.record_model.specs.Records.{Record}
 use Rattle.record_model.proofs.Entries.{known_effect, one_list}
 use Rattle.record_model.proofs.OneRecord.{one_record}

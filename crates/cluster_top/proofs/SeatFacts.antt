@@ -1,21 +1,23 @@
 -- Nodes with their journals: at the start, and behind a connection.
-use Rattle.std.specs.Prelude.{◌≡◌, ◌≢◌, ℕ, Bool, IsTrue, List, [], ◌∷◌, ◌++◌, length, map}
-use Rattle.std.proofs.Common.{refl, sym, ap, subst, arith, ◌∙◌}
+use Rattle.std.specs.Prelude.{◌≡◌, ◌≢◌, ℕ, Bool, IsTrue, List, [], ◌∷◌, ◌++◌, map}
+use Rattle.std.proofs.Common.{refl, sym, ap, subst, ◌∙◌}
 use Rattle.std.specs.List.{AllByRecursion}
 use Rattle.outside.specs.Devices.{SourceCall, SinkCall, NoneFell, OneRose}
+use Rattle.outside.proofs.Relations.{none_fell_self}
 use Rattle.journal_frames.specs.Files.{Stands}
 use Rattle.journal_frames.specs.Views.{JournalView}
 use Rattle.node_model.specs.States.{NodeState}
 use Rattle.node_model.specs.World.{Held, World, start}
 use Rattle.driver_steps.specs.Seats.{AreHeld, AreKept, AreOpen, HaveRisen, seat_view}
 use Rattle.driver_steps.specs.declared.seat.Seat.{Seat}
-use Rattle.pipe_driver.specs.Endings.{IsPiped}
+use Rattle.pipe_driver.specs.Endings.{IsPiped, most_taken}
+use Rattle.pipe_driver.specs.Counts.{HaveRisenWhere, RoseWhere}
+use Rattle.pipe_driver.proofs.Counts.{rose_as}
 use Rattle.sim_driver.specs.Simulations.{IsSimulated}
-use Rattle.pipe_driver.specs.Counts as driver
 use Rattle.pipe_driver.specs.declared.status.Status as connections
 use Rattle.pipe_driver.specs.declared.status.Status.TheVariants as ended
-use Rattle.cluster_top.specs.Counts.{OneRoseWhere, RoseWhere}
-use Rattle.cluster_top.specs.Driven.{IsDriven, most_taken}
+use Rattle.cluster_top.specs.Counts.{OneRoseWhere}
+use Rattle.cluster_top.specs.Drivers.{IsDriven}
 use Rattle.cluster_top.specs.declared.arguments.Command.{Command}
 use Rattle.cluster_top.specs.declared.arguments.Command.TheVariants.{Pipe, Sim}
 use Rattle.cluster_top.specs.Journals.{AreJournals}
@@ -27,7 +29,7 @@ use Rattle.cluster_top.specs.declared.journals.Journals.{Journals}
 use Rattle.cluster_top.specs.declared.nodes.Nodes.{Nodes}
 use Rattle.cluster_top.specs.declared.status.Status.{Status}
 use Rattle.cluster_top.specs.declared.status.Status.TheVariants as statuses
-use Rattle.cluster_top.proofs.Counts.{none_fell, one_rose_as, rose_as}
+use Rattle.cluster_top.proofs.Counts.{one_rose_as}
 
 -- what an opening of a journal finds
 abbrev pub found_in : {D : Type 0} → Bool → (D → List ℕ) → JournalView D → List (List ℕ) → Type 0
@@ -158,28 +160,24 @@ same_ending ending known status is same = sym (back ending) ∙ ap connection_of
 pub has_ending : (ending known : connections.Status) (status : Status) → status ≡ of_connection ending → ending ≡ known → status ≡ of_connection known
 has_ending ending known status is same = is ∙ ap of_connection same
 
-pub rose_of : (known ending : connections.Status) (status : Status) → status ≡ of_connection ending → (a b : ℕ) → driver.RoseWhere (ending ≡ known) a b → RoseWhere (status ≡ of_connection known) a b
+pub rose_of : (known ending : connections.Status) (status : Status) → status ≡ of_connection ending → (a b : ℕ) → RoseWhere (ending ≡ known) a b → RoseWhere (status ≡ of_connection known) a b
 rose_of known ending status is a b where_it = rose_as (ending ≡ known) (status ≡ of_connection known) a b (has_ending ending known status is) (same_ending ending known status is) where_it
 
-pub one_rose_of : (known ending : connections.Status) (status : Status) → status ≡ of_connection ending → (a b : List ℕ) → driver.OneRoseWhere (ending ≡ known) a b
+pub one_rose_of : (known ending : connections.Status) (status : Status) → status ≡ of_connection ending → (a b : List ℕ) → HaveRisenWhere (ending ≡ known) a b
     → OneRoseWhere (status ≡ of_connection known) a b
 one_rose_of known ending status is a b where_it =
     one_rose_as (ending ≡ known) (status ≡ of_connection known) a b (has_ending ending known status is) (same_ending ending known status is)
     ((λ e. (where_it.0 e).one), where_it.1)
 
 -- no count fell
-pub later_of : (ending : connections.Status) (a b : List ℕ) → driver.OneRoseWhere (ending ≡ ended.DiskFailed) a b → NoneFell a b
+pub later_of : (ending : connections.Status) (a b : List ℕ) → HaveRisenWhere (ending ≡ ended.DiskFailed) a b → NoneFell a b
 later_of ended.DiskFailed a b where_it = (where_it.0 refl).none_fell
-later_of ended.InputEnded a b where_it = subst (λ (ns : List ℕ). NoneFell a ns) (sym (where_it.1 (λ e. cc))) (none_fell a)
-later_of ended.ReadFailed a b where_it = subst (λ (ns : List ℕ). NoneFell a ns) (sym (where_it.1 (λ e. cc))) (none_fell a)
-later_of ended.WriteFailed a b where_it = subst (λ (ns : List ℕ). NoneFell a ns) (sym (where_it.1 (λ e. cc))) (none_fell a)
-later_of ended.OutOfMemory a b where_it = subst (λ (ns : List ℕ). NoneFell a ns) (sym (where_it.1 (λ e. cc))) (none_fell a)
-later_of ended.BadInput a b where_it = subst (λ (ns : List ℕ). NoneFell a ns) (sym (where_it.1 (λ e. cc))) (none_fell a)
-later_of ended.InputTooLong a b where_it = subst (λ (ns : List ℕ). NoneFell a ns) (sym (where_it.1 (λ e. cc))) (none_fell a)
-
-pub nothing_left : {S : Type 0} (seats : List S) → length seats ≡ 0 → seats ≡ []
-nothing_left [] none = refl
-nothing_left (s ∷ seats) none = absurd (omega (arith, none))
+later_of ended.InputEnded a b where_it = subst (λ (ns : List ℕ). NoneFell a ns) (sym (where_it.1 (λ e. cc))) (none_fell_self a)
+later_of ended.ReadFailed a b where_it = subst (λ (ns : List ℕ). NoneFell a ns) (sym (where_it.1 (λ e. cc))) (none_fell_self a)
+later_of ended.WriteFailed a b where_it = subst (λ (ns : List ℕ). NoneFell a ns) (sym (where_it.1 (λ e. cc))) (none_fell_self a)
+later_of ended.OutOfMemory a b where_it = subst (λ (ns : List ℕ). NoneFell a ns) (sym (where_it.1 (λ e. cc))) (none_fell_self a)
+later_of ended.BadInput a b where_it = subst (λ (ns : List ℕ). NoneFell a ns) (sym (where_it.1 (λ e. cc))) (none_fell_self a)
+later_of ended.InputTooLong a b where_it = subst (λ (ns : List ℕ). NoneFell a ns) (sym (where_it.1 (λ e. cc))) (none_fell_self a)
 
 -- three seats, taken from the end one after another
 pub each_of_three : {S : Type 0} (P : S → Type 0) (all two one none : List S) (a b c : S) → all ≡ two ++ c ∷ [] → two ≡ one ++ b ∷ [] → one ≡ none ++ a ∷ [] → none ≡ []

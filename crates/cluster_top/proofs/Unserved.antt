@@ -7,7 +7,7 @@ use Rattle.opmsg_frames.specs.Frames.{ends}
 use Rattle.journal_frames.specs.Files.{Stands}
 use Rattle.node_model.specs.Schedule.{openings}
 use Rattle.node_model.specs.World.{World, start, stands}
-use Rattle.pipe_driver.specs.Endings.{IsPiped, SomeServed, disk_failed, no_memory}
+use Rattle.pipe_driver.specs.Endings.{IsPiped, SomeServed, disk_failed, most_taken, no_memory}
 use Rattle.pipe_driver.specs.Schedules.{came_opening}
 use Rattle.pipe_driver.specs.declared.status.Status as connections
 use Rattle.pipe_driver.specs.declared.status.Status.TheVariants as ended
@@ -15,7 +15,7 @@ use Rattle.pipe_driver.proofs.Histories.{piped_history}
 use Rattle.sim_driver.specs.Simulations.{IsSimulated, CameTo, came_opening as began, disk_failed as script_disk_failed, no_memory as script_no_memory}
 use Rattle.sim_driver.proofs.Histories.{simulated_history}
 use Rattle.cluster_top.specs.Disks.{AllEmpty, IsEmptyAll, SomeFile}
-use Rattle.cluster_top.specs.Driven.{IsDriven, most_taken}
+use Rattle.cluster_top.specs.Drivers.{IsDriven}
 use Rattle.cluster_top.specs.Headline.{Headline, HeadlineOf, ScriptHeadline}
 use Rattle.cluster_top.specs.Journals.{AreJournals}
 use Rattle.cluster_top.specs.Statuses.{OfConnection, of_connection}

@@ -1,11 +1,6 @@
--- Counts of faults, by what a call answered.
+-- Counts of faults, of which one rises.
 use Rattle.std.specs.Prelude.{◌≡◌, ℕ, List}
-use Rattle.outside.specs.Causes.{Rose}
 use Rattle.outside.specs.Devices.{OneRose}
-
--- the count rose where this holds, and elsewhere it is as before
-abbrev pub RoseWhere : Type 0 → (before after : ℕ) → Type 0
-RoseWhere failed before after = (failed → Rose before after) × (¬ failed → after ≡ before)
 
 -- one of the counts rose where this holds, and elsewhere all are as before
 abbrev pub OneRoseWhere : Type 0 → (before after : List ℕ) → Type 0

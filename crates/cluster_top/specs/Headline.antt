@@ -1,14 +1,13 @@
 -- What one call says of the bytes that it took and put, and of the disks that it hands back.
 use Rattle.std.specs.Prelude.{◌≡◌, ℕ, Bool, IsTrue, List}
 use Rattle.outside.specs.Devices.{SourceCall, SinkCall}
-use Rattle.node_model.specs.Kept.{creations_kept, entries_kept}
+use Rattle.node_model.specs.Journal.{creations_kept, entries_kept}
 use Rattle.node_model.specs.OneHistory.{OneHistory}
 use Rattle.node_model.specs.Tables.{first_shard}
 use Rattle.node_model.specs.World.{World, journal_at}
-use Rattle.pipe_driver.specs.Endings.{IsPiped}
+use Rattle.pipe_driver.specs.Endings.{IsPiped, most_taken}
 use Rattle.pipe_driver.specs.declared.status.Status.{Status}
 use Rattle.sim_driver.specs.Simulations.{IsSimulated}
-use Rattle.cluster_top.specs.Driven.{most_taken}
 use Rattle.cluster_top.specs.Journals.{AreJournals}
 use Rattle.cluster_top.specs.declared.arguments.Command.{Command}
 use Rattle.cluster_top.specs.declared.arguments.Command.TheVariants.{Pipe, Sim}

@@ -3,7 +3,7 @@ use Rattle.std.specs.Prelude.{ℕ, List, [], ◌∷◌}
 use Rattle.std.specs.List.{AllByRecursion}
 use Rattle.journal_frames.specs.Files.{Stands}
 use Rattle.node_model.specs.History.{Legal}
-use Rattle.node_model.specs.Kept.{Kept, creations_kept, entries_kept}
+use Rattle.node_model.specs.Journal.{Kept, creations_kept, entries_kept}
 use Rattle.node_model.specs.OneHistory.{IsPlaced}
 use Rattle.node_model.specs.Tables.{first_shard}
 use Rattle.node_model.specs.World.{Held, journal_at}

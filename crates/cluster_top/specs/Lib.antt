@@ -2,7 +2,7 @@ pub mod Arguments
 pub mod Counts
 pub mod Crashes
 pub mod Disks
-pub mod Driven
+pub mod Drivers
 pub mod Headline
 pub mod Journals
 pub mod Nodes

@@ -4,11 +4,11 @@ ghost use Rattle.std.specs.Prelude.{◌≡◌, ◌≢◌, ◌<◌, vec_len};
 ghost use Rattle.outside.specs.Devices.{sink_call, source_call};
 ghost use Rattle.node_model.specs.World.{start};
 ghost use Rattle.driver_steps.specs.Seats.{AreHeld, AreKept, AreOpen, LeaveKept, faults_of, places_of, seat_since, seat_view, since_then};
-ghost use Rattle.pipe_driver.specs.Counts.{OneRoseWhere, RoseWhere};
+ghost use Rattle.pipe_driver.specs.Counts.{HaveRisenWhere, RoseWhere};
 ghost use Rattle.pipe_driver.specs.Progress.{AreAskedAsRead};
 ghost use Rattle.pipe_driver.specs.Rounds.{first_router};
 ghost use Rattle.pipe_driver.specs.declared.status.Status.TheVariants as statuses;
-ghost use Rattle.cluster_top.specs.Driven.{IsDriven};
+ghost use Rattle.cluster_top.specs.Drivers.{IsDriven};
 
 use crate::arguments::Command;
 use driver_steps::Seat;
@@ -48,7 +48,7 @@ pub fn drive<R: Threads + Sync, N: Node<Request = Request>, L: Log, S: Source, K
     ensures len { vec_len seats.new ≡ vec_len seats.old }
     ensures read_fault { RoseWhere (result.status ≡ statuses.ReadFailed) (S.fault_count input.old) (S.fault_count input.new) }
     ensures write_fault { RoseWhere (result.status ≡ statuses.WriteFailed) (K.fault_count out.old) (K.fault_count out.new) }
-    ensures disk_fault { OneRoseWhere (result.status ≡ statuses.DiskFailed) (faults_of L.fault_count seats.old.items)
+    ensures disk_fault { HaveRisenWhere (result.status ≡ statuses.DiskFailed) (faults_of L.fault_count seats.old.items)
         (faults_of L.fault_count seats.new.items) }
     ensures places { places_of L.place seats.new.items ≡ places_of L.place seats.old.items }
 {

@@ -1,7 +1,7 @@
 //! The laws between the definitions.
 
 ghost use Rattle.std.specs.Prelude.{◌≡◌, ℕ, List};
-ghost use Rattle.node_model.specs.Kept.{creations_kept, entries_kept};
+ghost use Rattle.node_model.specs.Journal.{creations_kept, entries_kept};
 ghost use Rattle.node_model.specs.Tables.{first_shard};
 ghost use Rattle.node_model.specs.World.{Held, journal_at};
 ghost use Rattle.cluster_top.specs.Journals.{AreJournals, IsHistory};

@@ -8,11 +8,11 @@ mod journals;
 pub mod laws;
 mod nodes;
 mod seats;
-mod serving;
+mod service;
 mod status;
 mod top;
 
 pub use arguments::{Command, node_count, read_command};
-pub use outside::spoken::{Exchange, LinkEnd, Spoken};
+pub use outside::exchange::{Exchange, LinkEnd, Spoken};
 pub use status::Status;
 pub use top::{Ended, run};

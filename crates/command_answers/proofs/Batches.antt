@@ -3,7 +3,7 @@ use Rattle.std.proofs.Common.{◌≡◌, ℕ, suc, ◌+◌, ◌<◌, ◌≤◌, 
 use Rattle.std.proofs.lemmas.List.{drop_all}
 use Rattle.bson_values.specs.Tree.{array_value, document_value, Items, no_items, item, joined_items, Fields, field, joined}
 use Rattle.command_model.specs.ReplyParts.{shown_if, write_error}
-use Rattle.command_model.specs.Shown.{document_items}
+use Rattle.command_model.specs.AnswerParts.{document_items}
 use Rattle.command_model.specs.Insert.{write_error_items, write_errors_shown}
 use Rattle.command_answers.specs.Errors.{errors_meant}
 use Rattle.command_answers.specs.Refusals.{refusal_meant}

@@ -1,6 +1,7 @@
 //! What requests are answered.
 
 ghost use Rattle.std.specs.Prelude.{◌≡◌, ◌<◌, Some, None, nat_lt, if◌then◌else◌};
+ghost use Rattle.command_model.specs.CommandLimits.{most_statements};
 
 use crate::refusal::Refusal;
 use bson_values::{Document, Text};
@@ -10,7 +11,7 @@ use std::marker::Model;
 /// The most statements of one command (MongoDB manual, "hello", `maxWriteBatchSize`).
 pub const MOST_STATEMENTS: u32 = 100_000;
 
-/// The index of a statement in its command, from 0 on, below 100000.
+/// The index of a statement in its command, from 0 on, below `MOST_STATEMENTS`.
 #[derive(Debug, Drop)]
 pub struct StatementIndex {
     index: u32,
@@ -18,18 +19,19 @@ pub struct StatementIndex {
 
 impl Model for StatementIndex {
     ghost use Rattle.std.specs.Prelude.{ℕ, ◌<◌};
+    ghost use Rattle.command_model.specs.CommandLimits.{most_statements};
 
     ghost Value = { ℕ };
 
     ghost view = { λ i. i.index };
 
-    ghost invariant = { λ i. i.index < 100000 };
+    ghost invariant = { λ i. i.index < most_statements };
 }
 
 impl StatementIndex {
     /// The index of that number, if a command can have so many statements.
     pub fn of(index: u32) -> Option<StatementIndex>
-        ensures { result ≡ (if nat_lt index 100000 then Some index else None) }
+        ensures { result ≡ (if nat_lt index most_statements then Some index else None) }
     {
         if index < MOST_STATEMENTS {
             Some(StatementIndex { index })
@@ -41,7 +43,7 @@ impl StatementIndex {
     /// The number.
     pub fn number(&self) -> u32
         ensures number { result ≡ self.now }
-        ensures small { self.now < 100000 }
+        ensures small { self.now < most_statements }
     {
         self.index
     }

@@ -3,7 +3,7 @@
 ghost use Rattle.std.specs.Prelude.{◌≡◌, IfOk};
 ghost use Rattle.command_model.specs.Find as model;
 ghost use Rattle.command_model.specs.Find.{cursor};
-ghost use Rattle.command_model.specs.Shown.{document_items};
+ghost use Rattle.command_model.specs.AnswerParts.{document_items};
 
 use crate::parts::{add, add_end};
 use bson_values::{Array, Document, Memory, Text, Value};

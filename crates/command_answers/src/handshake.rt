@@ -5,20 +5,21 @@ ghost use Rattle.bson_values.specs.Tree.{boolean_value, no_fields, field};
 ghost use Rattle.bson_values.specs.Names.{has_no_zero};
 ghost use Rattle.bson_values.specs.View.{datum_of};
 ghost use Rattle.command_model.specs.Handshake.{done_document, handshake, hello_document, hello_ok, legacy_document};
-ghost use Rattle.command_model.specs.Shown as shown;
+ghost use Rattle.command_model.specs.AnswerParts as shown;
 
+use crate::answer;
 use crate::parts::{add, add_boolean, add_number, add_text};
-use bson_values::{Document, Memory, Value};
+use bson_values::{Document, MOST_BYTES_KEPT, Memory, Value};
 use std::alloc::Global;
 
 /// The greatest BSON document, in bytes.
-const MOST_DOCUMENT_BYTES: i32 = 16_777_216;
+const MOST_DOCUMENT_BYTES: i32 = MOST_BYTES_KEPT as i32;
 
 /// The greatest message, in bytes.
 const MOST_MESSAGE_BYTES: i32 = 48_000_000;
 
 /// The most statements of one command.
-const MOST_STATEMENTS: i32 = 100_000;
+const MOST_STATEMENTS: i32 = answer::MOST_STATEMENTS as i32;
 
 /// How long a session lives without a request.
 const SESSION_MINUTES: i32 = 30;

@@ -5,7 +5,7 @@ ghost use Rattle.bson_values.specs.Tree.{no_fields, field};
 ghost use Rattle.bson_values.specs.View.{datum_of};
 ghost use Rattle.command_model.specs.Insert as model;
 ghost use Rattle.command_model.specs.ReplyParts as replies;
-ghost use Rattle.command_model.specs.Shown as shown;
+ghost use Rattle.command_model.specs.AnswerParts as shown;
 ghost use Rattle.command_answers.specs.Errors.{errors_meant};
 ghost use Rattle.command_answers.specs.Refusals.{refusal_meant};
 

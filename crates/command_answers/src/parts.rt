@@ -4,7 +4,7 @@ ghost use Rattle.std.specs.Prelude.{◌≡◌, IsTrue, OnOk, pos};
 ghost use Rattle.bson_values.specs.Tree.{boolean_value, int32_value, string_value, no_fields, field, joined};
 ghost use Rattle.bson_values.specs.Names.{has_no_zero};
 ghost use Rattle.bson_values.specs.View.{datum_of};
-ghost use Rattle.command_model.specs.Shown.{ok, operation_time_at};
+ghost use Rattle.command_model.specs.AnswerParts.{ok, operation_time_at};
 
 use bson_values::{Document, Memory, Name, Text, Value};
 use cluster_base::Time;

@@ -12,6 +12,7 @@ use Rattle.opmsg_model.specs.MessageSizes.{IsSmall}
 use Rattle.command_model.specs.Fields.{Rule, by_rule, check_fields, find_rule}
 use Rattle.command_model.specs.Insert.{check_count, check_statement, check_statements, is_statement_count}
 use Rattle.command_model.specs.CommandSizes.{IsKeepable}
+use Rattle.command_model.specs.CommandLimits.{most_statements}
 
 pub passed_parts : (v : Verdict) (vs : List Verdict) → first_of (v ∷ vs) ≡ None → (v ≡ None) × (first_of vs ≡ None)
 passed_parts None vs e = (refl, e)
@@ -54,10 +55,10 @@ field_passed rules given (field first d ms) name value e got =
     one_passed (bytes_eq first name) rules given first name d value (get name ms) refl got told.0 (λ later. field_passed rules (first ∷ given) ms name value rest later)
 
 -- there are no more documents than a command may have
-pub few_documents : (documents : List Fields) → check_count documents ≡ None → length documents ≤ 100000
+pub few_documents : (documents : List Fields) → check_count documents ≡ None → length documents ≤ most_statements
 few_documents documents e =
     let count : is_statement_count (length documents) ≡ true = passed_test (is_statement_count (length documents)) bad_value e in
-    leb-true (length documents) 100000 (and_parts _ _ count).1
+    leb-true (length documents) most_statements (and_parts _ _ count).1
 
 -- and some
 pub some_counted : (documents : List Fields) → check_count documents ≡ None → documents ≢ []

@@ -7,21 +7,23 @@ use Rattle.opmsg_model.specs.Spelling.{written, written_value, written_items, wr
 use Rattle.opmsg_model.specs.MessageSizes.{IsSmall, IsWithin}
 use Rattle.base_model.specs.Refusals.{Evidence, Refusal, evidence_document, no_evidence, place_evidence, greatest_evidence, cursor_evidence, moments_evidence, disk_evidence, steps_evidence, node_evidence, number_evidence, oldest_evidence, bytes_evidence}
 use Rattle.base_model.specs.ReplyParts.{evidence_shown, refusal_reply, shown_if, write_error}
-use Rattle.command_model.specs.Shown.{count, document_items, ok, operation_time_at}
+use Rattle.command_model.specs.AnswerParts.{count, document_items, ok, operation_time_at}
 use Rattle.command_model.specs.Insert.{WriteError, write_error_items, write_errors_shown}
 use Rattle.command_model.specs.Find.{cursor}
 use Rattle.command_model.specs.Answers.{Answer, hello_answer, legacy_answer, done_answer, insert_answer, find_answer, refusal_answer, answer_document}
 use Rattle.command_model.specs.CommandSizes.{IsSmallAnswer, IsSmallError, IsSmallRefusal}
 use Rattle.opmsg_model.proofs.Lengths.{length-framed, length-item, length-field, length-string}
+use Rattle.opmsg_model.specs.Limits.{most_bytes_written, most_depth_written}
+use Rattle.command_model.specs.CommandLimits.{most_statements}
 
-hello_small : (moment : ℕ) → IsWithin 104 300000000 (answer_document (hello_answer moment))
+hello_small : (moment : ℕ) → IsWithin most_depth_written most_bytes_written (answer_document (hello_answer moment))
 hello_small moment = (omega arith, omega arith)
 
-legacy_small : (moment : ℕ) (shown : Bool) → IsWithin 104 300000000 (answer_document (legacy_answer moment shown))
+legacy_small : (moment : ℕ) (shown : Bool) → IsWithin most_depth_written most_bytes_written (answer_document (legacy_answer moment shown))
 legacy_small moment true = (omega arith, omega arith)
 legacy_small moment false = (omega arith, omega arith)
 
-done_small : IsWithin 104 300000000 (answer_document done_answer)
+done_small : IsWithin most_depth_written most_bytes_written (answer_document done_answer)
 done_small = (omega arith, omega arith)
 
 -- evidence is small
@@ -80,7 +82,7 @@ error_small e short =
     )
 
 -- write errors with short names, from an index on that has at most five digits
-errors_small : (i : ℕ) (errors : List WriteError) → i + length errors ≤ 100000 → AllByRecursion IsSmallError errors → (array_depth (write_error_items errors) ≤ 3) × (length (written_items i (write_error_items errors)) ≤ 410 * length errors)
+errors_small : (i : ℕ) (errors : List WriteError) → i + length errors ≤ most_statements → AllByRecursion IsSmallError errors → (array_depth (write_error_items errors) ≤ 3) × (length (written_items i (write_error_items errors)) ≤ 410 * length errors)
 errors_small i [] few all = (omega arith, omega arith)
 errors_small i (e ∷ errors) few all =
     let first = error_small e all.0.1 in
@@ -90,7 +92,7 @@ errors_small i (e ∷ errors) few all =
     )
 
 -- what stands behind the count of an insert
-insert_behind_small : (errors : List WriteError) (time : ℕ) → (length errors ≤ 100000) × AllByRecursion IsSmallError errors → (document_depth (write_errors_shown errors (ok (operation_time_at time))) ≤ 103) × (length (written_fields (write_errors_shown errors (ok (operation_time_at time)))) ≤ 41001000)
+insert_behind_small : (errors : List WriteError) (time : ℕ) → (length errors ≤ most_statements) × AllByRecursion IsSmallError errors → (document_depth (write_errors_shown errors (ok (operation_time_at time))) ≤ 103) × (length (written_fields (write_errors_shown errors (ok (operation_time_at time)))) ≤ 41001000)
 insert_behind_small [] time all = (omega arith, omega arith)
 insert_behind_small (e ∷ errors) time all =
     let shown : Items = write_error_items (e ∷ errors) in
@@ -107,7 +109,7 @@ count_small n = by_test (nat_lt n (2 ^ 31))
     by_test true = (refl, omega arith)
     by_test false = (refl, omega arith)
 
-insert_small : (n : ℕ) (errors : List WriteError) (time : ℕ) → (length errors ≤ 100000) × AllByRecursion IsSmallError errors → IsWithin 104 300000000 (answer_document (insert_answer n errors time))
+insert_small : (n : ℕ) (errors : List WriteError) (time : ℕ) → (length errors ≤ most_statements) × AllByRecursion IsSmallError errors → IsWithin most_depth_written most_bytes_written (answer_document (insert_answer n errors time))
 insert_small n errors time all =
     let counted = count_small n in
     let behind : Fields = write_errors_shown errors (ok (operation_time_at time)) in
@@ -145,7 +147,7 @@ cursor_small namespace documents time named few all =
       ),
     )
 
-find_small : (namespace : List ℕ) (documents : List Fields) (time : ℕ) → length namespace ≤ 255 → length documents ≤ 1 → AllByRecursion IsSmall documents → IsWithin 104 300000000 (answer_document (find_answer namespace documents time))
+find_small : (namespace : List ℕ) (documents : List Fields) (time : ℕ) → length namespace ≤ 255 → length documents ≤ 1 → AllByRecursion IsSmall documents → IsWithin most_depth_written most_bytes_written (answer_document (find_answer namespace documents time))
 find_small namespace documents time named few all =
     let shown : Fields = cursor namespace documents time in
     let inner = cursor_small namespace documents time named few all in
@@ -154,7 +156,7 @@ find_small namespace documents time named few all =
       omega (arith, inner.1, length-field (codes "cursor") (document_value shown) behind, length-framed (written_fields (field (codes "cursor") (document_value shown) behind))),
     )
 
-refusal_small : (refusal : Refusal) → IsSmallRefusal refusal → IsWithin 104 300000000 (refusal_reply refusal)
+refusal_small : (refusal : Refusal) → IsSmallRefusal refusal → IsWithin most_depth_written most_bytes_written (refusal_reply refusal)
 refusal_small refusal small =
     let name : List ℕ = refusal.error.name in
     let shown : Fields = evidence_shown refusal.evidence in
@@ -176,7 +178,7 @@ refusal_small refusal small =
       ),
     )
 
-pub answer_small : (answer : Answer) → IsSmallAnswer answer → IsWithin 104 300000000 (answer_document answer)
+pub answer_small : (answer : Answer) → IsSmallAnswer answer → IsWithin most_depth_written most_bytes_written (answer_document answer)
 answer_small (hello_answer moment) small = hello_small moment
 answer_small (legacy_answer moment shown) small = legacy_small moment shown
 answer_small done_answer small = done_small

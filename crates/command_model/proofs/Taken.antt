@@ -21,6 +21,7 @@ use Rattle.command_model.proofs.ShortErrors.{IsShort, IsShortForm, collection_sh
 use Rattle.command_model.proofs.Passed.{HasKey, keys_passed, few_documents, keepable, field_passed, passed_else, passed_last, passed_parts, some_counted}
 use Rattle.command_model.proofs.Inside.{got_inside, items_small}
 use Rattle.command_model.proofs.Rows.{found_row}
+use Rattle.command_model.specs.CommandLimits.{most_statements}
 
 abbrev AreSmall : Sequences → Type 0
 AreSmall sequences = AllByRecursion (λ s. AllByRecursion IsSmall s.1) sequences
@@ -104,7 +105,7 @@ some_of None counted needed none = absurd cc
 some_of (Some documents) counted needed none = some_counted documents (counted documents refl) none
 
 small_of : (o : Option (List Fields)) → ((documents : List Fields) → o ≡ Some documents → check_count documents ≡ None) → ((documents : List Fields) → o ≡ Some documents → AllByRecursion IsSmall documents) → check_statements (or_documents o) ≡ None →
-    (length (or_documents o) ≤ 100000) × AllByRecursion IsKeepable (or_documents o)
+    (length (or_documents o) ≤ most_statements) × AllByRecursion IsKeepable (or_documents o)
 small_of None counted small judged = (omega arith, tt)
 small_of (Some documents) counted small judged = (few_documents documents (counted documents refl), keepable documents (small documents refl) judged)
 

@@ -9,6 +9,7 @@ use Rattle.base_model.specs.Refusals.{Refusal}
 use Rattle.command_model.specs.Insert.{Insert, WriteError}
 use Rattle.command_model.specs.Answers.{Answer, hello_answer, legacy_answer, done_answer, insert_answer, find_answer, refusal_answer}
 use Rattle.command_model.specs.Command.{Command, hello_command, legacy_command, ping_command, end_sessions_command, insert_command, find_command}
+use Rattle.command_model.specs.CommandLimits.{most_statements}
 
 -- a document that is kept has a key
 pub record IsKeepable (document : Fields) : Type 0 where
@@ -19,7 +20,7 @@ pub record IsKeepable (document : Fields) : Type 0 where
 
 -- few documents, each of which may be kept
 abbrev pub IsSmallInsert : Insert → Type 0
-IsSmallInsert insert = (length insert.documents ≤ 100000) × AllByRecursion IsKeepable insert.documents
+IsSmallInsert insert = (length insert.documents ≤ most_statements) × AllByRecursion IsKeepable insert.documents
 
 abbrev pub IsSmallCommand : Command → Type 0
 IsSmallCommand hello_command = Unit {0}
@@ -35,7 +36,7 @@ IsSmallRefusal refusal = length refusal.error.name ≤ 100
 
 -- an error of a statement that an insert can have
 abbrev pub IsSmallError : WriteError → Type 0
-IsSmallError e = (e.index < 100000) × IsSmallRefusal e.refusal
+IsSmallError e = (e.index < most_statements) × IsSmallRefusal e.refusal
 
 -- what a request asks for, or its refusal
 abbrev pub IsTaken : Result Command Refusal → Type 0
@@ -47,6 +48,6 @@ abbrev pub IsSmallAnswer : Answer → Type 0
 IsSmallAnswer (hello_answer moment) = Unit {0}
 IsSmallAnswer (legacy_answer moment shown) = Unit {0}
 IsSmallAnswer done_answer = Unit {0}
-IsSmallAnswer (insert_answer count errors time) = (length errors ≤ 100000) × AllByRecursion IsSmallError errors
+IsSmallAnswer (insert_answer count errors time) = (length errors ≤ most_statements) × AllByRecursion IsSmallError errors
 IsSmallAnswer (find_answer namespace documents time) = (length namespace ≤ 255) × (length documents ≤ 1) × AllByRecursion IsSmall documents
 IsSmallAnswer (refusal_answer refusal) = IsSmallRefusal refusal

@@ -1,5 +1,5 @@
 -- `find` (MongoDB manual, "find", "Read Concern"; the order of refusals and of the answer's fields is own).
-use Rattle.std.specs.Prelude.{ℕ, pos, List, [], ◌∷◌, Bool, false, ◌&&◌, not, Option, Some, None, ◌==◌, codes}
+use Rattle.std.specs.Prelude.{ℕ, pos, List, [], ◌∷◌, Bool, false, ◌&&◌, not, Option, Some, None, codes}
 use Rattle.std.specs.Str.{bytes_eq}
 use Rattle.opmsg_model.specs.Tree.{Datum, string_value, document_value, array_value, int64_value, timestamp_value, Fields, no_fields, field, get}
 use Rattle.value_model.specs.Keys.{key_of}
@@ -8,7 +8,8 @@ use Rattle.base_model.specs.Names.{full_name}
 use Rattle.command_model.specs.Checks.{Verdict, is_one_of, unless_passes}
 use Rattle.command_model.specs.Fields.{Rule, check_inner_fields, common_rules, document_needed}
 use Rattle.command_model.specs.Forms.{CommandForm, check_collection, nothing_judged, string_or}
-use Rattle.command_model.specs.Shown.{document_items, ok, operation_time_at}
+use Rattle.command_model.specs.AnswerParts.{document_items, ok, operation_time_at}
+use Rattle.query_model.specs.Paths.{begins_with_dollar}
 
 -- to find the document whose `_id` equals the key, at a time, if one is named
 pub record Find : Type 0 where
@@ -37,10 +38,6 @@ abbrev pub check_concern : Fields → Verdict
 check_concern ms = check_inner_fields (concern_rules ms) ms
 
 -- a document of operators: its first name begins with $
-abbrev pub begins_with_dollar : List ℕ → Bool
-begins_with_dollar [] = false
-begins_with_dollar (b ∷ name) = b == 36
-
 abbrev pub is_operator : Datum → Bool
 is_operator (document_value (field name value ms)) = begins_with_dollar name
 is_operator value = false

@@ -4,8 +4,9 @@ use Rattle.std.specs.Prelude.{ℕ, List, [], ◌∷◌, Bool, true, false, None,
 use Rattle.opmsg_model.specs.Tree.{string_value, boolean_value, Fields, no_fields, field, get}
 use Rattle.command_model.specs.Fields.{Rule, boolean_needed, boolean_or, string_needed}
 use Rattle.command_model.specs.Forms.{CommandForm, any_own, nothing_judged}
-use Rattle.command_model.specs.Shown.{moment_shown, number, ok}
+use Rattle.command_model.specs.AnswerParts.{moment_shown, number, ok}
 use Rattle.opmsg_model.specs.Limits.{most_bytes_kept}
+use Rattle.command_model.specs.CommandLimits.{most_statements}
 
 -- `isMaster`: whether `helloOk` is to be shown
 pub record Legacy : Type 0 where
@@ -35,7 +36,7 @@ handshake moment more =
     field (codes "msg") (string_value (codes "isdbgrid"))
     (field (codes "maxBsonObjectSize") (number most_bytes_kept)
     (field (codes "maxMessageSizeBytes") (number 48000000)
-    (field (codes "maxWriteBatchSize") (number 100000)
+    (field (codes "maxWriteBatchSize") (number most_statements)
     (field (codes "localTime") (moment_shown moment)
     (field (codes "logicalSessionTimeoutMinutes") (number 30)
     (field (codes "minWireVersion") (number 0)

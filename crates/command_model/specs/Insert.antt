@@ -9,7 +9,8 @@ use Rattle.base_model.specs.ReplyParts.{write_error}
 use Rattle.command_model.specs.Checks.{Verdict, first_of, unless_passes}
 use Rattle.command_model.specs.Fields.{Rule, boolean_needed, boolean_or, common_rules, document_needed}
 use Rattle.command_model.specs.Forms.{CommandForm, Sequences, check_collection, string_or}
-use Rattle.command_model.specs.Shown.{count, ok, operation_time_at}
+use Rattle.command_model.specs.AnswerParts.{count, ok, operation_time_at}
+use Rattle.command_model.specs.CommandLimits.{most_statements}
 
 -- to insert the documents, in order; `ordered`: the first error ends it
 pub record Insert : Type 0 where
@@ -25,7 +26,7 @@ documents_in (item d ds) = None
 
 -- so many statements as a command may have
 abbrev pub is_statement_count : ℕ → Bool
-is_statement_count n = nat_le 1 n && nat_le n 100000
+is_statement_count n = nat_le 1 n && nat_le n most_statements
 
 abbrev pub check_count : List Fields → Verdict
 check_count documents = unless_passes (is_statement_count (length documents)) bad_value

@@ -1,14 +1,15 @@
 pub mod Checks
 pub mod Fields
 pub mod Forms
-pub mod Shown
+pub mod CommandLimits
+pub mod AnswerParts
 pub mod Handshake
 pub mod Insert
 pub mod Find
 pub mod Command
 pub mod Answers
 pub mod CommandSizes
-pub mod Worked
+pub mod SampleCommands
 pub mod SampleRequests
 pub use Rattle.base_model.specs.Errors
 pub use Rattle.opmsg_model.specs.Faults

@@ -7,7 +7,7 @@ use Rattle.opmsg_model.specs.Requests.{Request, msg_form, query_form, read_body,
 use Rattle.opmsg_model.specs.Sections.{body_section}
 use Rattle.opmsg_model.specs.SampleDocuments.{nested}
 use Rattle.base_model.specs.Times.{timestamp}
-use Rattle.command_model.specs.Shown.{document_items}
+use Rattle.command_model.specs.AnswerParts.{document_items}
 use Rattle.command_model.specs.Answers.{find_answer, answer_document}
 
 -- {_id: key}

@@ -11,7 +11,7 @@ ghost use Rattle.opmsg_model.specs.Requests.{faulty_body, msg_form, query_form, 
 ghost use Rattle.base_model.specs.Refusals.{no_evidence, place_evidence, without_evidence};
 ghost use Rattle.base_model.specs.Errors.{bad_value, command_not_found, failed_to_parse, invalid_bson, invalid_namespace, shard_key_not_found, type_mismatch};
 ghost use Rattle.command_model.specs.Command.{command_of, find_command, insert_command, legacy_command, ping_command};
-ghost use Rattle.command_model.specs.Worked.{database_d, id_only, insert_of, insert_two, insert_with, message, number_one, sent_as, with_sequence, without_id};
+ghost use Rattle.command_model.specs.SampleCommands.{database_d, id_only, insert_of, insert_two, insert_with, message, number_one, sent_as, with_sequence, without_id};
 ghost use Rattle.command_model.specs.Answers.{answer_document, find_answer, insert_answer, refusal_answer};
 
 pub use laws::{answers_are_small, commands_are_small, evidence_is_small};

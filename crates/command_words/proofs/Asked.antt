@@ -3,28 +3,25 @@ use Rattle.std.proofs.Common.{◌≡◌, ◌≤◌, ℕ, List, [], ◌∷◌, le
 use Rattle.std.specs.Prelude.{Result, Err, Option}
 use Rattle.bson_values.specs.Tree.{Fields, field}
 use Rattle.command_model.specs.Requests.{Form}
-use Rattle.command_model.specs.Errors.{command_not_found}
+use Rattle.command_model.specs.Errors.{ErrorCode, command_not_found}
 use Rattle.bson_values.specs.declared.value.Field.{Field}
 use Rattle.bson_values.specs.View.{datum_of, fields_of}
 use Rattle.command_model.specs.Forms.{CommandForm, Sequences}
 use Rattle.command_model.specs.Command.{Command, by_form, command_asked, form_of}
-use Rattle.command_words.specs.Commands.{Tells}
-use Rattle.command_words.specs.declared.command.Command as program
-use Rattle.command_words.specs.declared.fault.CheckFault.{CheckFault}
 
 asked_so : (form : Option (CommandForm Command)) (sent : Form) (first : Field) (rest : List Field) (sequences : Sequences) → form ≡ form_of first.name → by_form form sent first.name (datum_of first.value) (fields_of rest) sequences ≡ command_asked sent (fields_of (first ∷ rest)) sequences
 asked_so form sent first rest sequences found = ap (λ f. by_form f sent first.name (datum_of first.value) (fields_of rest) sequences) found
 
--- what is told by its form is what is told of the whole
-pub told_by : (form : CommandForm Command) (sent : Form) (result : Result program.Command CheckFault) (document : Fields) (ms : List Field) (first : Field) (sequences : Sequences) → 1 ≤ length ms → first ≡ get_or ms 0 first → fields_of ms ≡ document → Some form ≡ form_of first.name →
-    ((name : List ℕ) (others : Fields) → document ≡ field name (datum_of first.value) others → Tells result (by_form (Some form) sent name (datum_of first.value) others sequences)) → Tells result (command_asked sent document sequences)
-told_by form sent result document [] first sequences some is whole found told = absurd (omega arith)
-told_by form sent result document (m ∷ rest) first sequences some is whole found told =
+-- what holds of what is told by its form holds of what is told of the whole
+pub told_by : (holds : Result Command ErrorCode → Type 0) (form : CommandForm Command) (sent : Form) (document : Fields) (ms : List Field) (first : Field) (sequences : Sequences) → 1 ≤ length ms → first ≡ get_or ms 0 first → fields_of ms ≡ document → Some form ≡ form_of first.name →
+    ((name : List ℕ) (others : Fields) → document ≡ field name (datum_of first.value) others → holds (by_form (Some form) sent name (datum_of first.value) others sequences)) → holds (command_asked sent document sequences)
+told_by holds form sent document [] first sequences some is whole found told = absurd (omega arith)
+told_by holds form sent document (m ∷ rest) first sequences some is whole found told =
     let here : fields_of (first ∷ rest) ≡ document = ap (λ (n : Field). fields_of (n ∷ rest)) is ∙ whole in
-    let mine : Tells result (by_form (Some form) sent first.name (datum_of first.value) (fields_of rest) sequences) = told first.name (fields_of rest) (sym here) in
+    let mine : holds (by_form (Some form) sent first.name (datum_of first.value) (fields_of rest) sequences) = told first.name (fields_of rest) (sym here) in
     let so : by_form (Some form) sent first.name (datum_of first.value) (fields_of rest) sequences ≡ command_asked sent document sequences =
     asked_so (Some form) sent first rest sequences found ∙ ap (λ (d : Fields). command_asked sent d sequences) here in
-    subst (λ t. Tells result t) so mine
+    subst holds so mine
 
 -- a name that is none of a command
 pub not_found : (sent : Form) (document : Fields) (ms : List Field) (first : Field) (sequences : Sequences) → 1 ≤ length ms → first ≡ get_or ms 0 first → fields_of ms ≡ document → None ≡ form_of first.name → command_asked sent document sequences ≡ Err command_not_found

@@ -9,15 +9,12 @@ use Rattle.bson_values.specs.declared.value.Field.{Field}
 use Rattle.bson_values.specs.View.{datum_of, fields_of}
 use Rattle.command_model.specs.Checks.{Verdict, first_of, is_one_of}
 use Rattle.command_model.specs.Fields.{Rule, by_rule, check_fields, find_rule}
-use Rattle.command_words.specs.Given.{names_given}
+use Rattle.command_words.specs.FieldNames.{names_given}
+use Rattle.bson_model.proofs.Booleans.{or_false}
 
 -- what is told of one field
 abbrev pub field_verdict : Verdict → List Rule → List Field → Field → Verdict
 field_verdict unlisted rules given m = by_rule unlisted (find_rule m.name rules) (list_any (λ n. bytes_eq n.name m.name) given) (datum_of m.value)
-
-pub or_false : (x : Bool) → (x || false) ≡ x
-or_false true = refl
-or_false false = refl
 
 pub given_so_far : (name : List ℕ) (ms : List Field) (names : List (List ℕ)) → is_one_of name (names_given names ms) ≡ (list_any (λ n. bytes_eq n.name name) ms || is_one_of name names)
 given_so_far name [] names = refl

@@ -1,5 +1,6 @@
 pub mod Commands
-pub mod Given
+pub mod Drafts
+pub mod FieldNames
 pub mod Handshakes
 pub mod Rows
 pub mod Verdicts

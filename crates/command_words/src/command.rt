@@ -1,27 +1,31 @@
 //! Commands: what requests ask for.
 
-ghost use Rattle.std.specs.Prelude.{◌≡◌, ℕ};
+ghost use Rattle.std.specs.Prelude.{◌≡◌, ℕ, Result};
 ghost use Rattle.std.specs.Option.{option_map};
 ghost use Rattle.bson_values.specs.Faults.{Fault};
+ghost use Rattle.command_model.specs.Errors.{ErrorCode};
 ghost use Rattle.command_model.specs.Refusals.{no_document_at};
 ghost use Rattle.bson_values.specs.ReadFaults.{fault_from};
 ghost use Rattle.command_model.specs.Requests as wire;
 ghost use Rattle.opmsg_frames.specs.Lists.{pairs_of};
-ghost use Rattle.opmsg_frames.specs.RequestMeanings.{IsMeant, form_meant};
+ghost use Rattle.opmsg_frames.specs.RequestMeanings.{IsBody, IsMeant, form_meant};
 ghost use Rattle.command_model.specs.Command as model;
 ghost use Rattle.command_words.specs.Commands.{Answers, Tells};
 ghost use Rattle.command_answers.specs.Refusals.{refusal_meant};
+ghost use Rattle.command_words.specs.Drafts.{Drafts};
 ghost use Rattle.command_words.specs.Rows.{row_meant};
 
+use crate::documents::documents_moved;
+use crate::draft::Draft;
 use crate::fault::{CheckFault, CommandFault};
 use crate::find::{Find, FindForm};
 use crate::forms::read_by;
 use crate::handshake::{HandshakeForm, Legacy};
-use crate::insert::{Insert, InsertForm};
+use crate::insert::{Insert, InsertForm, documents_or_none};
 use bson_values::{BsonFault, Document};
 use cluster_base::Code;
 use command_answers::{Evidence, Refusal};
-use opmsg_frames::{Body, Form, Request, Sequence};
+use opmsg_frames::{Body, Form, Request, Sequence, SequenceList};
 use std::alloc::Global;
 
 /// What a request asks for.
@@ -67,14 +71,14 @@ fn form_of(name: &str) -> Option<AnyForm>
     }
 }
 
-// What the document of a body and document sequences ask for, by the form of their request.
-fn read_documents(
+// What the document of a body and document sequences ask for, by the form of their request; but for the documents of an insert.
+fn draft_of(
     alloc: Global,
     sent: Form,
     document: &Document,
     sequences: &[Sequence],
-) -> Result<Command, CheckFault>
-    ensures { Tells result (model.command_asked (form_meant sent) document.now (pairs_of sequences.now)) }
+) -> Result<Draft, CheckFault>
+    ensures { Drafts document.now (pairs_of sequences.now) result (model.command_asked (form_meant sent) document.now (pairs_of sequences.now)) }
 {
     let [own, ..] = document.fields() else {
         return Err(CheckFault::Refused(Code::CommandNotFound));
@@ -86,6 +90,58 @@ fn read_documents(
         AnyForm::Handshake(form) => read_by(&form, alloc, sent, &own.value, document, sequences),
         AnyForm::Insert(form) => read_by(&form, alloc, sent, &own.value, document, sequences),
         AnyForm::Find(form) => read_by(&form, alloc, sent, &own.value, document, sequences),
+    }
+}
+
+// What the document of a body and document sequences ask for; the documents of an insert are copied.
+fn read_documents(
+    alloc: Global,
+    sent: Form,
+    document: &Document,
+    sequences: &[Sequence],
+) -> Result<Command, CheckFault>
+    ensures { Tells result (model.command_asked (form_meant sent) document.now (pairs_of sequences.now)) }
+{
+    match draft_of(alloc, sent, document, sequences) {
+        Ok(Draft::Whole(command)) => Ok(command),
+        Ok(Draft::Insert(insert)) => {
+            let documents = documents_or_none(alloc, document, sequences)?;
+            insert.with_documents(documents)
+        }
+        Err(fault) => Err(fault),
+    }
+}
+
+// The same of a document and sequences that are given away; the documents of an insert are moved into it.
+fn take_documents(
+    alloc: Global,
+    sent: Form,
+    document: Document,
+    sequences: SequenceList,
+) -> Result<Command, CheckFault>
+    ensures { Tells result (model.command_asked (form_meant sent) document sequences) }
+{
+    match draft_of(alloc, sent, &document, sequences.as_slice()) {
+        Ok(Draft::Whole(command)) => Ok(command),
+        Ok(Draft::Insert(insert)) => {
+            let documents = documents_moved(alloc, document, sequences)?;
+            insert.with_documents(documents)
+        }
+        Err(fault) => Err(fault),
+    }
+}
+
+// A command, or its refusal without evidence.
+fn answered(read: Result<Command, CheckFault>) -> Result<Command, CommandFault>
+    ensures { (told : Result model.Command ErrorCode) → Tells read told → Answers result (model.or_refusal told) }
+{
+    match read {
+        Ok(command) => Ok(command),
+        Err(CheckFault::Refused(code)) => Err(CommandFault::Refused(Refusal {
+            code,
+            evidence: Evidence::Nothing,
+        })),
+        Err(CheckFault::Memory) => Err(CommandFault::Memory),
     }
 }
 
@@ -110,17 +166,31 @@ impl Command {
         ensures { (meant : wire.Request) → IsMeant request.now meant → Answers result (model.command_of meant) }
     {
         match &request.body {
-            Body::Read { doc, sequences } => {
-                match read_documents(alloc, request.form, doc, sequences.as_slice()) {
-                    Ok(command) => Ok(command),
-                    Err(CheckFault::Refused(code)) => Err(CommandFault::Refused(Refusal {
-                        code,
-                        evidence: Evidence::Nothing,
-                    })),
-                    Err(CheckFault::Memory) => Err(CommandFault::Memory),
-                }
-            }
+            Body::Read { doc, sequences } => answered(read_documents(
+                alloc,
+                request.form,
+                doc,
+                sequences.as_slice(),
+            )),
             Body::Faulty(fault) => Err(CommandFault::Refused(no_document(fault))),
+        }
+    }
+
+    /// The same of a request that is given away: the documents of an insert are moved into the command, and none is copied. The
+    /// request's own bytes are let go.
+    pub fn take(alloc: Global, request: Request) -> Result<Command, CommandFault>
+        ensures { (meant : wire.Request) → IsMeant request meant → Answers result (model.command_of meant) }
+    {
+        Command::take_body(alloc, request.form, request.body)
+    }
+
+    /// The same of what the documents of a request are; the caller keeps the rest of it.
+    pub fn take_body(alloc: Global, sent: Form, body: Body) -> Result<Command, CommandFault>
+        ensures { (meant : wire.Body) → IsBody body meant → Answers result (model.command_in (form_meant sent) meant) }
+    {
+        match body {
+            Body::Read { doc, sequences } => answered(take_documents(alloc, sent, doc, sequences)),
+            Body::Faulty(fault) => Err(CommandFault::Refused(no_document(&fault))),
         }
     }
 }

@@ -11,11 +11,13 @@ ghost use Rattle.command_model.specs.Find as model;
 ghost use Rattle.command_model.specs.Find.{concern_rules, find_form, find_rules};
 ghost use Rattle.command_model.specs.Forms.{made_into};
 ghost use Rattle.command_model.specs.Fields as fields;
-ghost use Rattle.command_words.specs.Given.{NamesCollection};
+ghost use Rattle.query_model.specs.Paths.{begins_with_dollar};
+ghost use Rattle.command_words.specs.FieldNames.{NamesCollection};
 ghost use Rattle.command_words.specs.Verdicts.{verdict_meant};
 
 use crate::checks::unless_passes;
 use crate::command::Command;
+use crate::draft::Draft;
 use crate::fault::CheckFault;
 use crate::forms::{CommandForm, collection_of};
 use crate::rules::{Rules, check_behind_own, check_fields, common_ruling};
@@ -74,9 +76,12 @@ fn check_time(snapshot: bool, value: &Value) -> Option<Code>
 
 // Whether a name is that of an operator.
 fn begins_with_dollar(name: &[u8]) -> bool
-    ensures { result ≡ model.begins_with_dollar name.now }
+    ensures { result ≡ begins_with_dollar name.now }
 {
-    matches!(name, [b'$', ..])
+    match name.first() {
+        Some(first) => *first == b'$',
+        None => false,
+    }
 }
 
 // Whether a value is a document of operators.
@@ -260,12 +265,12 @@ impl CommandForm for FindForm {
         value: &Value,
         document: &Document,
         _sequences: &[Sequence],
-    ) -> Result<Command, CheckFault> {
+    ) -> Result<Draft, CheckFault> {
         let key = key_asked(value, document)?;
-        Ok(Command::Find(Find {
+        Ok(Draft::Whole(Command::Find(Find {
             namespace: own,
             key,
             at: time_named(document),
-        }))
+        })))
     }
 }

@@ -11,12 +11,12 @@ ghost use Rattle.command_model.specs.Checks.{is_one_of, unless_passes};
 ghost use Rattle.command_model.specs.Command as commands;
 ghost use Rattle.command_model.specs.Forms as model;
 ghost use Rattle.command_model.specs.Fields as fields;
-ghost use Rattle.command_words.specs.Commands.{Tells};
-ghost use Rattle.command_words.specs.Given.{NamesCollection};
+ghost use Rattle.command_words.specs.Drafts.{Drafts};
+ghost use Rattle.command_words.specs.FieldNames.{NamesCollection};
 ghost use Rattle.command_words.specs.Verdicts.{ReadsBy, verdict_meant};
 
 use crate::checks::{string_needed, text_in};
-use crate::command::Command;
+use crate::draft::Draft;
 use crate::fault::CheckFault;
 use bson_values::{Document, Value};
 use cluster_base::{Code, NameFault, Namespace, is_reserved_database};
@@ -50,7 +50,7 @@ pub(crate) trait CommandForm {
     fn check_needed(&self, document: &Document, sequences: &[Sequence]) -> Option<Code>
         ensures { verdict_meant result ≡ (form self.now).check_needed document.now (pairs_of sequences.now) };
 
-    /// The command, unless what is judged last fails.
+    /// The command, but for the documents of an insert, which are judged last; unless what is judged last fails.
     fn finish(
         &self,
         alloc: Global,
@@ -58,9 +58,9 @@ pub(crate) trait CommandForm {
         value: &Value,
         document: &Document,
         sequences: &[Sequence],
-    ) -> Result<Command, CheckFault>
+    ) -> Result<Draft, CheckFault>
         ensures { (database : List ℕ) → is_read self.now own database (datum_of value.now) →
-            Tells result (commands.by_verdict ((form self.now).check_last document.now (pairs_of sequences.now)) ((form self.now).command database (datum_of value.now) document.now (pairs_of sequences.now))) };
+            Drafts document.now (pairs_of sequences.now) result (commands.by_verdict ((form self.now).check_last document.now (pairs_of sequences.now)) ((form self.now).command database (datum_of value.now) document.now (pairs_of sequences.now))) };
 }
 
 // The database has to be named by a text, but in OP_QUERY.
@@ -143,7 +143,8 @@ fn check_sequences<F: CommandForm>(
     }
 }
 
-/// The command of that form, or the first error, in the one order; `own` is the value of the document's first field.
+/// The command of that form, but for the documents of an insert; or the first error, in the one order. `own` is the value of
+/// the document's first field.
 pub(crate) fn read_by<F: CommandForm>(
     form: &F,
     alloc: Global,
@@ -151,8 +152,9 @@ pub(crate) fn read_by<F: CommandForm>(
     own: &Value,
     document: &Document,
     sequences: &[Sequence],
-) -> Result<Command, CheckFault>
-    ensures { (name : List ℕ) (others : Fields) → document.now ≡ field name (datum_of own.now) others → Tells result (commands.by_form (Some (F.form form.now)) (form_meant sent) name (datum_of own.now) others (pairs_of sequences.now)) }
+) -> Result<Draft, CheckFault>
+    ensures { (name : List ℕ) (others : Fields) → document.now ≡ field name (datum_of own.now) others →
+        Drafts document.now (pairs_of sequences.now) result (commands.by_form (Some (F.form form.now)) (form_meant sent) name (datum_of own.now) others (pairs_of sequences.now)) }
 {
     if let Some(code) = check_database(sent, document) {
         return Err(CheckFault::Refused(code));

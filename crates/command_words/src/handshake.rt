@@ -8,6 +8,7 @@ ghost use Rattle.command_words.specs.Handshakes.{handshake_meant};
 
 use crate::checks::{boolean_needed, boolean_or, string_needed};
 use crate::command::Command;
+use crate::draft::Draft;
 use crate::fault::CheckFault;
 use crate::forms::CommandForm;
 use crate::rules::{Rules, check_behind_own};
@@ -81,14 +82,14 @@ impl CommandForm for HandshakeForm {
         _value: &Value,
         document: &Document,
         _sequences: &[Sequence],
-    ) -> Result<Command, CheckFault> {
+    ) -> Result<Draft, CheckFault> {
         match self {
-            HandshakeForm::Hello => Ok(Command::Hello),
-            HandshakeForm::Legacy => Ok(Command::Legacy(Legacy {
+            HandshakeForm::Hello => Ok(Draft::Whole(Command::Hello)),
+            HandshakeForm::Legacy => Ok(Draft::Whole(Command::Legacy(Legacy {
                 shows_hello_ok: boolean_or(false, document, "helloOk"),
-            })),
-            HandshakeForm::Ping => Ok(Command::Ping),
-            HandshakeForm::EndSessions => Ok(Command::EndSessions),
+            }))),
+            HandshakeForm::Ping => Ok(Draft::Whole(Command::Ping)),
+            HandshakeForm::EndSessions => Ok(Draft::Whole(Command::EndSessions)),
         }
     }
 }

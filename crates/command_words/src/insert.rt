@@ -11,11 +11,12 @@ ghost use Rattle.command_model.specs.Command.{insert_command};
 ghost use Rattle.command_model.specs.Forms.{made_into};
 ghost use Rattle.command_model.specs.Insert as model;
 ghost use Rattle.command_model.specs.Insert.{insert_form, insert_rules};
-ghost use Rattle.command_words.specs.Given.{NamesCollection};
+ghost use Rattle.command_words.specs.FieldNames.{NamesCollection};
 ghost use Rattle.command_words.specs.Verdicts.{verdict_meant};
 
 use crate::checks::{boolean_needed, boolean_or, document_needed, unless_passes};
 use crate::command::Command;
+use crate::draft::{Draft, InsertDraft};
 use crate::fault::CheckFault;
 use crate::forms::{CommandForm, collection_of};
 use crate::rules::{Rules, check_behind_own, common_ruling};
@@ -92,8 +93,8 @@ fn check_statement(document: &Document) -> Option<Code>
     }
 }
 
-// All documents that are to be kept, in order.
-fn check_statements(documents: &[Document]) -> Option<Code>
+/// All documents that are to be kept, in order.
+pub(crate) fn check_statements(documents: &[Document]) -> Option<Code>
     ensures { verdict_meant result ≡ model.check_statements documents.now }
 {
     for document in documents {
@@ -175,8 +176,8 @@ fn has_documents(document: &Document, sequences: &[Sequence]) -> bool
     }
 }
 
-// The documents of an insert that has some; else none.
-fn documents_or_none(
+/// The documents of an insert that has some, copied; else none.
+pub(crate) fn documents_or_none(
     alloc: Global,
     document: &Document,
     sequences: &[Sequence],
@@ -251,19 +252,14 @@ impl CommandForm for InsertForm {
 
     fn finish(
         &self,
-        alloc: Global,
+        _alloc: Global,
         own: Namespace,
         _value: &Value,
         document: &Document,
-        sequences: &[Sequence],
-    ) -> Result<Command, CheckFault> {
-        let documents = documents_or_none(alloc, document, sequences)?;
-        if let Some(code) = check_statements(&documents) {
-            return Err(CheckFault::Refused(code));
-        }
-        Ok(Command::Insert(Insert {
+        _sequences: &[Sequence],
+    ) -> Result<Draft, CheckFault> {
+        Ok(Draft::Insert(InsertDraft {
             namespace: own,
-            documents,
             ordered: boolean_or(true, document, "ordered"),
         }))
     }

@@ -3,6 +3,8 @@
 
 mod checks;
 mod command;
+mod documents;
+mod draft;
 mod fault;
 mod find;
 mod forms;

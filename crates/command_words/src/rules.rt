@@ -11,7 +11,7 @@ ghost use Rattle.command_model.specs.Checks.{Verdict};
 ghost use Rattle.command_model.specs.Fields as model;
 ghost use Rattle.command_model.specs.Fields.{Rule, by_rule, common_rules, find_rule, session_rules};
 ghost use Rattle.command_words.specs.Verdicts.{ruling_meant, verdict_meant};
-ghost use Rattle.command_words.specs.Given.{names_given};
+ghost use Rattle.command_words.specs.FieldNames.{names_given};
 
 use crate::checks::{boolean_needed, check_required, session_id, string_needed};
 use bson_values::{Document, Field, Value};

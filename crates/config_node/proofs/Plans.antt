@@ -5,9 +5,9 @@ use Rattle.chunk_table.specs.Tables.{Table, first_table, table_of, with_table}
 use Rattle.known_tables.proofs.Places.{with_new}
 use Rattle.node_traits.specs.CatalogueRows.{CatalogueRow, catalogue_create, catalogue_tell, catalogue_moment, begun_at, heard, told}
 use Rattle.node_traits.specs.Effects.{AreSound, StepPlanned, spellings}
-use Rattle.node_traits.specs.Kept.{kept_creation}
+use Rattle.node_traits.specs.Journal.{kept_creation}
 use Rattle.node_traits.specs.Letters.{At, Body, table_ask, table_told, Letter, Input, letter_input, moment_input, Effect, nothing, sends, writes}
-use Rattle.shard_records.specs.Spelled.{spelled, IsSound}
+use Rattle.shard_records.specs.RecordFormat.{spelled, IsSound}
 use Rattle.shard_records.specs.Records.{create_record}
 use Rattle.node_traits.specs.States.{Catalogue, catalogue_state}
 use Rattle.node_traits.specs.Steps.{IsFor, catalogue_step, other_step}

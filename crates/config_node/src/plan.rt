@@ -9,7 +9,7 @@ ghost use Rattle.node_traits.specs.Letters.{table_told};
 ghost use Rattle.protocol_model.specs.Bodies.{at_meant};
 ghost use Rattle.protocol_model.specs.Messages.{letter_of};
 ghost use Rattle.shard_records.specs.Records.{create_record};
-ghost use Rattle.shard_records.specs.Spelled.{spelled, IsSound};
+ghost use Rattle.shard_records.specs.RecordFormat.{spelled, IsSound};
 
 use bson_values::{Blob, Memory};
 use chunk_table::Table;

@@ -11,6 +11,7 @@ use Rattle.bson_values.specs.Limits.{most_bytes_kept}
 use Rattle.pipeline_model.specs.Lengths.{document_length, documents_length}
 use Rattle.pipeline_model.specs.Batches.{IsFew, MayBeBatch, IsBatch}
 use Rattle.cursor_shelf.specs.Cursors.{IsLongest, is_reached}
+use Rattle.bson_model.proofs.Booleans.{both}
 
 few_none : (size : Option ℕ) → IsFew size 0
 few_none None = tt
@@ -75,10 +76,6 @@ more_bytes docs n d bytes size sum less is so_far length_is sum_is =
     let whole : documents_length (take (n + 1) docs) ≡ documents_length (take n docs) + document_length d =
     sum_by_more document_length docs n d less ∙ ap (λ (x : Fields). documents_length (take n docs) + document_length x) (sym is) in
     omega (arith, whole, so_far, length_is, sum_is)
-
-both : (a b : Bool) → (a && b) ≡ true → (a ≡ true) × (b ≡ true)
-both true b e = (refl, e)
-both false b e = absurd cc
 
 not_both : (a b : Bool) → (a && b) ≡ false → (a ≡ false) ⊎ (b ≡ false)
 not_both true b e = inr e

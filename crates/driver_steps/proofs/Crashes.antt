@@ -1,12 +1,12 @@
 -- What a crash leaves while events lead on.
-use Rattle.std.proofs.Common.{◌≡◌, ◌⊎◌, inl, inr, ℕ, zero, suc, ◌≤◌, List, [], ◌∷◌, ◌++◌, map, Bool, IsTrue, refl, sym, ap, subst, ◌∙◌, arith}
+use Rattle.std.proofs.Common.{◌≡◌, ◌⊎◌, inl, inr, ℕ, zero, suc, ◌≤◌, List, [], ◌∷◌, ◌++◌, map, Bool, IsTrue, sym, ap, subst, ◌∙◌, arith}
 use Rattle.std.specs.Prelude.{Some}
 use Rattle.std.specs.List.{slice_get, slice_set}
 use Rattle.std.proofs.lemmas.List.{map-append}
 use Rattle.outside.specs.Disks.{Outcomes}
 use Rattle.outside.specs.Logs.{WithOrWithout}
-use Rattle.node_model.specs.Kept.{Kept, record_kept}
-use Rattle.node_model.specs.Spelled.{spelled}
+use Rattle.node_model.specs.Journal.{Kept, record_kept}
+use Rattle.node_model.specs.RecordFormat.{spelled}
 use Rattle.node_model.specs.States.{NodeState}
 use Rattle.node_model.specs.World.{Held, World, Event, Run, stands, Happens, goes, journal_at}
 use Rattle.node_model.proofs.Schedules.{run_then}
@@ -38,16 +38,6 @@ passed_on X u v w P (inr p) on = inr (passes_on u v w P p on)
 
 pub spellings_append : (kept more : List Kept) → spellings (kept ++ more) ≡ spellings kept ++ spellings more
 spellings_append kept more = map-append (λ (k : Kept). spelled 1 (record_kept k)) kept more
-
-pub journal_there : (nodes : List Held) (at : ℕ) (h : Held) → slice_get nodes at ≡ Some h → journal_at nodes at ≡ h.kept
-journal_there [] at h got = absurd (cc)
-journal_there (x ∷ nodes) zero h got = let same : x ≡ h = cc in ap (λ (z : Held). z.kept) same
-journal_there (x ∷ nodes) (suc at) h got = journal_there nodes at h got
-
-pub journal_set : (nodes : List Held) (at : ℕ) (g h : Held) → slice_get nodes at ≡ Some g → journal_at (slice_set nodes at h) at ≡ h.kept
-journal_set [] at g h got = absurd (cc)
-journal_set (x ∷ nodes) zero g h got = refl
-journal_set (x ∷ nodes) (suc at) g h got = journal_set nodes at g h got
 
 -- what holds of each item at its place, where one is another
 each_set : {S : Type 0} (R : ℕ → S → Type 0) (items : List S) (at : ℕ) (t : S) → ((k : ℕ) (s : S) → slice_get items k ≡ Some s → R k s) → R at t

@@ -303,7 +303,7 @@ settled view seats post handed u next s none =
       stands = subst (λ (n : ℕ). StandsFor view seats post handed s.end n) all s.stands;
     }
 
-empty_of : {M : Type 0} (items : List M) → length items ≡ 0 → items ≡ []
+pub empty_of : {M : Type 0} (items : List M) → length items ≡ 0 → items ≡ []
 empty_of [] none = refl
 empty_of (x ∷ items) none = absurd (omega (arith, none))
 

@@ -5,12 +5,13 @@ use Rattle.std.specs.List.{slice_get, slice_set}
 use Rattle.outside.specs.Causes.{Rose}
 use Rattle.outside.specs.Disks.{Outcomes}
 use Rattle.outside.specs.Logs.{WithOrWithout}
-use Rattle.node_model.specs.Asked.{Answered, reply_put}
-use Rattle.node_model.specs.Kept.{Kept}
+use Rattle.node_model.specs.Exchanges.{Answered, reply_put}
+use Rattle.node_model.specs.Journal.{Kept}
 use Rattle.node_model.specs.Letters.{Letter, Input, Reply, Effect}
 use Rattle.node_model.specs.States.{NodeState}
 use Rattle.node_model.specs.Steps.{Step}
 use Rattle.node_model.specs.World.{Held, World, Event, Moves, after, answered_by, is_given, tick, journal_at}
+use Rattle.node_model.proofs.Journals.{journal_got, journal_here}
 use Rattle.node_traits.specs.Calls.{log_call}
 use Rattle.node_traits.specs.Effects.{AreSound, ByStepFault, StepBroken, StepDone, put_by, puts_of, spellings}
 use Rattle.node_traits.specs.declared.outputs.StepFault.{StepFault}
@@ -21,7 +22,7 @@ use Rattle.driver_steps.specs.Crashes.{Since, LeadsTo}
 use Rattle.driver_steps.specs.Seats.{SeatView, HaveRisen, IsHeld, AreHeld, LeaveKept, faults_of, seat_since}
 use Rattle.driver_steps.specs.Worlds.{puts_given}
 use Rattle.driver_steps.specs.Moves.{HasStepped, IsBroken, IsEvent}
-use Rattle.driver_steps.proofs.Crashes.{journal_set, journal_there, leads_by, same_leaves, spellings_append, step_leaves}
+use Rattle.driver_steps.proofs.Crashes.{leads_by, same_leaves, spellings_append, step_leaves}
 use Rattle.driver_steps.proofs.Seats.{HeldAt, fault_rose, faults_same, held_at, held_set, held_still, held_kept, kept_set, kept_still, none_fell_at}
 
 if_append : (b : Bool) (x : ToLink) (p q r : List ToLink) → p ≡ q ++ r → (if b then p else x ∷ p) ≡ (if b then q else x ∷ q) ++ r
@@ -76,8 +77,8 @@ module _ {S : Type 0} (view : S → SeatView) (seats : List S) (w : World) (at :
   leaves_to new step e event =
       leaves (tick (after (is_given w at i) at place.old f new)) place.old.kept
       (leads_by e w (tick (after (is_given w at i) at place.old f new)) (event (tick (after (is_given w at i) at place.old f new)) (moves_to new step)))
-      place.is.written (journal_there w.nodes at place.old place.here)
-      (journal_set w.nodes at place.old (record { state = new; kept = place.old.kept ++ f.written }) place.here)
+      place.is.written (journal_got w.nodes at place.old place.here)
+      (journal_here w.nodes at place.old (record { state = new; kept = place.old.kept ++ f.written }) place.here)
 
   grown_with : (records : List (List ℕ)) → (IsTrue (view t).tells → records ≡ (view s).records ++ spellings f.written) → IsTrue (view t).tells
       → records ≡ spellings (place.old.kept ++ f.written)

@@ -3,7 +3,7 @@ use Rattle.std.specs.Prelude.{◌≡◌, ℕ, ◌+◌, ◌-◌, ◌^◌, Bool, I
 use Rattle.std.specs.List.{slice_get, AllByRecursion}
 use Rattle.outside.specs.Devices.{NoneFell, OneRose}
 use Rattle.outside.specs.Disks.{Outcomes}
-use Rattle.node_model.specs.Kept.{Kept}
+use Rattle.node_model.specs.Journal.{Kept}
 use Rattle.node_model.specs.States.{NodeState}
 use Rattle.node_model.specs.World.{Held, World}
 use Rattle.node_traits.specs.Effects.{AreSound, ByStepFault, spellings}

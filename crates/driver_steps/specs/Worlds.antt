@@ -1,6 +1,6 @@
 -- The world that nodes, logs, messages and replies stand for (own).
 use Rattle.std.specs.Prelude.{◌≡◌, ℕ, List, [], ◌∷◌, ◌++◌, length, map, if◌then◌else◌}
-use Rattle.node_model.specs.Asked.{Answered, reply_put}
+use Rattle.node_model.specs.Exchanges.{Answered, reply_put}
 use Rattle.node_model.specs.Letters.{Letter}
 use Rattle.node_model.specs.World.{World}
 use Rattle.node_traits.specs.declared.outputs.ToLink.{ToLink}

@@ -1,5 +1,5 @@
 pub mod Faults
 pub mod ReadFaults
-pub mod Seen
+pub mod References
 pub use Rattle.query_model.specs.Paths
 pub use Rattle.query_model.specs.Queries

@@ -2,5 +2,6 @@ pub mod Entries
 pub mod OwnRows
 pub mod PartLoops
 pub mod PartsRead
+pub mod RowBytes
 pub mod Steps
 pub mod TakenIn

@@ -1,16 +1,12 @@
 -- Reading operands and accumulators.
-use Rattle.std.proofs.Common.{◌≡◌, ◌≢◌, ℕ, ◌≤◌, List, [], ◌∷◌, length, Ok, Err, refl, ap, arith, ne_eqb}
-use Rattle.std.specs.Prelude.{None}
+use Rattle.std.proofs.Common.{◌≡◌, ◌≢◌, ℕ, ◌≤◌, List, [], ◌∷◌, length, Ok, Err, refl, arith}
 use Rattle.bson_values.specs.declared.value.Field.{Field}
 use Rattle.bson_values.specs.Tree.{document_value, string_value}
 use Rattle.bson_values.specs.View.{fields_of}
 use Rattle.query_model.specs.Queries.{bad_operand}
-use Rattle.pipeline_model.specs.Operands.{constant_operand, named_path, read_operand}
+use Rattle.pipeline_model.specs.Operands.{constant_operand, read_operand}
 use Rattle.pipeline_model.specs.GroupSpecs.{accumulate, count_name, read_accumulator}
-
-no_dollar : (bs : List ℕ) → ((rest : List ℕ) → bs ≢ 36 ∷ rest) → named_path bs ≡ None
-no_dollar [] h = refl
-no_dollar (b ∷ bs) h = rw (ne_eqb b 36 (λ e. h bs (ap (λ (x : ℕ). x ∷ bs) e))) refl
+use Rattle.projection.proofs.RulesRead.{no_dollar}
 
 -- a text without $ in front is a constant
 pub plain_text : (bs : List ℕ) → ((rest : List ℕ) → bs ≢ 36 ∷ rest) → read_operand (string_value bs) ≡ Ok (constant_operand (string_value bs))

@@ -3,7 +3,9 @@ pub mod Kept
 pub mod PartReading
 pub mod Rows
 pub mod Shown
+pub mod Sizes
 pub mod View
 pub use Rattle.field_paths.specs.ReadFaults
 pub use Rattle.pipeline_model.specs.GroupSpecs
 pub use Rattle.pipeline_model.specs.Groups
+pub use Rattle.pipeline_model.specs.Lengths

@@ -27,7 +27,7 @@ const DOCUMENTS_OF_ALL: u64 = 1 << 62;
 #[derive(Drop)]
 pub struct Groups {
     alloc: Global,
-    spec: GroupSpec,
+    spec: Arc<GroupSpec, Global>,
     rows: BTreeMap<GroupKey, Vec<Cell>>,
     documents: u64,
 }
@@ -36,8 +36,8 @@ impl Groups {
     ghost use Rattle.group_accum.specs.Kept.{documents_in, rows_in, spec_in};
 
     /// No group yet.
-    pub fn new(alloc: Global, spec: GroupSpec) -> Groups
-        ensures spec { spec_in result ≡ spec }
+    pub fn new(alloc: Global, spec: Arc<GroupSpec, Global>) -> Groups
+        ensures spec { spec_in result ≡ arc_value spec }
         ensures rows { rows_in result ≡ [] }
         ensures documents { documents_in result ≡ 0 }
     {

@@ -79,6 +79,13 @@ impl GroupKey {
         GroupKey { value }
     }
 
+    /// The value, not taken.
+    pub(crate) fn value(&self) -> &Value
+        ensures { datum_of result.now ≡ self.now }
+    {
+        &self.value
+    }
+
     /// The value.
     pub(crate) fn into_value(self) -> Value
         ensures { datum_of result ≡ self }

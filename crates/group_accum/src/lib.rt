@@ -10,6 +10,7 @@ mod own;
 mod parser;
 mod partials;
 mod shown;
+mod sizes;
 mod spec;
 
 pub use fault::GroupFault;

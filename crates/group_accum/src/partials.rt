@@ -1,7 +1,12 @@
 //! The rows of one part of the documents, on their way to where the parts are joined.
 
+ghost use Rattle.std.specs.Prelude.{◌≡◌, sum_by};
+ghost use Rattle.pipeline_model.specs.Lengths.{row_length};
+ghost use Rattle.group_accum.specs.Sizes.{capped};
+
 use crate::absorb::Cell;
 use crate::key::GroupKey;
+use crate::sizes::rows_size;
 use std::collections::BTreeMap;
 use std::marker::Model;
 
@@ -28,4 +33,13 @@ impl Model for PartialList {
     ghost view = { λ p. record { rows = rows_of p.rows.entries; documents = p.documents } };
 
     ghost invariant = { λ p. p.documents < 2 ^ 58 };
+}
+
+impl PartialList {
+    /// The bytes of the rows on their way, or the greatest `usize` where that is less.
+    pub fn size(&self) -> usize
+        ensures { result ≡ capped (sum_by row_length self.now.rows) }
+    {
+        rows_size(&self.rows)
+    }
 }

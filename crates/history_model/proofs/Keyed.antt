@@ -14,7 +14,8 @@ use Rattle.query_model.proofs.KeysStay.{BeginsAsRead, write_keeps, keyless_unmet
 use Rattle.query_model.proofs.ReadWrites.{insert_begins, update_begins}
 use Rattle.query_model.specs.Edits.{WriteFault, same_key}
 use Rattle.history_model.specs.History.{Operation, insert_operation, update_operation, delete_operation, read_operation, key_read, key_written, effect_read, effect, Outcome, outcome_of, MeetsNothing, Entry, writes_to, document_after, document_left, Legal}
-use Rattle.history_model.proofs.LegalHistories.{both, follows_prefix, none_under}
+use Rattle.history_model.proofs.LegalHistories.{follows_prefix, none_under}
+use Rattle.bson_model.proofs.Booleans.{both}
 
 delete_begins : (read : Result Query QueryFault) (write : Write) → (read >>= λ asked. Ok (delete_write asked)) ≡ Ok write → BeginsAsRead write
 delete_begins (Ok asked) write e = begins write e

@@ -20,6 +20,7 @@ use Rattle.query_model.specs.Effects.{Effect, inserted, effect_of, left_by}
 use Rattle.history_model.specs.History.{Operation, insert_operation, Outcome, fails_with, outcome_of, read_operation, key_read, effect_read, effect, Entry, key_written, writes_to, document_after, document_left, IsBefore, IsSameStatement, Follows, LegalAfter, Legal}
 use Rattle.history_model.proofs.Lists.{all_at}
 use Rattle.history_model.proofs.Stores.{document_after_push}
+use Rattle.bson_model.proofs.Booleans.{both}
 
 -- what each entry owes those before it
 legal_at : (earlier prefix back : List Entry) (e : Entry) → LegalAfter earlier (prefix ++ e ∷ back) → Follows (earlier ++ prefix) e
@@ -60,22 +61,18 @@ document_after_append namespace key before [] more = refl
 document_after_append namespace key before (e ∷ es) more = document_after_append namespace key (if writes_to namespace key e then (effect e.operation before).0 else before) es more
 
 -- equal keys are written by the same entries
-same_written : (written : Option Datum) (a b : Datum) → same_value a b ≡ true → same_key written (Some a) ≡ same_key written (Some b)
+pub same_written : (written : Option Datum) (a b : Datum) → same_value a b ≡ true → same_key written (Some a) ≡ same_key written (Some b)
 same_written None a b same = refl
 same_written (Some c) a b same = same_value_equivalence.symm c a ∙ same_value_equivalence.congr a b c same ∙ same_value_equivalence.symm b c
 
-same_writes : (namespace : List ℕ) (a b : Option Datum) → same_key a b ≡ true → (e : Entry) → writes_to namespace a e ≡ writes_to namespace b e
+pub same_writes : (namespace : List ℕ) (a b : Option Datum) → same_key a b ≡ true → (e : Entry) → writes_to namespace a e ≡ writes_to namespace b e
 same_writes namespace None b same e = absurd cc
 same_writes namespace (Some a) None same e = absurd cc
 same_writes namespace (Some a) (Some b) same e = ap (λ (key : Bool). bytes_eq e.namespace namespace && key) (same_written (key_written e.operation) a b same)
 
-same_after : (namespace : List ℕ) (a b : Option Datum) → same_key a b ≡ true → (before : Option Fields) (es : List Entry) → document_after namespace a before es ≡ document_after namespace b before es
+pub same_after : (namespace : List ℕ) (a b : Option Datum) → same_key a b ≡ true → (before : Option Fields) (es : List Entry) → document_after namespace a before es ≡ document_after namespace b before es
 same_after namespace a b same before [] = refl
 same_after namespace a b same before (e ∷ es) = rw (same_writes namespace a b same e) (same_after namespace a b same (if writes_to namespace b e then (effect e.operation before).0 else before) es)
-
-pub both : (a b : Bool) → (a && b) ≡ true → (a ≡ true) × (b ≡ true)
-both true b h = (refl, h)
-both false b h = absurd cc
 
 -- an entry is told what its operation tells on the document under each key that it writes
 pub told_under : (prefix : List Entry) (e : Entry) (namespace : List ℕ) (key : Option Datum) → Follows prefix e → writes_to namespace key e ≡ true → e.outcome ≡ (effect e.operation (document_left namespace key prefix)).1

@@ -12,6 +12,10 @@ pub all_weaken : {X : Type 0} (P Q : X → Type 0) (xs : List X) → ((x : X) �
 all_weaken P Q [] f all = tt
 all_weaken P Q (x ∷ xs) f all = (f x all.0, all_weaken P Q xs f all.1)
 
+pub all_both : {X : Type 0} (P Q R : X → Type 0) (xs : List X) → ((x : X) → P x → Q x → R x) → AllByRecursion P xs → AllByRecursion Q xs → AllByRecursion R xs
+all_both P Q R [] f ps qs = tt
+all_both P Q R (x ∷ xs) f ps qs = (f x ps.0 qs.0, all_both P Q R xs f ps.1 qs.1)
+
 pub in_first : {X : Type 0} (x : X) (xs : List X) → IsIn x (x ∷ xs)
 in_first x xs = ([], xs, refl)
 

@@ -4,18 +4,17 @@ use Rattle.std.specs.Prelude.{Bool, true, false, ◌&&◌, Option, Some, None, �
 use Rattle.std.specs.Int.{int_max}
 use Rattle.std.specs.List.{AllByRecursion}
 use Rattle.std.specs.Option.{unwrap_or, option_or}
-use Rattle.std.specs.Ordering.{int_eq, int_cmp, is_eq}
+use Rattle.std.specs.Ordering.{int_eq, int_cmp}
 use Rattle.std.specs.Str.{bytes_eq}
 use Rattle.std.proofs.lemmas.Bool.{eqb-true, eq-eqb}
 use Rattle.std.proofs.lemmas.Int.{ints, clamps}
 use Rattle.std.proofs.lemmas.Slice.Eq.{bytes_eq-Decides}
 use Rattle.std.proofs.lemmas.Cmp.{int_eq_equiv}
 use Rattle.std.proofs.lemmas.Map.Lookups.{exact_signed}
-use Rattle.std.specs.declared.cmp.Ordering.{Ordering}
-use Rattle.std.specs.declared.cmp.Ordering.TheVariants.{Less, Equal, Greater}
 use Rattle.history_model.specs.History.{Session, client_session, router_session, StatementNumber}
 use Rattle.history_model.specs.Notes.{Note, Seen, new_statement, done_before, older_than, same_session, same_number, greatest_of, noted, seen_beside, seen, seen_with}
-use Rattle.history_model.proofs.LegalHistories.{both}
+use Rattle.bson_model.proofs.Booleans.{both}
+use Rattle.query_model.proofs.Entries.{equal_is}
 
 pub same_session_is : (a b : Session) → same_session a b ≡ true → a ≡ b
 same_session_is (client_session a) (client_session b) e = ap (λ s. client_session s) ((bytes_eq-Decides a b).0 e)
@@ -26,13 +25,8 @@ same_session_is (router_session n l r) (router_session m k q) e =
     let rest = both (l == k) (r == q) first.1 in
     ap (λ (x : ℕ). router_session x l r) (eqb-true n m first.0) ∙ ap (λ (x : ℕ). router_session m x r) (eqb-true l k rest.0) ∙ ap (λ (x : ℕ). router_session m k x) (eqb-true r q rest.1)
 
-is_equal : (o : Ordering) → is_eq o ≡ true → o ≡ Equal
-is_equal Less e = absurd cc
-is_equal Equal e = refl
-is_equal Greater e = absurd cc
-
 int_eq_is : (a b : ℤ) → int_eq a b ≡ true → a ≡ b
-int_eq_is a b e = exact_signed a b (is_equal (int_cmp a b) e)
+int_eq_is a b e = exact_signed a b (equal_is (int_cmp a b) e)
 
 number_from : (a b : StatementNumber) → a.session ≡ b.session → a.transaction ≡ b.transaction → a.index ≡ b.index → a ≡ b
 number_from a b s t i =

@@ -10,7 +10,8 @@ use Rattle.base_model.specs.Errors.{object_too_large}
 use Rattle.value_model.specs.Keys.{valid_key}
 use Rattle.history_model.specs.History.{Operation, insert_operation, Outcome, is_too_large, key_written, same_key, effect, Entry, writes_to, document_after, document_left, document_at, IsBefore, Legal, IsIn}
 use Rattle.history_model.proofs.Lists.{all_filter, all_from, all_weaken, in_back, in_first, in_later}
-use Rattle.history_model.proofs.LegalHistories.{both, document_after_append, effect_leaves, effect_stays, follows_prefix, insert_again, insert_new, key_inserted, put_in, told_under}
+use Rattle.history_model.proofs.LegalHistories.{document_after_append, effect_leaves, effect_stays, follows_prefix, insert_again, insert_new, key_inserted, put_in, told_under}
+use Rattle.bson_model.proofs.Booleans.{both}
 
 -- the entry inserts a document
 abbrev pub IsInsert : Entry → Type 0
@@ -43,12 +44,12 @@ filter_whole : (time : ℕ) (es : List Entry) → AllByRecursion (λ e. e.time �
 filter_whole time [] all = refl
 filter_whole time (e ∷ es) all = rw (le-leb e.time time all.0) (ap (λ l. e ∷ l) (filter_whole time es all.1))
 
-no_later : (d e : Entry) → IsBefore d e → d.time ≤ e.time
+pub no_later : (d e : Entry) → IsBefore d e → d.time ≤ e.time
 no_later d e (inl less) = omega arith
 no_later d e (inr equal) = omega arith
 
 -- the entries up to a time
-abbrev up_to : ℕ → List Entry → List Entry
+abbrev pub up_to : ℕ → List Entry → List Entry
 up_to time es = filter (λ (d : Entry). nat_le d.time time) es
 
 up_to_whole : (prefix back : List Entry) (e : Entry) (time : ℕ) → Legal (prefix ++ e ∷ back) → e.time ≤ time

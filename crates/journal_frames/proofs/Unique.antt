@@ -1,9 +1,9 @@
 -- A file has one reading.
-use Rattle.std.proofs.Common.{◌≡◌, ⊎_elim, ℕ, ◌<◌, ◌^◌, List, [], ◌∷◌, ◌++◌, length, take, drop, refl, sym, ◌∙◌, ap, subst, arith, append_assoc, length-append}
-use Rattle.std.proofs.lemmas.List.{take_at, drop_at}
+use Rattle.std.proofs.Common.{◌≡◌, ⊎_elim, ℕ, ◌<◌, ◌^◌, List, [], ◌∷◌, ◌++◌, length, drop, refl, sym, ◌∙◌, ap, subst, arith, append_assoc, length-append}
 use Rattle.std.proofs.lemmas.Nat.{from_le_bytes-to_le_bytes_8}
 use Rattle.std.specs.Int.{w64, to_le_bytes, from_le_bytes}
 use Rattle.journal_frames.specs.Files.{BeginsRecord, Fit, IsDamaged, IsShut, Stands, blocks, body}
+use Rattle.bson_model.proofs.Parts.{same_prefix}
 
 -- an open gate, a record and the bytes from the next gate on
 record Begins (file : List ℕ) : Type 0 where
@@ -12,13 +12,6 @@ record Begins (file : List ℕ) : Type 0 where
   pub fits : length bytes < 2 ^ 64
   pub some : 0 < length behind
   pub split : file ≡ 1 ∷ (body bytes ++ behind)
-
--- the same prefix of a length leaves the same rest
-same_prefix : (a b x y : List ℕ) → length a ≡ length b → a ++ x ≡ b ++ y → (a ≡ b) × (x ≡ y)
-same_prefix a b x y len is = (
-  sym (take_at a x (length a) refl) ∙ ap (λ (l : List ℕ). take (length a) l) is ∙ take_at b y (length a) (sym len),
-  sym (drop_at a x (length a) refl) ∙ ap (λ (l : List ℕ). drop (length a) l) is ∙ drop_at b y (length a) (sym len),
-)
 
 one_body : (r t x y : List ℕ) → length r < 2 ^ 64 → length t < 2 ^ 64 → body r ++ x ≡ body t ++ y → (r ≡ t) × (x ≡ y)
 one_body r t x y fits fit is =

@@ -1,4 +1,4 @@
-pub mod Known
+pub mod KnownTables
 pub mod Code
 pub mod Places
 pub use Rattle.chunk_table.specs.Tables

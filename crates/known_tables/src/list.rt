@@ -25,7 +25,7 @@ impl Model for TableList {
     ghost use Rattle.std.specs.Prelude.{map, ◌-◌};
     ghost use Rattle.std.specs.Arc.{arc_value};
     ghost use Rattle.std.specs.Vec.{vec_capacity, vec_len};
-    ghost use Rattle.known_tables.specs.Known.{Known};
+    ghost use Rattle.known_tables.specs.KnownTables.{Known};
     ghost use Rattle.known_tables.specs.Code.{known_code};
 
     ghost Value = { Known };

@@ -16,10 +16,6 @@ grouped : (a b c : Bool) → (a || (b || c)) ≡ ((a || b) || c)
 grouped true b c = refl
 grouped false b c = refl
 
-pub or_false : (a : Bool) → (a || false) ≡ a
-or_false true = refl
-or_false false = refl
-
 pub among : (test : Datum → Bool) (ds : List Datum) → list_any (with_elements test) ds ≡ list_any test (flat_map (λ d. d ∷ elements_of d) ds)
 among test [] = refl
 among test (d ∷ ds) =

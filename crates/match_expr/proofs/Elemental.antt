@@ -8,6 +8,7 @@ use Rattle.query_model.specs.Holds.{Found, holds, all_hold, some_holds, tests_ho
 use Rattle.query_model.specs.Paths.{as_document, elements_of}
 use Rattle.query_model.specs.Queries.{Query, Queries, no_queries, query, Tests, element_query_test, element_tests_test}
 use Rattle.match_expr.specs.Elements.{same_answer, some_answer, element_passes, value_passes}
+use Rattle.bson_model.proofs.Booleans.{not_or}
 
 -- ---- queries
 
@@ -15,14 +16,10 @@ pub some_hold : (qs : Queries) (document : Fields) → some_answer true qs docum
 some_hold no_queries document = refl
 some_hold (query first others) document = ap (λ (b : Bool). holds first document || b) (some_hold others document)
 
-both : (a b : Bool) → not (not a || b) ≡ (a && not b)
-both true b = refl
-both false b = refl
-
 pub none_fails : (qs : Queries) (document : Fields) → not (some_answer false qs document) ≡ all_hold qs document
 none_fails no_queries document = refl
 none_fails (query first others) document =
-    both (holds first document) (some_answer false others document) ∙ ap (λ (b : Bool). holds first document && b) (none_fails others document)
+    not_or (holds first document) (some_answer false others document) ∙ ap (λ (b : Bool). holds first document && b) (none_fails others document)
 
 -- ---- elements
 

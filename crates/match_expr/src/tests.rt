@@ -160,7 +160,7 @@ fn null_in_gap(operand: &Value, place: &Place) -> bool
 }
 
 // Whether a candidate equals the operand.
-#[tactic(auto, using(crate::proofs::Candidates::at_path, crate::proofs::Candidates::or_false))]
+#[tactic(auto, using(crate::proofs::Candidates::at_path, bson_model::proofs::Booleans::or_false))]
 fn any_same(operand: &Value, place: &Place) -> bool
     ensures { result ≡ list_any (same_value (datum_of operand.now)) (found_of place.now).candidates }
 {
@@ -178,7 +178,7 @@ pub fn is_equal(operand: &Value, place: &Place) -> bool
 }
 
 /// Whether what is there compares so with a value.
-#[tactic(auto, using(crate::proofs::Candidates::at_path, crate::proofs::Candidates::or_false))]
+#[tactic(auto, using(crate::proofs::Candidates::at_path, bson_model::proofs::Booleans::or_false))]
 pub fn compares(comparison: Comparison, operand: &Value, place: &Place) -> bool
     ensures { result ≡ compares (passes comparison) (datum_of operand.now) (found_of place.now) }
 {
@@ -233,7 +233,7 @@ impl<'a> Visitor for Listed<'a> {
 }
 
 // Whether a candidate equals one of the operands.
-#[tactic(auto, using(crate::proofs::Candidates::at_path, crate::proofs::Candidates::or_false))]
+#[tactic(auto, using(crate::proofs::Candidates::at_path, bson_model::proofs::Booleans::or_false))]
 fn any_listed(operands: &OperandList, place: &Place) -> bool
     ensures { result ≡ list_any (is_listed operands.now) (found_of place.now).candidates }
 {

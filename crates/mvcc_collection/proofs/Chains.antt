@@ -2,11 +2,10 @@
 use Rattle.std.proofs.Common.{◌≡◌, ◌+◌, ◌-◌, ◌<◌, ◌≤◌, ℕ, zero, suc, List, [], ◌∷◌, ◌++◌, length, map, refl, sym, ap, ◌∙◌, subst, arith}
 use Rattle.std.specs.Prelude.{Bool, true, false, Option, Some, None, IfSome, nat_le, if◌then◌else◌}
 use Rattle.std.specs.List.{slice_index_or}
-use Rattle.std.specs.List.Sorted.{IsNonDecreasingBy, IsPartitionPoint}
+use Rattle.std.specs.List.Sorted.{IsPartitionPoint}
 use Rattle.std.specs.Arc.{arc_value}
 use Rattle.std.specs.Option.{unwrap_or, option_map, option_copied}
 use Rattle.std.proofs.lemmas.Bool.{le-leb, lt-leb}
-use Rattle.std.proofs.lemmas.List.{map-append}
 use Rattle.std.proofs.lemmas.List.Sorted.{IsNonDecreasingBy-push}
 use denote.Ref.{Bor}
 use Rattle.bson_values.specs.Tree.{Fields}
@@ -101,10 +100,9 @@ older_leave last older time late =
     sym (left_push None (map dated older) (dated last) time
     ∙ ap (λ (b : Bool). if b then option_map arc_value last.document else left_after None (map dated older) time) (lt-leb last.time.0 time late))
 
--- the last version goes behind the older ones, and one that is later is the last
-pub still_rising : (before last : Version) (older : List Version) → AreRising (Some before) older →
-    IfSome (last_time (dated_with (Some before) older)) (λ t. t < last.time.0) → AreRising (Some last) (older ++ before ∷ [])
-still_rising before last older rising later = record {
-  sorted = IsNonDecreasingBy-push (λ v. v.time.0) older before rising.sorted (λ d some. later_than dated older d before.time.0 rising.later some);
-  later = subst (λ vs. IfSome (last_time vs) (λ t. t < last.time.0)) (sym (map-append dated older (before ∷ []))) later;
+-- the last version goes behind the older ones
+pub joined_rising : (last : Version) (older : List Version) → AreRising (Some last) older → AreRising None (older ++ last ∷ [])
+joined_rising last older rising = record {
+  sorted = IsNonDecreasingBy-push (λ v. v.time.0) older last rising.sorted (λ d some. later_than dated older d last.time.0 rising.later some);
+  later = tt;
 }

@@ -1,6 +1,6 @@
 -- A search between the edges of a span takes the keys inside it.
 use Rattle.std.proofs.Common.{◌≡◌, ℕ, List, [], ◌∷◌, refl, sym, ap, ◌∙◌, subst, Ordering, Less, Equal, Greater}
-use Rattle.std.specs.Prelude.{Bool, true, false, not, cond, ◌&&◌, Option, None, filter, if◌then◌else◌}
+use Rattle.std.specs.Prelude.{Bool, true, false, not, cond, ◌&&◌, None, filter, if◌then◌else◌}
 use Rattle.std.specs.BTreeMap.{is_at}
 use Rattle.std.specs.BTreeMap.Range.{IsLeBy, IsLtBy, is_from_start, is_past_end, range_contains, entries_between}
 use Rattle.std.specs.Bound.{IsForward}
@@ -19,9 +19,8 @@ use Rattle.value_compare.specs.Order.{order}
 use Rattle.value_compare.proofs.Flat.{order_total}
 use Rattle.history_model.specs.Documents.{ListsDocuments}
 use Rattle.mvcc_collection.specs.Chains.{Past}
-use Rattle.mvcc_collection.specs.Collections.{document_in}
 use Rattle.mvcc_collection.specs.Edges.{lower_edge, upper_edge, first_edge, last_edge, IsSpan}
-use Rattle.mvcc_collection.proofs.Rows.{Entries, AreKeys, AreOrdered, no_key_found, rows_found, rows_in, rows_ordered}
+use Rattle.mvcc_collection.proofs.Rows.{Entries, AreKeys, AreOrdered, at_found, no_key_found, rows_found, rows_in, rows_ordered}
 
 above_all : (b : Bound) → order_bounds max_bound b ≡ Less → ⊥
 above_all min_bound less = cc
@@ -122,7 +121,7 @@ contains_alike low high q k same =
     ap (λ (b : Bool). b && not (is_past_end order high q)) (from_alike low q k same)
     ∙ ap (λ (b : Bool). is_from_start order low k && not b) (past_alike high q k same)
 
-module _ (span : Span) (es between : Entries) (q : Datum) (time : ℕ) (forward : IsSpan span)
+module _ (span : Span) (es between : Entries) (q : Datum) (chains : List Past) (time : ℕ) (forward : IsSpan span)
     (is : between ≡ entries_between order (first_edge span) (last_edge span) es) (keys : AreKeys between) where
   filtered : (b : Bool) → range_contains order (first_edge span) (last_edge span) q ≡ b →
       lookup (is_at (order q)) between ≡ cond b (lookup (is_at (order q)) es) None
@@ -132,16 +131,17 @@ module _ (span : Span) (es between : Entries) (q : Datum) (time : ℕ) (forward 
       (λ k at. sym (contains_alike (first_edge span) (last_edge span) q k (equal_is (order q k) at)) ∙ e) es
 
   found_by : (b : Bool) → inside span q ≡ b → (key : Bool) → is_key q ≡ key →
-      document_in (lookup (is_at (order q)) between) time ≡ (if b then document_in (lookup (is_at (order q)) es) time else None)
-  found_by true in_span key e = ap (λ (p : Option Past). document_in p time) (filtered true (inside_between span q forward in_span))
-  found_by false out true e = ap (λ (p : Option Past). document_in p time) (filtered false (key_between span q forward e ∙ out))
-  found_by false out false e = ap (λ (p : Option Past). document_in p time) (no_key_found q between keys e)
+      at_found chains time (lookup (is_at (order q)) between) ≡ (if b then at_found chains time (lookup (is_at (order q)) es) else None)
+  found_by true in_span key e = ap (at_found chains time) (filtered true (inside_between span q forward in_span))
+  found_by false out true e = ap (at_found chains time) (filtered false (key_between span q forward e ∙ out))
+  found_by false out false e = ap (at_found chains time) (no_key_found q between keys e)
 
   -- the entries between the edges of a span have what the map has inside it, where their keys may be keys
-  pub found_between : document_in (lookup (is_at (order q)) between) time ≡ (if inside span q then document_in (lookup (is_at (order q)) es) time else None)
+  pub found_between : at_found chains time (lookup (is_at (order q)) between) ≡
+      (if inside span q then at_found chains time (lookup (is_at (order q)) es) else None)
   found_between = found_by (inside span q) refl (is_key q) refl
 
-kept_key : (p : Datum → Bool) (e : Datum × Past) (es : Entries) (ks : List Datum) (b : Bool) → keys_of es ≡ ks →
+kept_key : (p : Datum → Bool) (e : Datum × ℕ) (es : Entries) (ks : List Datum) (b : Bool) → keys_of es ≡ ks →
     keys_of (cond b (e ∷ es) es) ≡ cond b (e.0 ∷ ks) ks
 kept_key p e es ks true same = ap (λ (rest : List Datum). e.0 ∷ rest) same
 kept_key p e es ks false same = same
@@ -155,14 +155,14 @@ between_ordered p es between is ordered =
     subst AreOrdered (sym is) (subst (λ ks. IsStrictlySortedBy order ks) (sym (keys_filter p es)) (IsStrictlySortedBy-filter order p (keys_of es) ordered))
 
 -- the documents of the entries between the edges are, in the order of keys, what stands under the keys inside
-pub lists_span : (span : Span) (es between : Entries) (time : ℕ) → IsSpan span →
+pub lists_span : (span : Span) (es between : Entries) (chains : List Past) (time : ℕ) → IsSpan span →
     between ≡ entries_between order (first_edge span) (last_edge span) es → AreKeys between → AreOrdered es →
-    ListsDocuments (λ k. if inside span k then document_in (lookup (is_at (order k)) es) time else None) (values_of (rows_in time between))
-lists_span span es between time forward is keys ordered =
+    ListsDocuments (λ k. if inside span k then at_found chains time (lookup (is_at (order k)) es) else None) (values_of (rows_in chains time between))
+lists_span span es between chains time forward is keys ordered =
     let in_order = between_ordered (λ k. range_contains order (first_edge span) (last_edge span) k) es between is ordered in
     record {
-      rows = rows_in time between;
-      ordered = rows_ordered time between in_order;
-      found = λ k. rows_found k time between in_order ∙ found_between span es between k time forward is keys;
+      rows = rows_in chains time between;
+      ordered = rows_ordered chains time between in_order;
+      found = λ k. rows_found k chains time between in_order ∙ found_between span es between k chains time forward is keys;
       shown = refl;
     }

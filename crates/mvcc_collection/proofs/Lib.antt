@@ -2,3 +2,4 @@ pub mod Chains
 pub mod Puts
 pub mod Rows
 pub mod Edges
+pub mod Places

@@ -11,6 +11,7 @@ use Rattle.value_compare.specs.Order.{order}
 use Rattle.cluster_base.specs.declared.time.Time.{Time}
 use Rattle.history_model.specs.Versions.{Put, last_put}
 use Rattle.mvcc_collection.specs.Chains.{Past, document_left, last_time}
+use Rattle.mvcc_collection.specs.Places.{chain_at}
 use Rattle.mvcc_collection.specs.declared.collection.Collection.{Collection}
 
 -- from the time on this document, or none, stands under the key
@@ -29,17 +30,21 @@ abbrev pub room_of : Option Past → ℕ
 room_of None = 0
 room_of (Some past) = past.room
 
+-- the versions of the key
+abbrev pub past_in : Collection → Datum → Option Past
+past_in c key = chain_at c.chains.items (get_by (order key) c.places)
+
 -- what stands under the key at the time
 unfoldable pub at_in : Collection → Datum → ℕ → Option Fields
-at_in c key time = document_in (get_by (order key) c.chains) time
+at_in c key time = document_in (past_in c key) time
 
 -- the time of the key's last version, which may be of no document
 unfoldable pub last_in : Collection → Datum → Option ℕ
-last_in c key = last_of (get_by (order key) c.chains)
+last_in c key = last_of (past_in c key)
 
 -- for how many more versions of the key there is room
 unfoldable pub room_in : Collection → Datum → ℕ
-room_in c key = room_of (get_by (order key) c.chains)
+room_in c key = room_of (past_in c key)
 
 -- the collection shows what these puts leave
 abbrev pub PutsAre : Collection → List Put → Type 0

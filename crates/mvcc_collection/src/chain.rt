@@ -20,8 +20,8 @@ pub(crate) struct Version {
     document: Option<Arc<Document, Global>>,
 }
 
-/// The versions of the document under a key, by rising time. The last stands apart, where the map has the chain: most look at the
-/// present, and need no other memory for it.
+/// The versions of the document under a key, by rising time. The last stands apart, since most look at the present. It joins the others
+/// when room is made for the next one, so that to put a version reaches no other memory.
 #[derive(Drop)]
 pub(crate) struct Chain {
     last: Option<Version>,
@@ -61,6 +61,9 @@ impl Chain {
         ensures versions { self.new.versions ≡ self.old.versions }
     {
         self.older.reserve(1)?;
+        if let Some(last) = self.last.take() {
+            self.older.push_reserved(last);
+        }
         Ok(())
     }
 
@@ -71,9 +74,7 @@ impl Chain {
         ensures versions { self.new.versions ≡ self.old.versions ++ (time.0, option_map arc_value document) ∷ [] }
         ensures room { self.old.room ≤ self.new.room + 1 }
     {
-        if let Some(before) = self.last.replace(Version { time, document }) {
-            self.older.push_reserved(before);
-        }
+        self.last = Some(Version { time, document });
     }
 
     /// The document of the last version up to the time, if that is one.

@@ -12,6 +12,7 @@ ghost use Rattle.value_compare.specs.Bounds.{bound_of};
 ghost use Rattle.value_compare.specs.Spans.{span_of};
 ghost use Rattle.history_model.specs.Documents.{ListsDocuments};
 ghost use Rattle.history_model.specs.Versions.{Put, one_more};
+ghost use Rattle.mvcc_collection.specs.Places.{AreApart};
 ghost use Rattle.mvcc_collection.specs.Edges.{IsSpan, first_edge, last_edge, lower_edge, upper_edge};
 
 use crate::chain::Chain;
@@ -23,15 +24,19 @@ use std::ops;
 use std::sync::Arc;
 use value_compare::{Bound, Key, Span};
 
-/// The documents of a collection under their keys, each key with its versions.
+/// The documents of a collection under their keys, each key with its versions. The map has the places of the chains and not the chains,
+/// so that what a search goes through is small.
 #[derive(Drop)]
 pub struct Collection {
     alloc: Global,
-    chains: BTreeMap<Key, Chain>,
+    places: BTreeMap<Key, u32>,
+    chains: Vec<Chain>,
+    ghost apart: { AreApart places chains.items },
 }
 
 impl Collection {
-    ghost use Rattle.mvcc_collection.specs.Collections.{PutsAre, at_in, last_in, put_meant, room_in};
+    ghost use Rattle.mvcc_collection.specs.Collections.{PutsAre, at_in, document_in, last_in, put_meant, room_in};
+    ghost use Rattle.std.specs.List.{slice_get};
 
     /// No documents.
     pub fn new(alloc: Global) -> Collection
@@ -40,22 +45,29 @@ impl Collection {
     {
         Collection {
             alloc,
-            chains: BTreeMap::new(alloc),
+            places: BTreeMap::new(alloc),
+            chains: Vec::new(alloc),
         }
     }
 
-    /// Makes room for one version more under the key. Fails for want of memory. Either way nothing else is to be seen of it.
+    /// Makes room for one version more under the key. Fails for want of memory, and at a new key where 2^32 have a chain. Either way
+    /// nothing else is to be seen of it.
     pub fn reserve(&mut self, key: &Key) -> Result<(), Memory>
         ensures room { OnOk result (1 ≤ room_in self.new key.now) }
         ensures rooms { (k : Datum) → room_in self.old k ≤ room_in self.new k }
         ensures same { (k : Datum) (t : ℕ) → at_in self.new k t ≡ at_in self.old k t }
         ensures last { (k : Datum) → last_in self.new k ≡ last_in self.old k }
     {
-        if let Some(chain) = self.chains.get_mut(key) {
+        if let Some(place) = self.places.get(key) {
+            let chain = &mut self.chains[*place as usize];
             return chain.reserve();
         }
-        let chain = Chain::new(self.alloc);
-        self.chains.insert(key.copy()?, chain)?;
+        let Ok(place) = u32::try_from(self.chains.len()) else {
+            return Err(Memory);
+        };
+        self.chains.reserve(1)?;
+        self.places.insert(key.copy()?, place)?;
+        self.chains.push_reserved(Chain::new(self.alloc));
         Ok(())
     }
 
@@ -69,7 +81,8 @@ impl Collection {
         ensures last { (k : Datum) → last_in self.new k ≡ (if same_value key.now k then Some time.0 else last_in self.old k) }
         ensures rooms { (k : Datum) → room_in self.old k ≤ room_in self.new k + (if same_value key.now k then 1 else 0) }
     {
-        if let Some(chain) = self.chains.get_mut(key) {
+        if let Some(place) = self.places.get(key) {
+            let chain = &mut self.chains[*place as usize];
             chain.push(time, document);
         }
     }
@@ -78,7 +91,8 @@ impl Collection {
     pub fn get_at(&self, key: &Key, time: Time) -> Option<&Arc<Document, Global>>
         ensures { option_map (λ d. arc_value d.now) result ≡ at_in self.now key.now time.0 }
     {
-        self.chains.get(key)?.document_at(time)
+        let place = self.places.get(key)?;
+        self.document_at(*place as usize, time)
     }
 
     /// The documents that stand under the keys of the span at the time, in the order of keys, each shared. Fails for want of memory.
@@ -86,13 +100,20 @@ impl Collection {
         ensures { IfOk result (λ ds. ListsDocuments (λ k. if inside (span_of span.now) k then at_in self.now k time.0 else None) (map arc_value ds.items)) }
     {
         let mut documents = Vec::new(self.alloc);
-        for (key, chain) in self.chains.range(edges(span)) {
+        for (key, place) in self.places.range(edges(span)) {
             let _value = key.value();
-            if let Some(document) = chain.document_at(time) {
+            if let Some(document) = self.document_at(*place as usize, time) {
                 documents.push(Arc::try_clone(document)?)?;
             }
         }
         Ok(documents)
+    }
+
+    // The document of the chain at the place at the time, if there is one.
+    fn document_at(&self, place: usize, time: Time) -> Option<&Arc<Document, Global>>
+        ensures { option_map (λ d. arc_value d.now) result ≡ document_in (slice_get self.now.chains.items place) time.0 }
+    {
+        self.chains.get(place)?.document_at(time)
     }
 }
 

@@ -5,6 +5,7 @@ use Rattle.std.specs.List.{AllByRecursion}
 use Rattle.std.proofs.lemmas.Bool.{leb-true}
 use Rattle.std.proofs.lemmas.Slice.Eq.{bytes_eq-Decides}
 use Rattle.std.specs.Str.{bytes_eq}
+use Rattle.history_model.proofs.Lists.{all_weaken, all_at, in_prefix}
 use Rattle.node_model.specs.Tree.{Datum, Fields}
 use Rattle.node_model.specs.Keys.{range_span}
 use Rattle.value_model.specs.Order.{same_value}
@@ -15,13 +16,13 @@ use Rattle.node_model.specs.Answers.{find_answer, answer_document}
 use Rattle.node_model.specs.Catalogue.{Creation}
 use Rattle.node_model.specs.Tables.{Chunk, first_chunk, first_table, first_shard, owner_among, owner_at}
 use Rattle.node_model.specs.History.{Entry, key_written, same_key, writes_to, effect, document_after, document_left, document_at}
-use Rattle.node_model.specs.Asked.{RequestId, Asked, Answered, entries_by}
+use Rattle.node_model.specs.Exchanges.{RequestId, Asked, Answered, entries_by}
 use Rattle.node_model.specs.Outcomes.{done_of, answer_of}
 use Rattle.node_model.specs.Right.{found, ends, AreStatements, AreAll, IsPart, IsWhole, time_read, IsRight, right_insert, right_find, right_ahead, right_hello, right_legacy, right_ping, right_end_sessions, right_refusal}
 use Rattle.node_model.specs.OneHistory.{StandsInPart, IsPlaced}
 use Rattle.node_laws.proofs.Views.{View, entries_in, creations_in, Later}
 use Rattle.node_laws.proofs.Facts.{NoneBegan, HasNoOwner, IsSettled, AnswerFits}
-use Rattle.node_laws.proofs.Lists.{all_weaken, all_at, all_behind, in_front}
+use Rattle.node_laws.proofs.Lists.{all_behind}
 use Rattle.node_laws.proofs.Growth.{more_entries, entries_by_longer, began_grows}
 
 -- behind all statements no entry of them follows
@@ -158,7 +159,7 @@ answer_grows v w asked more t later parts placed f =
     record {
       right = record {
         request = r.request;
-        taken = in_front r.request asked more r.taken;
+        taken = in_prefix r.request asked more r.taken;
         own = r.own;
         link = r.link;
         number = r.number;

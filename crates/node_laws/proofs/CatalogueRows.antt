@@ -4,13 +4,14 @@ use Rattle.std.specs.Prelude.{Option, Some, None, true, false, max, map, if◌th
 use Rattle.std.specs.List.{AllByRecursion, slice_get}
 use Rattle.std.specs.Str.{bytes_eq}
 use Rattle.std.proofs.lemmas.Slice.Eq.{bytes_eq-Decides}
+use Rattle.history_model.proofs.Lists.{all_weaken, all_append, all_at, in_back, in_first, in_later}
 use Rattle.node_model.specs.Times.{time_of_moment}
 use Rattle.node_model.specs.Catalogue.{Creation}
 use Rattle.node_model.specs.Tables.{Table, first_table, table_of}
 use Rattle.node_model.specs.History.{IsIn}
-use Rattle.node_model.specs.Asked.{Asked}
+use Rattle.node_model.specs.Exchanges.{Asked}
 use Rattle.node_model.specs.OneHistory.{WasWanted, AreDifferentNames, ids_asked, ids_told, AreDifferent}
-use Rattle.node_model.specs.Kept.{Kept, kept_creation, creations_kept}
+use Rattle.node_model.specs.Journal.{Kept, kept_creation, creations_kept}
 use Rattle.node_model.specs.Letters.{At, no_time, at_time, table_ask, Letter, Input, Effect, sends}
 use Rattle.node_model.specs.States.{Catalogue, catalogue_state}
 use Rattle.node_model.specs.CatalogueRows.{told, begun_at, CatalogueRow, catalogue_create, catalogue_tell, catalogue_skip, catalogue_moment, catalogue_opened, catalogue_client}
@@ -18,7 +19,7 @@ use Rattle.node_model.specs.World.{World}
 use Rattle.node_laws.proofs.Views.{View, view_of, creations_in, Later}
 use Rattle.node_laws.proofs.Facts.{IsWanted, TableFits, AtFits, BodyFits, LetterFits, CatalogueFits, HeldFits, IsMet, Good}
 use Rattle.node_laws.proofs.Owes.{InputFits, Owes}
-use Rattle.node_laws.proofs.Lists.{all_weaken, all_append, all_at, in_back, in_first, in_later, map_longer}
+use Rattle.node_laws.proofs.Lists.{map_longer}
 use Rattle.node_laws.proofs.Growth.{creations_longer, met_later, met_max}
 
 -- QUIET STEPS: nothing is taken, told or written

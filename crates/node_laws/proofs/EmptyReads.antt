@@ -4,18 +4,18 @@ use Rattle.std.specs.Prelude.{Option, Some, None, true, false, nat_le, if◌then
 use Rattle.std.specs.List.{AllByRecursion}
 use Rattle.std.proofs.lemmas.Bool.{eqb-true, leb-true, leb-false}
 use Rattle.value_model.specs.Order.{same_value}
+use Rattle.history_model.proofs.Lists.{all_weaken, all_at, in_first, in_later}
 use Rattle.node_model.specs.Tree.{Datum}
 use Rattle.node_model.specs.Catalogue.{Creation}
 use Rattle.node_model.specs.Tables.{Table, first_shard, owner_at, table_of, with_table}
 use Rattle.node_model.specs.History.{Entry, IsIn, document_at}
-use Rattle.node_model.specs.Asked.{Asked}
+use Rattle.node_model.specs.Exchanges.{Asked}
 use Rattle.node_model.specs.OneHistory.{IsPlaced}
 use Rattle.node_model.specs.Letters.{At, no_time, at_time, key_half}
 use Rattle.node_model.specs.States.{reading}
 use Rattle.node_model.specs.RouterRows.{enough_of, table_for, is_for, adopted}
 use Rattle.node_laws.proofs.Views.{View, entries_in, creations_in}
 use Rattle.node_laws.proofs.Facts.{IsKnownTable, NoneBegan, HasNoOwner, TableFits}
-use Rattle.node_laws.proofs.Lists.{all_weaken, all_at, in_first, in_later}
 use Rattle.node_laws.proofs.Answers.{Counts, unchanged, written_name, written_key, same_owner, some_none}
 use Rattle.node_laws.proofs.KnownTables.{FoundTable, table_found, table_there, never_owned, one_creation}
 use Rattle.node_laws.proofs.Neighbours.{AreBegun, NeighboursFit}

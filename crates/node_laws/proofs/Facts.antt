@@ -10,11 +10,11 @@ use Rattle.node_model.specs.Command.{insert_command, find_command, command_of}
 use Rattle.node_model.specs.Catalogue.{Creation}
 use Rattle.node_model.specs.Tables.{Table, first_table, first_shard, owner_at}
 use Rattle.node_model.specs.History.{Entry, Legal, IsIn, document_at}
-use Rattle.node_model.specs.Asked.{RequestId, Asked, Answered, entries_by}
+use Rattle.node_model.specs.Exchanges.{RequestId, Asked, Answered, entries_by}
 use Rattle.node_model.specs.Outcomes.{Done, done_of}
 use Rattle.node_model.specs.Right.{found, ends, told_by, time_read}
 use Rattle.node_model.specs.OneHistory.{IsInsertInto, WasSent, WasWanted, StandsInPart, IsPlaced, IsRightOf, IsFresh, IsInOrder, Given, WasMet, ids_asked, ids_told, AreDifferent, AreDifferentNames}
-use Rattle.node_model.specs.Kept.{Kept, entries_kept, creations_kept}
+use Rattle.node_model.specs.Journal.{Kept, entries_kept, creations_kept}
 use Rattle.node_model.specs.Letters.{At, no_time, at_time, Statement, Half, key_half, Body, table_ask, table_told, write_ask, write_done, read_ask, half_ask, read_rows, stale, time_ask, time_told, Letter}
 use Rattle.node_model.specs.States.{Catalogue, Shard, Router, Work, writing, reading, for_time, Open, NodeState, catalogue_state, shard_state, router_state, time_of_node}
 use Rattle.node_model.specs.RouterRows.{id_of, statements_from, owner_of_statement, is_ahead}

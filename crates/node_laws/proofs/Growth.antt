@@ -3,20 +3,21 @@ use Rattle.std.proofs.Common.{◌≡◌, inl, inr, ℕ, ◌<◌, ◌≤◌, List
 use Rattle.std.specs.Prelude.{Option, Some, None, true, false, max, map, filter, nat_le, if◌then◌else◌}
 use Rattle.std.specs.List.{AllByRecursion}
 use Rattle.std.proofs.lemmas.Bool.{leb-true, leb-false}
+use Rattle.history_model.proofs.Lists.{all_weaken, all_append, in_prefix}
 use Rattle.node_model.specs.Tree.{Datum, Fields}
 use Rattle.node_model.specs.Catalogue.{Creation}
 use Rattle.node_model.specs.Tables.{Table, first_shard}
 use Rattle.node_model.specs.History.{Entry, IsIn, document_left, document_at}
-use Rattle.node_model.specs.Asked.{RequestId, Asked, is_session_of, entries_by}
+use Rattle.node_model.specs.Exchanges.{RequestId, Asked, is_session_of, entries_by}
 use Rattle.node_model.specs.Outcomes.{Done, done_of}
 use Rattle.node_model.specs.Right.{found, told_by, time_read}
 use Rattle.node_model.specs.OneHistory.{WasSent, WasWanted, IsPlaced, Given}
-use Rattle.node_model.specs.Kept.{Kept, kept_table, kept_entry, kept_creation, kept_life, kept_block, entries_kept, creations_kept}
+use Rattle.node_model.specs.Journal.{Kept, kept_table, kept_entry, kept_creation, kept_life, kept_block, entries_kept, creations_kept}
 use Rattle.node_model.specs.Letters.{At, no_time, at_time, Statement, Half, Body, table_ask, table_told, write_ask, write_done, read_ask, half_ask, read_rows, stale, time_ask, time_told, Letter}
 use Rattle.node_model.specs.States.{Work, writing, reading}
 use Rattle.node_laws.proofs.Views.{View, entries_in, creations_in, IsAbove, Later}
 use Rattle.node_laws.proofs.Facts.{IsKnownTable, NoneBegan, IsOwned, IsReadOf, IsShown, IsWriteOf, IsDoneBy, TableFits, IsWanted, BodyFits, LetterFits, WorkFits, IsMet}
-use Rattle.node_laws.proofs.Lists.{all_weaken, all_append, in_front, map_longer}
+use Rattle.node_laws.proofs.Lists.{map_longer}
 
 -- LISTS OF RECORDS
 
@@ -73,10 +74,10 @@ more_creations v w later = record {
 }
 
 pub entry_stays : (v w : View) (at : ℕ) (e : Entry) → Later v w → IsIn e (entries_in v at) → IsIn e (entries_in w at)
-entry_stays v w at e later i = let m = more_entries v w at later in subst (λ l. IsIn e l) (sym m.same) (in_front e (entries_in v at) m.more i)
+entry_stays v w at e later i = let m = more_entries v w at later in subst (λ l. IsIn e l) (sym m.same) (in_prefix e (entries_in v at) m.more i)
 
 pub creation_stays : (v w : View) (c : Creation) → Later v w → IsIn c (creations_in v) → IsIn c (creations_in w)
-creation_stays v w c later i = let m = more_creations v w later in subst (λ l. IsIn c l) (sym m.same) (in_front c (creations_in v) m.more i)
+creation_stays v w c later i = let m = more_creations v w later in subst (λ l. IsIn c l) (sym m.same) (in_prefix c (creations_in v) m.more i)
 
 -- WHAT A HISTORY SAYS OF A TIME
 
@@ -130,7 +131,7 @@ owned_grows v w a b namespace shard s later le o = record { creation = o.creatio
 -- FACTS ON READS AND WRITES
 
 abbrev pub read_grows : (asked more : List Asked) (id : RequestId) (half : Half) → IsReadOf asked id half → IsReadOf (asked ++ more) id half
-read_grows asked more id half r = record { request = r.request; find = r.find; taken = in_front r.request asked more r.taken; own = r.own; asks = r.asks; shows = r.shows }
+read_grows asked more id half r = record { request = r.request; find = r.find; taken = in_prefix r.request asked more r.taken; own = r.own; asks = r.asks; shows = r.shows }
 
 pub shown_grows : (v w : View) (asked more : List Asked) (sender time : ℕ) (id : RequestId) (rows : List Fields) → Later v w → IsShown v asked sender time id rows → IsShown w (asked ++ more) sender time id rows
 shown_grows v w asked more sender time id rows later s =
@@ -140,7 +141,7 @@ shown_grows v w asked more sender time id rows later s =
     record {
       request = s.request;
       find = s.find;
-      taken = in_front s.request asked more s.taken;
+      taken = in_prefix s.request asked more s.taken;
       own = s.own;
       asks = s.asks;
       owner = s.owner;
@@ -163,7 +164,7 @@ write_grows v w asked more receiver time id ordered namespace statements later a
       front = a.front;
       standing = t.0;
       back = a.back;
-      taken = in_front a.request asked more a.taken;
+      taken = in_prefix a.request asked more a.taken;
       own = a.own;
       asks = a.asks;
       order = a.order;
@@ -180,7 +181,7 @@ done_grows v w sender time id d later b =
     let m = more_entries v w sender later in
     record {
       entry = b.entry;
-      stands = subst (λ l. IsIn b.entry l) (sym (ap (λ l. entries_by id l) m.same ∙ entries_by_longer id (entries_in v sender) m.more)) (in_front b.entry (entries_by id (entries_in v sender)) (entries_by id m.more) b.stands);
+      stands = subst (λ l. IsIn b.entry l) (sym (ap (λ l. entries_by id l) m.same ∙ entries_by_longer id (entries_in v sender) m.more)) (in_prefix b.entry (entries_by id (entries_in v sender)) (entries_by id m.more) b.stands);
       outcome = b.outcome;
       past = b.past;
     }
@@ -188,7 +189,7 @@ done_grows v w sender time id d later b =
 -- MESSAGES
 
 pub wanted_grows : (asked more : List Asked) (namespace : List ℕ) (time : ℕ) → IsWanted asked namespace time → IsWanted (asked ++ more) namespace time
-wanted_grows asked more namespace time s = record { request = s.request; taken = in_front s.request asked more s.taken; into = s.into; past = s.past }
+wanted_grows asked more namespace time s = record { request = s.request; taken = in_prefix s.request asked more s.taken; into = s.into; past = s.past }
 
 table_fits_grows : (v w : View) (time : ℕ) (namespace : List ℕ) (at : At) (table : Option Table) → Later v w → TableFits v time namespace at table → TableFits w time namespace at table
 table_fits_grows v w time namespace at (Some t) later f = (known_grows v w time time t later (omega arith) f.0, f.1)
@@ -218,17 +219,17 @@ work_grows v w a namespace (writing ordered statements answers) later (insert, a
 work_grows v w a namespace (reading at half) later f = f
 
 pub sent_grows : (asked more : List Asked) (e : Entry) → WasSent asked e → WasSent (asked ++ more) e
-sent_grows asked more e s = record { request = s.request; taken = in_front s.request asked more s.taken; into = s.into; own = s.own; later = s.later }
+sent_grows asked more e s = record { request = s.request; taken = in_prefix s.request asked more s.taken; into = s.into; own = s.own; later = s.later }
 
 pub creation_wanted_grows : (asked more : List Asked) (c : Creation) → WasWanted asked c → WasWanted (asked ++ more) c
-creation_wanted_grows asked more c s = record { request = s.request; taken = in_front s.request asked more s.taken; into = s.into; later = s.later }
+creation_wanted_grows asked more c s = record { request = s.request; taken = in_prefix s.request asked more s.taken; into = s.into; later = s.later }
 
 pub placed_grows : (v w : View) (e : Entry) → Later v w → IsPlaced (creations_in v) e → IsPlaced (creations_in w) e
 placed_grows v w e later p = record { creation = p.creation; key = p.key; begun = creation_stays v w p.creation later p.begun; name = p.name; before = p.before; writes = p.writes; owner = p.owner }
 
 pub met_grows : (v w : View) (given more : List Given) (time : ℕ) → Later v w → IsMet v given time → IsMet w (given ++ more) time
 met_grows v w given more time later (inl z) = inl z
-met_grows v w given more time later (inr (inl (g, i, e))) = inr (inl (g, in_front g given more i, e))
+met_grows v w given more time later (inr (inl (g, i, e))) = inr (inl (g, in_prefix g given more i, e))
 met_grows v w given more time later (inr (inr (inl (c, i, e)))) = inr (inr (inl (c, creation_stays v w c later i, e)))
 met_grows v w given more time later (inr (inr (inr (d, i, e)))) = inr (inr (inr (d, entry_stays v w first_shard d later i, e)))
 

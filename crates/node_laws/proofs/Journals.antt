@@ -2,7 +2,7 @@
 use Rattle.std.proofs.Common.{◌≡◌, ◌≢◌, ℕ, zero, suc, ◌≤◌, List, [], ◌∷◌, ◌++◌, refl, sym, ap, subst, arith, append-nil}
 use Rattle.std.specs.Prelude.{Some}
 use Rattle.std.specs.List.{AllByRecursion, slice_get, slice_set}
-use Rattle.node_model.specs.Kept.{Kept}
+use Rattle.node_model.specs.Journal.{Kept}
 use Rattle.node_model.specs.States.{NodeState, time_of_node}
 use Rattle.node_model.specs.World.{Held, journal_at}
 use Rattle.node_laws.proofs.Views.{View, time_at, view_of, IsAbove, Longer, Later}
@@ -37,23 +37,13 @@ times_at (h ∷ nodes) (suc at) old written new here le (suc p) = times_at nodes
 pub views_later : (nodes : List Held) (at : ℕ) (old : Held) (written : List Kept) (new : NodeState) → slice_get nodes at ≡ Some old → AllByRecursion (IsAbove (time_of_node old.state)) written → time_of_node old.state ≤ time_of_node new → Later (view_of nodes) (view_of (slice_set nodes at (with_more old written new)))
 views_later nodes at old written new here rises le = record { longer = longer_at nodes at old written new here rises; times = times_at nodes at old written new here le }
 
--- what is kept, and the time, at the place of a step
-pub journal_here : (nodes : List Held) (at : ℕ) (old new : Held) → slice_get nodes at ≡ Some old → journal_at (slice_set nodes at new) at ≡ new.kept
-journal_here [] at old new here = absurd (cc)
-journal_here (h ∷ nodes) zero old new here = refl
-journal_here (h ∷ nodes) (suc at) old new here = journal_here nodes at old new here
-
+-- the time at the place of a step
 pub time_here : (nodes : List Held) (at : ℕ) (old new : Held) → slice_get nodes at ≡ Some old → time_at (slice_set nodes at new) at ≡ time_of_node new.state
 time_here [] at old new here = absurd (cc)
 time_here (h ∷ nodes) zero old new here = refl
 time_here (h ∷ nodes) (suc at) old new here = time_here nodes at old new here
 
 -- and of a node that stands there
-pub journal_got : (nodes : List Held) (at : ℕ) (old : Held) → slice_get nodes at ≡ Some old → journal_at nodes at ≡ old.kept
-journal_got [] at old here = absurd (cc)
-journal_got (h ∷ nodes) zero old here = let same : h ≡ old = cc in ap (λ (x : Held). x.kept) same
-journal_got (h ∷ nodes) (suc at) old here = journal_got nodes at old here
-
 pub time_got : (nodes : List Held) (at : ℕ) (old : Held) → slice_get nodes at ≡ Some old → time_at nodes at ≡ time_of_node old.state
 time_got [] at old here = absurd (cc)
 time_got (h ∷ nodes) zero old here = let same : h ≡ old = cc in ap (λ (x : Held). time_of_node x.state) same

@@ -2,20 +2,22 @@
 use Rattle.std.proofs.Common.{◌≡◌, ℕ, zero, suc, ◌+◌, ◌<◌, ◌≤◌, List, ◌∷◌, ◌++◌, refl, sym, ap, subst, ◌∙◌, arith}
 use Rattle.std.specs.Prelude.{Some}
 use Rattle.std.specs.List.{AllByRecursion, slice_get, slice_set}
+use Rattle.history_model.proofs.Lists.{all_weaken, all_both, all_append}
 use Rattle.node_model.specs.Tables.{first_shard}
-use Rattle.node_model.specs.Asked.{Asked, Answered}
+use Rattle.node_model.specs.Exchanges.{Asked, Answered}
 use Rattle.node_model.specs.OneHistory.{StandsInPart, IsPlaced, IsFresh, IsInOrder, Given, ids_asked, ids_told, AreDifferent}
-use Rattle.node_model.specs.Kept.{Kept, entries_kept}
+use Rattle.node_model.specs.Journal.{Kept, entries_kept}
 use Rattle.node_model.specs.Letters.{Letter, Effect}
 use Rattle.node_model.specs.States.{Shard, NodeState, catalogue_state, shard_state, router_state}
 use Rattle.node_model.specs.World.{Held, World, asked_by, answered_by, after, journal_at}
+use Rattle.node_model.proofs.Journals.{journal_here}
 use Rattle.node_laws.proofs.Views.{View, view_of, entries_in, creations_in, Later}
 use Rattle.node_laws.proofs.Places.{EachAt, each_set}
 use Rattle.node_laws.proofs.Facts.{LetterFits, ShardFits, StateFits, HeldFits, IsMet, AnswerFits, IsCatalogue, IsShard, InOrder, Good, SameKind}
 use Rattle.node_laws.proofs.Owes.{asked_after, answered_after, OwesIn, Owes}
-use Rattle.node_laws.proofs.Lists.{all_weaken, all_both, all_append, all_prefix}
+use Rattle.node_laws.proofs.Lists.{all_prefix}
 use Rattle.node_laws.proofs.Growth.{letter_grows, met_later}
-use Rattle.node_laws.proofs.Journals.{with_more, views_later, journal_here, journal_else, time_here}
+use Rattle.node_laws.proofs.Journals.{with_more, views_later, journal_else, time_here}
 use Rattle.node_laws.proofs.Requests.{answered_now, answered_here, asked_now, asked_here, still_fresh}
 use Rattle.node_laws.proofs.Others.{other_fits}
 use Rattle.node_laws.proofs.Answers.{answer_grows}

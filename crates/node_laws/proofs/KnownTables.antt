@@ -5,16 +5,17 @@ use Rattle.std.specs.List.{AllByRecursion}
 use Rattle.std.specs.Str.{bytes_eq}
 use Rattle.std.proofs.lemmas.Bool.{leb-false}
 use Rattle.std.proofs.lemmas.Slice.Eq.{bytes_eq-Decides}
+use Rattle.chunk_model.proofs.FirstTables.{at_by}
+use Rattle.history_model.proofs.Lists.{all_at, in_first, in_later, in_none, in_cons}
 use Rattle.node_model.specs.Tree.{Datum}
 use Rattle.node_model.specs.Catalogue.{Creation}
-use Rattle.node_model.specs.Tables.{Chunk, Table, first_chunk, first_table, first_shard, owner_among, owner_at, table_of, with_table, is_longer}
+use Rattle.node_model.specs.Tables.{Table, first_chunk, first_table, first_shard, owner_at, table_of, with_table, is_longer}
 use Rattle.node_model.specs.Keys.{range_span, inside}
 use Rattle.node_model.specs.History.{IsIn}
 use Rattle.node_model.specs.OneHistory.{AreDifferentNames}
 use Rattle.node_model.specs.RouterRows.{adopted}
 use Rattle.node_laws.proofs.Facts.{HasNoOwner}
 use Rattle.node_laws.proofs.Answers.{some_none}
-use Rattle.node_laws.proofs.Lists.{all_at, in_first, in_later, in_none, in_cons}
 
 pub record FoundTable (namespace : List ℕ) (tables : List Table) (t : Table) : Type 0 where
   pub stands : IsIn t tables
@@ -72,11 +73,6 @@ table_there namespace t (u ∷ tables) name = by_test (bytes_eq u.namespace t.na
         by_first false = more
 
 -- OWNERS BY FIRST TABLES
-
--- the owner in a chunk at a time, by whether it has the key
-abbrev at_by : Creation → ℕ → Bool → Option ℕ
-at_by c time has = elim (if has then Some (first_chunk c) else None) as
-    (λ (o : Option Chunk). Option ℕ) [ None ↦ None | Some chunk ↦ owner_among time chunk.owners ]
 
 -- where a table that began by a time names no owner at it, there is none at any time
 pub never_owned : (c : Creation) (key : Datum) (time : ℕ) → c.at ≤ time → owner_at (first_table c) key time ≡ None → HasNoOwner key

@@ -3,8 +3,9 @@ use Rattle.std.proofs.Common.{◌≡◌, ◌≢◌, ℕ, ◌+◌, ◌<◌, ◌�
 use Rattle.std.specs.Prelude.{true, false, ◌==◌, ◌&&◌, nat_lt, if◌then◌else◌}
 use Rattle.std.specs.List.{AllByRecursion}
 use Rattle.std.proofs.lemmas.Bool.{ltb-true, ltb-false, eqb-true, eqb-false}
+use Rattle.history_model.proofs.Lists.{all_weaken, all_append}
 use Rattle.node_model.specs.Times.{time_of_moment}
-use Rattle.node_model.specs.Asked.{Asked}
+use Rattle.node_model.specs.Exchanges.{Asked}
 use Rattle.node_model.specs.OneHistory.{Given, last_from, last_given}
 use Rattle.node_model.specs.Letters.{Letter, Input, client_input, letter_input, moment_input, opened_input, Taken, Effect, nothing}
 use Rattle.node_model.specs.States.{Catalogue, Shard, Router, NodeState, catalogue_state, shard_state, router_state}
@@ -14,7 +15,6 @@ use Rattle.node_model.specs.RouterRows.{RouterRow, begins, router_begin, router_
 use Rattle.node_model.specs.Steps.{Step, catalogue_step, shard_step, router_step, begin_step, other_step}
 use Rattle.node_model.specs.World.{World, asked_by, moment_in, Moves}
 use Rattle.node_laws.proofs.Places.{EachAt, each_get, each_set}
-use Rattle.node_laws.proofs.Lists.{all_weaken, all_append}
 use Rattle.node_laws.proofs.Journals.{with_more}
 
 -- the last moment that a node was given

@@ -1,17 +1,17 @@
 -- What the catalogue and the shard keep, as a router sees it.
 use Rattle.std.proofs.Common.{◌≡◌, ◌≢◌, ℕ, ◌<◌, ◌≤◌, List, sym, ap, subst, ◌∙◌, arith}
 use Rattle.std.specs.List.{AllByRecursion}
+use Rattle.history_model.proofs.Lists.{all_weaken}
 use Rattle.node_model.specs.Catalogue.{Creation}
 use Rattle.node_model.specs.Tables.{first_shard}
-use Rattle.node_model.specs.Asked.{Asked, Answered}
+use Rattle.node_model.specs.Exchanges.{Asked, Answered}
 use Rattle.node_model.specs.OneHistory.{StandsInPart, IsPlaced, Given, AreDifferentNames}
-use Rattle.node_model.specs.Kept.{Kept, entries_kept, creations_kept}
+use Rattle.node_model.specs.Journal.{Kept, entries_kept, creations_kept}
 use Rattle.node_model.specs.States.{NodeState, catalogue_state, shard_state, router_state, time_of_node}
 use Rattle.node_model.specs.World.{Held, World, journal_at}
 use Rattle.node_laws.proofs.Views.{View, view_of, time_at, entries_in, creations_in, Later}
 use Rattle.node_laws.proofs.Places.{EachAt}
 use Rattle.node_laws.proofs.Facts.{StateFits, HeldFits, IsCatalogue, InOrder, Good}
-use Rattle.node_laws.proofs.Lists.{all_weaken}
 use Rattle.node_laws.proofs.Growth.{placed_grows}
 use Rattle.node_laws.proofs.Keeps.{TheShard, the_shard}
 

@@ -5,16 +5,16 @@ use Rattle.std.specs.List.{AllByRecursion}
 use Rattle.std.specs.Str.{bytes_eq}
 use Rattle.std.proofs.lemmas.Bool.{ltb-false}
 use Rattle.std.proofs.lemmas.Slice.Eq.{bytes_eq-Decides}
+use Rattle.history_model.proofs.Lists.{all_at}
 use Rattle.node_model.specs.Tree.{Datum}
 use Rattle.node_model.specs.Tables.{Table}
-use Rattle.node_model.specs.Asked.{Asked, Answered}
+use Rattle.node_model.specs.Exchanges.{Asked, Answered}
 use Rattle.node_model.specs.OneHistory.{Given}
 use Rattle.node_model.specs.Letters.{At, key_half, Reply}
 use Rattle.node_model.specs.States.{Work, writing, reading, Wait, for_time, for_table, for_shards, Open, Router}
 use Rattle.node_model.specs.RouterRows.{table_for, is_ahead, reply_to, empty_answer, is_for, is_for_table, adopted, Next, stays, is_told, next_without, next_waiting, next_of}
 use Rattle.node_laws.proofs.Views.{View}
 use Rattle.node_laws.proofs.Facts.{IsKnownTable, TableFits, WorkFits, IsOpenOf, ToldBelow, IsMet, AnswerFits}
-use Rattle.node_laws.proofs.Lists.{all_at}
 use Rattle.node_laws.proofs.NextRequests.{KeepsCount, NextIs}
 use Rattle.node_laws.proofs.KnownTables.{FoundTable}
 use Rattle.node_laws.proofs.RouterAsks.{IsSaid, open_asks, shards_fit, table_for_found}

@@ -1,15 +1,15 @@
 -- What becomes of each open request where a table is told: some are told, and the others stay open.
 use Rattle.std.proofs.Common.{◌≡◌, ◌≢◌, ◌⊎◌, inl, inr, ℕ, List, [], ◌∷◌, ◌++◌, sym, ap, subst, ◌∙◌}
 use Rattle.std.specs.List.{AllByRecursion, flat_map}
+use Rattle.history_model.proofs.Lists.{all_weaken, all_both, all_append, in_first, in_later, in_cons}
 use Rattle.node_model.specs.History.{IsIn}
-use Rattle.node_model.specs.Asked.{RequestId, Answered}
+use Rattle.node_model.specs.Exchanges.{RequestId, Answered}
 use Rattle.node_model.specs.OneHistory.{ids_told}
 use Rattle.node_model.specs.Letters.{Letter, Reply}
 use Rattle.node_model.specs.States.{Open, Router}
 use Rattle.node_model.specs.RouterRows.{id_of, Next, stays, is_told, stay_in, letters_in, replies_in}
 use Rattle.node_model.specs.World.{answered_by}
 use Rattle.node_laws.proofs.Facts.{counts_of, AreDifferentCounts}
-use Rattle.node_laws.proofs.Lists.{all_weaken, all_both, all_append, in_first, in_later, in_cons}
 use Rattle.node_laws.proofs.OpenRequests.{IsParted}
 
 -- what becomes of a request has its count

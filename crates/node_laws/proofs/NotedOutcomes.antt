@@ -3,16 +3,16 @@ use Rattle.std.proofs.Common.{◌≡◌, ◌⊎◌, inl, inr, ℕ, ◌+◌, ◌�
 use Rattle.std.specs.Prelude.{true, false, map, length, ◌==◌, if◌then◌else◌}
 use Rattle.std.specs.List.{AllByRecursion}
 use Rattle.std.proofs.lemmas.Bool.{eqb-true}
+use Rattle.history_model.proofs.Lists.{all_weaken, all_append, all_at, in_none, in_cons}
 use Rattle.node_model.specs.Tree.{Fields}
 use Rattle.node_model.specs.History.{StatementNumber, Entry, IsIn}
-use Rattle.node_model.specs.Asked.{RequestId, entries_by}
+use Rattle.node_model.specs.Exchanges.{RequestId, entries_by}
 use Rattle.node_model.specs.Outcomes.{Done, done_of}
 use Rattle.node_model.specs.Right.{ends, AreStatements, AreAll, told_by}
 use Rattle.node_model.specs.Letters.{Statement}
 use Rattle.node_model.specs.RouterRows.{statements_from, noted, is_answered}
 use Rattle.node_laws.proofs.Views.{View, entries_in}
 use Rattle.node_laws.proofs.Facts.{IsDoneBy}
-use Rattle.node_laws.proofs.Lists.{all_weaken, all_append, all_at, in_none, in_cons}
 
 -- the entries of statements have their indexes, from the first on
 indexes_from : (id : RequestId) (namespace : List ℕ) (ordered : Bool) (index : ℕ) (documents : List Fields) (es : List Entry)

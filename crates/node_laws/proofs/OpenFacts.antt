@@ -3,14 +3,14 @@ use Rattle.std.proofs.Common.{◌≡◌, ◌⊎◌, inl, inr, ℕ, ◌<◌, ◌�
 use Rattle.std.specs.Prelude.{true, false, nat_lt}
 use Rattle.std.specs.List.{AllByRecursion}
 use Rattle.std.proofs.lemmas.Bool.{ltb-true, ltb-false}
-use Rattle.node_model.specs.Asked.{RequestId, Asked, Answered}
+use Rattle.history_model.proofs.Lists.{all_weaken, all_at}
+use Rattle.node_model.specs.Exchanges.{RequestId, Asked, Answered}
 use Rattle.node_model.specs.Outcomes.{Done}
 use Rattle.node_model.specs.Letters.{Letter}
 use Rattle.node_model.specs.States.{Work, writing, reading, Wait, for_time, Open, Router}
 use Rattle.node_model.specs.RouterRows.{is_ahead, with_work}
 use Rattle.node_laws.proofs.Views.{View, Later}
 use Rattle.node_laws.proofs.Facts.{LetterFits, WorkFits, AreSeen, IsOpenOf, IsBy}
-use Rattle.node_laws.proofs.Lists.{all_weaken, all_at}
 use Rattle.node_laws.proofs.Growth.{letter_grows}
 use Rattle.node_laws.proofs.Others.{open_grows}
 

@@ -1,28 +1,29 @@
 -- A step of one node leaves the facts on the other nodes.
 use Rattle.std.proofs.Common.{◌≡◌, ◌≢◌, inl, inr, ℕ, ◌≤◌, List, ◌++◌, sym, ap, subst, ◌∙◌, arith}
 use Rattle.std.specs.List.{AllByRecursion}
+use Rattle.history_model.proofs.Lists.{all_weaken, all_append, in_prefix}
 use Rattle.node_model.specs.History.{IsIn}
-use Rattle.node_model.specs.Asked.{RequestId, Asked, Answered}
+use Rattle.node_model.specs.Exchanges.{RequestId, Asked, Answered}
 use Rattle.node_model.specs.OneHistory.{WasSent, WasWanted, IsPlaced, Given, ids_asked, ids_told, AreDifferent}
-use Rattle.node_model.specs.Kept.{Kept}
+use Rattle.node_model.specs.Journal.{Kept}
 use Rattle.node_model.specs.Letters.{Letter}
 use Rattle.node_model.specs.States.{Router, Open, NodeState, catalogue_state, shard_state, router_state, time_of_node}
 use Rattle.node_model.specs.RouterRows.{id_of}
 use Rattle.node_model.specs.World.{Held}
 use Rattle.node_laws.proofs.Views.{View, creations_in, Later}
 use Rattle.node_laws.proofs.Facts.{IsKnownTable, ParkedFits, IsOpenOf, IsBy, ToldBelow, IsClosedOrOpen, RouterFits, StateFits, HeldFits}
-use Rattle.node_laws.proofs.Lists.{all_weaken, all_append, in_front, map_longer}
+use Rattle.node_laws.proofs.Lists.{map_longer}
 use Rattle.node_laws.proofs.Growth.{known_grows, letter_grows, work_grows, sent_grows, creation_wanted_grows, placed_grows, met_later}
 use Rattle.node_laws.proofs.Requests.{parts_grow}
 
 pub told_more : (id : RequestId) (answered news : List Answered) → IsIn id (ids_told answered) → IsIn id (ids_told (answered ++ news))
-told_more id answered news i = subst (λ l. IsIn id l) (sym (map_longer (λ (t : Answered). t.id) answered news)) (in_front id (ids_told answered) (ids_told news) i)
+told_more id answered news i = subst (λ l. IsIn id l) (sym (map_longer (λ (t : Answered). t.id) answered news)) (in_prefix id (ids_told answered) (ids_told news) i)
 
 -- an open request stays one, where the answers that are new are to others
 pub open_grows : (v w : View) (asked more : List Asked) (answered news : List Answered) (r : Router) (q : Open) → Later v w → AllByRecursion (λ (t : Answered). t.id ≢ id_of r q.count) news → IsOpenOf v asked answered r q → IsOpenOf w (asked ++ more) (answered ++ news) r q
 open_grows v w asked more answered news r q later others o = record {
   request = o.request;
-  taken = in_front o.request asked more o.taken;
+  taken = in_prefix o.request asked more o.taken;
   own = o.own;
   link = o.link;
   number = o.number;

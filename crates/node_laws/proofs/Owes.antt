@@ -2,7 +2,7 @@
 use Rattle.std.proofs.Common.{◌≡◌, ◌≢◌, ℕ, ◌≤◌, List, ◌++◌}
 use Rattle.std.specs.List.{AllByRecursion}
 use Rattle.node_model.specs.Times.{time_of_moment}
-use Rattle.node_model.specs.Asked.{Asked, Answered}
+use Rattle.node_model.specs.Exchanges.{Asked, Answered}
 use Rattle.node_model.specs.OneHistory.{IsFresh, IsInOrder, ids_asked, ids_told, AreDifferent}
 use Rattle.node_model.specs.Letters.{Letter, Input, client_input, letter_input, moment_input, opened_input, Taken, Reply, Effect}
 use Rattle.node_model.specs.States.{NodeState, time_of_node}

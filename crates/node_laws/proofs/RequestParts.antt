@@ -11,12 +11,12 @@ use Rattle.node_model.specs.Refusals.{Refusal}
 use Rattle.node_model.specs.Command.{Command, insert_command, command_of}
 use Rattle.node_model.specs.Tables.{Table, first_table, first_shard, owner_now}
 use Rattle.node_model.specs.History.{Entry, IsIn, key_written}
-use Rattle.node_model.specs.Asked.{RequestId, same_request, Asked, is_session_of, entries_by}
+use Rattle.node_model.specs.Exchanges.{RequestId, same_request, Asked, is_session_of, entries_by}
 use Rattle.node_model.specs.Outcomes.{Done, done_of}
 use Rattle.node_model.specs.Right.{ends, AreStatements, IsPart, told_by}
 use Rattle.node_model.specs.OneHistory.{StandsInPart, IsPlaced, ids_asked, AreDifferent}
 use Rattle.node_model.specs.Letters.{Statement}
-use Rattle.node_model.specs.Serving.{Serves}
+use Rattle.node_model.specs.Service.{Serves}
 use Rattle.node_model.specs.RouterRows.{statements_from, owner_of_statement}
 use Rattle.node_laws.proofs.Views.{View, creations_in}
 use Rattle.node_laws.proofs.Facts.{IsOwned, IsWriteOf}

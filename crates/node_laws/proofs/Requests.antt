@@ -3,14 +3,15 @@ use Rattle.std.proofs.Common.{◌≡◌, ◌≢◌, ◌⊎◌, inl, inr, ℕ, �
 use Rattle.std.specs.Prelude.{true, false, ◌==◌, ◌&&◌, if◌then◌else◌}
 use Rattle.std.specs.List.{AllByRecursion}
 use Rattle.std.proofs.lemmas.Bool.{eqb-true}
+use Rattle.history_model.proofs.Lists.{all_weaken, all_append, all_at}
 use Rattle.node_model.specs.History.{Session, client_session, router_session, Entry, IsIn}
-use Rattle.node_model.specs.Asked.{RequestId, same_request, Asked, Answered, is_session_of, entries_by}
+use Rattle.node_model.specs.Exchanges.{RequestId, same_request, Asked, Answered, is_session_of, entries_by}
 use Rattle.node_model.specs.Right.{AreStatements}
 use Rattle.node_model.specs.OneHistory.{WasSent, StandsInPart, IsNotBefore, IsFresh, ids_asked, AreDifferent}
 use Rattle.node_model.specs.Letters.{Taken, Reply}
 use Rattle.node_model.specs.World.{asked_by, answered_by}
 use Rattle.node_model.proofs.Requests.{same_id}
-use Rattle.node_laws.proofs.Lists.{all_weaken, all_append, all_at, all_of, all_unmapped, in_cons, in_none}
+use Rattle.node_laws.proofs.Lists.{all_of, all_unmapped}
 
 -- a request that is new: none before has its number
 abbrev pub IsNew : List Asked → Asked → Type 0

@@ -2,6 +2,7 @@
 use Rattle.std.proofs.Common.{◌≡◌, ◌≢◌, ◌⊎◌, ℕ, ◌+◌, ◌<◌, ◌≤◌, List, [], ◌++◌, refl, sym, ap, subst, ◌∙◌, arith, append-nil, Bool}
 use Rattle.std.specs.Prelude.{Option, Some, None, Result, Ok, Err, true}
 use Rattle.std.specs.List.{AllByRecursion}
+use Rattle.history_model.proofs.Lists.{all_at}
 use Rattle.node_model.specs.Tree.{Datum, Fields}
 use Rattle.node_model.specs.Refusals.{Refusal, time_ahead}
 use Rattle.node_model.specs.Insert.{Insert}
@@ -10,7 +11,7 @@ use Rattle.node_model.specs.Command.{Command, hello_command, legacy_command, pin
 use Rattle.node_model.specs.Answers.{Answer, hello_answer, legacy_answer, find_answer, refusal_answer, answer_document}
 use Rattle.node_model.specs.Tables.{first_shard}
 use Rattle.node_model.specs.History.{IsIn, document_at}
-use Rattle.node_model.specs.Asked.{RequestId, Asked, Answered, entries_by}
+use Rattle.node_model.specs.Exchanges.{RequestId, Asked, Answered, entries_by}
 use Rattle.node_model.specs.Outcomes.{Done, answer_of}
 use Rattle.node_model.specs.Right.{found, IsPart, told_by, AreAll, time_read, IsRight, right_insert, right_find, right_ahead, right_hello, right_legacy, right_ping, right_end_sessions, right_refusal}
 use Rattle.node_model.specs.OneHistory.{StandsInPart, ids_asked, AreDifferent}
@@ -19,7 +20,6 @@ use Rattle.node_model.specs.States.{Work, writing, reading, Open, Router}
 use Rattle.node_model.specs.RouterRows.{statements_from, noted, is_answered, at_once, needs, plan_of, reply_to}
 use Rattle.node_laws.proofs.Views.{View, entries_in}
 use Rattle.node_laws.proofs.Facts.{IsShown, IsDoneBy, WorkFits, IsOpenOf, IsSettled, AnswerFits}
-use Rattle.node_laws.proofs.Lists.{all_at}
 use Rattle.node_laws.proofs.NotedOutcomes.{noted_stands, IsAllTold, told_whole}
 use Rattle.node_laws.proofs.AnswerTimes.{ShowsBelow, refusal_below, hello_below, legacy_below, done_below}
 use Rattle.node_laws.proofs.Neighbours.{NeighboursFit}

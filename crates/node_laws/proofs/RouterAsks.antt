@@ -3,12 +3,13 @@ use Rattle.std.proofs.Common.{◌≡◌, ◌≢◌, ◌⊎◌, inl, inr, ℕ, �
 use Rattle.std.specs.Prelude.{Option, Some, None, true, false, drop, length, if◌then◌else◌}
 use Rattle.std.specs.List.{AllByRecursion}
 use Rattle.std.proofs.lemmas.Bool.{eqb-true, ltb-false}
+use Rattle.history_model.proofs.Lists.{all_weaken, all_at}
 use Rattle.chunk_model.proofs.FirstTables.{only_at}
 use Rattle.node_model.specs.Tree.{Datum}
 use Rattle.node_model.specs.Tables.{Table, first_shard, table_of, owner_at}
 use Rattle.node_model.specs.Verdicts.{sent_by}
 use Rattle.node_model.specs.History.{IsIn}
-use Rattle.node_model.specs.Asked.{RequestId, Asked, Answered}
+use Rattle.node_model.specs.Exchanges.{RequestId, Asked, Answered}
 use Rattle.node_model.specs.Outcomes.{Done}
 use Rattle.node_model.specs.OneHistory.{Given}
 use Rattle.node_model.specs.Letters.{Statement, Half, key_half, write_ask, read_ask, Letter}
@@ -16,7 +17,6 @@ use Rattle.node_model.specs.States.{Work, writing, reading, Wait, for_time, for_
 use Rattle.node_model.specs.RouterRows.{id_of, owner_of_statement, is_on, run_to, unanswered, asks_to_write, asks_to_read, asks_shards, asks_table, is_enough, enough_of, table_for, asks_times, is_ahead, asks_by, asks_for, asks_again, says}
 use Rattle.node_laws.proofs.Views.{View}
 use Rattle.node_laws.proofs.Facts.{IsKnownTable, IsOwned, IsReadOf, IsWriteOf, LetterFits, WorkFits, IsOpenOf, IsMet}
-use Rattle.node_laws.proofs.Lists.{all_weaken, all_at}
 use Rattle.node_laws.proofs.KnownTables.{FoundTable, table_found}
 
 -- a message that fits, of a time that was met

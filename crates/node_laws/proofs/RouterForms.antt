@@ -3,18 +3,18 @@ use Rattle.std.proofs.Common.{◌≡◌, ◌≢◌, inr, ℕ, ◌+◌, ◌<◌, 
 use Rattle.std.specs.Prelude.{true, false, max, nat_lt}
 use Rattle.std.specs.List.{AllByRecursion, flat_map}
 use Rattle.std.proofs.lemmas.Bool.{ltb-true}
+use Rattle.history_model.proofs.Lists.{all_weaken, all_append, all_at}
 use Rattle.node_model.specs.Times.{time_of_moment}
 use Rattle.node_model.specs.Answers.{Answer}
 use Rattle.node_model.specs.History.{IsIn}
-use Rattle.node_model.specs.Asked.{Asked}
-use Rattle.node_model.specs.Kept.{Kept}
+use Rattle.node_model.specs.Exchanges.{Asked}
+use Rattle.node_model.specs.Journal.{Kept}
 use Rattle.node_model.specs.States.{Work, Open, Router, router_state, replaced, without}
 use Rattle.node_model.specs.RouterRows.{asks_for, asks_again, wait_of, going_on, is_ahead, reply_to}
 use Rattle.node_model.specs.World.{World, journal_at}
 use Rattle.node_laws.proofs.Views.{View, view_of, Later}
 use Rattle.node_laws.proofs.Facts.{IsKnownTable, WorkFits, AreSeen, IsOpenOf, RouterFits, HeldFits, IsMet, Good}
 use Rattle.node_laws.proofs.Owes.{Owes}
-use Rattle.node_laws.proofs.Lists.{all_weaken, all_append, all_at}
 use Rattle.node_laws.proofs.Growth.{known_grows, met_later, met_max}
 use Rattle.node_laws.proofs.OpenRequests.{all_without, all_replaced, parted_same, parted_replaced, parted_without}
 use Rattle.node_laws.proofs.RouterAsks.{IsSaid, asks_fit, again_fits}

@@ -2,11 +2,12 @@
 use Rattle.std.proofs.Common.{◌≡◌, ◌≢◌, ◌⊎◌, inl, inr, ℕ, ◌≤◌, List, [], ◌∷◌, ◌++◌, refl, sym, ap, subst, ◌∙◌, arith, append-nil}
 use Rattle.std.specs.Prelude.{true, map}
 use Rattle.std.specs.List.{AllByRecursion}
+use Rattle.history_model.proofs.Lists.{all_weaken, all_both, all_append, all_at, in_back}
 use Rattle.node_model.specs.Tables.{Table}
 use Rattle.node_model.specs.History.{IsIn}
-use Rattle.node_model.specs.Asked.{RequestId, Asked, Answered}
+use Rattle.node_model.specs.Exchanges.{RequestId, Asked, Answered}
 use Rattle.node_model.specs.OneHistory.{ids_told, AreDifferent}
-use Rattle.node_model.specs.Kept.{Kept}
+use Rattle.node_model.specs.Journal.{Kept}
 use Rattle.node_model.specs.Letters.{Letter, Reply, Effect}
 use Rattle.node_model.specs.States.{Open, Router, router_state}
 use Rattle.node_model.specs.RouterRows.{id_of}
@@ -14,7 +15,6 @@ use Rattle.node_model.specs.World.{World, answered_by, journal_at}
 use Rattle.node_laws.proofs.Views.{View, view_of, Later}
 use Rattle.node_laws.proofs.Facts.{IsKnownTable, IsOpenOf, IsBy, ToldBelow, IsClosedOrOpen, RouterFits, IsMet, AnswerFits, Good}
 use Rattle.node_laws.proofs.Owes.{Owes}
-use Rattle.node_laws.proofs.Lists.{all_weaken, all_both, all_append, all_at, in_back}
 use Rattle.node_laws.proofs.Growth.{met_later}
 use Rattle.node_laws.proofs.Others.{told_more}
 use Rattle.node_laws.proofs.OpenRequests.{IsParted}

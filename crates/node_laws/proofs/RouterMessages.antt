@@ -2,14 +2,15 @@
 use Rattle.std.proofs.Common.{◌≡◌, inl, ℕ, ◌<◌, ◌≤◌, List, [], ◌∷◌, refl, sym, ap, subst, ◌∙◌, arith, Bool}
 use Rattle.std.specs.Prelude.{Option, Some, true, false}
 use Rattle.std.specs.List.{AllByRecursion}
+use Rattle.history_model.proofs.Lists.{all_weaken}
 use Rattle.node_model.specs.Tree.{Datum, Fields}
 use Rattle.node_model.specs.Refusals.{time_ahead}
 use Rattle.node_model.specs.Answers.{find_answer, refusal_answer}
 use Rattle.node_model.specs.Tables.{Table, first_shard}
 use Rattle.node_model.specs.History.{IsIn}
-use Rattle.node_model.specs.Asked.{RequestId}
+use Rattle.node_model.specs.Exchanges.{RequestId}
 use Rattle.node_model.specs.Outcomes.{Done, answer_of}
-use Rattle.node_model.specs.Kept.{Kept}
+use Rattle.node_model.specs.Journal.{Kept}
 use Rattle.node_model.specs.Letters.{At, Statement, Half, key_half, Body, table_told, write_done, read_rows, Letter}
 use Rattle.node_model.specs.States.{writing, reading, Open, Router, router_state, replaced, without}
 use Rattle.node_model.specs.RouterRows.{id_of, heard, asks_for, going_on, noted, is_answered, is_ahead, reply_to, adopted, next_of, Next}
@@ -17,7 +18,6 @@ use Rattle.node_model.specs.World.{World}
 use Rattle.node_laws.proofs.Views.{View, view_of}
 use Rattle.node_laws.proofs.Facts.{IsKnownTable, TableFits, IsDoneBy, IsShown, BodyFits, LetterFits, WorkFits, AreSeen, IsOpenOf, HeldFits, IsMet, Good}
 use Rattle.node_laws.proofs.Owes.{Owes}
-use Rattle.node_laws.proofs.Lists.{all_weaken}
 use Rattle.node_laws.proofs.Journals.{later_self}
 use Rattle.node_laws.proofs.Growth.{known_grows, met_later, met_max}
 use Rattle.node_laws.proofs.OpenRequests.{IsOpenWith}

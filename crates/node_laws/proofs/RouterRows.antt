@@ -2,14 +2,15 @@
 use Rattle.std.proofs.Common.{◌≡◌, ◌⊎◌, inl, inr, ℕ, ℤ, ◌+◌, List, [], ◌∷◌, ◌++◌, refl, sym, ap, subst, arith, append-nil, Bool}
 use Rattle.std.specs.Prelude.{Option, Some, None, Result, Ok, Err, true, false, if◌then◌else◌}
 use Rattle.std.specs.List.{slice_get}
+use Rattle.history_model.proofs.Lists.{in_back, in_first}
 use Rattle.node_model.specs.Requests.{Request}
 use Rattle.node_model.specs.Refusals.{Refusal}
 use Rattle.node_model.specs.Command.{Command, hello_command, legacy_command, ping_command, end_sessions_command, insert_command, find_command, command_of}
 use Rattle.node_model.specs.Answers.{Answer, answer_document}
 use Rattle.node_model.specs.History.{IsIn}
-use Rattle.node_model.specs.Asked.{Asked}
+use Rattle.node_model.specs.Exchanges.{Asked}
 use Rattle.node_model.specs.Right.{told_by}
-use Rattle.node_model.specs.Kept.{Kept}
+use Rattle.node_model.specs.Journal.{Kept}
 use Rattle.node_model.specs.Letters.{Input, Reply, Effect}
 use Rattle.node_model.specs.States.{Work, for_time, Router, router_state}
 use Rattle.node_model.specs.RouterRows.{id_of, heard, is_ahead, table_for, wait_by, asks_for, Plan, at_once, needs, plan_of, opened_request, taken_now, takes, RouterRow, router_begin, router_opened, router_plain, router_take, router_learn, router_reach, router_ahead, router_note, router_wrote, router_read, router_late, router_skip, router_moment}
@@ -18,7 +19,6 @@ use Rattle.node_laws.proofs.Views.{View, view_of, entries_in}
 use Rattle.node_model.specs.Tables.{first_shard}
 use Rattle.node_laws.proofs.Facts.{WorkFits, AreSeen, IsOpenOf, HeldFits, AnswerFits, Good}
 use Rattle.node_laws.proofs.Owes.{InputFits, Owes}
-use Rattle.node_laws.proofs.Lists.{in_back, in_first}
 use Rattle.node_laws.proofs.Growth.{met_later}
 use Rattle.node_laws.proofs.OpenRequests.{open_of_found}
 use Rattle.node_laws.proofs.RouterAsks.{asks_fit}

@@ -2,11 +2,12 @@
 use Rattle.std.proofs.Common.{◌≡◌, ◌≢◌, inl, inr, ℕ, ℤ, ◌+◌, ◌<◌, ◌≤◌, List, [], ◌∷◌, ◌++◌, refl, sym, ap, subst, ◌∙◌, arith, append-nil, Bool}
 use Rattle.std.specs.Prelude.{true, false}
 use Rattle.std.specs.List.{AllByRecursion}
+use Rattle.history_model.proofs.Lists.{all_weaken, all_append, all_at, in_back, in_prefix}
 use Rattle.node_model.specs.Requests.{Request}
 use Rattle.node_model.specs.History.{IsIn}
-use Rattle.node_model.specs.Asked.{RequestId, Asked, Answered}
+use Rattle.node_model.specs.Exchanges.{RequestId, Asked, Answered}
 use Rattle.node_model.specs.OneHistory.{IsNotBefore, ids_asked, ids_told, AreDifferent}
-use Rattle.node_model.specs.Kept.{Kept, kept_life}
+use Rattle.node_model.specs.Journal.{Kept, kept_life}
 use Rattle.node_model.specs.Letters.{Letter, Reply, writes}
 use Rattle.node_model.specs.States.{Open, Router, router_state}
 use Rattle.node_model.specs.RouterRows.{id_of, begins, takes, taken_now}
@@ -14,7 +15,6 @@ use Rattle.node_model.specs.World.{World, answered_by}
 use Rattle.node_laws.proofs.Views.{View, view_of}
 use Rattle.node_laws.proofs.Facts.{IsOpenOf, IsBy, ToldBelow, counts_of, AreDifferentCounts, IsClosedOrOpen, RouterFits, HeldFits, AnswerFits, Good}
 use Rattle.node_laws.proofs.Owes.{Owes}
-use Rattle.node_laws.proofs.Lists.{all_weaken, all_append, all_at, in_front, in_back}
 use Rattle.node_laws.proofs.Growth.{met_later}
 use Rattle.node_laws.proofs.Others.{open_grows, closed_grows}
 use Rattle.node_laws.proofs.RouterAsks.{IsSaid}
@@ -59,7 +59,7 @@ counts_more count (q ∷ requests) more different others apart same =
     joined (p ∷ rest) all = (all.0, joined rest all.1)
 
 counts_longer : (n : ℕ) (requests more : List Open) → IsIn n (counts_of requests) → IsIn n (counts_of (requests ++ more))
-counts_longer n requests more i = subst (λ l. IsIn n l) (same requests) (in_front n (counts_of requests) (counts_of more) i)
+counts_longer n requests more i = subst (λ l. IsIn n l) (same requests) (in_prefix n (counts_of requests) (counts_of more) i)
   where
     same : (rest : List Open) → counts_of rest ++ counts_of more ≡ counts_of (rest ++ more)
     same [] = refl

@@ -2,12 +2,13 @@
 use Rattle.std.proofs.Common.{◌≡◌, ℕ, zero, suc, ◌+◌, ◌<◌, List, [], ◌∷◌, ◌++◌, refl, sym, ap, subst, ◌∙◌, arith, append-nil, append_assoc, inl, inr}
 use Rattle.std.specs.Prelude.{Some}
 use Rattle.std.specs.List.{AllByRecursion, slice_get, slice_set}
+use Rattle.history_model.proofs.Lists.{all_weaken, all_both, all_at, in_back, in_first}
 use Rattle.node_model.specs.Times.{time_of_moment}
 use Rattle.node_model.specs.Tables.{first_shard}
 use Rattle.node_model.specs.History.{IsIn, Legal}
-use Rattle.node_model.specs.Asked.{Asked, Answered}
+use Rattle.node_model.specs.Exchanges.{Asked, Answered}
 use Rattle.node_model.specs.OneHistory.{WasSent, WasWanted, StandsInPart, IsPlaced, IsRightOf, AreDifferentNames, Given, IsKnown, OneHistory}
-use Rattle.node_model.specs.Kept.{Kept, kept_life, entries_kept, creations_kept}
+use Rattle.node_model.specs.Journal.{Kept, kept_life, entries_kept, creations_kept}
 use Rattle.node_model.specs.Letters.{Letter, Input, client_input, letter_input, moment_input, opened_input, Taken, Reply, Effect, nothing, writes, both}
 use Rattle.node_model.specs.States.{Catalogue, NodeState, catalogue_state, shard_state, router_state, time_of_node}
 use Rattle.node_model.specs.RouterRows.{begins, router_begin}
@@ -17,7 +18,6 @@ use Rattle.node_laws.proofs.Views.{View, view_of, Later}
 use Rattle.node_laws.proofs.Places.{EachAt, each_get, each_weaken}
 use Rattle.node_laws.proofs.Facts.{LetterFits, CatalogueFits, StateFits, HeldFits, IsMet, AnswerFits, IsCatalogue, InOrder, Good}
 use Rattle.node_laws.proofs.Owes.{InputFits}
-use Rattle.node_laws.proofs.Lists.{all_weaken, all_both, all_at, in_back, in_first}
 use Rattle.node_laws.proofs.Growth.{met_grows, met_later}
 use Rattle.node_laws.proofs.Journals.{with_more, later_self, views_later}
 use Rattle.node_laws.proofs.Keeps.{good_after, the_shard}

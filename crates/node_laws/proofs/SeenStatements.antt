@@ -5,46 +5,21 @@ use Rattle.std.specs.List.{AllByRecursion}
 use Rattle.std.specs.Ordering.{int_eq}
 use Rattle.std.proofs.lemmas.Bool.Decides.{Decides-eqb, Decides-int_eq}
 use Rattle.std.proofs.lemmas.Slice.Eq.{bytes_eq-Decides}
+use Rattle.history_model.proofs.Lists.{in_first, in_later, in_cons, in_none}
+use Rattle.history_model.proofs.Noted.{same_number_is}
 use Rattle.node_model.specs.History.{Session, client_session, router_session, StatementNumber, Entry, IsIn}
-use Rattle.node_model.specs.Asked.{RequestId, same_request, is_session_of, entries_by}
-use Rattle.node_model.specs.Serving.{same_session, same_number, seen_before}
-use Rattle.node_laws.proofs.Lists.{in_first, in_later, in_cons, in_none}
+use Rattle.node_model.specs.Exchanges.{RequestId, same_request, is_session_of, entries_by}
+use Rattle.node_model.specs.Service.{same_session, same_number, seen_before}
 
--- NUMBERS THAT COMPARE EQUAL ARE ONE
-
-and_true : (a b : Bool) → (a && b) ≡ true → (a ≡ true) × (b ≡ true)
-and_true true true h = (refl, refl)
-and_true true false h = absurd (cc)
-and_true false b h = absurd (cc)
+-- A NUMBER IS EQUAL TO ITSELF
 
 and_both : (a b : Bool) → a ≡ true → b ≡ true → (a && b) ≡ true
 and_both a b h k = ap (λ x. x && b) h ∙ k
-
-session_is : (a b : Session) → same_session a b ≡ true → a ≡ b
-session_is (client_session a) (client_session b) h = ap (λ n. client_session n) ((bytes_eq-Decides a b).0 h)
-session_is (client_session a) (router_session n l r) h = absurd (cc)
-session_is (router_session n l r) (client_session b) h = absurd (cc)
-session_is (router_session n l r) (router_session m k s) h =
-    let all = and_true (n == m) ((l == k) && (r == s)) h in
-    let others = and_true (l == k) (r == s) all.1 in
-    let node : n ≡ m = (Decides-eqb n m).0 all.0 in
-    let life : l ≡ k = (Decides-eqb l k).0 others.0 in
-    let request : r ≡ s = (Decides-eqb r s).0 others.1 in
-    λ i. router_session (node i) (life i) (request i)
 
 session_itself : (a : Session) → same_session a a ≡ true
 session_itself (client_session a) = (bytes_eq-Decides a a).1 refl
 session_itself (router_session n l r) =
     and_both (n == n) ((l == l) && (r == r)) ((Decides-eqb n n).1 refl) (and_both (l == l) (r == r) ((Decides-eqb l l).1 refl) ((Decides-eqb r r).1 refl))
-
-number_is : (a b : StatementNumber) → same_number a b ≡ true → a ≡ b
-number_is a b h =
-    let all = and_true (same_session a.session b.session) (int_eq a.transaction b.transaction && (a.index == b.index)) h in
-    let others = and_true (int_eq a.transaction b.transaction) (a.index == b.index) all.1 in
-    let session : a.session ≡ b.session = session_is a.session b.session all.0 in
-    let transaction : a.transaction ≡ b.transaction = (Decides-int_eq a.transaction b.transaction).0 others.0 in
-    let index : a.index ≡ b.index = (Decides-eqb a.index b.index).0 others.1 in
-    λ i. record { session = session i; transaction = transaction i; index = index i }
 
 number_itself : (a : StatementNumber) → same_number a a ≡ true
 number_itself a =
@@ -72,7 +47,7 @@ seen_found number (d ∷ entries) e got = by_test (same_number d.number number) 
         → (seen_before number entries ≡ Some e → Found number entries e) → Found number (d ∷ entries) e
     by_test true h got later =
         let same : d ≡ e = cc in
-        subst (λ z. Found number (d ∷ entries) z) same (record { stands = in_first d entries; numbered = number_is d.number number h })
+        subst (λ z. Found number (d ∷ entries) z) same (record { stands = in_first d entries; numbered = same_number_is d.number number h })
     by_test false h got later = let f = later got in record { stands = in_later e d entries f.stands; numbered = f.numbered }
 
 pub unseen_new : (number : StatementNumber) (entries : List Entry) → seen_before number entries ≡ None

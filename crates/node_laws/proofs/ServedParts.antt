@@ -3,15 +3,16 @@ use Rattle.std.proofs.Common.{◌≡◌, ◌≢◌, ◌⊎◌, inl, inr, ℕ, �
 use Rattle.std.proofs.Common.{Bool}
 use Rattle.std.specs.Prelude.{Some, None, true, false, length, drop, if◌then◌else◌}
 use Rattle.std.specs.List.{AllByRecursion}
+use Rattle.history_model.proofs.Lists.{all_weaken, all_append, all_at, in_cons, in_none}
 use Rattle.node_model.specs.Tree.{Fields}
 use Rattle.node_model.specs.History.{StatementNumber, insert_operation, Entry, IsIn}
-use Rattle.node_model.specs.Asked.{RequestId, number_for, is_session_of, entries_by}
+use Rattle.node_model.specs.Exchanges.{RequestId, number_for, is_session_of, entries_by}
 use Rattle.node_model.specs.Outcomes.{Done, done_of}
 use Rattle.node_model.specs.Right.{IsStatement, ends, AreStatements}
 use Rattle.node_model.specs.Letters.{Statement}
-use Rattle.node_model.specs.Serving.{seen_before, entry_for, Serves, serves_no_more, serves_again, serves_new, ends_again, ends_new}
+use Rattle.node_model.specs.Service.{seen_before, entry_for, Serves, serves_no_more, serves_again, serves_new, ends_again, ends_new}
 use Rattle.node_model.specs.RouterRows.{statements_from}
-use Rattle.node_laws.proofs.Lists.{all_weaken, all_append, all_at, all_behind, in_cons, in_none}
+use Rattle.node_laws.proofs.Lists.{all_behind}
 use Rattle.node_laws.proofs.Growth.{entries_by_longer}
 use Rattle.node_laws.proofs.SeenStatements.{seen_found, unseen_new, own_session, entry_by, all_by}
 

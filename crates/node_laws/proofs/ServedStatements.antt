@@ -3,13 +3,13 @@ use Rattle.std.proofs.Common.{◌≡◌, ◌≢◌, ◌⊎◌, inl, inr, ℕ, �
 use Rattle.std.proofs.Common.{Bool}
 use Rattle.std.specs.Prelude.{Some, None, true}
 use Rattle.std.specs.List.{AllByRecursion}
+use Rattle.history_model.proofs.Lists.{all_weaken, all_append, all_at, in_first, in_later, in_back, in_prefix}
 use Rattle.node_model.specs.History.{StatementNumber, Entry, IsIn, IsBefore, IsSameStatement, Follows, LegalAfter, Legal}
-use Rattle.node_model.specs.Asked.{RequestId, is_session_of, entries_by}
+use Rattle.node_model.specs.Exchanges.{RequestId, is_session_of, entries_by}
 use Rattle.node_model.specs.Outcomes.{Done, done_of}
 use Rattle.node_model.specs.Letters.{Statement}
-use Rattle.node_model.specs.Serving.{seen_before, entry_for, Serves, serves_no_more, serves_again, serves_new, ends_again, ends_new, Repeats}
-use Rattle.node_model.specs.Serving.{repeats_no_more, repeats, ends_repeat}
-use Rattle.node_laws.proofs.Lists.{all_weaken, all_append, all_at, in_first, in_later, in_front, in_back}
+use Rattle.node_model.specs.Service.{seen_before, entry_for, Serves, serves_no_more, serves_again, serves_new, ends_again, ends_new, Repeats}
+use Rattle.node_model.specs.Service.{repeats_no_more, repeats, ends_repeat}
 use Rattle.node_laws.proofs.SeenStatements.{seen_found, unseen_new, entry_by}
 
 -- the entries are not above a time
@@ -149,7 +149,7 @@ told_again : (id : RequestId) (entries more : List Entry) (time last : ℕ) (s :
 told_again id entries more time last s e seen own past le =
     let f = seen_found s.number entries e seen in
     let early : e.time ≤ time = all_at (λ (d : Entry). d.time ≤ time) e entries past f.stands in
-    told_entry id (entries ++ more) last e (in_front e entries more f.stands) (ap (λ (n : StatementNumber). is_session_of id n.session) f.numbered ∙ own)
+    told_entry id (entries ++ more) last e (in_prefix e entries more f.stands) (ap (λ (n : StatementNumber). is_session_of id n.session) f.numbered ∙ own)
     (omega arith)
 
 pub serves_told : (id : RequestId) (shard : ℕ) (namespace : List ℕ) (ordered : Bool) (entries : List Entry) (time : ℕ) (statements : List Statement)

@@ -2,17 +2,18 @@
 use Rattle.std.proofs.Common.{◌≡◌, ℕ, ◌≤◌, List, [], ◌∷◌, ◌++◌, sym, ap, subst, ◌∙◌, arith, append-nil, Bool}
 use Rattle.std.specs.Prelude.{Some, true, not, max, filter}
 use Rattle.std.specs.List.{AllByRecursion, slice_get}
+use Rattle.history_model.proofs.Lists.{all_weaken, all_append}
 use Rattle.node_model.specs.Tree.{Fields}
 use Rattle.node_model.specs.Times.{time_of_moment}
 use Rattle.node_model.specs.Tables.{Table, with_table}
 use Rattle.node_model.specs.Verdicts.{Sent}
-use Rattle.node_model.specs.Asked.{RequestId}
+use Rattle.node_model.specs.Exchanges.{RequestId}
 use Rattle.node_model.specs.Outcomes.{Done}
-use Rattle.node_model.specs.Kept.{Kept, kept_table, entries_kept}
+use Rattle.node_model.specs.Journal.{Kept, kept_table, entries_kept}
 use Rattle.node_model.specs.Letters.{At, Statement, Half, Body, table_told, write_ask, write_done, read_ask, half_ask, read_rows, Letter, Input}
 use Rattle.node_model.specs.Letters.{letter_input, Effect}
 use Rattle.node_model.specs.States.{Shard, shard_state}
-use Rattle.node_model.specs.Serving.{Repeats, documents_at}
+use Rattle.node_model.specs.Service.{Repeats, documents_at}
 use Rattle.node_model.specs.ShardRows.{heard, at_later, says, Ask, ask_in, wants_table, tries, asks_table, ShardRow, shard_write, shard_repeat, shard_empty}
 use Rattle.node_model.specs.ShardRows.{shard_park, shard_waits, shard_stale, shard_read, shard_rows, shard_time, shard_learn, shard_known, shard_skip}
 use Rattle.node_model.specs.ShardRows.{shard_moment, shard_opened, shard_client}
@@ -20,7 +21,7 @@ use Rattle.node_model.specs.World.{World}
 use Rattle.node_laws.proofs.Views.{View, view_of, entries_in, Later}
 use Rattle.node_laws.proofs.Facts.{IsKnownTable, IsShown, IsWriteOf, IsDoneBy, BodyFits, LetterFits, ParkedFits, HeldFits, IsMet, Good}
 use Rattle.node_laws.proofs.Owes.{InputFits, Owes}
-use Rattle.node_laws.proofs.Lists.{all_weaken, all_filtered, all_append, all_mapped}
+use Rattle.node_laws.proofs.Lists.{all_filtered, all_mapped}
 use Rattle.node_laws.proofs.Growth.{entries_longer, known_grows, met_later, met_max}
 use Rattle.node_laws.proofs.ServedStatements.{up_to_later}
 use Rattle.node_laws.proofs.ServedStatements.{repeats_told}

@@ -3,25 +3,25 @@ use Rattle.std.proofs.Common.{◌≡◌, ℕ, ◌≤◌, List, [], ◌∷◌, �
 use Rattle.std.specs.Prelude.{Option, Some, None, true, false}
 use Rattle.std.specs.List.{AllByRecursion}
 use Rattle.std.specs.Str.{bytes_eq}
+use Rattle.history_model.proofs.Lists.{all_weaken}
 use Rattle.node_model.specs.Tree.{Fields}
 use Rattle.node_model.specs.Tables.{first_shard}
 use Rattle.node_model.specs.History.{Entry, IsIn, document_at}
-use Rattle.node_model.specs.Asked.{RequestId, Asked, entries_by}
+use Rattle.node_model.specs.Exchanges.{RequestId, Asked, entries_by}
 use Rattle.node_model.specs.Outcomes.{Done}
 use Rattle.node_model.specs.Right.{found, time_read}
 use Rattle.node_model.specs.OneHistory.{IsPlaced, Given, ids_asked, ids_told, AreDifferent}
-use Rattle.node_model.specs.Kept.{Kept}
+use Rattle.node_model.specs.Journal.{Kept}
 use Rattle.node_model.specs.Letters.{Half, key_half, Body, table_ask, table_told, write_ask, write_done, read_ask, half_ask, read_rows, stale, time_ask}
 use Rattle.node_model.specs.Letters.{time_told, Letter}
 use Rattle.node_model.specs.States.{Shard, NodeState, time_of_node}
-use Rattle.node_model.specs.Serving.{documents_at, IsHalf}
+use Rattle.node_model.specs.Service.{documents_at, IsHalf}
 use Rattle.node_model.specs.ShardRows.{at_later, says, Ask, ask_in, wants_table, asks_table, asks_again}
 use Rattle.node_model.specs.World.{Held, World}
 use Rattle.node_laws.proofs.Views.{View, view_of, entries_in, creations_in, IsAbove, Later}
 use Rattle.node_laws.proofs.Facts.{IsKnownTable, IsOwned, IsReadOf, IsShown, IsDoneBy, BodyFits, LetterFits, ParkedFits, ShardFits, HeldFits, IsMet}
 use Rattle.node_laws.proofs.Facts.{SameKind, Good}
 use Rattle.node_laws.proofs.Owes.{Owes}
-use Rattle.node_laws.proofs.Lists.{all_weaken}
 use Rattle.node_laws.proofs.Growth.{known_grows, owned_grows, shown_grows, letter_grows, placed_grows}
 use Rattle.node_laws.proofs.Journals.{later_self}
 use Rattle.node_laws.proofs.ServedStatements.{up_to_later, IsTold}

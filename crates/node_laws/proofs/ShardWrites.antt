@@ -2,25 +2,26 @@
 use Rattle.std.proofs.Common.{◌≡◌, ◌⊎◌, inl, inr, ℕ, ◌<◌, ◌≤◌, List, [], ◌∷◌, ◌++◌, refl, sym, ap, subst, ◌∙◌, arith, Bool}
 use Rattle.std.specs.Prelude.{Some, true, map}
 use Rattle.std.specs.List.{AllByRecursion, slice_get}
+use Rattle.history_model.proofs.Lists.{all_weaken, all_both, all_append, all_at, in_back}
 use Rattle.node_model.specs.Tree.{Fields}
 use Rattle.node_model.specs.Tables.{first_shard}
 use Rattle.node_model.specs.History.{Entry, IsIn, Legal}
-use Rattle.node_model.specs.Asked.{RequestId, is_session_of, entries_by}
+use Rattle.node_model.specs.Exchanges.{RequestId, is_session_of, entries_by}
 use Rattle.node_model.specs.Outcomes.{Done}
 use Rattle.node_model.specs.Right.{AreStatements, told_by}
 use Rattle.node_model.specs.OneHistory.{WasSent, StandsInPart, IsPlaced}
-use Rattle.node_model.specs.Kept.{Kept, kept_entry, entries_kept}
+use Rattle.node_model.specs.Journal.{Kept, kept_entry, entries_kept}
 use Rattle.node_model.specs.Letters.{Statement, write_done, Letter}
 use Rattle.node_model.specs.States.{Shard, shard_state}
-use Rattle.node_model.specs.Serving.{Serves}
+use Rattle.node_model.specs.Service.{Serves}
 use Rattle.node_model.specs.ShardRows.{heard, says}
 use Rattle.node_model.specs.World.{Held, World, journal_at}
+use Rattle.node_model.proofs.Journals.{journal_got}
 use Rattle.node_laws.proofs.Views.{View, view_of, entries_in, creations_in, IsAbove}
 use Rattle.node_laws.proofs.Facts.{IsKnownTable, IsOwned, IsWriteOf, IsDoneBy, ParkedFits, ShardFits, IsMet, Good}
 use Rattle.node_laws.proofs.Owes.{Owes}
-use Rattle.node_laws.proofs.Lists.{all_weaken, all_both, all_append, all_mapped, all_at, in_back}
+use Rattle.node_laws.proofs.Lists.{all_mapped}
 use Rattle.node_laws.proofs.Growth.{entries_longer, known_grows, placed_grows, met_later}
-use Rattle.node_laws.proofs.Journals.{journal_got}
 use Rattle.node_laws.proofs.ServedStatements.{AreUpTo, Rises, IsTold, IsEntryOf, AreOwn, up_to_later, serves_rises, serves_legal, legal_joined}
 use Rattle.node_laws.proofs.ServedStatements.{serves_entries, serves_told}
 use Rattle.node_laws.proofs.RequestParts.{owned_placed, ask_own, request_part, parts_longer}

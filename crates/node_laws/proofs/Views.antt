@@ -3,7 +3,7 @@ use Rattle.std.proofs.Common.{◌≡◌, ℕ, zero, suc, ◌<◌, ◌≤◌, Lis
 use Rattle.std.specs.List.{AllByRecursion}
 use Rattle.node_model.specs.Catalogue.{Creation}
 use Rattle.node_model.specs.History.{Entry}
-use Rattle.node_model.specs.Kept.{Kept, kept_table, kept_entry, kept_creation, kept_life, kept_block, entries_kept, creations_kept}
+use Rattle.node_model.specs.Journal.{Kept, kept_table, kept_entry, kept_creation, kept_life, kept_block, entries_kept, creations_kept}
 use Rattle.node_model.specs.States.{time_of_node}
 use Rattle.node_model.specs.World.{Held, journal_at}
 

@@ -3,7 +3,7 @@
 ghost use Rattle.std.specs.Prelude.{ℕ, List};
 ghost use Rattle.node_model.specs.Tables.{first_shard};
 ghost use Rattle.node_model.specs.OneHistory.{OneHistory};
-ghost use Rattle.node_model.specs.Kept.{creations_kept, entries_kept};
+ghost use Rattle.node_model.specs.Journal.{creations_kept, entries_kept};
 ghost use Rattle.node_model.specs.World.{Event, Run, World, journal_at, start};
 
 /// Whatever clients send, and however messages are lost, repeated and reordered: what the catalogue's and the shard's journal keep is

@@ -4,7 +4,7 @@ use Rattle.reply_model.specs.Requests.{Request}
 use Rattle.reply_model.specs.Times.{time_of_moment}
 use Rattle.reply_model.specs.Catalogue.{Creation}
 use Rattle.reply_model.specs.Tables.{Table, first_table, table_of}
-use Rattle.node_model.specs.Kept.{kept_creation}
+use Rattle.node_model.specs.Journal.{kept_creation}
 use Rattle.node_model.specs.Letters.{At, Body, table_ask, table_told, write_ask, write_done, read_ask, half_ask, read_rows, stale, time_ask, time_told, Letter, Input, client_input, letter_input, moment_input, opened_input, Effect, nothing, sends, writes}
 use Rattle.node_model.specs.States.{Catalogue}
 

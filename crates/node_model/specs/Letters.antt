@@ -7,9 +7,9 @@ use Rattle.reply_model.specs.History.{StatementNumber, Operation}
 use Rattle.reply_model.specs.Tables.{Table}
 use Rattle.reply_model.specs.Versions.{Version}
 use Rattle.reply_model.specs.Verdicts.{Sent}
-use Rattle.reply_model.specs.Asked.{RequestId}
+use Rattle.reply_model.specs.Exchanges.{RequestId}
 use Rattle.reply_model.specs.Outcomes.{Done}
-use Rattle.node_model.specs.Kept.{Kept}
+use Rattle.node_model.specs.Journal.{Kept}
 
 -- for which time a table is asked: for none, or for a read at this one
 pub data At : Type 0 where

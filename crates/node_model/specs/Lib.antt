@@ -1,7 +1,7 @@
-pub mod Kept
+pub mod Journal
 pub mod Letters
 pub mod States
-pub mod Serving
+pub mod Service
 pub mod CatalogueRows
 pub mod ShardRows
 pub mod RouterRows
@@ -9,7 +9,7 @@ pub mod Steps
 pub mod World
 pub mod Schedule
 pub use Rattle.reply_model.specs.Answers
-pub use Rattle.reply_model.specs.Asked
+pub use Rattle.reply_model.specs.Exchanges
 pub use Rattle.reply_model.specs.Catalogue
 pub use Rattle.reply_model.specs.Command
 pub use Rattle.reply_model.specs.Errors
@@ -30,4 +30,4 @@ pub use Rattle.reply_model.specs.Tree
 pub use Rattle.reply_model.specs.Verdicts
 pub use Rattle.reply_model.specs.Versions
 pub use Rattle.record_model.specs.Records
-pub use Rattle.record_model.specs.Spelled
+pub use Rattle.record_model.specs.RecordFormat

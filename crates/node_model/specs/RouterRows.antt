@@ -14,10 +14,10 @@ use Rattle.reply_model.specs.History.{Operation, insert_operation, key_written}
 use Rattle.reply_model.specs.Tables.{Table, first_shard, table_of, with_table, owner_now, owner_at}
 use Rattle.reply_model.specs.Verdicts.{sent_by}
 use Rattle.reply_model.specs.Versions.{Version}
-use Rattle.reply_model.specs.Asked.{RequestId, same_request, number_for}
+use Rattle.reply_model.specs.Exchanges.{RequestId, same_request, number_for}
 use Rattle.reply_model.specs.Outcomes.{Done, answer_of}
 use Rattle.reply_model.specs.Right.{ends}
-use Rattle.node_model.specs.Kept.{kept_life}
+use Rattle.node_model.specs.Journal.{kept_life}
 use Rattle.node_model.specs.Letters.{At, no_time, at_time, Statement, Half, key_half, Body, table_ask, table_told, write_ask, write_done, read_ask, half_ask, read_rows, stale, time_ask, time_told, Letter, Input, client_input, letter_input, moment_input, opened_input, Taken, Reply, Effect, nothing, sends, writes}
 use Rattle.node_model.specs.States.{Work, writing, reading, Wait, for_time, for_table, for_shards, Open, Router, open_with, without, replaced}
 

@@ -9,12 +9,12 @@ use Rattle.reply_model.specs.History.{Entry}
 use Rattle.reply_model.specs.Versions.{Version}
 use Rattle.reply_model.specs.Tables.{Table, table_of, with_table, is_longer}
 use Rattle.reply_model.specs.Verdicts.{Sent, Verdict, fits, shard_is_old, router_is_old, verdict_of}
-use Rattle.reply_model.specs.Asked.{RequestId, same_request}
+use Rattle.reply_model.specs.Exchanges.{RequestId, same_request}
 use Rattle.reply_model.specs.Outcomes.{Done}
-use Rattle.node_model.specs.Kept.{Kept, kept_table, kept_entry}
+use Rattle.node_model.specs.Journal.{Kept, kept_table, kept_entry}
 use Rattle.node_model.specs.Letters.{At, no_time, Statement, Half, Body, table_ask, table_told, write_ask, write_done, read_ask, half_ask, read_rows, stale, time_ask, time_told, Letter, Input, client_input, letter_input, moment_input, opened_input, Effect, nothing, sends, writes}
 use Rattle.node_model.specs.States.{Shard}
-use Rattle.node_model.specs.Serving.{seen_before, Serves, Repeats, documents_at, IsHalf}
+use Rattle.node_model.specs.Service.{seen_before, Serves, Repeats, documents_at, IsHalf}
 
 abbrev pub heard : Shard → Letter → ℕ
 heard s m = max s.time m.time

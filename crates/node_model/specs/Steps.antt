@@ -2,7 +2,7 @@
 -- another node has no effect.
 use Rattle.std.specs.Prelude.{◌≡◌, ◌≢◌, ℕ, [], ◌∷◌, false}
 use Rattle.node_model.specs.Letters.{Letter, Input, client_input, letter_input, moment_input, opened_input, Effect, nothing, writes, both}
-use Rattle.node_model.specs.Kept.{kept_life}
+use Rattle.node_model.specs.Journal.{kept_life}
 use Rattle.node_model.specs.States.{Catalogue, Shard, Router, NodeState, catalogue_state, shard_state, router_state}
 use Rattle.node_model.specs.CatalogueRows.{CatalogueRow}
 use Rattle.node_model.specs.ShardRows.{ShardRow}

@@ -9,7 +9,7 @@ use Rattle.node_model.specs.Catalogue.{Creation}
 use Rattle.node_model.specs.Tables.{Table, first_table, first_shard, table_of, owner_now, owner_at}
 use Rattle.node_model.specs.Verdicts.{sent_by}
 use Rattle.node_model.specs.History.{insert_operation, key_written}
-use Rattle.node_model.specs.Asked.{RequestId, number_for}
+use Rattle.node_model.specs.Exchanges.{RequestId, number_for}
 use Rattle.node_model.specs.Outcomes.{Done}
 use Rattle.node_model.specs.Right.{ends}
 use Rattle.node_model.specs.Letters.{no_time, at_time, Statement, Half, key_half, write_ask, read_ask, time_ask, Letter}

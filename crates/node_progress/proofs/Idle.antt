@@ -2,7 +2,8 @@
 use Rattle.std.proofs.Common.{◌≡◌, ℕ, zero, suc, ◌+◌, List, [], ◌∷◌, ◌++◌, length, refl, sym, ap, subst, ◌∙◌, append-nil}
 use Rattle.std.specs.Prelude.{Some, max}
 use Rattle.std.specs.List.{AllByRecursion, slice_get, slice_set, flat_map}
-use Rattle.node_model.specs.Asked.{Asked, Answered}
+use Rattle.history_model.proofs.Lists.{all_weaken}
+use Rattle.node_model.specs.Exchanges.{Asked, Answered}
 use Rattle.node_model.specs.Letters.{Input, moment_input, opened_input, Effect}
 use Rattle.node_model.specs.States.{NodeState}
 use Rattle.node_model.specs.CatalogueRows.{catalogue_moment, catalogue_opened}
@@ -11,9 +12,8 @@ use Rattle.node_model.specs.RouterRows.{asks_again, router_moment, router_begin,
 use Rattle.node_model.specs.Steps.{Step, catalogue_step, shard_step, router_step, begin_step}
 use Rattle.node_model.specs.Times.{time_of_moment}
 use Rattle.node_model.specs.World.{Held, World, asked_by, answered_by, after, is_given, tick, Moves, Event, client_event, deliver_event, moment_event, opened_event, Happens, comes, delivers, passes, begins as was_opened, Run, stands, goes, routers_from, start}
-use Rattle.node_laws.proofs.Lists.{all_weaken}
 use Rattle.node_laws.proofs.Others.{told_more}
-use Rattle.node_progress.specs.Answered.{IsQuiet, IsAnswered}
+use Rattle.node_progress.specs.Completion.{IsQuiet, IsAnswered}
 
 -- nothing is under way: all messages before the place were delivered, and there are no others
 pub record Idle (w : World) (next : ℕ) : Type 0 where

@@ -3,22 +3,23 @@ use Rattle.std.proofs.Common.{◌≡◌, ◌⊎◌, inl, inr, ℕ, zero, suc, �
 use Rattle.std.specs.Prelude.{Ok}
 use Rattle.std.specs.List.{AllByRecursion}
 use Rattle.std.proofs.lemmas.Option.{slice_get_within}
+use Rattle.history_model.proofs.Lists.{all_at, in_first, in_later, in_cons, in_none, in_prefix}
 use Rattle.node_model.specs.Insert.{Insert}
 use Rattle.node_model.specs.Command.{insert_command, command_of}
 use Rattle.node_model.specs.Tables.{first_shard}
 use Rattle.node_model.specs.History.{Entry, IsIn}
-use Rattle.node_model.specs.Asked.{RequestId, Asked, Answered}
+use Rattle.node_model.specs.Exchanges.{RequestId, Asked, Answered}
 use Rattle.node_model.specs.Right.{IsWhole, IsRight, right_insert, right_find, right_ahead, right_hello, right_legacy, right_ping, right_end_sessions, right_refusal}
 use Rattle.node_model.specs.OneHistory.{IsRightOf, ids_told}
-use Rattle.node_model.specs.Kept.{entries_kept}
+use Rattle.node_model.specs.Journal.{entries_kept}
 use Rattle.node_model.specs.World.{World, asked_by, answered_by, Moves, Event, client_event, deliver_event, Happens, comes, delivers, passes, begins as was_opened, Run, stands, goes, start, journal_at}
 use Rattle.node_model.specs.Letters.{Input}
 use Rattle.node_model.specs.Schedule.{openings, moments_given, Delivers, delivers_none, delivers_next, Round, IsRound, Pipes, opens, serves}
-use Rattle.node_laws.proofs.Lists.{all_at, all_within, in_first, in_front, in_later, in_cons, in_none}
+use Rattle.node_laws.proofs.Lists.{all_within}
 use Rattle.node_laws.proofs.Others.{told_more}
 use Rattle.node_model.proofs.Requests.{one_asked}
 use Rattle.node_laws.proofs.Runs.{StaysTrue, happens_keeps, run_keeps, start_good, start_moments, makes_one_history}
-use Rattle.node_progress.specs.Answered.{IsAnswered, IsServed, AreAnswered}
+use Rattle.node_progress.specs.Completion.{IsAnswered, IsServed, AreAnswered}
 use Rattle.node_progress.proofs.Idle.{Idle, IsStillEvent, run_idle, start_idle}
 use Rattle.node_progress.proofs.Stages.{Stage, delivery_keeps}
 use Rattle.node_progress.proofs.Takes.{request_stage}
@@ -120,7 +121,7 @@ record WasAnswered (w : World) (a : Asked) : Type 0 where
 move_stays : (u v : World) (at : ℕ) (i : Input) (a : Asked) → WasAnswered u a → Moves u at i v → WasAnswered v a
 move_stays u v at i a was m =
     subst (λ x. WasAnswered x a) (sym m.then)
-    (record { taken = in_front a u.asked (asked_by u.now m.f.taken) was.taken; done = told_more a.id u.answered (answered_by u.now m.f.replies) was.done })
+    (record { taken = in_prefix a u.asked (asked_by u.now m.f.taken) was.taken; done = told_more a.id u.answered (answered_by u.now m.f.replies) was.done })
 
 happens_stays : (u v : World) (e : Event) (a : Asked) → WasAnswered u a → Happens u e v → WasAnswered v a
 happens_stays _ _ _ a was (comes u v at link number request is m) = move_stays u v at _ a was m

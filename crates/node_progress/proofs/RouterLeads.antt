@@ -5,14 +5,14 @@ use Rattle.std.specs.List.{AllByRecursion, flat_map}
 use Rattle.std.specs.Str.{bytes_eq}
 use Rattle.std.proofs.lemmas.Bool.Decides.{Decides-eqb}
 use Rattle.std.proofs.lemmas.Slice.Eq.{bytes_eq-Decides}
+use Rattle.history_model.proofs.Lists.{all_at, in_cons, in_none}
 use Rattle.node_model.specs.Tables.{Table, table_of}
 use Rattle.node_model.specs.History.{IsIn}
-use Rattle.node_model.specs.Asked.{RequestId}
+use Rattle.node_model.specs.Exchanges.{RequestId}
 use Rattle.node_model.specs.Outcomes.{Done}
 use Rattle.node_model.specs.Letters.{At, Statement, Body, table_ask, table_told, write_ask, write_done, read_ask, half_ask, read_rows, stale, time_ask, time_told, Letter, letter_input, Reply, Effect, sends}
 use Rattle.node_model.specs.States.{Router, Work, writing, reading, for_time, for_table, for_shards, Open, open_with, without, replaced}
 use Rattle.node_model.specs.RouterRows.{id_of, heard, open_of, noted, with_work, going_on, asks_for, is_enough, enough_of, table_for, adopted, is_for, is_for_table, Next, stays, is_told, next_of, next_waiting, stay_in, letters_in, replies_in, reply_to, empty_answer, knows, AreNoNews, IsNoRead, IsNotAwaited, IsLate, TellsNothing, answers_now, RouterRow, router_learn, router_reach, router_ahead, router_note, router_wrote, router_read, router_late, router_skip}
-use Rattle.node_laws.proofs.Lists.{all_at, in_cons, in_none}
 use Rattle.node_laws.proofs.KnownTables.{table_found, table_there, all_adopted}
 use Rattle.node_laws.proofs.OpenRequests.{open_of_found}
 use Rattle.node_laws.proofs.SeenStatements.{own_session}

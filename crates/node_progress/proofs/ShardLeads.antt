@@ -7,11 +7,11 @@ use Rattle.node_model.specs.History.{StatementNumber, Entry}
 use Rattle.node_model.specs.Tables.{Table, first_shard, table_of}
 use Rattle.node_model.specs.Verdicts.{Sent, fits, shard_is_old, router_is_old, sent_by, verdict_of}
 use Rattle.node_model.specs.Versions.{Version}
-use Rattle.node_model.specs.Asked.{RequestId}
+use Rattle.node_model.specs.Exchanges.{RequestId}
 use Rattle.node_model.specs.Outcomes.{Done, done_of}
 use Rattle.node_model.specs.Letters.{Statement, Body, table_ask, table_told, write_ask, write_done, read_ask, half_ask, read_rows, stale, time_ask, time_told, Letter, letter_input, Effect}
 use Rattle.node_model.specs.States.{Shard, Router, Open}
-use Rattle.node_model.specs.Serving.{seen_before, Serves, serves_again, serves_new, ends_again, ends_new, Repeats, repeats, ends_repeat, documents_at}
+use Rattle.node_model.specs.Service.{seen_before, Serves, serves_again, serves_new, ends_again, ends_new, Repeats, repeats, ends_repeat, documents_at}
 use Rattle.node_model.specs.ShardRows.{Ask, is_parked, ask_in, wants_table, tries, says, heard, AsksNothing, IsNoNews, is_news, asks_table as asks_for_table, ShardRow, shard_write, shard_repeat, shard_empty, shard_park, shard_waits, shard_stale, shard_read, shard_rows, shard_time, shard_learn, shard_known, shard_skip}
 use Rattle.chunk_model.proofs.OwnTables.{own_table as table_fits}
 use Rattle.node_laws.proofs.SeenStatements.{seen_found}

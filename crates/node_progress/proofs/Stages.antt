@@ -3,29 +3,30 @@ use Rattle.std.proofs.Common.{◌≡◌, ◌≢◌, ◌⊎◌, inl, inr, ℕ, ze
 use Rattle.std.specs.Prelude.{Some}
 use Rattle.std.specs.List.{AllByRecursion, slice_get, slice_set}
 use Rattle.std.proofs.lemmas.Option.{slice_get_within}
+use Rattle.history_model.proofs.Lists.{all_weaken, all_at, in_first, in_back}
 use Rattle.node_model.specs.Catalogue.{Creation}
 use Rattle.node_model.specs.Tables.{Table, first_table, table_of}
 use Rattle.node_model.specs.History.{IsIn}
-use Rattle.node_model.specs.Asked.{Asked, Answered}
+use Rattle.node_model.specs.Exchanges.{Asked, Answered}
 use Rattle.node_model.specs.OneHistory.{ids_told}
-use Rattle.node_model.specs.Kept.{Kept, creations_kept}
+use Rattle.node_model.specs.Journal.{Kept, creations_kept}
 use Rattle.node_model.specs.Letters.{At, table_told, Letter, Input, letter_input, Reply, Effect}
 use Rattle.node_model.specs.States.{Catalogue, Shard, Router, Work, writing, reading, Open, NodeState, catalogue_state, shard_state, router_state}
 use Rattle.node_model.specs.RouterRows.{id_of, RouterRow}
 use Rattle.node_model.specs.Steps.{Step, catalogue_step, shard_step, router_step, begin_step, other_step, number_of}
 use Rattle.node_model.specs.World.{Held, World, asked_by, answered_by, after, is_given, tick, Moves, journal_at, Happens, delivers, deliver_event}
 use Rattle.command_model.proofs.Taken.{documents_with_keys}
+use Rattle.node_model.proofs.Journals.{journal_got}
 use Rattle.node_laws.proofs.Views.{View, view_of, creations_in}
 use Rattle.node_laws.proofs.Places.{EachAt, each_get, each_set}
 use Rattle.node_laws.proofs.Facts.{IsKnownTable, BodyFits, LetterFits, WorkFits, IsOpenOf, CatalogueFits, ShardFits, RouterFits, StateFits, HeldFits, IsMet, Good}
-use Rattle.node_laws.proofs.Lists.{all_weaken, all_at, in_first, in_back, map_longer}
-use Rattle.node_laws.proofs.Journals.{journal_got}
+use Rattle.node_laws.proofs.Lists.{map_longer}
 use Rattle.node_laws.proofs.KnownTables.{table_found, one_creation}
 use Rattle.node_laws.proofs.CatalogueRows.{table_missing}
 use Rattle.node_laws.proofs.Neighbours.{the_begun}
 use Rattle.node_laws.proofs.Others.{told_more}
 use Rattle.node_laws.proofs.Runs.{fits_here, get_set, got_is_in}
-use Rattle.node_progress.specs.Answered.{IsQuiet, IsAnswered}
+use Rattle.node_progress.specs.Completion.{IsQuiet, IsAnswered}
 use Rattle.node_progress.proofs.Leads.{IsGoing, Leads, Parks, Passes}
 use Rattle.node_progress.proofs.Receivers.{goes_to}
 use Rattle.node_progress.proofs.CatalogueLeads.{IsKnownThere, catalogue_leads}

@@ -2,14 +2,15 @@
 use Rattle.std.proofs.Common.{◌≡◌, ◌≢◌, ◌⊎◌, inl, inr, ℕ, ℤ, ◌+◌, List, [], ◌∷◌, ◌++◌, length, refl, sym, ap, subst, ◌∙◌, arith, append-nil, length-append, Bool}
 use Rattle.std.specs.Prelude.{Some, Result, Ok, Err}
 use Rattle.std.specs.List.{AllByRecursion, slice_get}
+use Rattle.history_model.proofs.Lists.{all_weaken, all_append, in_first, in_back}
 use Rattle.node_model.specs.Requests.{Request}
 use Rattle.node_model.specs.Refusals.{Refusal}
 use Rattle.node_model.specs.Command.{Command, hello_command, legacy_command, ping_command, end_sessions_command, insert_command, find_command, command_of}
 use Rattle.node_model.specs.Tree.{Fields}
 use Rattle.node_model.specs.History.{IsIn}
-use Rattle.node_model.specs.Asked.{RequestId, Asked, Answered}
+use Rattle.node_model.specs.Exchanges.{RequestId, Asked, Answered}
 use Rattle.node_model.specs.OneHistory.{ids_told}
-use Rattle.node_model.specs.Kept.{Kept, kept_life}
+use Rattle.node_model.specs.Journal.{Kept, kept_life}
 use Rattle.node_model.specs.Letters.{Letter, Input, client_input, Taken, Reply, Effect, writes, both}
 use Rattle.node_model.specs.States.{Router, Work, writing, Open, NodeState, catalogue_state, shard_state, router_state}
 use Rattle.node_model.specs.RouterRows.{needs, plan_of, statements_from, opened_request, taken_now, takes, id_of, begins as in_life, RouterRow, router_plain, router_take}
@@ -20,10 +21,10 @@ use Rattle.command_model.proofs.Passed.{HasKey}
 use Rattle.node_laws.proofs.Views.{view_of}
 use Rattle.node_laws.proofs.Places.{EachAt, each_set}
 use Rattle.node_laws.proofs.Facts.{RouterFits, Good}
-use Rattle.node_laws.proofs.Lists.{all_weaken, all_append, in_first, in_back, map_longer}
+use Rattle.node_laws.proofs.Lists.{map_longer}
 use Rattle.node_laws.proofs.Others.{told_more}
 use Rattle.node_laws.proofs.Runs.{fits_here, get_set}
-use Rattle.node_progress.specs.Answered.{IsQuiet, IsAnswered}
+use Rattle.node_progress.specs.Completion.{IsQuiet, IsAnswered}
 use Rattle.node_progress.proofs.Leads.{IsGoing, Leads}
 use Rattle.node_progress.proofs.Asks.{Sends, IsFirst, asks_lead, going_of}
 use Rattle.node_progress.proofs.RouterLeads.{every_found}

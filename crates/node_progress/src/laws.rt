@@ -3,10 +3,10 @@
 ghost use Rattle.std.specs.Prelude.{ℕ, List};
 ghost use Rattle.std.specs.List.{AllByRecursion};
 ghost use Rattle.node_model.specs.Tables.{first_shard};
-ghost use Rattle.node_model.specs.Kept.{entries_kept};
+ghost use Rattle.node_model.specs.Journal.{entries_kept};
 ghost use Rattle.node_model.specs.World.{Event, Run, World, journal_at, start};
 ghost use Rattle.node_model.specs.Schedule.{Pipes, Round};
-ghost use Rattle.node_progress.specs.Answered.{AreAnswered, IsAnswered, IsServed};
+ghost use Rattle.node_progress.specs.Completion.{AreAnswered, IsAnswered, IsServed};
 
 /// Where nodes are opened and requests come by the schedule of `pipe`, to any of the routers: behind each round every request that was
 /// taken is answered, every insert stands whole, also one that wants no reply, no request is open and no ask is parked.

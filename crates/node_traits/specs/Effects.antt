@@ -1,10 +1,10 @@
 -- What a step leaves and gives out.
 use Rattle.std.specs.Prelude.{◌≡◌, ◌⊎◌, ℕ, ◌+◌, ◌-◌, ◌≤◌, ◌^◌, List, [], ◌∷◌, map, if◌then◌else◌}
 use Rattle.std.specs.List.{AllByRecursion}
-use Rattle.node_model.specs.Asked.{reply_put}
-use Rattle.node_model.specs.Kept.{Kept, record_kept}
+use Rattle.node_model.specs.Exchanges.{reply_put}
+use Rattle.node_model.specs.Journal.{Kept, record_kept}
 use Rattle.node_model.specs.Letters.{Letter, Input, client_input, letter_input, moment_input, opened_input, Reply, Effect}
-use Rattle.node_model.specs.Spelled.{spelled, IsSound}
+use Rattle.node_model.specs.RecordFormat.{spelled, IsSound}
 use Rattle.node_model.specs.States.{NodeState, time_of_node}
 use Rattle.node_model.specs.Steps.{Step}
 use Rattle.node_model.specs.Times.{time_of_moment}

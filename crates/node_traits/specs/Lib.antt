@@ -2,10 +2,11 @@ pub mod Lists
 pub mod Kinds
 pub mod Calls
 pub mod Effects
-pub use Rattle.node_model.specs.Asked
+pub mod Ids
+pub use Rattle.node_model.specs.Exchanges
 pub use Rattle.node_model.specs.CatalogueRows
 pub use Rattle.node_model.specs.History
-pub use Rattle.node_model.specs.Kept
+pub use Rattle.node_model.specs.Journal
 pub use Rattle.node_model.specs.Letters
 pub use Rattle.node_model.specs.Outcomes
 pub use Rattle.node_model.specs.Requests

@@ -1,7 +1,7 @@
 -- What a router asks for by a table does not hang on what else it knows.
 use Rattle.std.proofs.Common.{◌≡◌, refl, ap, ℕ, List, [], ◌∷◌, Bool, true, false}
 use Rattle.std.specs.Prelude.{Option, Some, None}
-use Rattle.node_model.specs.Asked.{RequestId}
+use Rattle.node_model.specs.Exchanges.{RequestId}
 use Rattle.node_model.specs.Letters.{Statement, Half}
 use Rattle.node_model.specs.RouterRows.{asks_to_write, asks_to_read, asks_shards, asks_table, asks_by, id_of, unanswered}
 use Rattle.node_model.specs.States.{Router, Work, writing, reading}

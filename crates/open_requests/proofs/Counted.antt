@@ -6,7 +6,7 @@ use Rattle.std.proofs.lemmas.List.{drop-map, length-map, take_rest}
 use Rattle.std.specs.Prelude.{Option, Some, None}
 use Rattle.command_answers.specs.declared.answer.WriteError.{WriteError}
 use Rattle.command_answers.specs.Errors.{errors_meant, error_meant}
-use Rattle.node_model.specs.Asked.{RequestId}
+use Rattle.node_model.specs.Exchanges.{RequestId}
 use Rattle.node_model.specs.Errors.{ErrorCode}
 use Rattle.node_model.specs.Insert as inserts
 use Rattle.node_model.specs.Outcomes.{Done, errors_of}

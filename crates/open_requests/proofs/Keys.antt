@@ -1,17 +1,14 @@
 -- The shard that has the key that a statement writes.
 use Rattle.std.proofs.Common.{◌≡◌, refl, ap, ◌∙◌, ℕ}
-use Rattle.std.specs.Prelude.{Option, Some, None, Result, Ok}
-use Rattle.std.specs.Result.{result_ok}
+use Rattle.std.specs.Prelude.{Option, Some, None, Ok}
+use Rattle.history_model.proofs.LegalHistories.{insert_key}
 use Rattle.node_model.specs.Tree.{Datum, Fields}
-use Rattle.node_model.specs.History.{insert_operation, key_written}
+use Rattle.node_model.specs.History.{insert_operation}
 use Rattle.node_model.specs.Tables.{Table, owner_now}
-use Rattle.node_model.specs.Asked.{RequestId, number_for}
+use Rattle.node_model.specs.Exchanges.{RequestId, number_for}
 use Rattle.node_model.specs.Letters.{Statement}
 use Rattle.node_model.specs.RouterRows.{owner_of_statement}
-use Rattle.value_compare.specs.Keys.{valid_key, KeyFault}
-
-insert_key : (document : Fields) (key : Datum) → valid_key document ≡ Ok key → key_written (insert_operation document) ≡ Some key
-insert_key document key valid = rw valid (ap (λ (v : Result Datum KeyFault). result_ok v) valid)
+use Rattle.value_compare.specs.Keys.{valid_key}
 
 pub owner_by_key : (t : Table) (id : RequestId) (index : ℕ) (document : Fields) (key : Datum) (shard : ℕ) → valid_key document ≡ Ok key → owner_now t key ≡ Some shard
     → owner_of_statement t (record { number = number_for id index; operation = insert_operation document }) ≡ Some shard

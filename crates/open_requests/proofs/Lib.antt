@@ -6,4 +6,4 @@ mod Waits
 pub mod Askers
 pub mod Noted
 mod Nexts
-mod Settled
+mod Turns

@@ -3,6 +3,7 @@ use Rattle.std.proofs.Common.{◌≡◌, refl, ap, sym, subst, ◌∙◌, ℕ, L
 use Rattle.std.proofs.lemmas.Slice.Eq.{bytes_eq-Decides}
 use Rattle.std.specs.Prelude.{Option, Some, None, is_some}
 use Rattle.std.specs.Str.{bytes_eq}
+use Rattle.bson_model.proofs.Booleans.{both}
 use Rattle.node_model.specs.Letters.{At}
 use Rattle.node_model.specs.RouterRows.{Next, stays, next_of, next_waiting, next_without, enough_of, is_enough, is_for_table, with_work, asks_shards}
 use Rattle.node_model.specs.States.{Open, Router, Work, for_shards}
@@ -21,15 +22,11 @@ module _ (r : Router) (time : ℕ) (after : List Table) (namespace : List ℕ) (
   not_waiting misses =
       ap (λ (b : Bool). if b then next_waiting r time told q (enough_of (table_of q.namespace after) q.work) else stays q []) misses
 
-  both : (a b : Bool) → (a && b) ≡ true → b ≡ true
-  both true b e = e
-  both false b e = absurd (cc e)
-
   waiting : (known : Option Table) → table_of namespace after ≡ known
       → (is_for_table q.wait && bytes_eq q.namespace namespace) ≡ true → next_of r time after namespace told q ≡ next_waiting r time told q (enough_of known q.work)
   waiting known is meets =
       ap (λ (b : Bool). if b then next_waiting r time told q (enough_of (table_of q.namespace after) q.work) else stays q []) meets
-      ∙ ap (λ (n : List ℕ). next_waiting r time told q (enough_of (table_of n after) q.work)) ((bytes_eq-Decides q.namespace namespace).0 (both (is_for_table q.wait) (bytes_eq q.namespace namespace) meets))
+      ∙ ap (λ (n : List ℕ). next_waiting r time told q (enough_of (table_of n after) q.work)) ((bytes_eq-Decides q.namespace namespace).0 (both (is_for_table q.wait) (bytes_eq q.namespace namespace) meets).1)
       ∙ ap (λ (o : Option Table). next_waiting r time told q (enough_of o q.work)) is
 
   goes : (known : Option Table) → is_some (enough_of known q.work) ≡ true

@@ -3,14 +3,11 @@ use Rattle.std.proofs.Common.{◌≡◌, refl, ap, sym, ℕ, suc, ◌+◌, ◌�
 use Rattle.std.proofs.lemmas.Bool.{eqb-true, le-leb, leb-true, ltb-true, lt-ltb, lt-leb}
 use Rattle.std.specs.Prelude.{zero}
 use Rattle.std.specs.List.{remove}
+use Rattle.bson_model.proofs.Booleans.{both}
 use Rattle.node_model.specs.States.{without}
 use Rattle.open_requests.specs.declared.work.OpenRequest.{OpenRequest}
-use Rattle.open_requests.specs.Rising.{rises, place_of}
+use Rattle.open_requests.specs.Order.{rises, place_of}
 use Rattle.open_requests.specs.Works.{open_meant}
-
-pub both : (a b : Bool) → (a && b) ≡ true → (a ≡ true) × (b ≡ true)
-both true b e = (refl, e)
-both false b e = absurd (cc e)
 
 pub and : {a b : Bool} → a ≡ true → b ≡ true → (a && b) ≡ true
 and e f = rw (e, f) refl

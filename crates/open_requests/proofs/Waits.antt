@@ -3,11 +3,12 @@ use Rattle.std.proofs.Common.{◌≡◌, refl, ap, sym, subst, ◌∙◌, ℕ, s
 use Rattle.std.proofs.lemmas.Bool.{eqb-true, ltb-true}
 use Rattle.std.specs.Prelude.{Option, Some, None, zero}
 use Rattle.std.specs.List.{slice_set}
+use Rattle.bson_model.proofs.Booleans.{both}
 use Rattle.node_model.specs.States.{Open, open_with, replaced}
 use Rattle.open_requests.specs.declared.work.OpenRequest.{OpenRequest}
-use Rattle.open_requests.specs.Rising.{rises, place_of}
+use Rattle.open_requests.specs.Order.{rises, place_of}
 use Rattle.open_requests.specs.Works.{open_meant}
-use Rattle.open_requests.proofs.Places.{and, both, not_same}
+use Rattle.open_requests.proofs.Places.{and, not_same}
 
 -- one is put in the place of one with the same count
 rises_set : (least greatest : ℕ) (items : List OpenRequest) (p : OpenRequest) → rises least greatest items ≡ true → rises least greatest (slice_set items (place_of p.count items) p) ≡ true

@@ -1,9 +1,9 @@
 pub mod Works
 pub mod Askers
 pub mod Lists
-pub mod Rising
+pub mod Order
 pub mod Counts
 pub mod Nexts
-pub mod Settled
+pub mod Turns
 pub use Rattle.node_model.specs.RouterRows
 pub use Rattle.node_model.specs.States

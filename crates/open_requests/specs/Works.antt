@@ -1,10 +1,10 @@
 -- What open requests of the program are, by the definitions.
 use Rattle.std.specs.Prelude.{ℕ, List, map}
-use Rattle.node_model.specs.Asked as asked
+use Rattle.node_model.specs.Exchanges as asked
 use Rattle.node_model.specs.States as states
 use Rattle.node_model.specs.States.{writing, reading, for_time, for_table, for_shards}
 use Rattle.protocol_model.specs.Bodies.{half_meant}
-use Rattle.protocol_model.specs.Requests.{request_of}
+use Rattle.protocol_model.specs.Heads.{head_request}
 use Rattle.protocol_model.specs.Statements.{done_meant, statement_meant}
 use Rattle.open_requests.specs.declared.work.Work.{Work}
 use Rattle.open_requests.specs.declared.work.Work.TheVariants.{Writing, Reading}
@@ -28,7 +28,7 @@ open_meant router life q = record {
   count = q.count;
   link = q.link;
   number = q.number;
-  request = request_of q.request;
+  request = head_request q.head;
   namespace = q.namespace;
   wait = wait_meant q.wait;
   work = work_meant (record { router = router; life = life; count = q.count }) q.work;

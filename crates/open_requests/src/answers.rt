@@ -1,7 +1,7 @@
 //! What writes are told.
 
 ghost use Rattle.std.specs.Prelude.{◌≡◌, ◌++◌, ◌∷◌, [], IfOk, OnOk, map};
-ghost use Rattle.node_model.specs.Asked as asked;
+ghost use Rattle.node_model.specs.Exchanges as asked;
 ghost use Rattle.node_model.specs.Outcomes as outcomes;
 ghost use Rattle.node_model.specs.Right as right;
 ghost use Rattle.node_model.specs.RouterRows as rows;

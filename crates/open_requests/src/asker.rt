@@ -21,7 +21,8 @@ impl Asker {
     ghost use Rattle.std.specs.Prelude.{◌≡◌, ◌∷◌, [], IfOk, true, false};
     ghost use Rattle.node_model.specs.Letters.{no_time, at_time, table_ask};
     ghost use Rattle.node_model.specs.RouterRows as rows;
-    ghost use Rattle.protocol_model.specs.Bodies.{body_meant, id_meant};
+    ghost use Rattle.node_traits.specs.Ids.{id_meant};
+    ghost use Rattle.protocol_model.specs.Bodies.{body_meant};
     ghost use Rattle.protocol_model.specs.Messages.{letter_of};
     ghost use Rattle.open_requests.specs.Askers.{asker_meant};
 

@@ -2,7 +2,7 @@
 
 ghost use Rattle.std.specs.Prelude.{◌≡◌, ◌∷◌, [], IfOk, Some, map};
 ghost use Rattle.std.specs.Option.{option_map};
-ghost use Rattle.node_model.specs.Asked as asked;
+ghost use Rattle.node_model.specs.Exchanges as asked;
 ghost use Rattle.node_model.specs.RouterRows as rows;
 ghost use Rattle.node_model.specs.States as states;
 ghost use Rattle.protocol_model.specs.Bodies.{half_meant};

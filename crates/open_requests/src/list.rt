@@ -1,7 +1,7 @@
 //! The open requests of a router.
 
 ghost use Rattle.std.specs.Prelude.{◌≡◌, true};
-ghost use Rattle.open_requests.specs.Rising.{place_of, rises};
+ghost use Rattle.open_requests.specs.Order.{place_of, rises};
 
 use crate::tables::{Next, next_of};
 use crate::work::{OpenRequest, Wait};
@@ -32,7 +32,7 @@ impl OpenList {
     ghost use Rattle.protocol_model.specs.Bodies.{at_meant};
     ghost use Rattle.protocol_model.specs.Statements.{done_meant};
     ghost use Rattle.open_requests.specs.Lists.{has_room, opens_of, taken_of};
-    ghost use Rattle.open_requests.specs.Settled.{settled};
+    ghost use Rattle.open_requests.specs.Turns.{settled};
     ghost use Rattle.open_requests.specs.Works.{open_meant, wait_meant};
 
     /// No request was taken.

@@ -2,7 +2,7 @@
 
 ghost use Rattle.std.specs.Prelude.{◌≡◌, Some, IfOk};
 ghost use Rattle.std.specs.Option.{option_map, is_some};
-ghost use Rattle.node_model.specs.Asked as asked;
+ghost use Rattle.node_model.specs.Exchanges as asked;
 ghost use Rattle.node_model.specs.RouterRows as rows;
 ghost use Rattle.protocol_model.specs.Bodies.{half_meant};
 ghost use Rattle.protocol_model.specs.Statements.{statement_meant};

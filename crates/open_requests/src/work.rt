@@ -1,8 +1,7 @@
 //! Open requests.
 
 use cluster_base::{Namespace, Time};
-use opmsg_frames::Request;
-use protocol_model::{DoneList, Half, StatementList};
+use protocol_model::{DoneList, Half, Head, StatementList};
 
 /// What a request has to do before it is told.
 #[derive(Drop)]
@@ -41,7 +40,7 @@ pub struct OpenRequest {
     /// The number of its reply.
     pub number: i32,
     /// What came.
-    pub request: Request,
+    pub head: Head,
     /// The collection that it is of.
     pub namespace: Namespace,
     pub wait: Wait,

@@ -67,9 +67,9 @@ faulty_once (d ∷ documents) f g p q are (inr a) (inr b) = faulty_once document
 
 -- ---- the documents of sections
 
-pub both : {X : Type 0} (P : X → Type 0) (xs ys : List X) → AllByRecursion P xs → AllByRecursion P ys → AllByRecursion P (xs ++ ys)
-both P [] ys a b = b
-both P (x ∷ xs) ys a b = (a.0, both P xs ys a.1 b)
+pub all_append : {X : Type 0} (P : X → Type 0) (xs ys : List X) → AllByRecursion P xs → AllByRecursion P ys → AllByRecursion P (xs ++ ys)
+all_append P [] ys a b = b
+all_append P (x ∷ xs) ys a b = (a.0, all_append P xs ys a.1 b)
 
 pub prefixes : {X : Type 0} (P : X → Type 0) (xs ys : List X) → AllByRecursion P (xs ++ ys) → AllByRecursion P xs
 prefixes P [] ys a = tt
@@ -87,7 +87,7 @@ held_readable : (sections : List Section) (mss : List Fields) (s : List (List �
 held_readable [] mss s held = tt
 held_readable (body_section d ∷ sections) mss s (m, others, e, k, ks) = ((m, k), held_readable sections others s ks)
 held_readable (sequence_section i documents ∷ sections) mss s (m, others, e, k, ks) =
-    both IsReadable documents (documents_in sections) (are_readable documents m k) (held_readable sections mss others ks)
+    all_append IsReadable documents (documents_in sections) (are_readable documents m k) (held_readable sections mss others ks)
 
 prefix_bytes : (a b : List ℕ) → AreBytes (a ++ b) → AreBytes a
 prefix_bytes a b are = rw (take_at a b (length a) refl) at (AreBytes-take (length a) (a ++ b) are)
@@ -114,7 +114,7 @@ section_documents (sequence_section i documents ∷ sections) are =
     let size = int32 (length (sequence_bytes i documents) + 4) in
     let inner = tail_bytes 1 ((size ++ sequence_bytes i documents) ++ flat_map section_bytes sections) are in
     let content = back_bytes size (sequence_bytes i documents) (prefix_bytes (size ++ sequence_bytes i documents) (flat_map section_bytes sections) inner) in
-    both AreBytes documents (documents_in sections) (sequence_documents i documents content) (section_documents sections (back_bytes (size ++ sequence_bytes i documents) (flat_map section_bytes sections) inner))
+    all_append AreBytes documents (documents_in sections) (sequence_documents i documents content) (section_documents sections (back_bytes (size ++ sequence_bytes i documents) (flat_map section_bytes sections) inner))
 
 pub body_once : (sections : List Section) (b c : Body) → AreBytes (flat_map section_bytes sections) → HasBody sections b → HasBody sections c → b ≡ c
 body_once sections (read_body m s) (read_body n t) are a b =

@@ -7,7 +7,7 @@ use Rattle.opmsg_model.specs.Sections.{Section, body_section, sequence_section, 
 use Rattle.opmsg_model.specs.Requests.{Request, Form, msg_form, query_form, Body, read_body, faulty_body, AreKept, FirstFaulty, Hold, HasBody, IsForm, IsRequest}
 use Rattle.opmsg_model.specs.MessageSizes.{IsSmall, IsSmallBody}
 use Rattle.opmsg_frames.proofs.MessageParts.{msg_parts, query_parts}
-use Rattle.opmsg_frames.proofs.OneBody.{both, prefixes, backs}
+use Rattle.opmsg_frames.proofs.OneBody.{all_append, prefixes, backs}
 use Rattle.opmsg_frames.proofs.SmallSpellings.{kept_small}
 use Rattle.opmsg_frames.proofs.WalkOffsets.{fault_within}
 
@@ -30,7 +30,7 @@ sections_short (body_section d ∷ sections) few =
 sections_short (sequence_section i documents ∷ sections) few =
     let size = length-append (section_bytes (sequence_section i documents)) (flat_map section_bytes sections) in
     let content = length-append i (0 ∷ concat documents) in
-    both IsShort documents (documents_in sections) (documents_short documents (omega (arith, few, size, content))) (sections_short sections (omega (arith, few, size)))
+    all_append IsShort documents (documents_in sections) (documents_short documents (omega (arith, few, size, content))) (sections_short sections (omega (arith, few, size)))
 
 -- ---- what is read of short documents
 

@@ -1,6 +1,6 @@
 -- Sections with which nothing is wrong are the spelling of sections.
 use Rattle.std.proofs.Common.{◌≡◌, ◌≢◌, ℕ, zero, suc, ◌+◌, Bool, true, false, eqb, Option, Some, None, List, [], ◌∷◌, ◌++◌, length, take, drop, refl, sym, ap, ◌∙◌, arith, length-drop}
-use Rattle.std.specs.Prelude.{◌||◌, ◌&&◌, not, if◌then◌else◌}
+use Rattle.std.specs.Prelude.{◌||◌, not, if◌then◌else◌}
 use Rattle.std.specs.Int.{w32, from_le_bytes}
 use Rattle.std.specs.List.{AllByRecursion, concat, flat_map}
 use Rattle.std.specs.Option.{option_map}
@@ -17,6 +17,7 @@ use Rattle.opmsg_frames.proofs.Bytes.{number_prefix}
 use Rattle.bson_values.proofs.Leaves.{AreBytes-take, AreBytes-drop}
 use Rattle.opmsg_frames.proofs.SectionPrefixes.{behind_zero}
 use Rattle.opmsg_frames.proofs.StatedDocuments.{within}
+use Rattle.bson_model.proofs.Booleans.{both}
 
 -- the prefix of so many bytes as it states
 pub stated_prefix : (bytes : List ℕ) → has_stated bytes ≡ true → IsStated (take (number_at 0 bytes) bytes)
@@ -65,10 +66,6 @@ by_zero b bytes name false (Some x) t split e =
 pub zero_splits : (bytes name : List ℕ) → before_zero bytes ≡ Some name → Splits bytes name
 zero_splits [] name e = absurd (let q : None ≡ Some name = e in cc)
 zero_splits (b ∷ bytes) name e = by_zero b bytes name (eqb b 0) (before_zero bytes) refl (λ x q. zero_splits bytes x q) e
-
-both : (a b : Bool) → (a && b) ≡ true → (a ≡ true) × (b ≡ true)
-both true b e = (refl, e)
-both false b e = absurd (let q : false ≡ true = e in cc)
 
 -- the content of a document sequence
 abbrev Sequence : List ℕ → Type 0

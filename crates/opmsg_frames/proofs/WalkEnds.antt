@@ -1,28 +1,19 @@
 -- A document is read, or it has a first fault: a walk ends behind the document's first byte.
-use Rattle.std.proofs.Common.{◌≡◌, ℕ, ◌-◌, ◌<◌, ◌⊎◌, inl, inr, List, Result, Ok, Err, refl, subst, arith}
+use Rattle.std.proofs.Common.{◌≡◌, ℕ, ◌-◌, ◌⊎◌, inl, inr, List, Result, Ok, Err, refl}
 use Rattle.opmsg_model.specs.Tree.{Fields}
-use Rattle.opmsg_model.specs.Faults.{Fault, ends_at, first_step, walks_to_end, HasFirstFault}
+use Rattle.opmsg_model.specs.Faults.{Fault, HasFirstFault}
 use Rattle.bson_values.specs.declared.fault.BsonFault.{BsonFault}
 use Rattle.bson_values.specs.declared.fault.BsonFault.TheVariants.{Short, BadLength, BadType, BadText, BadBool, Deep, Trailing, Memory}
 use Rattle.bson_values.specs.Readers.{whole_at}
-use Rattle.bson_values.proofs.FirstFault.{is_first}
-use Rattle.bson_values.proofs.WalkedValues.{whole_goes}
-use Rattle.bson_values.proofs.ReaderWalks.{Goes}
+use Rattle.bson_values.proofs.FirstFault.{is_first, never_memory}
 use Rattle.bson_values.proofs.Whole.{whole_takes}
 use Rattle.opmsg_model.specs.Sections.{IsStated}
 use Rattle.opmsg_model.specs.Requests.{IsReadable}
 use Rattle.opmsg_model.specs.Grammar.{AreBytes}
 use Rattle.opmsg_frames.proofs.Wholes.{is_whole}
-use Rattle.opmsg_model.proofs.WalkEnds.{ends_later}
 
 abbrev pub HasFault : List ℕ → Type 0
 HasFault bytes = (fault : Fault) × (offset : ℕ) × HasFirstFault bytes fault offset
-
-never_memory : (bytes : List ℕ) → AreBytes bytes → whole_at bytes ≡ Err Memory → ⊥
-never_memory bytes are e =
-    let goes = subst (λ (read : Result (Fields × ℕ) BsonFault). Goes bytes (first_step bytes) read (λ x. ends_at x.1)) e (whole_goes bytes are) in
-    let later : 0 < 0 = ends_later bytes 0 (goes (ends_at 0) (walks_to_end 0)) in
-    omega arith
 
 pub read_or_faulty : (bytes : List ℕ) → AreBytes bytes → IsStated bytes → IsReadable bytes ⊎ HasFault bytes
 read_or_faulty bytes are stated = by_result (whole_at bytes) refl

@@ -14,11 +14,27 @@ use bytes::BytesMut;
 use std::alloc::Global;
 use std::marker::Model;
 
+/// Where a request was given and the room was wider than this, it is let go of.
+const WIDE: usize = 1_048_576;
+
+/// Room is let go of only where no more bytes than these are left, since they are copied then.
+const FEW: usize = 65_536;
+
 /// The bytes of a connection that are not yet given out as requests, and the offset of the first of them.
+///
+/// Once a request was given and at most 65,536 bytes are left, the framer holds no block in which it ever had more than
+/// 1,048,576 bytes, those left and spare ones together: what is left is copied into a block of its size, and the wide one
+/// goes with the last request that came in it. (The block itself may be a few times as large: what was given before also
+/// stands in it, and it grows by doubling.) So at most 65,536 bytes are copied for more than 900,000 for which room was
+/// made. Where there is no memory for the copy, the wide block stays. No contract says any of this, but that `let_go`
+/// changes nothing else.
 #[derive(Drop)]
 pub struct Framer {
     alloc: Global,
     bytes: BytesMut,
+    // The most bytes, left and spare, since `bytes` was made anew: giving a request makes them fewer, but the block beneath
+    // stays whole.
+    widest: usize,
     offset: u64,
     // The fault that was told.
     fault: Option<Malformed>,
@@ -48,6 +64,7 @@ impl Framer {
         Framer {
             alloc,
             bytes: BytesMut::new(alloc),
+            widest: 0,
             offset: 0,
             fault: None,
         }
@@ -61,6 +78,7 @@ impl Framer {
         ensures fault { self.new.fault ≡ self.old.fault }
     {
         self.bytes.reserve(count)?;
+        self.widest = self.widest.max(self.bytes.capacity());
         Ok(())
     }
 
@@ -76,6 +94,7 @@ impl Framer {
             return Err(Memory);
         }
         self.bytes.extend_from_slice(piece)?;
+        self.widest = self.widest.max(self.bytes.capacity());
         Ok(())
     }
 
@@ -127,6 +146,22 @@ impl Framer {
             return Err(FrameFault::Memory);
         };
         self.offset += count as u64;
+        self.let_go();
         Ok(Some(content.with_bytes(bytes)))
+    }
+
+    /// Lets go of a wide block where few bytes are left. Where there is no memory for their copy, nothing changes.
+    fn let_go(&mut self)
+        ensures bytes { self.new.bytes ≡ self.old.bytes }
+        ensures offset { self.new.offset ≡ self.old.offset }
+        ensures fault { self.new.fault ≡ self.old.fault }
+    {
+        if self.widest <= WIDE || self.bytes.len() > FEW {
+            return;
+        }
+        if let Ok(bytes) = BytesMut::copy_from_slice(self.alloc, self.bytes.as_slice()) {
+            self.widest = bytes.capacity();
+            self.bytes = bytes;
+        }
     }
 }

@@ -51,6 +51,13 @@ impl DocList {
     {
         self.documents.as_slice()
     }
+
+    /// The documents, in order. The row is taken apart, and nothing is copied.
+    pub fn into_documents(self) -> Vec<Document>
+        ensures { result.items ≡ self }
+    {
+        self.documents
+    }
 }
 
 /// A document sequence: its identifier and its documents (MongoDB Wire Protocol, "OP_MSG", Kind 1).
@@ -106,5 +113,12 @@ impl SequenceList {
         ensures { pairs_of result.now ≡ self.now }
     {
         self.sequences.as_slice()
+    }
+
+    /// The sequences, in order. The row is taken apart, and nothing is copied.
+    pub fn into_sequences(self) -> Vec<Sequence>
+        ensures { pairs_of result.items ≡ self }
+    {
+        self.sequences
     }
 }

@@ -10,7 +10,7 @@ ghost use Rattle.opmsg_model.specs.Requests.{msg_form, query_form};
 ghost use Rattle.opmsg_frames.specs.RequestMeanings.{form_meant};
 ghost use Rattle.opmsg_model.specs.Limits.{most_bytes_written, most_depth_written};
 
-use crate::request::{Form, Request};
+use crate::request::Form;
 use bson_values::{Document, Memory, write};
 use byteorder::{ByteOrder, LittleEndian};
 
@@ -106,7 +106,8 @@ fn put_head(form: Form, id: i32, number: i32, size: u32, out: &mut Vec<u8>) -> R
 
 /// Puts a reply. An `Err` may leave a part of it.
 fn put_reply(
-    request: &Request,
+    form: Form,
+    id: i32,
     number: i32,
     doc: &Document,
     out: &mut Vec<u8>,
@@ -114,11 +115,11 @@ fn put_reply(
     requires depth { document_depth doc.now ≤ most_depth_written }
     requires size { length (written doc.now) ≤ most_bytes_written }
     ensures ok { OnOk result (out.new.items
-        ≡ out.old.items ++ reply_bytes (form_meant request.now.form) request.now.id number doc.now) }
+        ≡ out.old.items ++ reply_bytes (form_meant form) id number doc.now) }
     ensures kept { take (length out.old.items) out.new.items ≡ out.old.items }
 {
     let size = doc.size() as u32;
-    put_head(request.form, request.id, number, size, out)?;
+    put_head(form, id, number, size, out)?;
     write(doc, out)
 }
 
@@ -126,7 +127,8 @@ fn put_reply(
 /// Wire Protocol). The document has at most 104 levels and its spelling at most 300,000,000 bytes. Fails for want of
 /// memory, and then leaves the bytes as they were.
 pub fn write_reply(
-    request: &Request,
+    form: Form,
+    id: i32,
     number: i32,
     doc: &Document,
     out: &mut Vec<u8>,
@@ -134,11 +136,11 @@ pub fn write_reply(
     requires depth { document_depth doc.now ≤ most_depth_written }
     requires size { length (written doc.now) ≤ most_bytes_written }
     ensures ok { OnOk result (out.new.items
-        ≡ out.old.items ++ reply_bytes (form_meant request.now.form) request.now.id number doc.now) }
+        ≡ out.old.items ++ reply_bytes (form_meant form) id number doc.now) }
     ensures err { OnErr result (out.new.items ≡ out.old.items) }
 {
     let len = out.len();
-    let done = put_reply(request, number, doc, out);
+    let done = put_reply(form, id, number, doc, out);
     if done.is_err() {
         out.truncate(len);
     }

@@ -6,8 +6,8 @@
 pub mod clock;
 pub mod disk;
 pub mod examples;
+pub mod exchange;
 pub mod gate;
 pub mod log;
-pub mod spoken;
 pub mod standard;
 pub mod streams;

@@ -1,7 +1,7 @@
 -- How a connection ends.
 use Rattle.std.specs.Prelude.{◌≡◌, ◌≢◌, ℕ, ◌+◌, ◌<◌, ◌≤◌, Option, Some, None, Bool, IsTrue, List, [], ◌∷◌, ◌++◌, length}
 use Rattle.std.proofs.Common.{inl, inr, refl, ap, sym, ◌∙◌, subst, arith, append_assoc, append-nil, length-append}
-use Rattle.outside.specs.Streams.{Took, Put}
+use Rattle.outside.specs.Streams.{Took}
 use Rattle.outside.specs.Devices.{SourceCall, SinkCall}
 use Rattle.outside.proofs.Relations.{took_then}
 use Rattle.opmsg_frames.specs.Requests.{Request}
@@ -13,14 +13,14 @@ use Rattle.node_progress.proofs.Rounds.{piped_requests_are_answered}
 use Rattle.driver_steps.specs.Seats.{SeatView, AreKept, LeaveKept}
 use Rattle.driver_steps.specs.Worlds.{PostView, puts_given}
 use Rattle.driver_steps.proofs.Seats.{held_kept}
-use Rattle.pipe_driver.specs.Buffers.{EndsTaking, at_source_end, at_read_fault, at_no_room}
+use Rattle.pipe_driver.specs.Buffers.{EndsTaking, at_source_end, at_read_fault}
 use Rattle.pipe_driver.specs.Endings.{AllServed, SomeServed, LastCutShort, Cause, input_ended, read_failed, write_failed, disk_failed, no_memory, no_request}
 use Rattle.pipe_driver.specs.Endings.{too_long, IsPiped}
 use Rattle.pipe_driver.specs.Progress.{AreAsked, Serving, CutShort, PutShort}
 use Rattle.pipe_driver.specs.Rest.{Unframed}
-use Rattle.pipe_driver.specs.Rounds.{requests_of, AreOfOne, bytes_of}
+use Rattle.pipe_driver.specs.Rounds.{requests_of, bytes_of}
 use Rattle.pipe_driver.specs.Schedules.{Came, IsLast}
-use Rattle.pipe_driver.specs.Stops.{HasServedAll, IsMalformed, StopsServing, at_write_fault, at_disk_fault, at_no_memory}
+use Rattle.pipe_driver.specs.Stops.{IsMalformed, StopsServing, at_write_fault, at_disk_fault, at_no_memory}
 use Rattle.pipe_driver.specs.declared.status.Status.{Status}
 use Rattle.pipe_driver.specs.declared.status.Status.TheVariants as statuses
 use Rattle.pipe_driver.proofs.Frames.{bytes_of as bytes_asked, frames_behind}
@@ -258,8 +258,6 @@ module _ {S : Type 0} (view : S → SeatView) (seats : List S) (source : SourceC
   ended_taking post replied told is at_read_fault s took below partial counted =
       ended post replied statuses.ReadFailed None is s took (omega (arith, below, length-append consumed rest)) (ends _ rest partial) counted
       (λ put requests all. read_failed below refl all)
-  ended_taking post replied told is at_no_room s took below partial counted =
-      ended_full post replied is s took (omega (arith, below, length-append consumed rest)) partial counted
 
   -- what begins with no request is all that is left
   malformed_frames : (place : ℕ) (bytes : List ℕ) (requests : List Request) (left : List ℕ) (fault : Option (FrameFault × ℕ)) (known : FrameFault)
@@ -293,7 +291,6 @@ pub taking_stops : (tells : Bool) (left : List ℕ) (status : Status) → EndsTa
     → (status ≢ statuses.WriteFailed) × (status ≢ statuses.DiskFailed)
 taking_stops tells left status (at_source_end at_end) = (λ e. cc, λ e. cc)
 taking_stops tells left status at_read_fault = (λ e. cc, λ e. cc)
-taking_stops tells left status at_no_room = (λ e. cc, λ e. cc)
 
 -- told otherwise of what the journals keep
 pub piped_with : (source : SourceCall) (sink : SinkCall) (gives : ℕ → Type 0) (kept plain : List Held → Type 0) (leaves : World → Type 0)

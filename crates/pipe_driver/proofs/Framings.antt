@@ -1,6 +1,6 @@
 -- What a framer gives and keeps, beside the bytes that were taken.
 use Rattle.std.specs.Prelude.{◌⊎◌, Option, Some, None, Ok, Err}
-use Rattle.std.proofs.Common.{◌≡◌, ℕ, ◌+◌, inl, inr, List, [], ◌++◌, length, sym, ap, ◌∙◌, subst, append_assoc, length-append}
+use Rattle.std.proofs.Common.{◌≡◌, ℕ, ◌+◌, inl, inr, List, ◌++◌, length, sym, ap, ◌∙◌, subst, append_assoc, length-append}
 use Rattle.opmsg_frames.specs.Requests.{Request}
 use Rattle.opmsg_frames.specs.Frames.{IsFirst}
 use Rattle.opmsg_frames.specs.Outline.{FrameFault, outline, partial_outline, faulty_outline}
@@ -56,7 +56,5 @@ pub next_memory : (old new : FramerView) (answer : declared.FrameFault) → answ
 next_memory old new answer is next = (subst (λ (a : declared.FrameFault). IsNext old new (Err a)) is next).1
 
 -- all bytes that are fed, where there was room for them
-pub all_fed : (before reserved fed piece buffer cleared bytes : List ℕ) → reserved ≡ before → fed ≡ reserved ++ piece → piece ≡ buffer
-    → buffer ≡ cleared ++ bytes → cleared ≡ [] → fed ≡ before ++ bytes
-all_fed before reserved fed piece buffer cleared bytes same takes is grown none =
-    takes ∙ ap (λ (b : List ℕ). b ++ piece) same ∙ ap (λ (b : List ℕ). before ++ b) (is ∙ grown ∙ ap (λ (b : List ℕ). b ++ bytes) none)
+pub all_fed : (before reserved fed piece bytes : List ℕ) → reserved ≡ before → fed ≡ reserved ++ piece → piece ≡ bytes → fed ≡ before ++ bytes
+all_fed before reserved fed piece bytes same takes is = takes ∙ ap (λ (b : List ℕ). b ++ piece) same ∙ ap (λ (b : List ℕ). before ++ b) is

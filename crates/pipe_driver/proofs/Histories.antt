@@ -3,7 +3,7 @@ use Rattle.std.proofs.Common.{◌≡◌, ℕ, ◌+◌, List, [], ◌∷◌, ◌+
 use Rattle.std.specs.Prelude.{Option}
 use Rattle.outside.specs.Devices.{SourceCall, SinkCall}
 use Rattle.opmsg_frames.specs.Outline.{FrameFault}
-use Rattle.node_model.specs.Kept.{creations_kept, entries_kept}
+use Rattle.node_model.specs.Journal.{creations_kept, entries_kept}
 use Rattle.node_model.specs.OneHistory.{OneHistory}
 use Rattle.node_model.specs.Requests.{Request}
 use Rattle.node_model.specs.Schedule.{Round, serves}

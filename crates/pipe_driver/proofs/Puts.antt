@@ -52,7 +52,7 @@ puts_next tells held_before held held' all rest reply puts put = (
 )
 
 -- the next reply, at a place
-reply_cut : (replies : List ToLink) (i : ℕ) (reply : ToLink) → i < length replies → reply ≡ get_or replies i reply
+pub reply_cut : (replies : List ToLink) (i : ℕ) (reply : ToLink) → i < length replies → reply ≡ get_or replies i reply
     → drop i replies ≡ reply ∷ drop (i + 1) replies
 reply_cut replies i reply inside is =
     rw add-one (drop-cons replies i reply inside ∙ ap (λ (first : ToLink). first ∷ drop (suc i) replies) (sym is))

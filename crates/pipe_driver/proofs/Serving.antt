@@ -29,7 +29,7 @@ use Rattle.pipe_driver.proofs.Puts.{bytes_then}
 use Rattle.pipe_driver.proofs.Rounds.{asked_more, behind_more, one_more, requests_more}
 
 -- what the logs keep after a fault
-kept_at : {S : Type 0} (fault : StepFault) (view : S → SeatView) (seats : List S) (w : World) → AreHeldOrKept fault view seats w.nodes
+pub kept_at : {S : Type 0} (fault : StepFault) (view : S → SeatView) (seats : List S) (w : World) → AreHeldOrKept fault view seats w.nodes
     → AreKept view seats w.nodes
 kept_at (Disk faults) view seats w are = are
 kept_at Steps view seats w are = held_kept view seats w.nodes are

@@ -8,5 +8,5 @@ abbrev pub RoseWhere : Type 0 → (before after : ℕ) → Type 0
 RoseWhere failed before after = (failed → Rose before after) × (¬ failed → after ≡ before)
 
 -- one of the counts rose where this holds, and none fell; elsewhere all are as before
-abbrev pub OneRoseWhere : Type 0 → (before after : List ℕ) → Type 0
-OneRoseWhere failed before after = (failed → HaveRisen before after) × (¬ failed → after ≡ before)
+abbrev pub HaveRisenWhere : Type 0 → (before after : List ℕ) → Type 0
+HaveRisenWhere failed before after = (failed → HaveRisen before after) × (¬ failed → after ≡ before)

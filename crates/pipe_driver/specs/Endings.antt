@@ -7,7 +7,7 @@ use Rattle.opmsg_frames.specs.Frames.{Frames}
 use Rattle.node_model.specs.Requests.{Request}
 use Rattle.node_model.specs.World.{Held, World, Event}
 use Rattle.node_model.specs.Schedule.{Round, IsRound, Pipes}
-use Rattle.node_progress.specs.Answered.{AreAnswered}
+use Rattle.node_progress.specs.Completion.{AreAnswered}
 use Rattle.driver_steps.specs.Worlds.{puts_given}
 use Rattle.pipe_driver.specs.Pieces.{IsPrefix}
 use Rattle.pipe_driver.specs.Rounds.{requests_of, AreOfOne, bytes_of}

@@ -6,7 +6,7 @@ ghost use Rattle.node_model.specs.World.{start};
 ghost use Rattle.driver_steps.specs.Crashes.{Since};
 ghost use Rattle.driver_steps.specs.Seats.{AreHeld, AreKept, AreOpen, LeaveKept, faults_of, places_of, seat_since, seat_view, since_then};
 ghost use Rattle.driver_steps.specs.Worlds.{post_view};
-ghost use Rattle.pipe_driver.specs.Counts.{OneRoseWhere, RoseWhere};
+ghost use Rattle.pipe_driver.specs.Counts.{HaveRisenWhere, RoseWhere};
 ghost use Rattle.pipe_driver.specs.Endings.{IsPiped, most_taken};
 ghost use Rattle.pipe_driver.specs.Progress.{AreAskedAsRead, Serving};
 ghost use Rattle.pipe_driver.specs.Rounds.{first_router};
@@ -15,7 +15,7 @@ ghost use Rattle.pipe_driver.specs.declared.status.Status.TheVariants as statuse
 use crate::requests::answer_all;
 use crate::rest::unframed;
 use crate::status::Status;
-use crate::streams::take_more;
+use crate::streams::{PIECE, new_piece, take_more};
 use driver_steps::{Post, Seat, open_all};
 use node_traits::Node;
 use opmsg_frames::{Framer, Request};
@@ -25,9 +25,6 @@ use outside::streams::{Sink, Source};
 use std::alloc::Global;
 use std::marker::Sync;
 use std::thread::Threads;
-
-/// The most bytes that are asked of a source at once.
-const PIECE: u64 = 65_536;
 
 /// How a connection ended: its status, and how many of the bytes taken stand after the last whole request.
 #[derive(Clone, Copy, Debug, PartialEq, Eq)]
@@ -78,7 +75,7 @@ pub fn pipe<R: Threads + Sync, N: Node<Request = Request>, L: Log, S: Source, K:
     // Each fault of a device has its own status.
     ensures read_fault { RoseWhere (result.status ≡ statuses.ReadFailed) (S.fault_count input.old) (S.fault_count input.new) }
     ensures write_fault { RoseWhere (result.status ≡ statuses.WriteFailed) (K.fault_count out.old) (K.fault_count out.new) }
-    ensures disk_fault { OneRoseWhere (result.status ≡ statuses.DiskFailed) (faults_of L.fault_count seats.old.items)
+    ensures disk_fault { HaveRisenWhere (result.status ≡ statuses.DiskFailed) (faults_of L.fault_count seats.old.items)
         (faults_of L.fault_count seats.new.items) }
     ensures places { places_of L.place seats.new.items ≡ places_of L.place seats.old.items }
 {
@@ -114,40 +111,33 @@ fn serve<R: Threads + Sync, N: Node<Request = Request>, L: Log, S: Source, K: Si
     ensures len { vec_len seats.new ≡ vec_len seats.old }
     ensures read_fault { RoseWhere (result.status ≡ statuses.ReadFailed) (S.fault_count input.old) (S.fault_count input.new) }
     ensures write_fault { RoseWhere (result.status ≡ statuses.WriteFailed) (K.fault_count out.old) (K.fault_count out.new) }
-    ensures disk_fault { OneRoseWhere (result.status ≡ statuses.DiskFailed) (faults_of L.fault_count seats.old.items)
+    ensures disk_fault { HaveRisenWhere (result.status ≡ statuses.DiskFailed) (faults_of L.fault_count seats.old.items)
         (faults_of L.fault_count seats.new.items) }
     ensures places { places_of L.place seats.new.items ≡ places_of L.place seats.old.items }
 {
     let mut post = post;
     let mut framer = Framer::new(alloc);
-    let mut piece = Vec::new(alloc);
+    let Ok(mut piece) = new_piece(alloc) else {
+        return ended(Status::OutOfMemory, 0);
+    };
     let mut taken = 0;
-    let mut replied = 0;
+    let mut puts = 0;
     'pieces: while taken < limit {
-        let room = (limit - taken).min(PIECE) as usize;
+        let room = (limit - taken).min(PIECE as u64) as usize;
         // Room is made before anything is taken, so that all that was taken is fed.
         if framer.reserve(room).is_err() {
             return ended(Status::OutOfMemory, framer.rest().len());
         }
-        piece.clear();
-        match take_more(input, &mut piece, room) {
-            Ok(count) => taken += count as u64,
+        let count = match take_more(input, &mut piece, room) {
+            Ok(count) => count,
             Err(status) => return ended(status, framer.rest().len()),
-        }
-        let Ok(()) = framer.feed(&piece) else {
+        };
+        taken += count as u64;
+        let Ok(()) = framer.feed(&piece[..count]) else {
             return ended(Status::OutOfMemory, framer.rest().len());
         };
-        match answer_all(
-            rt,
-            alloc,
-            &mut framer,
-            seats,
-            &mut post,
-            replied,
-            out,
-            clock,
-        ) {
-            Ok(after) => replied = after,
+        match answer_all(rt, alloc, &mut framer, seats, &mut post, puts, out, clock) {
+            Ok(after) => puts = after,
             Err(status) => return ended(status, unframed(framer.rest())),
         }
     }

@@ -12,4 +12,4 @@ mod streams;
 pub use connection::{Ending, pipe};
 pub use replies::{next_number, replied_after};
 pub use status::Status;
-pub use streams::{put_all, take_more};
+pub use streams::{PIECE, new_piece, put_all, take_more};

@@ -8,7 +8,7 @@ ghost use Rattle.opmsg_frames.specs.RequestMeanings.{IsMeant};
 ghost use Rattle.driver_steps.specs.Crashes.{Since};
 ghost use Rattle.driver_steps.specs.Seats.{AreOpen, faults_of, places_of, seat_since};
 ghost use Rattle.driver_steps.specs.Worlds.{post_view};
-ghost use Rattle.pipe_driver.specs.Counts.{OneRoseWhere, RoseWhere};
+ghost use Rattle.pipe_driver.specs.Counts.{HaveRisenWhere, RoseWhere};
 ghost use Rattle.pipe_driver.specs.Endings.{most_taken};
 ghost use Rattle.pipe_driver.specs.Progress.{AreAskedAsRead, Serving};
 ghost use Rattle.pipe_driver.specs.Rounds.{first_router};
@@ -63,7 +63,7 @@ pub fn answer_one<R: Threads + Sync, N: Node<Request = Request>, L: Log, K: Sink
 
     // Of the devices.
     ensures write_fault { RoseWhere (result ≡ Err statuses.WriteFailed) (K.fault_count out.old) (K.fault_count out.new) }
-    ensures disk_fault { OneRoseWhere (result ≡ Err statuses.DiskFailed) (faults_of L.fault_count seats.old.items) (faults_of L.fault_count seats.new.items) }
+    ensures disk_fault { HaveRisenWhere (result ≡ Err statuses.DiskFailed) (faults_of L.fault_count seats.old.items) (faults_of L.fault_count seats.new.items) }
     ensures places { places_of L.place seats.new.items ≡ places_of L.place seats.old.items }
 {
     let more = request.more;
@@ -118,7 +118,7 @@ pub fn answer_all<R: Threads + Sync, N: Node<Request = Request>, L: Log, K: Sink
 
     // Of the devices.
     ensures write_fault { RoseWhere (result ≡ Err statuses.WriteFailed) (K.fault_count out.old) (K.fault_count out.new) }
-    ensures disk_fault { OneRoseWhere (result ≡ Err statuses.DiskFailed) (faults_of L.fault_count seats.old.items) (faults_of L.fault_count seats.new.items) }
+    ensures disk_fault { HaveRisenWhere (result ≡ Err statuses.DiskFailed) (faults_of L.fault_count seats.old.items) (faults_of L.fault_count seats.new.items) }
     ensures places { places_of L.place seats.new.items ≡ places_of L.place seats.old.items }
 {
     let mut replied = replied;

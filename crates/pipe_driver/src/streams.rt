@@ -1,15 +1,19 @@
-//! Taking from a source into a buffer, and putting a whole piece into a sink.
+//! Taking from a source into a piece, and putting a whole piece into a sink.
 
-ghost use Rattle.std.specs.Prelude.{◌≡◌, ◌+◌, ◌<◌, ◌≤◌, ◌^◌, OnOk, OnErr, Err, vec_len};
+ghost use Rattle.std.specs.Prelude.{◌≡◌, ◌<◌, ◌≤◌, IfOk, OnOk, OnErr, Err, vec_len};
 ghost use Rattle.outside.specs.Causes.{Rose};
 ghost use Rattle.outside.specs.Streams.{Put};
-ghost use Rattle.pipe_driver.specs.Buffers.{AfterTaking};
+ghost use Rattle.pipe_driver.specs.Buffers.{AfterTaking, piece_room};
 ghost use Rattle.pipe_driver.specs.Counts.{RoseWhere};
 ghost use Rattle.pipe_driver.specs.Pieces.{PutInPart};
 ghost use Rattle.pipe_driver.specs.declared.status.Status.TheVariants as statuses;
 
 use crate::status::Status;
 use outside::streams::{Failed, Sink, Source};
+use std::alloc::{AllocError, Global};
+
+/// The most bytes that are asked of a source at once.
+pub const PIECE: usize = 65_536;
 
 /// Puts the whole piece; what is taken in part is put on from where it stopped. Fails where the sink does, after a prefix
 /// of the piece.
@@ -27,32 +31,35 @@ pub fn put_all<K: Sink>(out: &mut K, piece: &[u8]) -> Result<(), Failed>
     Ok(())
 }
 
-/// Takes at most `room` bytes behind those of the buffer, for which it makes room before anything is taken, and gives their
-/// number.
+/// A piece that bytes are taken into, again and again: it is made once, and has room for `PIECE` bytes. Fails for want of memory.
+pub fn new_piece(alloc: Global) -> Result<Vec<u8>, AllocError>
+    ensures { IfOk result (λ piece. vec_len piece ≡ piece_room) }
+{
+    vec![in alloc; 0; PIECE]
+}
+
+/// Takes at most `room` bytes into the front of the piece, and gives their number. What stood in the piece is written over, and what stands
+/// behind these bytes says nothing.
 ///
 /// # Errors
 /// Nothing was taken then.
 /// - `Status::InputEnded` if the source is at its end.
 /// - `Status::ReadFailed` if the source met a fault, which is counted.
-/// - `Status::OutOfMemory` if there was no room for more.
 pub fn take_more<S: Source>(
     input: &mut S,
-    buffer: &mut Vec<u8>,
+    piece: &mut Vec<u8>,
     room: usize,
 ) -> Result<usize, Status>
     requires some { 0 < room }
-    requires fits { vec_len buffer.old + room < 2 ^ 64 }
-    ensures taken { AfterTaking result room buffer.old.items buffer.new.items S.tells (S.left input.old) (S.left input.new) }
+    requires fits { room ≤ vec_len piece.old }
+    ensures taken { AfterTaking result piece.new.items S.tells (S.left input.old) (S.left input.new) }
+    ensures most { IfOk result (λ count. count ≤ room) }
+    ensures len { vec_len piece.new ≡ vec_len piece.old }
     ensures fault { RoseWhere (result ≡ Err statuses.ReadFailed) (S.fault_count input.old) (S.fault_count input.new) }
     ensures later { S.fault_count input.old ≤ S.fault_count input.new }
 {
-    let held = buffer.len();
-    if buffer.resize(held + room, 0).is_err() {
-        return Err(Status::OutOfMemory);
-    }
-    let count = input.take(&mut buffer[held..]);
-    buffer.truncate(held + count.unwrap_or(0));
-    match count {
+    let (front, _) = piece.split_at_mut(room);
+    match input.take(front) {
         Ok(count) if count > 0 => Ok(count),
         Ok(_) => Err(Status::InputEnded),
         Err(Failed) => Err(Status::ReadFailed),

@@ -7,6 +7,7 @@ use Rattle.bson_model.specs.Tree.{Datum, document_value, array_value, Items, no_
 use Rattle.query_model.specs.Paths.{Path, elements, as_document}
 use Rattle.pipeline_model.specs.Operands.{items_of, value_from, value_at}
 use Rattle.pipeline_model.specs.Projections.{Treatment, include_it, exclude_it, compute_it, NameRule, Projection, fields_named, with_computed, computed_value, computed_fields, stays, project}
+use Rattle.query_model.proofs.Levels.{some_depth}
 
 -- a value, if there is one, is within so many levels
 abbrev pub IsWithin : ℕ → Option Datum → Type 0
@@ -17,10 +18,6 @@ IsWithin n (Some d) = value_depth d ≤ n
 abbrev pub IsInside : ℕ → Option Datum → Type 0
 IsInside n None = Unit {0}
 IsInside n (Some d) = suc (value_depth d) ≤ n
-
-pub some_level : (ms : Fields) → 1 ≤ document_depth ms
-some_level no_fields = omega arith
-some_level (field name d ms) = omega (arith, some_level ms)
 
 array_level : (ds : Items) → 1 ≤ array_depth ds
 array_level no_items = omega arith
@@ -102,7 +99,7 @@ with_within rule n None ms h k = k
 with_within rule n (Some d) ms h k = omega arith
 
 computed_within : (rules : Projection) (document : Fields) → document_depth (computed_fields rules document) ≤ document_depth document
-computed_within [] document = some_level document
+computed_within [] document = some_depth document
 computed_within (rule ∷ rules) document =
     with_within rule (document_depth document) (computed_value rule.treatment document) (computed_fields rules document)
     (computed_inside rule.treatment document) (computed_within rules document)

@@ -15,16 +15,13 @@ use Rattle.pipeline_model.specs.GroupSpecs.{Accumulator, sum_accumulator, count_
 use Rattle.pipeline_model.specs.Groups.{Cell, sum_cell, count_cell, extreme_cell, total, all_narrow, count_of, values_in, IsExtreme, IsCell, first_of, behind_first, AreCells}
 use Rattle.pipeline_model.proofs.EachElement.{every_append, every_left, every_right, every_implies}
 use Rattle.pipeline_model.proofs.SortOrder.{directed_total, below_chain}
+use Rattle.bson_model.proofs.Booleans.{and_assoc}
 
 pub total_append : (xs ys : List Cell) → total (xs ++ ys) ≡ total xs +ℤ total ys
 total_append [] ys = sym (+ℤ_idl (total ys))
 total_append (sum_cell z narrow ∷ xs) ys = ap (λ t. z +ℤ t) (total_append xs ys) ∙ sym (+ℤ_assoc z (total xs) (total ys))
 total_append (count_cell n ∷ xs) ys = total_append xs ys
 total_append (extreme_cell d ∷ xs) ys = total_append xs ys
-
-and_assoc : (a b c : Bool) → (a && (b && c)) ≡ ((a && b) && c)
-and_assoc true b c = refl
-and_assoc false b c = refl
 
 pub narrow_append : (xs ys : List Cell) → all_narrow (xs ++ ys) ≡ (all_narrow xs && all_narrow ys)
 narrow_append [] ys = refl

@@ -12,6 +12,7 @@ use Rattle.pipeline_model.specs.Groups.{Cell, PartialRow, AreCells, has_key, row
 use Rattle.pipeline_model.proofs.Absorbed.{absorb_row, empty_row, empty_row_is, row_absorbed}
 use Rattle.pipeline_model.proofs.EachElement.{every_append, every_left, every_right, every_implies}
 use Rattle.pipeline_model.proofs.JoinedRows.{none_had}
+use Rattle.bson_model.proofs.Booleans.{neither}
 
 abbrev columns : List PartialRow → List (List Cell)
 columns rows = map (λ r. r.cells) rows
@@ -57,10 +58,6 @@ or_true : (b c : Bool) → c ≡ true → (b || c) ≡ true
 or_true true c e = refl
 or_true false c e = e
 
-first_not : (b c : Bool) → (b || c) ≡ false → b ≡ false
-first_not true c e = e
-first_not false c e = refl
-
 rest_not : (b c : Bool) → (b || c) ≡ false → c ≡ false
 rest_not true c e = absurd (cc e)
 rest_not false c e = e
@@ -86,7 +83,7 @@ any_same k (row ∷ front) back m cells = ap (λ b. has_key k row || b) (any_sam
 
 none_in : (k : Datum) (rows : List PartialRow) → list_any (has_key k) rows ≡ false → AllByRecursion (λ row. has_key k row ≡ false) rows
 none_in k [] e = tt
-none_in k (row ∷ rows) e = (first_not (has_key k row) (list_any (has_key k) rows) e, none_in k rows (rest_not (has_key k row) (list_any (has_key k) rows) e))
+none_in k (row ∷ rows) e = (neither (has_key k row) (list_any (has_key k) rows) e, none_in k rows (rest_not (has_key k row) (list_any (has_key k) rows) e))
 
 module _ (spec : GroupSpec) (sources : List PartialRow) (r : PartialRow) where
   with_key : (k : Datum) (b : Bool) → has_key k r ≡ b → rows_with k (sources ++ r ∷ []) ≡ rows_with k sources ++ cond b (r ∷ []) []

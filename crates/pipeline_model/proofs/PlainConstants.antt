@@ -1,6 +1,6 @@
 -- The constants of what is read have no values inside.
 use Rattle.std.proofs.Common.{◌≡◌, ℕ, List, [], ◌∷◌, refl}
-use Rattle.std.specs.Prelude.{Bool, true, false, ◌&&◌, Option, Some, None, Result, Ok, Err, ok_or, nat_lt, length, if◌then◌else◌}
+use Rattle.std.specs.Prelude.{Bool, true, false, ◌&&◌, Option, Some, None, Result, Ok, Err, ok_or, nat_lt, length}
 use Rattle.std.specs.List.{list_all}
 use Rattle.std.specs.Str.{bytes_eq}
 use Rattle.bson_model.specs.Tree.{Datum, string_value, document_value, array_value, Items, Fields, no_fields, field}
@@ -12,25 +12,12 @@ use Rattle.pipeline_model.specs.Projections.{read_projection}
 use Rattle.pipeline_model.specs.SortKeys.{read_sort}
 use Rattle.pipeline_model.specs.GroupSpecs.{Accumulator, GroupField, GroupSpec, is_plain_field, is_plain_group, AccumulatorName, sum_name, min_name, max_name, count_name, accumulators, accumulate, read_accumulator, GroupParts, read_group_field, read_group_fields, with_one_key, read_group}
 use Rattle.pipeline_model.specs.Stages.{Stage, limit_stage, count_stage, is_plain_stage, StageName, match_name, project_name, group_name, sort_name, skip_name, limit_name, count_name as count_stage_name, stage_names, may_count, read_natural, read_stage_of, read_stage, read_stages, read_pipeline}
-
-abbrev IfRead : {A : Type 0} → (A → Type 0) → Result A QueryFault → Type 0
-IfRead P (Ok x) = P x
-IfRead P (Err e) = Unit {0}
-
-then_read : {A B : Type 0} (P : A → Type 0) (Q : B → Type 0) (r : Result A QueryFault) (f : A → Result B QueryFault) → IfRead P r →
-    ((x : A) → P x → IfRead Q (f x)) →
-    IfRead Q (r >>= f)
-then_read P Q (Ok x) f h k = k x h
-then_read P Q (Err e) f h k = tt
+use Rattle.query_model.proofs.DocumentKeys.{IfRead, if_read, then_read}
 
 -- whatever is read
 then_any : {A B : Type 0} (Q : B → Type 0) (r : Result A QueryFault) (f : A → Result B QueryFault) → ((x : A) → IfRead Q (f x)) → IfRead Q (r >>= f)
 then_any Q (Ok x) f k = k x
 then_any Q (Err e) f k = tt
-
-if_read : {A : Type 0} (P : A → Type 0) (b : Bool) (r s : Result A QueryFault) → IfRead P r → IfRead P s → IfRead P (if b then r else s)
-if_read P true r s h k = h
-if_read P false r s h k = k
 
 abbrev IsPlain : Operand → Type 0
 IsPlain x = is_plain x ≡ true

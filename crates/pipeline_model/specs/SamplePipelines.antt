@@ -2,7 +2,7 @@
 use Rattle.std.specs.Prelude.{ℕ, zero, suc, pos, List, [], ◌∷◌, map, Option, Result, Ok, Err, codes}
 use Rattle.std.specs.declared.cmp.Ordering.{Ordering}
 use Prim.Native.String.{String}
-use Rattle.bson_model.specs.Tree.{Datum, document_value, string_value, null_value, int32_value, int64_value, Fields, no_fields, field}
+use Rattle.bson_model.specs.Tree.{Datum, document_value, null_value, int32_value, Fields, no_fields, field}
 use Rattle.query_model.specs.Queries.{QueryFault}
 use Rattle.query_model.specs.Reading.{◌>>=◌}
 use Rattle.query_model.specs.SampleQueries.{one}
@@ -15,17 +15,12 @@ use Rattle.pipeline_model.specs.Stages.{Stage, read_pipeline}
 use Rattle.pipeline_model.specs.Runs.{Outcome, Runs}
 use Rattle.pipeline_model.specs.Halves.{Half, Merge, Merges, Rows}
 use Rattle.pipeline_model.specs.Split.{split}
+use Rattle.query_model.specs.SampleChanges.{text}
 
 -- a document of these fields
 abbrev pub doc : List (String × Datum) → Fields
 doc [] = no_fields
 doc (f ∷ fields) = field (codes f.0) f.1 (doc fields)
-
-abbrev pub long : ℕ → Datum
-long n = int64_value (pos n)
-
-abbrev pub text : String → Datum
-text s = string_value (codes s)
 
 -- what a projection leaves of a document
 abbrev pub projected : Fields → Fields → Result Fields QueryFault

@@ -9,7 +9,8 @@ ghost use Rattle.pipeline_model.specs.SortKeys.{ascending, descending};
 ghost use Rattle.pipeline_model.specs.GroupSpecs.{read_group};
 ghost use Rattle.pipeline_model.specs.Groups.{all_narrow, count_cell, count_value, extreme_cell, IsExtreme, sum_cell, total, values_in};
 ghost use Rattle.pipeline_model.specs.Lengths.{row_length};
-ghost use Rattle.pipeline_model.specs.SamplePipelines.{doc, long, row_by, shown_by, text};
+ghost use Rattle.pipeline_model.specs.SamplePipelines.{doc, row_by, shown_by};
+ghost use Rattle.query_model.specs.SampleChanges.{long, text};
 
 /// The row of one document: what is absent has the key null; a sum takes whole numbers alone, a constant for each document.
 pub fn rows_of_documents()

@@ -7,7 +7,8 @@ ghost use Rattle.query_model.specs.Queries.{bad_operand, path_fault};
 ghost use Rattle.query_model.specs.SampleQueries.{array, inner, number, one};
 ghost use Rattle.pipeline_model.specs.Operands.{value_at};
 ghost use Rattle.pipeline_model.specs.Projections.{read_projection};
-ghost use Rattle.pipeline_model.specs.SamplePipelines.{doc, long, projected, text};
+ghost use Rattle.pipeline_model.specs.SamplePipelines.{doc, projected};
+ghost use Rattle.query_model.specs.SampleChanges.{long, text};
 
 /// `true` and numbers that are not 0 include a field, `false` and 0 exclude it; `_id` stays unless it is excluded, also beside
 /// fields that are included. All fields of a name go one way, and fields stay in the document's order.

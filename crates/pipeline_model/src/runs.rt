@@ -8,7 +8,8 @@ ghost use Rattle.pipeline_model.specs.GroupSpecs.{sum_accumulator};
 ghost use Rattle.pipeline_model.specs.Groups.{IsCell, IsGrouped, sum_cell};
 ghost use Rattle.pipeline_model.specs.Runs.{listed, overflowed};
 ghost use Rattle.pipeline_model.specs.Halves.{counted_rows, document_rows, partial_rows};
-ghost use Rattle.pipeline_model.specs.SamplePipelines.{doc, long, MergesTo, numbered, RunsTo, sums, text};
+ghost use Rattle.pipeline_model.specs.SamplePipelines.{doc, MergesTo, numbered, RunsTo, sums};
+ghost use Rattle.query_model.specs.SampleChanges.{long, text};
 
 /// `[{$match: {x: {$gt: 1}}}, {$group: {_id: "$x", total: {$sum: "$_id"}}}, {$sort: {_id: 1}}]` on (`_id`, x) = (1, 2), (2, 2), (3, 5),
 /// (4, 1).

@@ -7,7 +7,8 @@ ghost use Rattle.query_model.specs.Paths.{dollar_part};
 ghost use Rattle.query_model.specs.Queries.{bad_operand, path_fault};
 ghost use Rattle.query_model.specs.SampleQueries.{array, inner, number};
 ghost use Rattle.pipeline_model.specs.SortKeys.{empty_array, order_parts, read_sort, value_part};
-ghost use Rattle.pipeline_model.specs.SamplePipelines.{compared_by, doc, key_by, long, same_fields, text};
+ghost use Rattle.pipeline_model.specs.SamplePipelines.{compared_by, doc, key_by, same_fields};
+ghost use Rattle.query_model.specs.SampleChanges.{long, text};
 
 /// Upwards the least of what stands at the path, downwards the greatest; an array stands for its elements, one step deep, and an
 /// empty one for a mark.

@@ -11,7 +11,8 @@ ghost use Rattle.pipeline_model.specs.Operands.{constant_operand};
 ghost use Rattle.pipeline_model.specs.Stages.{count_stage, group_stage, limit_stage, match_stage, read_pipeline, skip_stage, sort_stage};
 ghost use Rattle.pipeline_model.specs.Halves.{counted_end, documents_end, joined_as_they_come, joined_counts, joined_groups, joined_in_order, partials_end};
 ghost use Rattle.pipeline_model.specs.Split.{reach};
-ghost use Rattle.pipeline_model.specs.SamplePipelines.{by_a, long, repeated, split_of, stages_of, text};
+ghost use Rattle.pipeline_model.specs.SamplePipelines.{by_a, repeated, split_of, stages_of};
+ghost use Rattle.query_model.specs.SampleChanges.{long, text};
 
 /// An array of documents of one field each; no stage at all is a pipeline.
 pub fn read()

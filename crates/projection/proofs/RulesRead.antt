@@ -58,7 +58,7 @@ rule_read name text copied d path t is h one treated kept =
     by_parts (read_name name) (read_treatment d) path name t read (one_part_is name path (plain (read_path name) path read) one) treated
     ∙ ap (λ (x : List ℕ). Ok (ruled x t)) (sym kept)
 
-no_dollar : (bs : List ℕ) → ((rest : List ℕ) → bs ≢ 36 ∷ rest) → named_path bs ≡ None
+pub no_dollar : (bs : List ℕ) → ((rest : List ℕ) → bs ≢ 36 ∷ rest) → named_path bs ≡ None
 no_dollar [] h = refl
 no_dollar (b ∷ bs) h = rw (ne_eqb b 36 (λ e. h bs (ap (λ (x : ℕ). x ∷ bs) e))) refl
 

@@ -2,9 +2,9 @@
 #![tactic(auto)]
 
 mod parser;
-mod projected;
+mod projections;
 mod rules;
 mod values;
 
-pub use projected::{Projection, project};
+pub use projections::{Projection, project};
 pub use values::value_at;

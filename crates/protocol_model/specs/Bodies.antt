@@ -3,10 +3,9 @@ use Rattle.std.specs.Prelude.{map}
 use Rattle.std.specs.Arc.{arc_value}
 use Rattle.std.specs.Option.{option_map}
 use Rattle.bson_values.specs.View.{datum_of}
-use Rattle.chunk_table.specs.Found.{sent_meant}
+use Rattle.chunk_table.specs.VerdictMeanings.{sent_meant}
 use Rattle.chunk_table.specs.Meanings.{version_meant}
-use Rattle.cluster_base.specs.declared.identity.RequestId.{RequestId}
-use Rattle.node_traits.specs.Asked as asked
+use Rattle.node_traits.specs.Ids.{id_meant}
 use Rattle.node_traits.specs.Letters as letters
 use Rattle.node_traits.specs.Letters.{no_time, at_time, key_half, table_ask, table_told, write_ask, write_done, read_ask, half_ask, read_rows, stale, time_ask, time_told}
 use Rattle.protocol_model.specs.declared.tables.At.{At}
@@ -26,9 +25,6 @@ use Rattle.protocol_model.specs.declared.body.Stale.{Stale}
 use Rattle.protocol_model.specs.declared.body.Body.{Body}
 use Rattle.protocol_model.specs.declared.body.Body.TheVariants as bodies
 use Rattle.protocol_model.specs.Statements.{done_meant, statement_meant}
-
-abbrev pub id_meant : RequestId → asked.RequestId
-id_meant id = record { router = id.router.0; life = id.life; count = id.count }
 
 abbrev pub at_meant : At → letters.At
 at_meant NoTime = no_time

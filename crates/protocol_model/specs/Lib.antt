@@ -2,4 +2,5 @@ pub mod Statements
 pub mod Bodies
 pub mod Messages
 pub mod Requests
+pub mod Heads
 pub mod Inputs

@@ -2,7 +2,7 @@
 use Rattle.std.specs.Arc.{arc_value}
 use Rattle.std.specs.Option.{option_map}
 use Rattle.cluster_base.specs.Codes.{meaning_of}
-use Rattle.node_traits.specs.Asked.{RequestId, number_for}
+use Rattle.node_traits.specs.Exchanges.{RequestId, number_for}
 use Rattle.node_traits.specs.History as history
 use Rattle.node_traits.specs.History.{insert_operation}
 use Rattle.node_traits.specs.Letters as letters

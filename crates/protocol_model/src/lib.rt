@@ -3,6 +3,7 @@
 
 mod body;
 mod document;
+mod head;
 mod input;
 pub mod laws;
 mod lists;
@@ -14,6 +15,7 @@ mod writes;
 
 pub use body::{Body, Stale};
 pub use document::NewDocument;
+pub use head::Head;
 pub use input::Input;
 pub use lists::{DocumentList, DoneList, StatementList};
 pub use message::Message;

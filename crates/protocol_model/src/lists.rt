@@ -2,7 +2,7 @@
 
 ghost use Rattle.std.specs.Prelude.{◌≡◌, IfOk, map};
 ghost use Rattle.std.specs.Arc.{arc_value};
-ghost use Rattle.node_traits.specs.Asked.{RequestId};
+ghost use Rattle.node_traits.specs.Exchanges.{RequestId};
 ghost use Rattle.protocol_model.specs.Statements.{done_meant, statement_meant};
 
 use crate::statement::{Done, Statement};

@@ -1,7 +1,7 @@
 //! Statements of writes, and what they are told (MongoDB manual, "insert").
 
 ghost use Rattle.std.specs.Prelude.{◌≡◌, IfOk};
-ghost use Rattle.node_traits.specs.Asked.{RequestId};
+ghost use Rattle.node_traits.specs.Exchanges.{RequestId};
 ghost use Rattle.protocol_model.specs.Statements.{done_meant, statement_meant};
 
 use crate::document::NewDocument;

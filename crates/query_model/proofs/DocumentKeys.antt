@@ -16,7 +16,7 @@ use Rattle.query_model.proofs.KeysAsked.{id_path}
 use Rattle.query_model.proofs.Names.{name_of_path}
 
 -- what is read, if it is read, has the property
-abbrev IfRead : {A : Type 0} → (A → Type 0) → Result A QueryFault → Type 0
+abbrev pub IfRead : {A : Type 0} → (A → Type 0) → Result A QueryFault → Type 0
 IfRead P (Ok x) = P x
 IfRead P (Err e) = Unit {0}
 
@@ -26,12 +26,12 @@ read_says P (Ok y) x h e =
     subst P same h
 read_says P (Err f) x h e = absurd cc
 
-then_read : {A B : Type 0} (P : A → Type 0) (Q : B → Type 0) (r : Result A QueryFault) (f : A → Result B QueryFault) →
+pub then_read : {A B : Type 0} (P : A → Type 0) (Q : B → Type 0) (r : Result A QueryFault) (f : A → Result B QueryFault) →
     IfRead P r → ((x : A) → P x → IfRead Q (f x)) → IfRead Q (r >>= f)
 then_read P Q (Ok x) f h k = k x h
 then_read P Q (Err e) f h k = tt
 
-if_read : {A : Type 0} (P : A → Type 0) (b : Bool) (r s : Result A QueryFault) → IfRead P r → IfRead P s → IfRead P (if b then r else s)
+pub if_read : {A : Type 0} (P : A → Type 0) (b : Bool) (r s : Result A QueryFault) → IfRead P r → IfRead P s → IfRead P (if b then r else s)
 if_read P true r s h k = h
 if_read P false r s h k = k
 

@@ -11,10 +11,7 @@ use Rattle.query_model.specs.Paths.{Path, elements_of}
 use Rattle.query_model.specs.Queries.{Query, no_clauses, clause, path_clause, connective_clause, Tests, no_tests, test, eq_test}
 use Rattle.query_model.specs.Holds.{Found, found_at, alone, is_null, is_equal, holds, clause_holds, tests_hold, test_holds}
 use Rattle.query_model.specs.KeySpans.{is_id, equality_in, key_asked, whole_span, span_of}
-
-both : (a b : Bool) → (a && b) ≡ true → (a ≡ true) × (b ≡ true)
-both true b h = (refl, h)
-both false b h = absurd cc
+use Rattle.bson_model.proofs.Booleans.{both}
 
 first_of_both : (a b : Bool) → (a && b) ≡ true → a ≡ true
 first_of_both a b h = (both a b h).0

@@ -32,7 +32,7 @@ path_shallow : (r : Result Path PathFault) → IsShallow (result_map_both (λ pa
 path_shallow (Ok path) = tt
 path_shallow (Err e) = λ s. cc
 
-some_depth : (ms : Fields) → 1 ≤ document_depth ms
+pub some_depth : (ms : Fields) → 1 ≤ document_depth ms
 some_depth no_fields = omega arith
 some_depth (field name d ms) = omega (arith, some_depth ms)
 

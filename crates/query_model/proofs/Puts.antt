@@ -28,7 +28,7 @@ then_ok (Err fault) f b e = absurd cc
 pub same_bytes : (a b : List ℕ) → bytes_eq a b ≡ true → a ≡ b
 same_bytes a b e = (bytes_eq-Decides a b).0 e
 
-equal_itself : (a : List ℕ) → bytes_eq a a ≡ true
+pub equal_itself : (a : List ℕ) → bytes_eq a a ≡ true
 equal_itself a = (bytes_eq-Decides a a).1 refl
 
 found_there : (name : List ℕ) (value : Datum) (b : Bool) (first : List ℕ) (d : Datum) (ms rest : Fields) → bytes_eq first name ≡ b →

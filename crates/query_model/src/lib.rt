@@ -6,8 +6,8 @@
 pub mod changes;
 pub mod edits;
 pub mod examples;
+pub mod faults;
 mod laws;
-pub mod refused;
 pub mod tables;
 pub mod writes;
 

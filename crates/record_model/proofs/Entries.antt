@@ -9,7 +9,7 @@ use Rattle.history_model.specs.Effects.{Effect, effect_of}
 use Rattle.history_model.specs.Writes.{Write}
 use Rattle.history_model.specs.Queries.{QueryFault}
 use Rattle.record_model.specs.Records.{EntryWords, Record, entry_record, record_of}
-use Rattle.record_model.specs.Kept.{IsKnown, Keeps, KeepEntries}
+use Rattle.record_model.specs.RecordContents.{IsKnown, Keeps, KeepEntries}
 
 -- what an entry record says
 abbrev said : Record → EntryWords → EntryWords

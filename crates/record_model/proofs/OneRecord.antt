@@ -1,7 +1,7 @@
 -- Bytes spell one record.
 use Rattle.std.proofs.Common.{◌≡◌, ℕ, ◌<◌, ◌^◌, List, [], ◌++◌, ap, arith}
 use Rattle.record_model.specs.Records.{Record, table_record, entry_record, create_record, life_record, block_record}
-use Rattle.record_model.specs.Spelled.{eight, spelled, IsSound}
+use Rattle.record_model.specs.RecordFormat.{eight, spelled, IsSound}
 use Rattle.record_model.proofs.Prefixes.{first_byte, behind, same_eight, same_entry, same_creation}
 use Rattle.record_model.proofs.TablePrefixes.{same_table}
 

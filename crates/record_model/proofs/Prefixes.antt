@@ -13,7 +13,7 @@ use Rattle.chunk_model.proofs.OneDocument.{one_document}
 use Rattle.history_model.specs.History.{Session, client_session, router_session, StatementNumber, Operation, insert_operation, update_operation, delete_operation}
 use Rattle.chunk_model.specs.Catalogue.{Creation}
 use Rattle.record_model.specs.Records.{OutcomeWords, EntryWords, Record, entry_record, create_record}
-use Rattle.record_model.specs.Spelled.{four, eight, spelled_string, key_document, spelled_key, spelled_session, spelled_number, spelled_operation, spelled_outcome, spelled_entry, spelled_creation, spelled, IsSpellable, IsSoundDocument, IsSoundKeyValue, IsSoundKey, IsSoundSession, IsSoundNumber, IsSoundOperation, IsSoundOutcome, IsSoundEntry, IsSoundCreation, IsSound}
+use Rattle.record_model.specs.RecordFormat.{four, eight, spelled_string, key_document, spelled_key, spelled_session, spelled_number, spelled_operation, spelled_outcome, spelled_entry, spelled_creation, spelled, IsSpellable, IsSoundDocument, IsSoundKeyValue, IsSoundKey, IsSoundSession, IsSoundNumber, IsSoundOperation, IsSoundOutcome, IsSoundEntry, IsSoundCreation, IsSound}
 use Rattle.chunk_model.proofs.Lengths.{length-framed}
 use Rattle.chunk_model.proofs.Parts.{same_prefix, same_boolean}
 

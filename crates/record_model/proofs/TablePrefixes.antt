@@ -4,7 +4,7 @@ use Rattle.std.specs.List.{AllByRecursion, flat_map}
 use Rattle.value_model.specs.Keys.{Bound, min_bound, key_bound, max_bound}
 use Rattle.chunk_model.specs.Versions.{Version}
 use Rattle.chunk_model.specs.Tables.{Owned, Chunk, Table}
-use Rattle.record_model.specs.Spelled.{four, eight, spelled_string, key_document, spelled_list, spelled_bound, spelled_version, spelled_owned, spelled_chunk, spelled_table, IsSoundBound, IsSoundVersion, IsSoundOwned, IsSoundChunk, IsSoundTable}
+use Rattle.record_model.specs.RecordFormat.{four, eight, spelled_string, key_document, spelled_list, spelled_bound, spelled_version, spelled_owned, spelled_chunk, spelled_table, IsSoundBound, IsSoundVersion, IsSoundOwned, IsSoundChunk, IsSoundTable}
 use Rattle.record_model.proofs.Prefixes.{first_byte, behind, regroup, same_four, same_eight, short_name, same_text, same_document, key_in}
 
 same_bound : (a b : Bound) (xs ys : List ℕ) → IsSoundBound a → IsSoundBound b → spelled_bound a ++ xs ≡ spelled_bound b ++ ys → (a ≡ b) × (xs ≡ ys)

@@ -1,6 +1,6 @@
 pub mod Records
-pub mod Spelled
-pub mod Kept
+pub mod RecordFormat
+pub mod RecordContents
 pub mod SampleRecords
 pub use Rattle.chunk_model.specs.Catalogue
 pub use Rattle.history_model.specs.History

@@ -5,9 +5,9 @@ ghost use Rattle.chunk_model.specs.SampleCollections.{creation};
 ghost use Rattle.chunk_model.specs.SampleTables.{moved_table};
 ghost use Rattle.chunk_model.specs.Tables.{first_table};
 ghost use Rattle.record_model.specs.SampleRecords.{creation_bytes, delete, first_table_bytes, insert, insert_bytes, life_bytes, moved_table_bytes, no_entries, records, update};
-ghost use Rattle.record_model.specs.Kept.{KeepEntries, creates_of};
+ghost use Rattle.record_model.specs.RecordContents.{KeepEntries, creates_of};
 ghost use Rattle.record_model.specs.Records.{block_record, create_record, life_record, record_of, table_record};
-ghost use Rattle.record_model.specs.Spelled.{IsSound, spelled};
+ghost use Rattle.record_model.specs.RecordFormat.{IsSound, spelled};
 
 /// The 25 bytes of a collection that begins, the 78 bytes of an insert, the 10 of a life; and the bytes of tables: the first one of
 /// that collection, and one of two chunks, one of which had another owner before.

@@ -4,9 +4,9 @@ ghost use Rattle.std.specs.Prelude.{◌≡◌, ◌++◌, ℕ, List, Option, map}
 ghost use Rattle.std.specs.List.{AllByRecursion};
 ghost use Rattle.chunk_model.specs.Tree.{Fields};
 ghost use Rattle.history_model.specs.History.{effect, Entry, Operation};
-ghost use Rattle.record_model.specs.Kept.{IsKnown, KeepEntries};
+ghost use Rattle.record_model.specs.RecordContents.{IsKnown, KeepEntries};
 ghost use Rattle.record_model.specs.Records.{Record, record_of};
-ghost use Rattle.record_model.specs.Spelled.{IsSound, spelled};
+ghost use Rattle.record_model.specs.RecordFormat.{IsSound, spelled};
 
 /// Bytes spell one record at most, in the newest format.
 #[tactic(auto, using(crate::proofs::OneRecord::one_record))]

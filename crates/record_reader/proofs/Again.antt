@@ -17,7 +17,7 @@ use Rattle.record_model.specs.Catalogue.{Creation}
 use Rattle.record_model.specs.History.{Session, client_session, router_session, StatementNumber, Operation, insert_operation, update_operation, delete_operation}
 use Rattle.record_model.specs.Names.{IsNamespace}
 use Rattle.record_model.specs.Records.{OutcomeWords, EntryWords, entry_record, create_record}
-use Rattle.record_model.specs.Spelled.{four, eight, spelled_string, key_document, spelled_key, spelled_session, spelled_number, spelled_operation, spelled_outcome, spelled_entry, spelled_creation, IsSoundDocument, IsSoundKeyValue, IsSoundKey, IsSoundSession, IsSoundNumber, IsSoundOperation, IsSoundOutcome, IsSoundEntry, IsSoundCreation}
+use Rattle.record_model.specs.RecordFormat.{four, eight, spelled_string, key_document, spelled_key, spelled_session, spelled_number, spelled_operation, spelled_outcome, spelled_entry, spelled_creation, IsSoundDocument, IsSoundKeyValue, IsSoundKey, IsSoundSession, IsSoundNumber, IsSoundOperation, IsSoundOutcome, IsSoundEntry, IsSoundCreation}
 use Rattle.record_model.proofs.Prefixes.{short_name}
 use Rattle.shard_records.specs.Sizes.{IsWritableOperation, IsWritableKey, IsWritableRecord}
 use Rattle.record_reader.specs.Readers.{◌>>=◌, Found, byte_at, bytes_at, four_at, eight_at, name_in, namespace_at, whole_in, document_at, key_in, key_at, some_key_at, option_key_at, client_at, router_at, session_at, statement_at, insert_at, update_at, delete_at, operation_at, outcome_at, entry_at, creation_at}

@@ -13,13 +13,13 @@ use Rattle.bson_values.specs.declared.fault.BsonFault.{BsonFault}
 use Rattle.bson_values.specs.declared.fault.BsonFault.TheVariants.{Short, BadLength, BadType, BadText, BadBool, Deep, Trailing, Memory}
 use Rattle.bson_values.specs.ReadFaults.{fault_from}
 use Rattle.bson_values.specs.Readers.{whole_at}
-use Rattle.bson_values.proofs.FirstFault.{never_both}
+use Rattle.bson_values.proofs.FirstFault.{never_both, TellsFirst}
 use Rattle.bson_values.proofs.Whole.{whole_takes, whole_again}
 use Rattle.value_compare.specs.Keys.{is_key, key_of, KeyFault, absent_key, wrong_kind, valid_key}
-use Rattle.record_model.specs.Spelled.{key_document}
+use Rattle.record_model.specs.RecordFormat.{key_document}
 use Rattle.shard_records.specs.Sizes.{FitsRecord}
 use Rattle.record_reader.specs.declared.fault.RecordFault.{RecordFault}
-use Rattle.record_reader.specs.Read.{Finds, fault_meant}
+use Rattle.record_reader.specs.SoundRecords.{Finds, fault_meant}
 use Rattle.record_reader.specs.Readers.{whole_in}
 
 -- what was found is the document that stands there
@@ -34,13 +34,10 @@ no_whole bytes fault offset are first = by_read (whole_at bytes) refl
     by_read (Ok x) e = let t = whole_takes bytes x are e in absurd (never_both bytes x.1 x.0 fault offset are (t.within, t.reads, t.low) first)
     by_read (Err d) e = refl
 
-abbrev TellsFirst : List ℕ → BsonFault → Type 0
-TellsFirst bytes e = e ≢ Memory → (fault : Fault) × (offset : ℕ) × (e ≡ fault_from fault offset) × HasFirstFault bytes fault offset
-
-none_there : (bytes : List ℕ) (e : BsonFault) → AreBytes bytes → e ≢ Memory → TellsFirst bytes e → whole_in (whole_at bytes) ≡ None
+none_there : (bytes : List ℕ) (e : BsonFault) → AreBytes bytes → e ≢ Memory → (e ≢ Memory → TellsFirst bytes e) → whole_in (whole_at bytes) ≡ None
 none_there bytes e are other first = let t = first other in no_whole bytes t.0 t.1 are t.3
 
-by_fault : (bytes : List ℕ) (e : BsonFault) → AreBytes bytes → TellsFirst bytes e → Finds (λ (x : Fields × ℕ). x) (Err (fault_meant e)) (whole_in (whole_at bytes))
+by_fault : (bytes : List ℕ) (e : BsonFault) → AreBytes bytes → (e ≢ Memory → TellsFirst bytes e) → Finds (λ (x : Fields × ℕ). x) (Err (fault_meant e)) (whole_in (whole_at bytes))
 by_fault bytes (Short offset) are first = none_there bytes (Short offset) are (λ q. cc) first
 by_fault bytes (BadLength offset) are first = none_there bytes (BadLength offset) are (λ q. cc) first
 by_fault bytes (BadType offset byte) are first = none_there bytes (BadType offset byte) are (λ q. cc) first

@@ -7,7 +7,7 @@ use Rattle.chunk_table.specs.Tables.{Chunk, Table}
 use Rattle.chunk_table.specs.Whole.{IsWritableBound, IsWritableChunk, follow_from}
 use Rattle.shard_records.specs.Records.{Record, table_record, entry_record, create_record, life_record, block_record}
 use Rattle.shard_records.specs.Sizes.{IsWritableRecord}
-use Rattle.record_reader.specs.Read.{IsHeld, IsHeldChunk, IsHeldTable}
+use Rattle.record_reader.specs.SoundRecords.{IsHeld, IsHeldChunk, IsHeldTable}
 
 pub held_writable : (r : Record) → IsHeld r → IsWritableRecord r
 held_writable (table_record t) h = tt

@@ -3,8 +3,8 @@ use Rattle.std.proofs.Common.{◌≡◌, ℕ, zero, suc, ◌+◌, ◌-◌, ◌<�
 use Rattle.std.proofs.lemmas.List.{append-nil}
 use Rattle.std.specs.Prelude.{Option, Some, None, Err}
 use Rattle.std.specs.List.{AllByRecursion, flat_map}
-use Rattle.record_model.specs.Spelled.{four, spelled_list}
-use Rattle.record_reader.specs.Read.{Finds}
+use Rattle.record_model.specs.RecordFormat.{four, spelled_list}
+use Rattle.record_reader.specs.SoundRecords.{Finds}
 use Rattle.record_reader.specs.declared.fault.RecordFault.{RecordFault}
 use Rattle.record_reader.specs.declared.fault.RecordFault.TheVariants.{NoRecord, Memory}
 use Rattle.record_reader.specs.Readers.{◌>>=◌, Found, four_at, items_at, list_at}
@@ -84,10 +84,6 @@ pub ends : {X : Type 0} (item_at : List ℕ → Found X) (count i : ℕ) (items 
 ends item_at count i items left bytes all so_far =
     let none : count - i ≡ 0 = omega (arith, all) in
     sym so_far.rest ∙ ap (λ (m : ℕ). with_front items (items_at item_at m left)) none ∙ nothing_left item_at left items
-
-pub all_behind : {X : Type 0} (P : X → Type 0) (items : List X) (x : X) → AllByRecursion P items → P x → AllByRecursion P (items ++ x ∷ [])
-all_behind P [] x all p = (p, tt)
-all_behind P (y ∷ items) x all p = (all.0, all_behind P items x all.1 p)
 
 pub map_behind : {X Y : Type 0} (f : X → Y) (items : List X) (x : X) → map f (items ++ x ∷ []) ≡ map f items ++ f x ∷ []
 map_behind f [] x = refl

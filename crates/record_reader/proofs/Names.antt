@@ -1,103 +1,25 @@
 -- The test of a namespace passes just the full names of namespaces.
-use Rattle.std.proofs.Common.{◌≡◌, ℕ, ◌+◌, ◌<◌, ◌≤◌, List, [], ◌∷◌, length, refl, sym, ap, subst, ◌∙◌, Bool, true, false, ◌&&◌, not, eqb, arith, codes, length-append}
+use Rattle.std.proofs.Common.{◌≡◌, ℕ, ◌+◌, ◌<◌, List, [], ◌∷◌, length, refl, ap, subst, ◌∙◌, Bool, true, false, ◌&&◌, eqb, arith}
 use Rattle.std.specs.Prelude.{Option, Some, None, nat_le, nat_lt, if◌then◌else◌}
 use Rattle.std.specs.List.{AllByRecursion}
-use Rattle.std.specs.Str.{IsUtf8, is_utf8, bytes_eq}
-use Rattle.std.proofs.lemmas.Slice.Eq.{bytes_eq-Decides}
+use Rattle.std.specs.Str.{IsUtf8, is_utf8}
 use Rattle.std.proofs.lemmas.Str.{IsUtf8-from_is_utf8, is_utf8-from_IsUtf8}
-use Rattle.record_model.specs.Names.{IsDatabaseByte, IsDatabaseName, IsCollectionName, MakeNamespace, IsNamespace, all_pass, full_name, is_collection_name, is_database_byte, is_database_name, is_open_namespace, is_reserved}
-use Rattle.chunk_model.proofs.OpenNames.{open_namespace, makes}
+use Rattle.record_model.specs.Names.{IsDatabaseByte, MakeNamespace, IsNamespace, full_name, is_collection_name, is_database_name}
+use Rattle.chunk_model.proofs.OpenNames.{collection_name, database_name, is_collection_name_of, is_database_name_of}
 use Rattle.record_reader.specs.Readers.{◌>>=◌, cut_at_dot, make_name, are_names, is_name, name_in}
-
-both : (x y : Bool) → (x && y) ≡ true → (x ≡ true) × (y ≡ true)
-both true y e = (refl, e)
-both false y e = cc
-
-open_parts : (database collection : List ℕ) → is_open_namespace database collection ≡ true → (is_database_name database ≡ true) × (is_collection_name collection ≡ true)
-open_parts database collection e =
-    let a = both (is_database_name database && is_collection_name collection && nat_le (length (full_name database collection)) 255) (not (is_reserved database)) e in
-    let b = both (is_database_name database && is_collection_name collection) (nat_le (length (full_name database collection)) 255) a.0 in
-    both (is_database_name database) (is_collection_name collection) b.0
-
--- a short name of a database, and of a collection
-abbrev one : List ℕ
-one = 100 ∷ []
-
-one_database : IsDatabaseName one
-one_database = (makes one one refl).0.database_name
-
-one_collection : IsCollectionName one
-one_collection = (makes one one refl).0.collection_name
-
--- what holds of every name that is not reserved, and of the reserved ones, holds of every name
-by_reserved : (P : List ℕ → Type 0) → P (codes "admin") → P (codes "config") → P (codes "local") → (database : List ℕ) → (is_reserved database ≡ false → P database) → P database
-by_reserved P admin config local database others = first (bytes_eq database (codes "admin")) refl
-  where
-    third : (b : Bool) → bytes_eq database (codes "local") ≡ b → bytes_eq database (codes "admin") ≡ false → bytes_eq database (codes "config") ≡ false → P database
-    third true e f g = subst P (sym ((bytes_eq-Decides database (codes "local")).0 e)) local
-    third false e f g = others (rw (f, g, e) refl)
-
-    second : (b : Bool) → bytes_eq database (codes "config") ≡ b → bytes_eq database (codes "admin") ≡ false → P database
-    second true e f = subst P (sym ((bytes_eq-Decides database (codes "config")).0 e)) config
-    second false e f = third (bytes_eq database (codes "local")) refl f e
-
-    first : (b : Bool) → bytes_eq database (codes "admin") ≡ b → P database
-    first true e = subst P (sym ((bytes_eq-Decides database (codes "admin")).0 e)) admin
-    first false e = second (bytes_eq database (codes "config")) refl e
-
-free_passes : (database : List ℕ) → is_reserved database ≡ false → IsDatabaseName database → is_database_name database ≡ true
-free_passes database free is =
-    let make : MakeNamespace database one = record { database_name = is; collection_name = one_collection; short = omega (arith, length-append database (46 ∷ one), is.short) } in
-    (open_parts database one (open_namespace database one make free)).0
-
-database_passes : (database : List ℕ) → IsDatabaseName database → is_database_name database ≡ true
-database_passes database =
-    by_reserved (λ d. IsDatabaseName d → is_database_name d ≡ true) (λ is. refl) (λ is. refl) (λ is. refl) database (free_passes database)
-
-collection_passes : (database collection : List ℕ) → MakeNamespace database collection → is_collection_name collection ≡ true
-collection_passes database collection made =
-    let make : MakeNamespace one collection = record { database_name = one_database; collection_name = made.collection_name; short = omega (arith, length-append database (46 ∷ collection), made.short, made.database_name.some) } in
-    (open_parts one collection (open_namespace one collection make refl)).1
+use Rattle.bson_model.proofs.Booleans.{both, is_false}
 
 passes : (database collection : List ℕ) → MakeNamespace database collection → make_name database collection ≡ true
 passes database collection made =
-    let first : is_database_name database ≡ true = database_passes database made.database_name in
-    let second : is_collection_name collection ≡ true = collection_passes database collection made in
+    let first : is_database_name database ≡ true = is_database_name_of database made.database_name in
+    let second : is_collection_name collection ≡ true = is_collection_name_of collection made.collection_name in
     grind (arith, first, second, made.short)
-
-free_database : (database : List ℕ) → is_reserved database ≡ false → is_database_name database ≡ true → IsDatabaseName database
-free_database database free e =
-    let a = both (nat_le 1 (length database) && nat_le (length database) 63) (all_pass is_database_byte database) e in
-    let b = both (nat_le 1 (length database)) (nat_le (length database) 63) a.0 in
-    let few : length database ≤ 63 = grind (arith, b.1) in
-    let second : is_collection_name one ≡ true = refl in
-    let short : length (full_name database one) ≤ 255 = omega (arith, length-append database (46 ∷ one), few) in
-    let passes_too : is_open_namespace database one ≡ true = grind (arith, e, second, short, free) in
-    (makes database one passes_too).0.database_name
-
-without_first : (b : ℕ) (d : List ℕ) → IsDatabaseName (120 ∷ b ∷ d) → IsDatabaseName (b ∷ d)
-without_first b d is = record { some = omega arith; short = omega (arith, is.short); bytes = is.bytes.1 }
-
-is_database : (database : List ℕ) → is_database_name database ≡ true → IsDatabaseName database
-is_database database =
-    by_reserved (λ d. is_database_name d ≡ true → IsDatabaseName d)
-    (λ e. without_first 97 (codes "dmin") (makes (codes "xadmin") one refl).0.database_name)
-    (λ e. without_first 99 (codes "onfig") (makes (codes "xconfig") one refl).0.database_name)
-    (λ e. without_first 108 (codes "ocal") (makes (codes "xlocal") one refl).0.database_name)
-    database (free_database database)
 
 made : (database collection : List ℕ) → make_name database collection ≡ true → MakeNamespace database collection
 made database collection e =
     let a = both (is_database_name database && is_collection_name collection) (nat_le (length (full_name database collection)) 255) e in
     let b = both (is_database_name database) (is_collection_name collection) a.0 in
-    let name : IsDatabaseName database = is_database database b.0 in
-    let short : length (full_name database collection) ≤ 255 = grind (arith, a.1) in
-    let small : length (full_name one collection) ≤ 255 = omega (arith, short, length-append database (46 ∷ collection), name.some) in
-    let first : is_database_name one ≡ true = refl in
-    let second : is_collection_name collection ≡ true = b.1 in
-    let free : is_reserved one ≡ false = refl in
-    let passes_too : is_open_namespace one collection ≡ true = grind (arith, first, second, small, free) in
-    record { database_name = name; collection_name = (makes one collection passes_too).0.collection_name; short = short }
+    record { database_name = database_name database b.0; collection_name = collection_name collection b.1; short = grind (arith, a.1) }
 
 -- ---- a full name is cut at its first dot, since a database's name has none
 
@@ -129,10 +51,6 @@ cut_is (b ∷ text) x e = cut_more b text x (eqb b 46) (cut_at_dot text) refl (c
 named : (text : List ℕ) → IsNamespace text → is_name text ≡ true
 named text (database, collection, text_is, made_of) =
     ap is_name text_is ∙ ap are_names (cut_full database collection made_of.database_name.bytes) ∙ passes database collection made_of
-
-is_false : (b : Bool) → (b ≡ true → ⊥) → b ≡ false
-is_false true no_such = absurd (no_such refl)
-is_false false no_such = refl
 
 by_cut : (text : List ℕ) (found : Option Parts) → cut_at_dot text ≡ found → are_names found ≡ true → IsNamespace text
 by_cut text None e f = absurd (cc (f))

@@ -10,10 +10,10 @@ use Rattle.chunk_table.specs.Versions.{Version}
 use Rattle.chunk_table.specs.Tables.{Owned, Chunk, Table}
 use Rattle.chunk_table.specs.Whole.{IsWritableBound, IsWritableChunk, follow_from}
 use Rattle.record_model.specs.Records.{Record, table_record, entry_record, create_record, life_record, block_record}
-use Rattle.record_model.specs.Spelled.{four, eight, spelled_string, spelled_list, spelled_bound, spelled_version, spelled_owned, spelled_chunk, spelled_table, spelled, IsSoundBound, IsSoundVersion, IsSoundOwned, IsSoundChunk, IsSoundTable, IsSound}
+use Rattle.record_model.specs.RecordFormat.{four, eight, spelled_string, spelled_list, spelled_bound, spelled_version, spelled_owned, spelled_chunk, spelled_table, spelled, IsSoundBound, IsSoundVersion, IsSoundOwned, IsSoundChunk, IsSoundTable, IsSound}
 use Rattle.record_reader.specs.declared.fault.RecordFault.{RecordFault}
 use Rattle.record_reader.specs.declared.fault.RecordFault.TheVariants.{NoRecord, Memory}
-use Rattle.record_reader.specs.Read.{Finds, IsHeld, IsHeldChunk, IsHeldTable}
+use Rattle.record_reader.specs.SoundRecords.{Finds, IsHeld, IsHeldChunk, IsHeldTable}
 use Rattle.record_reader.specs.Readers.{◌>>=◌, Found, byte_at, eight_at, four_at, key_bound_at, bound_at, range_in, range_at, version_at, owned_at, list_at, chunk_at, table_in, table_at, life_at, block_at, fields_at, record_at}
 use Rattle.record_reader.proofs.Again.{stepped, first, last, four_again, eight_again, namespace_again, key_again, entry_again, creation_again}
 use Rattle.record_reader.proofs.Items.{list_again}

@@ -1,5 +1,5 @@
 pub mod Readers
-pub mod Read
+pub mod SoundRecords
 pub use Rattle.shard_records.specs.Meanings
 pub use Rattle.shard_records.specs.Records
-pub use Rattle.shard_records.specs.Spelled
+pub use Rattle.shard_records.specs.RecordFormat

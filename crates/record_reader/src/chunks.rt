@@ -5,7 +5,7 @@ ghost use Rattle.std.specs.List.{AllByRecursion};
 ghost use Rattle.chunk_table.specs.Meanings.{chunk_meant, owned_meant, version_meant};
 ghost use Rattle.chunk_table.specs.Whole.{IsWritableBound, IsWritableChunk};
 ghost use Rattle.shard_records.specs.Meanings.{record_meant};
-ghost use Rattle.record_reader.specs.Read.{Finds, IsHeld, IsHeldChunk};
+ghost use Rattle.record_reader.specs.SoundRecords.{Finds, IsHeld, IsHeldChunk};
 ghost use Rattle.record_reader.specs.Readers.{bound_at, chunk_at, items_at, key_bound_at, list_at, owned_at, range_at, range_in, table_at, version_at};
 ghost use Rattle.value_compare.specs.Bounds.{bound_of};
 ghost use Rattle.value_compare.specs.Keys.{IsRange};

@@ -2,7 +2,7 @@
 
 ghost use Rattle.std.specs.Prelude.{IfOk};
 ghost use Rattle.shard_records.specs.Meanings.{number_meant, operation_meant, outcome_meant, record_meant, session_meant};
-ghost use Rattle.record_reader.specs.Read.{Finds, IsHeld};
+ghost use Rattle.record_reader.specs.SoundRecords.{Finds, IsHeld};
 ghost use Rattle.record_reader.specs.Readers.{client_at, delete_at, entry_at, insert_at, operation_at, option_key_at, outcome_at, router_at, session_at, some_key_at, statement_at, update_at};
 ghost use Rattle.shard_records.specs.Sizes.{IsWritableKey, IsWritableOperation};
 

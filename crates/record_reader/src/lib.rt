@@ -5,7 +5,7 @@ mod chunks;
 mod entries;
 mod fault;
 mod parts;
-mod reading;
+mod reader;
 
 pub use fault::RecordFault;
-pub use reading::read_record;
+pub use reader::read_record;

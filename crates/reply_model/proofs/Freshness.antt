@@ -16,7 +16,7 @@ use Rattle.chunk_model.specs.Catalogue.{Creation}
 use Rattle.history_model.specs.History.{insert_operation, Entry, same_key, writes_to, document_at, Legal, IsIn}
 use Rattle.history_model.proofs.Lists.{all_at, in_first}
 use Rattle.history_model.proofs.StandingDocuments.{AreInserts, there_after, put_in_stays}
-use Rattle.reply_model.specs.Asked.{Asked, Answered, entries_by}
+use Rattle.reply_model.specs.Exchanges.{Asked, Answered, entries_by}
 use Rattle.reply_model.specs.Outcomes.{done_of, time_of, answer_of}
 use Rattle.reply_model.specs.Right.{IsStatement, found, AreAll, told_by, IsWhole, IsRight}
 use Rattle.reply_model.specs.OneHistory.{WasSent, StandsInPart, IsRightOf, IsNotBefore, IsFresh, IsInOrder, Given, OneHistory}

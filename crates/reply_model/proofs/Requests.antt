@@ -6,7 +6,7 @@ use Rattle.std.proofs.lemmas.Bool.{eqb-true}
 use Rattle.command_model.specs.Tree.{Fields}
 use Rattle.history_model.specs.History.{Session, client_session, router_session, StatementNumber, Entry, IsIn}
 use Rattle.history_model.proofs.Lists.{in_cons, in_first, in_later, in_none}
-use Rattle.reply_model.specs.Asked.{RequestId, same_request, Asked, Answered, number_for, is_session_of, entries_by}
+use Rattle.reply_model.specs.Exchanges.{RequestId, same_request, Asked, Answered, number_for, is_session_of, entries_by}
 use Rattle.reply_model.specs.Right.{IsStatement, AreStatements}
 use Rattle.reply_model.specs.OneHistory.{ids_asked, ids_told, AreDifferent}
 use Rattle.reply_model.specs.Earlier.{IsEntryOf}

@@ -6,14 +6,14 @@ use Rattle.command_model.specs.Refusals.{Refusal, time_ahead}
 use Rattle.command_model.specs.ReplyParts.{operation_time}
 use Rattle.command_model.specs.Insert.{Insert}
 use Rattle.command_model.specs.Find.{Find}
-use Rattle.command_model.specs.Shown.{document_items}
+use Rattle.command_model.specs.AnswerParts.{document_items}
 use Rattle.command_model.specs.Command.{Command, insert_command, find_command, command_of}
 use Rattle.command_model.specs.Answers.{find_answer, refusal_answer, answer_document}
 use Rattle.command_model.proofs.AnswerTimes.{time_of_insert}
 use Rattle.command_model.proofs.ToldRefusals.{never_ahead}
 use Rattle.history_model.specs.History.{Entry, IsIn, document_at}
 use Rattle.history_model.proofs.Lists.{in_cons, in_none}
-use Rattle.reply_model.specs.Asked.{Asked, Answered}
+use Rattle.reply_model.specs.Exchanges.{Asked, Answered}
 use Rattle.reply_model.specs.Outcomes.{Done, done_of, sum_of, errors_of, time_of, answer_of}
 use Rattle.reply_model.specs.Right.{found, told_by, IsWhole, time_read, IsRight, right_insert, right_find, right_ahead, right_hello, right_legacy, right_ping, right_end_sessions, right_refusal}
 

@@ -1,53 +1,26 @@
 -- Where all entries are inserts, a document that is there at a time is there at each later one.
 use Rattle.std.proofs.Common.{◌≡◌, ℕ, ◌<◌, ◌≤◌, ◌⊎◌, inl, inr, List, [], ◌∷◌, ◌++◌, refl, sym, ap, subst, ◌∙◌, arith, append_assoc}
-use Rattle.std.specs.Prelude.{true, false, Option, Some, None, Bool, if◌then◌else◌, filter, nat_le, ◌&&◌}
+use Rattle.std.specs.Prelude.{true, false, Option, Some, None, Bool, if◌then◌else◌, nat_le}
 use Rattle.std.specs.List.{AllByRecursion}
-use Rattle.std.specs.Str.{bytes_eq}
 use Rattle.std.proofs.lemmas.Bool.{le-leb, lt-leb}
 use Rattle.std.proofs.lemmas.Bool.Decides.{leb_tells}
 use Rattle.command_model.specs.Tree.{Datum, Fields}
-use Rattle.value_model.specs.Order.{same_value}
-use Rattle.value_model.proofs.Spans.{same_value_equivalence}
-use Rattle.history_model.specs.History.{Operation, key_written, same_key, effect, Entry, writes_to, document_after, document_at, IsBefore, Legal}
+use Rattle.history_model.specs.History.{Operation, same_key, effect, Entry, writes_to, document_after, document_at, Legal}
 use Rattle.history_model.proofs.Lists.{all_filter, all_from, all_weaken}
-use Rattle.history_model.proofs.LegalHistories.{effect_stays, times_rise}
-use Rattle.history_model.proofs.StandingDocuments.{IsInsert, AreInserts}
-
--- KEYS THAT ARE THE SAME
-
-same_written : (written : Option Datum) (a b : Datum) → same_value a b ≡ true → same_key written (Some a) ≡ same_key written (Some b)
-same_written None a b same = refl
-same_written (Some c) a b same = same_value_equivalence.symm c a ∙ same_value_equivalence.congr a b c same ∙ same_value_equivalence.symm b c
-
-same_writes : (namespace : List ℕ) (a b : Option Datum) → same_key a b ≡ true → (e : Entry) → writes_to namespace a e ≡ writes_to namespace b e
-same_writes namespace None b same e = absurd cc
-same_writes namespace (Some a) None same e = absurd cc
-same_writes namespace (Some a) (Some b) same e = ap (λ (key : Bool). bytes_eq e.namespace namespace && key) (same_written (key_written e.operation) a b same)
-
-same_after : (namespace : List ℕ) (a b : Option Datum) → same_key a b ≡ true → (before : Option Fields) (es : List Entry)
-    → document_after namespace a before es ≡ document_after namespace b before es
-same_after namespace a b same before [] = refl
-same_after namespace a b same before (e ∷ es) =
-    rw (same_writes namespace a b same e) (same_after namespace a b same (if writes_to namespace b e then (effect e.operation before).0 else before) es)
+use Rattle.history_model.proofs.LegalHistories.{effect_stays, times_rise, same_after}
+use Rattle.history_model.proofs.StandingDocuments.{IsInsert, AreInserts, up_to, no_later}
 
 -- ENTRIES UP TO A TIME
-
-abbrev up_to : ℕ → List Entry → List Entry
-up_to time es = filter (λ (e : Entry). nat_le e.time time) es
 
 none_up_to : (time : ℕ) (es : List Entry) → AllByRecursion (λ e. time < e.time) es → up_to time es ≡ []
 none_up_to time [] later = refl
 none_up_to time (e ∷ es) later = rw (lt-leb e.time time later.0) (none_up_to time es later.1)
 
-not_later : (d e : Entry) → IsBefore d e → d.time ≤ e.time
-not_later d e (inl less) = omega arith
-not_later d e (inr equal) = omega arith
-
 -- no entry behind another is of an earlier time
 behind : (prefix back : List Entry) (e : Entry) → Legal (prefix ++ e ∷ back) → AllByRecursion (λ d. e.time ≤ d.time) back
 behind prefix back e legal =
     all_from (λ (d : Entry). e.time ≤ d.time) back
-    (λ d i. not_later e d (times_rise prefix i.0 i.1 e d (subst (λ (l : List Entry). Legal (prefix ++ e ∷ l)) i.2 legal)))
+    (λ d i. no_later e d (times_rise prefix i.0 i.1 e d (subst (λ (l : List Entry). Legal (prefix ++ e ∷ l)) i.2 legal)))
 
 -- DOCUMENTS THAT STAY
 

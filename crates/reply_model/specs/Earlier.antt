@@ -4,7 +4,7 @@ use Rattle.command_model.specs.Tree.{Fields}
 use Rattle.command_model.specs.Insert.{Insert}
 use Rattle.command_model.specs.Command.{insert_command, command_of}
 use Rattle.history_model.specs.History.{Entry, IsIn}
-use Rattle.reply_model.specs.Asked.{Asked, Answered}
+use Rattle.reply_model.specs.Exchanges.{Asked, Answered}
 use Rattle.reply_model.specs.Right.{IsStatement}
 
 -- the request was taken, and is told this

@@ -1,4 +1,4 @@
-pub mod Asked
+pub mod Exchanges
 pub mod Outcomes
 pub mod Right
 pub mod OneHistory

@@ -9,7 +9,7 @@ use Rattle.command_model.specs.Command.{insert_command, command_of}
 use Rattle.chunk_model.specs.Catalogue.{Creation}
 use Rattle.chunk_model.specs.Tables.{first_table, owner_at}
 use Rattle.history_model.specs.History.{Entry, Legal, IsIn, key_written}
-use Rattle.reply_model.specs.Asked.{RequestId, Asked, Answered, is_session_of}
+use Rattle.reply_model.specs.Exchanges.{RequestId, Asked, Answered, is_session_of}
 use Rattle.reply_model.specs.Right.{IsPart, IsRight}
 
 -- the request is an insert into the namespace

@@ -8,7 +8,7 @@ use Rattle.command_model.specs.Handshake.{Legacy}
 use Rattle.command_model.specs.Command.{hello_command, legacy_command, ping_command, end_sessions_command, insert_command, find_command, command_of}
 use Rattle.command_model.specs.Answers.{hello_answer, legacy_answer, done_answer, find_answer, refusal_answer, answer_document}
 use Rattle.history_model.specs.History.{insert_operation, Entry, document_at}
-use Rattle.reply_model.specs.Asked.{RequestId, Asked, Answered, number_for, entries_by}
+use Rattle.reply_model.specs.Exchanges.{RequestId, Asked, Answered, number_for, entries_by}
 use Rattle.reply_model.specs.Outcomes.{Done, done_of, fails, answer_of}
 
 -- the document that was found, if any

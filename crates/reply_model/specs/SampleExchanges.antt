@@ -7,7 +7,7 @@ use Rattle.command_model.specs.Errors.{object_too_large, duplicate_key}
 use Rattle.command_model.specs.SampleReplies.{done_reply, duplicate_reply}
 use Rattle.command_model.specs.SampleRequests.{deep, find_body, five, greeting, insert_body, long_five, request, shown, six, three, with_id}
 use Rattle.history_model.specs.History.{router_session, insert_operation, Outcome, done, fails_with, Entry}
-use Rattle.reply_model.specs.Asked.{RequestId, Asked, Answered}
+use Rattle.reply_model.specs.Exchanges.{RequestId, Asked, Answered}
 use Rattle.reply_model.specs.OneHistory.{Given}
 
 -- both routers, nodes 2 and 3, are given one moment, of the second 1000

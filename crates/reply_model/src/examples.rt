@@ -13,7 +13,7 @@ ghost use Rattle.command_model.specs.SampleReplies.{ahead_reply, done_reply, dup
 ghost use Rattle.command_model.specs.SampleRequests.{deep, faulty, five, long_five, second_fails, shown, six, three, too_large_reply, with_id};
 ghost use Rattle.command_model.specs.Times.{timestamp};
 ghost use Rattle.history_model.specs.History.{Legal, done, fails_with};
-ghost use Rattle.reply_model.specs.Asked.{reply_put};
+ghost use Rattle.reply_model.specs.Exchanges.{reply_put};
 ghost use Rattle.reply_model.specs.Earlier.{IsEntryOf};
 ghost use Rattle.reply_model.specs.OneHistory.{AreDifferent, IsFresh, IsInOrder, IsKnown, IsPlaced, IsRightOf, OneHistory, WasSent, WasWanted, ids_asked, ids_told};
 ghost use Rattle.reply_model.specs.Right.{IsPart, IsRight, IsWhole};

@@ -11,7 +11,7 @@ ghost use Rattle.command_model.specs.Answers.{answer_document, find_answer, refu
 ghost use Rattle.command_model.specs.Command.{find_command, insert_command, command_of};
 ghost use Rattle.chunk_model.specs.Catalogue.{Creation};
 ghost use Rattle.history_model.specs.History.{Entry, IsIn, insert_operation, same_key, writes_to};
-ghost use Rattle.reply_model.specs.Asked.{Asked, Answered, entries_by};
+ghost use Rattle.reply_model.specs.Exchanges.{Asked, Answered, entries_by};
 ghost use Rattle.reply_model.specs.Outcomes.{answer_of};
 ghost use Rattle.reply_model.specs.Right.{IsWhole, told_by};
 ghost use Rattle.reply_model.specs.Earlier.{IsEntryOf, IsTold, WasTakenBefore, WasToldBefore};

@@ -1,15 +1,14 @@
--- The requests of the program that say something of the definitions.
+-- The bodies of requests of the program that say something of the definitions.
 use Rattle.std.proofs.Common.{◌≡◌, refl, ap, ◌∙◌, sym, true}
 use Rattle.std.specs.Prelude.{is_some}
 use Rattle.bson_values.specs.Faults.{short_fault, length_fault, type_fault, string_fault, boolean_fault, depth_fault, trailing_fault}
 use Rattle.bson_values.specs.ReadFaults.{fault_offset}
 use Rattle.bson_values.specs.declared.fault.BsonFault.{BsonFault}
 use Rattle.bson_values.specs.declared.fault.BsonFault.TheVariants.{Short, BadLength, BadType, BadText, BadBool, Deep, Trailing, Memory}
-use Rattle.opmsg_frames.specs.RequestMeanings.{IsBody, IsMeant}
+use Rattle.opmsg_frames.specs.RequestMeanings.{IsBody}
 use Rattle.opmsg_frames.specs.declared.request.Body.{Body}
 use Rattle.opmsg_frames.specs.declared.request.Body.TheVariants.{Read, Faulty}
-use Rattle.opmsg_frames.specs.declared.request.Request.{Request}
-use Rattle.protocol_model.specs.Requests.{body_of, faulty_body_of, request_of}
+use Rattle.protocol_model.specs.Requests.{body_of, faulty_body_of}
 
 fault_meant : (fault : BsonFault) → is_some (fault_offset fault) ≡ true → IsBody (Faulty fault) (faulty_body_of fault)
 fault_meant (Short offset) e = (short_fault, offset, refl, refl)
@@ -25,14 +24,11 @@ body_meant : (body : Body) → ((fault : BsonFault) → body ≡ Faulty fault �
 body_meant (Read document sequences) told = refl
 body_meant (Faulty fault) told = fault_meant fault (told fault refl)
 
-pub request_meant : (request : Request) → ((fault : BsonFault) → request.body ≡ Faulty fault → is_some (fault_offset fault) ≡ true) → IsMeant request (request_of request)
-request_meant request told = record { id = refl; more = refl; form = refl; body = body_meant request.body told; bytes = refl }
+pub read_meant : (body : Body) (document : _) (sequences : _) → body ≡ Read document sequences → IsBody body (body_of body)
+read_meant body document sequences is = body_meant body (λ fault other. absurd (cc (sym is ∙ other)))
 
-pub read_meant : (request : Request) (document : _) (sequences : _) → request.body ≡ Read document sequences → IsMeant request (request_of request)
-read_meant request document sequences is = request_meant request (λ fault other. absurd (cc (sym is ∙ other)))
-
-pub faulty_meant : (request : Request) (fault : BsonFault) → request.body ≡ Faulty fault → is_some (fault_offset fault) ≡ true → IsMeant request (request_of request)
-faulty_meant request fault is told = request_meant request (λ other also. told_of fault other (sym is ∙ also) told) where
+pub faulty_meant : (body : Body) (fault : BsonFault) → body ≡ Faulty fault → is_some (fault_offset fault) ≡ true → IsBody body (body_of body)
+faulty_meant body fault is told = body_meant body (λ other also. told_of fault other (sym is ∙ also) told) where
   told_of : (a b : BsonFault) → Faulty a ≡ Faulty b → is_some (fault_offset a) ≡ true → is_some (fault_offset b) ≡ true
   told_of a b same e = ap (λ (f : BsonFault). is_some (fault_offset f)) (sym (inside a b same)) ∙ e where
     inside : (a b : BsonFault) → Faulty a ≡ Faulty b → a ≡ b

@@ -10,7 +10,7 @@ use Rattle.node_model.specs.Tables.{Table}
 use Rattle.open_requests.specs.Works.{wait_meant}
 use Rattle.open_requests.specs.declared.work.Wait.{Wait}
 use Rattle.protocol_model.specs.Statements.{done_meant}
-use Rattle.protocol_model.specs.declared.statement.Done.{Done as Told}
+use Rattle.protocol_model.specs.declared.statement.Done.{Done as StatementDone}
 use Rattle.router_node.specs.StepPlans.{opens_then}
 use Rattle.router_node.specs.declared.step_plan.Change.TheVariants.{Waits, Notes}
 
@@ -32,7 +32,7 @@ module _ (r : Router) (time count : ℕ) (q : Open) (found : open_with count r.r
       subst (λ (o : Option Open). replaced (with_work q (wait_meant wait) q.work) r.requests
       ≡ elim o as (λ _. List Open) [ None ↦ r.requests | Some x ↦ replaced (with_work x (wait_meant wait) x.work) r.requests ]) (sym found) refl
 
-  pub opens_notes : (wait : Wait) (answers : Vec Told Global) (ordered : Bool) (statements : List Statement) (before : List Done) → q.work ≡ writing ordered statements before
+  pub opens_notes : (wait : Wait) (answers : Vec StatementDone Global) (ordered : Bool) (statements : List Statement) (before : List Done) → q.work ≡ writing ordered statements before
       → replaced (with_work q (wait_meant wait) (writing ordered statements (map done_meant answers.items))) r.requests ≡ opens_then r time (Notes count wait answers)
   opens_notes wait answers ordered statements before work =
       subst (λ (o : Option Open). replaced (with_work q (wait_meant wait) (writing ordered statements (map done_meant answers.items))) r.requests

@@ -2,7 +2,7 @@
 use Rattle.std.proofs.Common.{◌≡◌, ◌≢◌, refl, sym, subst, ℕ, ◌<◌, ◌≤◌, List, [], ◌∷◌, Bool, true, false}
 use Rattle.std.specs.Prelude.{Some, None}
 use Rattle.node_model.specs.Answers.{find_answer, refusal_answer}
-use Rattle.node_model.specs.Asked.{RequestId}
+use Rattle.node_model.specs.Exchanges.{RequestId}
 use Rattle.node_model.specs.Letters as letters
 use Rattle.node_model.specs.Letters.{Letter, Half, letter_input, write_done, read_rows, time_told, sends}
 use Rattle.node_model.specs.Outcomes.{Done, answer_of}

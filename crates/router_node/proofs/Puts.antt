@@ -1,7 +1,7 @@
 -- The bytes of replies, one after the other.
 use Rattle.std.proofs.Common.{◌≡◌, refl, ap, subst, ℕ, ℤ, w32, List, [], ◌∷◌, ◌++◌, Bool, true, false, if◌then◌else◌}
 use Rattle.node_model.specs.Letters.{Reply}
-use Rattle.node_model.specs.Asked.{RequestId}
+use Rattle.node_model.specs.Exchanges.{RequestId}
 use Rattle.node_model.specs.Requests.{Request}
 use Rattle.node_model.specs.Tree.{Fields}
 use Rattle.node_traits.specs.Effects.{puts_of, put_by}

@@ -4,7 +4,7 @@ use Rattle.std.specs.Prelude.{max, Result, Ok, Err, IfOk}
 use Rattle.std.specs.List.{flat_map}
 use Rattle.node_model.specs.Answers.{Answer, answer_document}
 use Rattle.node_model.specs.Command.{command_of}
-use Rattle.node_model.specs.Kept.{kept_life}
+use Rattle.node_model.specs.Journal.{kept_life}
 use Rattle.node_model.specs.Letters.{Letter, Input, client_input, letter_input, moment_input, opened_input, Effect, nothing, sends, writes}
 use Rattle.node_model.specs.Requests.{Request}
 use Rattle.node_model.specs.RouterRows.{RouterRow, router_begin, router_opened, router_plain, router_take, router_moment, router_skip, TellsNothing, begins, takes, plan_of, at_once, needs, id_of, asks_for, asks_times, asks_again, wait_of, opened_request, is_ahead, table_for, taken_now}
@@ -16,7 +16,7 @@ use Rattle.node_traits.specs.declared.outputs.ToLink.{ToLink}
 use Rattle.open_requests.proofs.Askers.{asked_alike}
 use Rattle.open_requests.specs.Works.{open_meant, wait_meant, work_meant}
 use Rattle.open_requests.specs.declared.work.OpenRequest.{OpenRequest}
-use Rattle.protocol_model.specs.Requests.{request_of}
+use Rattle.protocol_model.specs.Heads.{head_request}
 use Rattle.router_node.specs.Rows.{TookRow, started, life_kept}
 use Rattle.router_node.proofs.Heard.{follows_so}
 use Rattle.router_node.specs.StepPlans.{FollowsBy, Hears, IsHeard, IsPlanned, Starts, changed, count_then, router_then}
@@ -157,7 +157,7 @@ module _ (r : Router) (o : OpenRequest) (next : o.count ≡ r.count + 1) where
   work = work_meant (id_of r o.count) o.work
 
   abbrev request : Request
-  request = request_of o.request
+  request = head_request o.head
 
   opens : wait_meant o.wait ≡ wait_of r r.time o.namespace work → open_meant r.me r.life o ≡ opened_request (started r) o.link o.number request o.namespace work
   opens waits =
@@ -168,10 +168,10 @@ module _ (r : Router) (o : OpenRequest) (next : o.count ≡ r.count + 1) where
   effect = record { written = []; mail = asks_for (started r) r.time (r.count + 1) o.namespace work; taken = taken_now (started r) o.link o.number request ∷ []; replies = [] }
 
   -- kept open
-  pub took_open : (letters : List Letter) → plan_of (started r) (id_of r o.count) (command_of (request_of o.request)) ≡ needs o.namespace (work_meant (id_of r o.count) o.work)
+  pub took_open : (letters : List Letter) → plan_of (started r) (id_of r o.count) (command_of (head_request o.head)) ≡ needs o.namespace (work_meant (id_of r o.count) o.work)
       → letters ≡ asks_for r r.time o.count o.namespace (work_meant (id_of r o.count) o.work)
       → wait_meant o.wait ≡ wait_of r r.time o.namespace (work_meant (id_of r o.count) o.work)
-      → TookRow (started r) (client_input o.link o.number (request_of o.request)) letters [] (changed r r.time true r.moment (Opens o))
+      → TookRow (started r) (client_input o.link o.number (head_request o.head)) letters [] (changed r r.time true r.moment (Opens o))
   took_open letters plan asked waits = record {
     effect = effect;
     row = subst (λ (x : Open). RouterRow (started r) (client_input o.link o.number request) effect (takes (started r) (x ∷ []))) (sym (opens waits))

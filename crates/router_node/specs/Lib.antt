@@ -2,7 +2,7 @@ pub mod RouterStates
 pub mod Plans
 pub mod Rows
 pub mod Nexts
-pub mod Noted
+pub mod News
 pub mod StepPlans
 pub use Rattle.node_model.specs.RouterRows
 pub use Rattle.node_model.specs.States

@@ -1,5 +1,5 @@
 -- What a request that comes is answered, or has to do.
-use Rattle.node_model.specs.Asked as asked
+use Rattle.node_model.specs.Exchanges as asked
 use Rattle.node_model.specs.RouterRows as rows
 use Rattle.node_model.specs.RouterRows.{at_once, needs}
 use Rattle.command_answers.specs.AnswerMeanings.{answer_meant}

@@ -1,6 +1,6 @@
 -- What a row leaves.
 use Rattle.std.specs.Prelude.{◌≡◌, List, [], ◌∷◌, true, if◌then◌else◌}
-use Rattle.node_model.specs.Kept.{Kept, kept_life}
+use Rattle.node_model.specs.Journal.{Kept, kept_life}
 use Rattle.node_model.specs.Letters.{Letter, Input, Effect}
 use Rattle.node_model.specs.RouterRows.{RouterRow}
 use Rattle.node_model.specs.States.{Router}

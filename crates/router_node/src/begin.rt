@@ -1,7 +1,7 @@
 //! A life begins.
 
 ghost use Rattle.std.specs.Prelude.{◌≡◌, ◌∷◌, [], IfOk, OnOk};
-ghost use Rattle.node_model.specs.Kept.{kept_life};
+ghost use Rattle.node_model.specs.Journal.{kept_life};
 ghost use Rattle.node_traits.specs.Effects.{AreSound, spellings};
 
 use crate::node::RouterNode;

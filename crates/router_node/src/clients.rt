@@ -11,13 +11,14 @@ use command_answers::Answer;
 use node_traits::MailList;
 use open_requests::{OpenRequest, Work};
 use opmsg_frames::Request;
+use protocol_model::Head;
 
-/// A request that comes on a link; the number is that of its reply.
+/// The head of a request that comes on a link; the number is that of its reply.
 #[derive(Drop)]
 pub(crate) struct Asked {
     pub(crate) link: u32,
     pub(crate) number: i32,
-    pub(crate) request: Request,
+    pub(crate) head: Head,
 }
 
 impl RouterNode {
@@ -28,6 +29,7 @@ impl RouterNode {
     ghost use Rattle.node_model.specs.RouterRows as rows;
     ghost use Rattle.open_requests.specs.Lists.{taken_of};
     ghost use Rattle.open_requests.specs.Works.{work_meant};
+    ghost use Rattle.protocol_model.specs.Heads.{head_request};
     ghost use Rattle.protocol_model.specs.Requests.{request_of};
     ghost use Rattle.router_node.specs.RouterStates.{router_of};
     ghost use Rattle.router_node.specs.Rows.{started};
@@ -36,15 +38,11 @@ impl RouterNode {
     // A request that is answered at once. Fails for want of memory.
     fn plan_plain(&self, asked: Asked, answer: Answer) -> Result<StepPlan, Memory>
         requires few { taken_of self.now.requests < 2 ^ 64 - 1 }
-        requires plan { rows.plan_of (started (router_of self.now)) (rows.id_of (router_of self.now) (taken_of self.now.requests + 1)) (command_of (request_of asked.request)) ≡ rows.at_once (answer_meant answer) }
-        ensures { IfOk result (λ p. IsPlanned (router_of self.now) (client_input asked.link asked.number (request_of asked.request)) p) }
+        requires plan { rows.plan_of (started (router_of self.now)) (rows.id_of (router_of self.now) (taken_of self.now.requests + 1)) (command_of (head_request asked.head)) ≡ rows.at_once (answer_meant answer) }
+        ensures { IfOk result (λ p. IsPlanned (router_of self.now) (client_input asked.link asked.number (head_request asked.head)) p) }
     {
-        let Asked {
-            link,
-            number,
-            request,
-        } = asked;
-        let reply = reply_to(self.alloc, link, number, &request, &answer)?;
+        let Asked { link, number, head } = asked;
+        let reply = reply_to(self.alloc, link, number, &head, &answer)?;
         let mail = MailList::new(self.alloc);
         self.starts(self.time, self.moment, Change::Counts, mail, reply)
     }
@@ -59,22 +57,18 @@ impl RouterNode {
     ) -> Result<StepPlan, Memory>
         requires few { taken_of self.now.requests < 2 ^ 64 - 1 }
         requires next { count ≡ taken_of self.now.requests + 1 }
-        requires plan { rows.plan_of (started (router_of self.now)) (rows.id_of (router_of self.now) count) (command_of (request_of asked.request))
+        requires plan { rows.plan_of (started (router_of self.now)) (rows.id_of (router_of self.now) count) (command_of (head_request asked.head))
             ≡ rows.needs namespace (work_meant (rows.id_of (router_of self.now) count) work) }
-        ensures { IfOk result (λ p. IsPlanned (router_of self.now) (client_input asked.link asked.number (request_of asked.request)) p) }
+        ensures { IfOk result (λ p. IsPlanned (router_of self.now) (client_input asked.link asked.number (head_request asked.head)) p) }
     {
         let (wait, message) = self.asks_for(self.time, count, &namespace, &work)?;
         let mail = mail_of(self.alloc, message);
-        let Asked {
-            link,
-            number,
-            request,
-        } = asked;
+        let Asked { link, number, head } = asked;
         let opened = OpenRequest {
             count,
             link,
             number,
-            request,
+            head,
             namespace,
             wait,
             work,
@@ -82,16 +76,24 @@ impl RouterNode {
         self.starts(self.time, self.moment, Change::Opens(opened), mail, None)
     }
 
-    // A request that comes. Fails for want of memory.
-    pub(crate) fn plan_client(&self, asked: Asked) -> Result<StepPlan, Memory>
-        ensures { IfOk result (λ p. IsPlanned (router_of self.now) (client_input asked.link asked.number (request_of asked.request)) p) }
+    // A request that comes on a link; the number is that of its reply. Fails for want of memory.
+    pub(crate) fn plan_client(
+        &self,
+        link: u32,
+        number: i32,
+        request: Request,
+    ) -> Result<StepPlan, Memory>
+        ensures { IfOk result (λ p. IsPlanned (router_of self.now) (client_input link number (request_of request)) p) }
     {
         let taken = self.requests.taken();
         if taken == u64::MAX {
             // So many are never taken: each is one of 2^56 steps.
             return Err(Memory);
         }
-        match self.plan_of(&asked.request)? {
+        let (head, body) = Head::of(request);
+        let plan = self.plan_of(head.form, body)?;
+        let asked = Asked { link, number, head };
+        match plan {
             Plan::AtOnce(answer) => self.plan_plain(asked, answer),
             Plan::Needs { namespace, work } => self.plan_open(asked, taken + 1, namespace, work),
         }

@@ -112,7 +112,7 @@ impl RouterNode {
                     self.alloc,
                     request.link,
                     request.number,
-                    &request.request,
+                    &request.head,
                     &answer,
                 )
             }

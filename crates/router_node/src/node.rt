@@ -57,12 +57,12 @@ impl RouterNode {
     ghost use Rattle.std.specs.Prelude.{◌≡◌, IfOk, Some, true, false, map, nat_lt};
     ghost use Rattle.std.specs.Option.{option_map};
     ghost use Rattle.known_tables.specs.Tables.{table_of};
-    ghost use Rattle.node_model.specs.Asked as asked;
+    ghost use Rattle.node_model.specs.Exchanges as asked;
     ghost use Rattle.node_model.specs.RouterRows as rows;
     ghost use Rattle.node_model.specs.States.{new_router};
+    ghost use Rattle.node_traits.specs.Ids.{id_meant};
     ghost use Rattle.open_requests.specs.Askers.{asker_meant, letters_of};
     ghost use Rattle.open_requests.specs.Works.{open_meant, wait_meant, work_meant};
-    ghost use Rattle.protocol_model.specs.Bodies.{id_meant};
     ghost use Rattle.router_node.specs.RouterStates.{router_of};
 
     /// The router of this number, before its first step, with nothing kept.

@@ -1,14 +1,14 @@
 //! What requests are answered at once, or have to do.
 
 ghost use Rattle.std.specs.Prelude.{◌≡◌, [], IfOk, IsTrue, Ok, map};
-ghost use Rattle.command_words.specs.Command.{command_of};
+ghost use Rattle.command_words.specs.Command.{command_in};
 ghost use Rattle.command_words.specs.Commands.{command_meant, find_meant};
 ghost use Rattle.command_words.specs.CommandSizes.{IsKeepable};
-ghost use Rattle.node_model.specs.Asked as asked;
+ghost use Rattle.node_model.specs.Exchanges as asked;
 ghost use Rattle.node_model.specs.RouterRows as rows;
 ghost use Rattle.node_model.specs.States as states;
-ghost use Rattle.opmsg_frames.specs.RequestMeanings.{IsMeant};
-ghost use Rattle.protocol_model.specs.Requests.{request_of};
+ghost use Rattle.opmsg_frames.specs.RequestMeanings.{IsBody, form_meant};
+ghost use Rattle.protocol_model.specs.Requests.{body_of};
 ghost use Rattle.protocol_model.specs.Statements.{statement_meant};
 ghost use Rattle.router_node.specs.Plans.{plan_meant};
 ghost use Rattle.router_node.specs.RouterStates.{router_of};
@@ -20,7 +20,7 @@ use cluster_base::Namespace;
 use command_answers::Answer;
 use command_words::{Command, CommandFault, Find, Insert};
 use open_requests::Work;
-use opmsg_frames::{Body, Request};
+use opmsg_frames::{Body, Form};
 use protocol_model::{DoneList, Half, NewDocument, Operation, Statement, StatementList};
 use std::alloc::Global;
 use std::sync::Arc;
@@ -91,12 +91,12 @@ fn plan_insert(alloc: Global, insert: Insert) -> Result<Plan, Memory>
     Ok(Plan::Needs { namespace, work })
 }
 
-/// Whether a request is one of the definitions. All are that a framer gives.
+/// Whether the body of a request is one of the definitions. All are that a framer gives.
 #[tactic(auto, using(crate::proofs::Asked::read_meant, crate::proofs::Asked::faulty_meant))]
-fn has_meaning(request: &Request) -> bool
-    ensures { IsTrue result → IsMeant request.now (request_of request.now) }
+fn has_meaning(body: &Body) -> bool
+    ensures { IsTrue result → IsBody body.now (body_of body.now) }
 {
-    match &request.body {
+    match body {
         Body::Read { .. } => true,
         Body::Faulty(fault) => fault.place().is_some(),
     }
@@ -137,15 +137,15 @@ impl RouterNode {
         }
     }
 
-    // What a request is answered at once, or has to do. Fails for want of memory.
-    pub(crate) fn plan_of(&self, request: &Request) -> Result<Plan, Memory>
-        ensures { (id : asked.RequestId) → IfOk result (λ plan. plan_meant id plan ≡ rows.plan_of (started (router_of self.now)) id (command_of (request_of request.now))) }
+    // What a request of this body is answered at once, or has to do. Fails for want of memory.
+    pub(crate) fn plan_of(&self, sent: Form, body: Body) -> Result<Plan, Memory>
+        ensures { (id : asked.RequestId) → IfOk result (λ plan. plan_meant id plan ≡ rows.plan_of (started (router_of self.now)) id (command_in (form_meant sent) (body_of body))) }
     {
-        if !has_meaning(request) {
+        if !has_meaning(&body) {
             // A framer gives no such request.
             return Err(Memory);
         }
-        match Command::read(self.alloc, request) {
+        match Command::take_body(self.alloc, sent, body) {
             Ok(command) => self.plan_command(command),
             Err(CommandFault::Refused(refusal)) => Ok(Plan::AtOnce(Answer::Refused(refusal))),
             Err(CommandFault::Memory) => Err(Memory),

@@ -73,12 +73,13 @@ fn time_ahead(greatest: Time) -> Refusal
 impl RouterNode {
     ghost use Rattle.std.specs.Prelude.{◌≡◌, ◌≤◌, ◌<◌, IfOk, Some, map};
     ghost use Rattle.std.specs.Arc.{arc_value};
-    ghost use Rattle.node_model.specs.Asked as asked;
+    ghost use Rattle.node_model.specs.Exchanges as asked;
     ghost use Rattle.node_model.specs.Letters.{Half, Letter, read_rows, time_told};
     ghost use Rattle.node_model.specs.States.{for_time, reading};
     ghost use Rattle.open_requests.specs.Works.{open_meant};
     ghost use Rattle.node_model.specs.RouterRows as rows;
-    ghost use Rattle.protocol_model.specs.Bodies.{id_meant, read_rows_meant, time_told_meant};
+    ghost use Rattle.node_traits.specs.Ids.{id_meant};
+    ghost use Rattle.protocol_model.specs.Bodies.{read_rows_meant, time_told_meant};
     ghost use Rattle.router_node.specs.RouterStates.{router_of};
     ghost use Rattle.router_node.specs.StepPlans.{IsHeard};
 
@@ -101,7 +102,7 @@ impl RouterNode {
             self.alloc,
             request.link,
             request.number,
-            &request.request,
+            &request.head,
             &answer,
         )?;
         Ok(self.hears(time, Change::Closes(request.count), None, reply))
@@ -168,7 +169,7 @@ impl RouterNode {
             self.alloc,
             request.link,
             request.number,
-            &request.request,
+            &request.head,
             &answer,
         )?;
         Ok(self.hears(time, Change::Closes(request.count), None, reply))

@@ -1,6 +1,5 @@
 //! What an input comes to, and a step that is taken.
 
-use crate::clients::Asked;
 use crate::node::RouterNode;
 use crate::step_plan::{Change, StepPlan};
 use bson_values::Memory;
@@ -74,11 +73,7 @@ impl RouterNode {
                 link,
                 number,
                 request,
-            } => self.plan_client(Asked {
-                link,
-                number,
-                request,
-            }),
+            } => self.plan_client(link, number, request),
             Input::Deliver(message) => self.plan_message(message),
             Input::Moment(moment) => self.plan_moment(moment),
             Input::Opened => self.plan_opened(),

@@ -2,7 +2,7 @@
 
 ghost use Rattle.std.specs.Prelude.{◌≡◌, ◌≢◌, length, map, true, false, IfOk};
 ghost use Rattle.command_answers.specs.AnswerMeanings.{answer_meant};
-ghost use Rattle.node_model.specs.Asked as asked;
+ghost use Rattle.node_model.specs.Exchanges as asked;
 ghost use Rattle.node_model.specs.Outcomes as outcomes;
 ghost use Rattle.node_model.specs.RouterRows as rows;
 ghost use Rattle.protocol_model.specs.Statements.{done_meant, statement_meant};
@@ -55,9 +55,10 @@ impl RouterNode {
     ghost use Rattle.open_requests.specs.Askers.{asking, letters_of};
     ghost use Rattle.open_requests.specs.Works.{open_meant};
     ghost use Rattle.std.specs.Option.{option_map};
-    ghost use Rattle.protocol_model.specs.Bodies.{id_meant, write_done_meant};
+    ghost use Rattle.node_traits.specs.Ids.{id_meant};
+    ghost use Rattle.protocol_model.specs.Bodies.{write_done_meant};
     ghost use Rattle.protocol_model.specs.Statements.{done_meant, statement_meant};
-    ghost use Rattle.router_node.specs.Noted.{IsNews};
+    ghost use Rattle.router_node.specs.News.{IsNews};
     ghost use Rattle.router_node.specs.RouterStates.{router_of};
     ghost use Rattle.router_node.specs.StepPlans.{IsHeard};
 
@@ -79,7 +80,7 @@ impl RouterNode {
             self.alloc,
             request.link,
             request.number,
-            &request.request,
+            &request.head,
             &answer,
         )?;
         Ok(self.hears(time, Change::Closes(request.count), None, reply))

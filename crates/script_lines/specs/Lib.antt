@@ -1,4 +1,4 @@
 pub mod Words
 pub mod Lines
 pub mod Meanings
-pub mod Printed
+pub mod Output

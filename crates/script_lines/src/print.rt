@@ -1,7 +1,7 @@
 //! What is printed for a line.
 
 ghost use Rattle.std.specs.Prelude.{◌≡◌, ◌++◌, OnOk};
-ghost use Rattle.script_lines.specs.Printed.{closed_line, reply_line};
+ghost use Rattle.script_lines.specs.Output.{closed_line, reply_line};
 
 use bson_values::Memory;
 use std::alloc::Global;

@@ -8,7 +8,7 @@ use Rattle.std.proofs.lemmas.Bool.Decides.{Decides-int_eq}
 use Rattle.std.proofs.lemmas.Cmp.{int_eq_equiv}
 use Rattle.history_model.specs.Notes.{Seen, new_statement, older_than}
 use Rattle.value_compare.specs.declared.words.Reply.{Reply}
-use Rattle.session_book.specs.declared.kept.Noted.{Noted}
+use Rattle.session_book.specs.declared.session.Noted.{Noted}
 use Rattle.session_book.specs.Statements.{Statements, are_some, with_index, seen_as, seen_among, notes_in, seen_after}
 
 as_none : (found : Option Noted) → seen_as found ≡ new_statement → found ≡ None

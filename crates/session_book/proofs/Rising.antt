@@ -7,7 +7,7 @@ use Rattle.std.specs.Ordering.{nat_cmp, ordering_index}
 use Rattle.std.proofs.lemmas.Cmp.{ranked}
 use Rattle.std.proofs.lemmas.List.Edits.{length-insert, get_or-insert_below, get_or-insert_at, get_or-insert_above}
 use Rattle.std.proofs.lemmas.Bool.Decides.{nat_tests}
-use Rattle.session_book.specs.declared.kept.Noted.{Noted}
+use Rattle.session_book.specs.declared.session.Noted.{Noted}
 use Rattle.session_book.specs.Statements.{IsRising, Holds, IsGapFor, with_index}
 
 -- no note before that place has the index

@@ -4,7 +4,7 @@ use Rattle.std.specs.Coded.{Coded, code_by, coded×, coded_ℕ, coded_ℤ, coded
 use Rattle.value_compare.specs.Code.{datum_code}
 use Rattle.bson_values.specs.Tree.{Datum}
 use Rattle.value_compare.specs.declared.words.Reply.{Reply}
-use Rattle.session_book.specs.declared.kept.Noted.{Noted}
+use Rattle.session_book.specs.declared.session.Noted.{Noted}
 use Rattle.session_book.specs.Statements.{Statements}
 
 abbrev pub ReplyParts : Type 0

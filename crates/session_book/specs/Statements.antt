@@ -3,7 +3,7 @@ use Rattle.std.specs.Prelude.{◌≡◌, ◌≢◌, ◌<◌, ◌≤◌, ℕ, ℤ
 use Rattle.std.specs.Ordering.{int_eq}
 use Rattle.history_model.specs.Notes.{Seen, new_statement, done_before, older_than}
 use Rattle.value_compare.specs.declared.words.Reply.{Reply}
-use Rattle.session_book.specs.declared.kept.Noted.{Noted}
+use Rattle.session_book.specs.declared.session.Noted.{Noted}
 
 -- the greatest transaction, its statements by their index, and for how many more there is room
 pub record Statements : Type 0 where

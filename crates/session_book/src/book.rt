@@ -8,7 +8,7 @@ ghost use Rattle.cluster_base.specs.declared.identity.Session.{Session};
 ghost use Rattle.value_compare.specs.declared.words.Reply.{Reply};
 ghost use Rattle.session_book.specs.Meanings.{number_meant, session_meant};
 
-use crate::kept::{Kept, Noted};
+use crate::session::{Kept, Noted};
 use bson_values::Memory;
 use cluster_base::{Session, Stmt, Time};
 use std::alloc::Global;

@@ -2,6 +2,6 @@
 #![tactic(auto)]
 
 mod book;
-mod kept;
+mod session;
 
 pub use book::{Book, Seen};

@@ -30,7 +30,7 @@ impl Rows for Grouped {
 
 fn no_groups(alloc: Global, words: &Document) -> Result<Groups, RowFault> {
     let spec = GroupSpec::parse(alloc, words).map_err(row_fault)?;
-    Ok(Groups::new(alloc, spec))
+    Ok(Groups::new(alloc, Arc::new(alloc, spec)?))
 }
 
 fn add_all(groups: &mut Groups, list: &Document) -> Result<(), RowFault> {

@@ -1,6 +1,7 @@
 -- Rows that write nothing, as plans.
-use Rattle.std.proofs.Common.{◌≡◌, ◌<◌, ◌≤◌, ◌+◌, ℕ, suc, List, [], ◌∷◌, ◌++◌, refl, sym, ap, subst, ◌∙◌, arith, drop, length, drop-cons, append_assoc}
-use Rattle.std.specs.Prelude.{map, filter, slice_index_or, Option, Some, None, Result, Ok, Err, IfOk, ◌==◌, Bool, true, false, if◌then◌else◌}
+use Rattle.std.proofs.Common.{◌≡◌, ◌≤◌, ◌+◌, ℕ, List, [], ◌∷◌, ◌++◌, refl, sym, ap, subst, ◌∙◌, arith, length, append_assoc}
+use Rattle.std.specs.Prelude.{map, filter, Option, Some, None, Result, Ok, Err, IfOk, ◌==◌, Bool, true, false, if◌then◌else◌}
+use Rattle.node_traits.specs.Ids.{id_meant}
 use Rattle.protocol_model.specs.declared.message.Message.{Message}
 use Rattle.bson_values.specs.Tree.{Datum, Fields}
 use Rattle.node_model.specs.History.{Entry, document_at}
@@ -10,22 +11,22 @@ use Rattle.std.specs.List.{AllByRecursion}
 use Rattle.chunk_table.specs.Tables.{table_of}
 use Rattle.chunk_table.specs.Verdicts.{Sent, fits, verdict_of}
 use Rattle.node_model.specs.Right.{found}
-use Rattle.node_model.specs.Serving.{documents_at, IsHalf, Serves, serves_no_more, serves_again, serves_new, ends_again, ends_new, entry_for}
+use Rattle.node_model.specs.Service.{documents_at, IsHalf, Serves, serves_no_more, serves_again, serves_new, ends_again, ends_new, entry_for}
 use Rattle.node_model.specs.Times.{time_of_moment}
-use Rattle.node_traits.specs.Asked.{RequestId}
+use Rattle.node_traits.specs.Exchanges.{RequestId}
 use Rattle.node_traits.specs.Effects.{AreSound, puts_of, spellings}
-use Rattle.node_traits.specs.Kept.{kept_entry}
+use Rattle.node_traits.specs.Journal.{kept_entry}
 use Rattle.node_traits.specs.Outcomes.{Done}
 use Rattle.node_traits.specs.Steps.{IsFor, Step, shard_step, other_step}
 use Rattle.shard_records.specs.Records.{record_of}
-use Rattle.shard_records.specs.Spelled.{spelled, IsSound}
+use Rattle.shard_records.specs.RecordFormat.{spelled, IsSound}
 use Rattle.shard_node.specs.Writes.{AreKept, spellings_of}
 use Rattle.node_traits.specs.Letters as letters
 use Rattle.node_traits.specs.Letters.{Letter, Body, Input, letter_input, table_told, write_ask, write_done, Effect, sends, writes, nothing, key_half}
 use Rattle.node_traits.specs.ShardRows.{Ask, AsksNothing, ShardRow, shard_write, shard_repeat, shard_empty, shard_park, shard_waits, shard_stale, shard_read, shard_rows, shard_time, shard_learn, shard_known, shard_skip, shard_moment, shard_opened, shard_client, at_later, heard, says, ask_in, asks_again, asks_table}
 use Rattle.node_traits.specs.States.{Shard, shard_state}
-use Rattle.chunk_table.specs.Found.{sent_meant}
-use Rattle.protocol_model.specs.Bodies.{at_meant, body_meant, half_meant, id_meant, table_told_meant}
+use Rattle.chunk_table.specs.VerdictMeanings.{sent_meant}
+use Rattle.protocol_model.specs.Bodies.{at_meant, body_meant, half_meant, table_told_meant}
 use Rattle.protocol_model.specs.Statements.{statement_meant}
 use Rattle.protocol_model.specs.declared.body.Body as bodies
 use Rattle.protocol_model.specs.declared.body.Body.TheVariants as variants
@@ -96,13 +97,6 @@ again_cons s time m parked = by_ask (ask_in m.body)
         ≡ (elim o [ None ↦ asks_again s time parked | Some a ↦ asks_table s time a.namespace ∷ asks_again s time parked ])
     by_ask None = refl
     by_ask (Some a) = refl
-
-pub next_is : {X : Type 0} (xs : List X) (i : ℕ) (x : X) → i < length xs → x ≡ slice_index_or xs i x → drop i xs ≡ x ∷ drop (i + 1) xs
-next_is {X} xs i x inside is =
-    let plus : suc i ≡ i + 1 = omega arith in
-    drop-cons xs i x inside
-    ∙ ap (λ (y : X). y ∷ drop (suc i) xs) (sym is)
-    ∙ ap (λ (n : ℕ). x ∷ drop n xs) plus
 
 -- messages that pass a test of their letters
 pub filter_meant : (test : Letter → Bool) (ms : List Message) → map letter_of (filter (λ (m : Message). test (letter_of m)) ms) ≡ filter test (map letter_of ms)

@@ -5,9 +5,9 @@ use Rattle.std.specs.List.{AllByRecursion}
 use Rattle.std.specs.Option.{option_map}
 use Rattle.std.proofs.lemmas.List.{map-append}
 use Rattle.shard_records.specs.Records.{record_of}
-use Rattle.shard_records.specs.Spelled.{IsSound}
+use Rattle.shard_records.specs.RecordFormat.{IsSound}
 use Rattle.node_model.specs.Right.{ends}
-use Rattle.node_model.specs.Serving.{entry_for, seen_before, Serves, serves_no_more, serves_again, serves_new, ends_again, ends_new, Repeats, repeats, ends_repeat, repeats_no_more}
+use Rattle.node_model.specs.Service.{entry_for, seen_before, Serves, serves_no_more, serves_again, serves_new, ends_again, ends_new, Repeats, repeats, ends_repeat, repeats_no_more}
 use Rattle.node_traits.specs.History.{Entry}
 use Rattle.chunk_table.specs.Tables.{Table, table_of}
 use Rattle.chunk_table.specs.Verdicts.{Sent, fits, verdict_of}
@@ -16,11 +16,11 @@ use Rattle.node_traits.specs.ShardRows.{Ask, ask_in}
 use Rattle.node_traits.specs.Outcomes.{Done, done_of}
 use Rattle.shard_store.specs.Plans.{IsServed, served_again, served_new, left_for_later}
 use Rattle.protocol_model.specs.Statements as rust
-use Rattle.node_traits.specs.Asked.{RequestId, number_for}
-use Rattle.protocol_model.specs.declared.statement.Done.{Done as Told}
+use Rattle.node_traits.specs.Exchanges.{RequestId, number_for}
+use Rattle.protocol_model.specs.declared.statement.Done.{Done as StatementDone}
 use Rattle.protocol_model.specs.declared.statement.Statement.{Statement as Asked}
-use Rattle.shard_node.specs.declared.writes.Served.{Served}
-use Rattle.shard_node.specs.Serving.{GoesOn, GoesOrEnds}
+use Rattle.shard_node.specs.declared.writes.StatementResult.{StatementResult}
+use Rattle.shard_node.specs.Progress.{GoesOn, GoesOrEnds}
 use Rattle.shard_node.specs.Writes.{AreKept, IsStep, record_in, spellings_of}
 
 module _ (shard : ℕ) (namespace : List ℕ) (entries : List Entry) (time : ℕ) (s : Statement) where
@@ -115,27 +115,27 @@ module _ (shard : ℕ) (namespace : List ℕ) (ordered : Bool) (entries : List E
   )
 
   -- nothing more is served in this step
-  pub none_goes : (s : Statement) (left : List Statement) (dones : List Done) (made made_then : List Entry) (now after : ℕ) (r : Option Served)
+  pub none_goes : (s : Statement) (left : List Statement) (dones : List Done) (made made_then : List Entry) (now after : ℕ) (r : Option StatementResult)
       → GoesOn shard namespace ordered entries start all (s ∷ left) dones made now → IsStep shard namespace entries made now s r made_then after → r ≡ None
       → Serves shard namespace ordered entries start all dones made_then after
   none_goes s left dones made made_then now after r goes step is =
-      let none : option_map (λ x. rust.done_meant x.done) r ≡ None = ap (λ o. option_map (λ (x : Served). rust.done_meant x.done) o) is in
+      let none : option_map (λ x. rust.done_meant x.done) r ≡ None = ap (λ o. option_map (λ (x : StatementResult). rust.done_meant x.done) o) is in
       let same = left_is shard namespace (entries ++ made) now s (option_map (λ x. rust.done_meant x.done) r) step.more after step.served_is none in
       subst (λ (x : List Entry). Serves shard namespace ordered entries start all dones x after)
       (sym (step.grown ∙ ap (λ (x : List Entry). made ++ x) same.0 ∙ append-nil made))
       (subst (λ (n : ℕ). Serves shard namespace ordered entries start all dones made n) (sym same.1) (goes_no_more (s ∷ left) dones made now goes))
 
   -- one statement more was served
-  pub some_goes : (s : Statement) (left : List Statement) (dones dones_then : List Told) (made made_then : List Entry) (now after : ℕ) (r : Option Served) (served : Served) (ended : Bool)
+  pub some_goes : (s : Statement) (left : List Statement) (dones dones_then : List StatementDone) (made made_then : List Entry) (now after : ℕ) (r : Option StatementResult) (served : StatementResult) (ended : Bool)
       → GoesOn shard namespace ordered entries start all (s ∷ left) (map (λ d. rust.done_meant d) dones) made now → IsStep shard namespace entries made now s r made_then after
       → r ≡ Some served → ended ≡ ends ordered (rust.done_meant served.done) → dones_then ≡ dones ++ served.done ∷ []
       → GoesOrEnds (not ended) shard namespace ordered entries start all left (map (λ d. rust.done_meant d) dones_then) made_then after
   some_goes s left dones dones_then made made_then now after r served ended goes step is on told =
       let told_then : map (λ d. rust.done_meant d) dones_then ≡ map (λ d. rust.done_meant d) dones ++ rust.done_meant served.done ∷ [] =
-      ap (λ (ds : List Told). map (λ d. rust.done_meant d) ds) told ∙ map-append (λ (d : Told). rust.done_meant d) dones (served.done ∷ []) in
+      ap (λ (ds : List StatementDone). map (λ d. rust.done_meant d) ds) told ∙ map-append (λ (d : StatementDone). rust.done_meant d) dones (served.done ∷ []) in
       let either = goes_or_ends s left (map (λ d. rust.done_meant d) dones) (map (λ d. rust.done_meant d) dones_then) made made_then step.more now after
       (option_map (λ x. rust.done_meant x.done) r) (rust.done_meant served.done) ended goes step.served_is
-      (ap (λ o. option_map (λ (x : Served). rust.done_meant x.done) o) is) (sym on) step.grown told_then in
+      (ap (λ o. option_map (λ (x : StatementResult). rust.done_meant x.done) o) is) (sym on) step.grown told_then in
       by_end ended either
     where
       by_end : (b : Bool) → (b ≡ true → Serves shard namespace ordered entries start all (map (λ d. rust.done_meant d) dones_then) made_then after)
@@ -145,7 +145,7 @@ module _ (shard : ℕ) (namespace : List ℕ) (ordered : Bool) (entries : List E
       by_end false either = either.1 refl
 
 -- records of entries that were made, and of those behind them
-pub kept_more : (made made_then more : List Entry) (records records_then : List (List ℕ)) (r : Option Served) → AreKept made records → AreKept more (record_in r)
+pub kept_more : (made made_then more : List Entry) (records records_then : List (List ℕ)) (r : Option StatementResult) → AreKept made records → AreKept more (record_in r)
     → made_then ≡ made ++ more → records_then ≡ records ++ record_in r → AreKept made_then records_then
 kept_more made made_then more records records_then r kept next grown written = record {
   spelled = written ∙ ap (λ (x : List (List ℕ)). x ++ record_in r) kept.spelled ∙ ap (λ (x : List (List ℕ)). spellings_of made ++ x) next.spelled

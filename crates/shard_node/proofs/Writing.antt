@@ -6,29 +6,29 @@ use Rattle.cluster_base.specs.declared.identity.Stmt.{Stmt}
 use Rattle.value_compare.specs.declared.words.Reply.{Reply}
 use Rattle.node_model.specs.Outcomes.{Done, done_of}
 use Rattle.node_model.specs.History as history
-use Rattle.node_model.specs.Serving.{entry_for}
+use Rattle.node_model.specs.Service.{entry_for}
 use Rattle.node_traits.specs.History.{StatementNumber, insert_operation, Entry}
 use Rattle.node_traits.specs.Letters.{Statement}
 use Rattle.shard_records.specs.Meanings as words
 use Rattle.shard_records.specs.Records.{Record, OutcomeWords, entry_record, outcome_words, record_of}
-use Rattle.shard_records.specs.Spelled.{spelled, IsSound}
+use Rattle.shard_records.specs.RecordFormat.{spelled, IsSound}
+use Rattle.node_traits.specs.Ids.{id_meant}
 use Rattle.shard_store.specs.Outcomes.{outcome_meant, reply_meant, done_meant}
 use Rattle.shard_store.specs.Plans.{IsServed, served_again, served_new, left_for_later, made_by}
 use Rattle.shard_store.specs.declared.plan.Plan.{Plan}
-use Rattle.shard_store.specs.declared.outcome.Outcome.{Outcome}
-use Rattle.shard_store.specs.declared.outcome.Outcome.TheVariants.{Inserted, Duplicate, TooLarge}
-use Rattle.shard_store.specs.declared.outcome.Told.{Told}
+use Rattle.shard_store.specs.declared.outcome.InsertOutcome.{InsertOutcome}
+use Rattle.shard_store.specs.declared.outcome.InsertOutcome.TheVariants.{Inserted, Duplicate, TooLarge}
+use Rattle.shard_store.specs.declared.outcome.InsertResult.{InsertResult}
 use Rattle.cluster_base.specs.declared.identity.RequestId.{RequestId}
-use Rattle.node_traits.specs.Asked.{number_for}
+use Rattle.node_traits.specs.Exchanges.{number_for}
 use Rattle.node_traits.specs.Lists.{listed}
-use Rattle.protocol_model.specs.Bodies.{id_meant}
 use Rattle.protocol_model.specs.Statements as protocol
 use Rattle.shard_store.specs.Outcomes.{statement_of}
-use Rattle.shard_node.specs.declared.writes.Served.{Served}
+use Rattle.shard_node.specs.declared.writes.StatementResult.{StatementResult}
 use Rattle.shard_node.specs.Writes.{entry_record_of, AreKept, IsStep}
 
 -- a reply tells the outcome in the words of a record
-pub words_of : (o : Outcome) → words.outcome_meant (reply_meant o) ≡ outcome_words (outcome_meant o)
+pub words_of : (o : InsertOutcome) → words.outcome_meant (reply_meant o) ≡ outcome_words (outcome_meant o)
 words_of Inserted = refl
 words_of Duplicate = refl
 words_of TooLarge = refl
@@ -44,7 +44,7 @@ module _ (shard : ℕ) (namespace : List ℕ) (entries : List Entry) (time : ℕ
   kept_none o more after left_for_later same = record { spelled = refl; sound = tt }
 
   -- where one was, the entry is what was told
-  pub kept_one : (o : Option Done) (more : List Entry) (after : ℕ) (index : ℕ) (told : Told) (statement : Stmt) (document : Fields) (bytes : List ℕ) →
+  pub kept_one : (o : Option Done) (more : List Entry) (after : ℕ) (index : ℕ) (told : InsertResult) (statement : Stmt) (document : Fields) (bytes : List ℕ) →
       IsServed shard namespace entries time s o more after → after ≢ time → o ≡ Some (done_meant index told) → words.number_meant statement ≡ s.number →
       s.operation ≡ insert_operation document → bytes ≡ spelled 1 (entry_record_of told namespace statement document) → IsSound (entry_record_of told namespace statement document) →
       AreKept more (bytes ∷ [])
@@ -72,7 +72,7 @@ own_number id index statement is = ap (λ (x : Stmt). words.number_meant x) is
 
 -- a statement that takes a time makes an entry, with its record
 pub step_new : (store shard : ℕ) (namespace : List ℕ) (entries : List Entry) (plan plan_then : Plan) (time after : ℕ) (t s : Statement) (o : Option Done) (id : RequestId) (index : ℕ)
-    (told : Told) (statement : Stmt) (document : Fields) (served : Served) (bytes : List ℕ) → store ≡ shard
+    (told : InsertResult) (statement : Stmt) (document : Fields) (served : StatementResult) (bytes : List ℕ) → store ≡ shard
     → ((more : List Entry) × (made_by store namespace plan_then ≡ made_by store namespace plan ++ more) × IsServed store namespace (entries ++ made_by store namespace plan) time t o more after)
     → t ≡ s → o ≡ Some (done_meant index told) → protocol.done_meant served.done ≡ done_meant index told → after ≢ time → statement ≡ statement_of id index
     → number_for (id_meant id) index ≡ s.number → s.operation ≡ insert_operation document

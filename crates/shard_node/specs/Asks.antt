@@ -1,7 +1,7 @@
 -- The asks of the definitions that those of the program are.
-use Rattle.chunk_table.specs.Found.{sent_meant}
+use Rattle.chunk_table.specs.VerdictMeanings.{sent_meant}
 use Rattle.node_traits.specs.ShardRows as rows
-use Rattle.protocol_model.specs.Bodies.{id_meant}
+use Rattle.node_traits.specs.Ids.{id_meant}
 use Rattle.shard_node.specs.declared.asks.Ask.{Ask}
 
 abbrev pub ask_meant : Ask → rows.Ask

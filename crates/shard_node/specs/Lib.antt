@@ -2,5 +2,5 @@ pub mod State
 pub mod Asks
 pub mod Plans
 pub mod Writes
-pub mod Serving
+pub mod Progress
 pub mod Standings

@@ -10,14 +10,14 @@ use Rattle.node_traits.specs.Lists.{listed}
 use Rattle.protocol_model.specs.Statements.{done_meant}
 use Rattle.shard_records.specs.Meanings.{number_meant}
 use Rattle.shard_records.specs.Records.{Record, entry_record, outcome_words, record_of}
-use Rattle.shard_records.specs.Spelled.{spelled, IsSound}
+use Rattle.shard_records.specs.RecordFormat.{spelled, IsSound}
 use Rattle.shard_store.specs.Outcomes.{outcome_meant}
 use Rattle.shard_store.specs.Plans.{IsServed}
-use Rattle.shard_store.specs.declared.outcome.Told.{Told}
-use Rattle.shard_node.specs.declared.writes.Served.{Served}
+use Rattle.shard_store.specs.declared.outcome.InsertResult.{InsertResult}
+use Rattle.shard_node.specs.declared.writes.StatementResult.{StatementResult}
 
 -- the record of a statement's entry
-abbrev pub entry_record_of : Told → List ℕ → Stmt → Fields → Record
+abbrev pub entry_record_of : InsertResult → List ℕ → Stmt → Fields → Record
 entry_record_of told namespace statement document = entry_record (record {
   time = told.time.0;
   namespace = namespace;
@@ -34,12 +34,12 @@ pub record AreKept (entries : List Entry) (records : List (List ℕ)) : Type 0 w
   pub spelled : records ≡ spellings_of entries
   pub sound : AllByRecursion (λ e. IsSound (record_of e)) entries
 
-abbrev pub record_in : Option Served → List (List ℕ)
+abbrev pub record_in : Option StatementResult → List (List ℕ)
 record_in None = []
 record_in (Some served) = listed served.record
 
 -- A statement is served behind these entries and those that were made: it makes some more, with their records.
-pub record IsStep (shard : ℕ) (namespace : List ℕ) (entries made : List Entry) (time : ℕ) (s : Statement) (served : Option Served) (made_then : List Entry) (after : ℕ) : Type 0 where
+pub record IsStep (shard : ℕ) (namespace : List ℕ) (entries made : List Entry) (time : ℕ) (s : Statement) (served : Option StatementResult) (made_then : List Entry) (after : ℕ) : Type 0 where
   pub more : List Entry
   pub grown : made_then ≡ made ++ more
   pub served_is : IsServed shard namespace (entries ++ made) time s (option_map (λ x. done_meant x.done) served) more after

@@ -2,7 +2,7 @@
 
 ghost use Rattle.std.specs.Prelude.{◌≡◌, map};
 ghost use Rattle.std.specs.Option.{option_map};
-ghost use Rattle.chunk_table.specs.Found.{sent_meant, verdict_meant};
+ghost use Rattle.chunk_table.specs.VerdictMeanings.{sent_meant, verdict_meant};
 ghost use Rattle.chunk_table.specs.Tables.{table_of};
 ghost use Rattle.chunk_table.specs.Verdicts.{verdict_of};
 ghost use Rattle.node_traits.specs.ShardRows.{ask_in, is_ask, is_parked, same_ask, same_index, wants_table};

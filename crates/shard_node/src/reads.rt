@@ -3,7 +3,7 @@
 ghost use Rattle.std.specs.Prelude.{◌≡◌, IfOk, map, max};
 ghost use Rattle.std.specs.Arc.{arc_value};
 ghost use Rattle.std.specs.Option.{option_map};
-ghost use Rattle.chunk_table.specs.Found.{sent_meant};
+ghost use Rattle.chunk_table.specs.VerdictMeanings.{sent_meant};
 ghost use Rattle.chunk_table.specs.Tables.{table_of};
 ghost use Rattle.chunk_table.specs.Verdicts.{fits, verdict_of};
 ghost use Rattle.node_model.specs.Right.{found};

@@ -11,7 +11,7 @@ ghost use Rattle.node_traits.specs.ShardRows.{Ask, ask_in, asks_again, asks_tabl
 ghost use Rattle.node_model.specs.Times.{time_of_moment};
 ghost use Rattle.protocol_model.specs.Messages.{letter_of};
 ghost use Rattle.shard_records.specs.Records.{table_record};
-ghost use Rattle.shard_records.specs.Spelled.{spelled, IsSound};
+ghost use Rattle.shard_records.specs.RecordFormat.{spelled, IsSound};
 ghost use Rattle.shard_node.specs.Plans.{Follows, IsPlanned};
 ghost use Rattle.shard_node.specs.State.{shard_meant};
 

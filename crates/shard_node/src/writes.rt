@@ -4,25 +4,26 @@ ghost use Rattle.std.specs.Prelude.{◌≡◌, ◌≢◌, ◌≤◌, ◌<◌, �
 ghost use Rattle.std.specs.List.{AllByRecursion};
 ghost use Rattle.std.specs.Option.{IsSome, option_map};
 ghost use Rattle.bson_values.specs.Tree.{Fields};
-ghost use Rattle.chunk_table.specs.Found.{sent_meant};
+ghost use Rattle.chunk_table.specs.VerdictMeanings.{sent_meant};
 ghost use Rattle.chunk_table.specs.Tables.{table_of};
 ghost use Rattle.chunk_table.specs.Verdicts.{fits, verdict_of};
 ghost use Rattle.command_model.specs.CommandSizes.{IsKeepable};
 ghost use Rattle.node_model.specs.Right.{ends};
-ghost use Rattle.node_model.specs.Serving.{Serves};
+ghost use Rattle.node_model.specs.Service.{Serves};
 ghost use Rattle.node_traits.specs.Effects.{last_time};
 ghost use Rattle.node_traits.specs.History.{Entry};
 ghost use Rattle.node_traits.specs.Letters as letters;
 ghost use Rattle.node_traits.specs.Letters.{Letter, letter_input};
 ghost use Rattle.node_traits.specs.Lists.{listed};
 ghost use Rattle.node_traits.specs.ShardRows.{Ask, ask_in, heard, was_seen};
-ghost use Rattle.protocol_model.specs.Bodies.{id_meant, write_ask_meant};
+ghost use Rattle.node_traits.specs.Ids.{id_meant};
+ghost use Rattle.protocol_model.specs.Bodies.{write_ask_meant};
 ghost use Rattle.protocol_model.specs.Statements.{done_meant, statement_meant};
 ghost use Rattle.shard_node.specs.Plans.{Follows, IsPlanned};
-ghost use Rattle.shard_node.specs.Serving.{GoesOn, GoesOrEnds};
+ghost use Rattle.shard_node.specs.Progress.{GoesOn, GoesOrEnds};
 ghost use Rattle.shard_node.specs.State.{shard_meant};
 ghost use Rattle.shard_node.specs.Writes.{AreKept, IsStep, entry_record_of, record_in};
-ghost use Rattle.shard_records.specs.Spelled.{spelled, IsSound};
+ghost use Rattle.shard_records.specs.RecordFormat.{spelled, IsSound};
 ghost use Rattle.shard_store.specs.Outcomes as outcomes;
 ghost use Rattle.shard_store.specs.Plans.{IsPlan, IsServed, made_by, planned_in, time_of};
 ghost use Rattle.shard_store.specs.Stores.{entries_of, last_of};
@@ -34,7 +35,7 @@ use cluster_base::{Namespace, Stmt, Time};
 use node_traits::MailList;
 use protocol_model::{Body, Done, DoneList, Operation, Outcome, Statement, WriteAsk, WriteDone};
 use shard_records::{WordsRef, write_entry};
-use shard_store::{Plan as Entries, Told, own_statement};
+use shard_store::{InsertResult, Plan as Entries, own_statement};
 use std::alloc::Global;
 
 /// So many statements of an ask are served in one step at most.
@@ -42,20 +43,20 @@ const MOST_SERVED: usize = 100_000;
 
 /// A statement that was served: what it is told, and the record of the entry that it makes, if it makes one.
 #[derive(Drop)]
-pub(crate) struct Served {
+pub(crate) struct StatementResult {
     pub(crate) done: Done,
     pub(crate) record: Option<Blob>,
 }
 
 /// What the statements that were served are told, and the records of their entries.
 #[derive(Drop)]
-pub(crate) struct AllServed {
+pub(crate) struct WriteResult {
     pub(crate) dones: DoneList,
     pub(crate) records: Vec<Blob>,
 }
 
 // What a statement with this index is told, as a message tells it.
-fn done_of(index: u32, told: Told) -> Done
+fn done_of(index: u32, told: InsertResult) -> Done
     ensures { done_meant result ≡ outcomes.done_meant index told }
 {
     Done {
@@ -80,7 +81,7 @@ fn ends(ordered: bool, done: &Done) -> bool
 // The record of an entry. Fails for want of memory.
 fn entry_bytes(
     alloc: Global,
-    told: Told,
+    told: InsertResult,
     namespace: &Namespace,
     statement: &Stmt,
     document: &Document,
@@ -96,24 +97,24 @@ fn entry_bytes(
     Blob::of(alloc, &bytes)
 }
 
-impl AllServed {
+impl WriteResult {
     // No statement.
-    fn new(alloc: Global) -> AllServed
+    fn new(alloc: Global) -> WriteResult
         ensures dones { result.dones.items ≡ [] }
         ensures records { result.records.items ≡ [] }
     {
-        AllServed {
+        WriteResult {
             dones: Vec::new(alloc),
             records: Vec::new(alloc),
         }
     }
 
     // Puts one more behind the others. Fails for want of memory.
-    fn push(&mut self, served: Served) -> Result<(), Memory>
+    fn push(&mut self, served: StatementResult) -> Result<(), Memory>
         ensures dones { OnOk result (self.new.dones.items ≡ self.old.dones.items ++ served.done ∷ []) }
         ensures records { OnOk result (self.new.records.items ≡ self.old.records.items ++ record_in (Some served)) }
     {
-        let Served { done, record } = served;
+        let StatementResult { done, record } = served;
         self.dones.push(done)?;
         if let Some(record) = record {
             self.records.push(record)?;
@@ -130,7 +131,7 @@ impl ShardNode {
         entries: &mut Entries,
         ask: &WriteAsk,
         statement: &Statement,
-    ) -> Result<Option<Served>, Memory>
+    ) -> Result<Option<StatementResult>, Memory>
         requires plan { IsPlan (entries_of self.now.store) (last_of self.now.store) ask.now.namespace entries.old }
         requires room { time_of entries.old < 2 ^ 64 - 1 }
         requires id { entries.old.id ≡ ask.now.id }
@@ -155,7 +156,7 @@ impl ShardNode {
         };
         let done = done_of(statement.index, told);
         if entries.time().0 == before.0 {
-            return Ok(Some(Served { done, record: None }));
+            return Ok(Some(StatementResult { done, record: None }));
         }
         let number = own_statement(ask.id, statement.index);
         let record = entry_bytes(
@@ -165,7 +166,7 @@ impl ShardNode {
             &number,
             document.document(),
         )?;
-        Ok(Some(Served {
+        Ok(Some(StatementResult {
             done,
             record: Some(record),
         }))
@@ -178,7 +179,7 @@ impl ShardNode {
         entries: &mut Entries,
         ask: &WriteAsk,
         statement: &Statement,
-        all: &mut AllServed,
+        all: &mut WriteResult,
     ) -> Result<bool, Memory>
         requires plan { IsPlan (entries_of self.now.store) (last_of self.now.store) ask.now.namespace entries.old }
         requires id { entries.old.id ≡ ask.now.id }
@@ -208,7 +209,7 @@ impl ShardNode {
     }
 
     // Serves the statements of an ask in order, as many as one step may, and at least one of them. Fails for want of memory.
-    fn serve_all(&self, entries: &mut Entries, ask: &WriteAsk) -> Result<AllServed, Memory>
+    fn serve_all(&self, entries: &mut Entries, ask: &WriteAsk) -> Result<WriteResult, Memory>
         requires plan { IsPlan (entries_of self.now.store) (last_of self.now.store) ask.now.namespace entries.old }
         requires id { entries.old.id ≡ ask.now.id }
         requires early { time_of entries.old < last_time }
@@ -220,7 +221,7 @@ impl ShardNode {
             (map (statement_meant (id_meant ask.now.id)) ask.now.statements.items) (map (λ d. done_meant d) all.dones.items)
             (made_by self.now.me.0 ask.now.namespace entries.new) (time_of entries.new)) }
     {
-        let mut all = AllServed::new(self.alloc);
+        let mut all = WriteResult::new(self.alloc);
         for statement in &ask.statements {
             if !self.serve_next(entries, ask, statement, &mut all)? {
                 return Ok(all);
@@ -240,7 +241,7 @@ impl ShardNode {
         ensures follows { IfOk result (λ p. Follows self.now p) }
     {
         let mut entries = Entries::new(self.alloc, ask.id, time);
-        let AllServed { dones, records } = self.serve_all(&mut entries, &ask)?;
+        let WriteResult { dones, records } = self.serve_all(&mut entries, &ask)?;
         if dones.is_empty() {
             return Ok(Plan::of_time(self.alloc, time));
         }

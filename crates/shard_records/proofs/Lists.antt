@@ -3,16 +3,13 @@ use Rattle.std.proofs.Common.{◌≡◌, ℕ, zero, suc, ◌+◌, ◌<◌, ◌�
 use Rattle.std.specs.List.{AllByRecursion, flat_map}
 use Rattle.std.proofs.lemmas.List.{append-nil, drop_all}
 use Rattle.std.proofs.Math.Seq.{take-length}
-use Rattle.std.proofs.lemmas.Grind.{common_steps}
+use Rattle.bson_values.proofs.Puts.{kept_on}
 
 -- the first i items are put, and those behind are put and sound where all are
 pub record PutSoFar {X Y : Type 0} (spelled_item : Y → List ℕ) (IsSoundItem : Y → Type 0) (meant : X → Y) (items : List X) (i : ℕ) (old out : List ℕ) : Type 0 where
   pub text : out ++ flat_map spelled_item (map meant (drop i items)) ≡ old ++ flat_map spelled_item (map meant items)
   pub sound : AllByRecursion IsSoundItem (map meant (drop i items)) → AllByRecursion IsSoundItem (map meant items)
   pub kept : take (length old) out ≡ old
-
-pub kept_on : (old out new : List ℕ) → take (length old) out ≡ old → take (length out) new ≡ out → take (length old) new ≡ old
-kept_on old out new first then = grind (arith, common_steps)
 
 pub begins : {X Y : Type 0} (spelled_item : Y → List ℕ) (IsSoundItem : Y → Type 0) (meant : X → Y) (items : List X) (old : List ℕ) → PutSoFar spelled_item IsSoundItem meant items 0 old old
 begins spelled_item IsSoundItem meant items old = record { text = refl; sound = λ all. all; kept = take-length old }

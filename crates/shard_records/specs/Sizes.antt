@@ -4,7 +4,7 @@ use Rattle.bson_values.specs.Tree.{Datum, Fields, document_depth}
 use Rattle.bson_values.specs.Spelling.{written}
 use Rattle.record_model.specs.History.{Operation, insert_operation, update_operation, delete_operation}
 use Rattle.record_model.specs.Records.{Record, table_record, entry_record, create_record, life_record, block_record}
-use Rattle.record_model.specs.Spelled.{key_document}
+use Rattle.record_model.specs.RecordFormat.{key_document}
 use Rattle.bson_values.specs.Limits.{IsWritable, most_depth_kept, most_bytes_written}
 
 -- a document that a record may hold

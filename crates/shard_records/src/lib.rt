@@ -3,8 +3,8 @@
 
 mod record;
 mod tables;
-mod writing;
+mod writer;
 
 pub use record::{Record, WordsRef};
 pub use tables::write_table;
-pub use writing::{write_entry, write_record};
+pub use writer::{write_entry, write_record};

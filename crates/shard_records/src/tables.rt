@@ -7,10 +7,10 @@ ghost use Rattle.std.specs.List.{AllByRecursion, flat_map};
 ghost use Rattle.chunk_table.specs.Meanings.{chunk_meant, owned_meant, version_meant};
 ghost use Rattle.chunk_table.specs.Whole.{IsWritableBound, IsWritableChunk};
 ghost use Rattle.record_model.specs.Records.{table_record};
-ghost use Rattle.record_model.specs.Spelled.{IsSound, IsSoundBound, IsSoundChunk, IsSoundOwned, IsSoundVersion, spelled, spelled_bound, spelled_chunk, spelled_list, spelled_owned, spelled_version};
+ghost use Rattle.record_model.specs.RecordFormat.{IsSound, IsSoundBound, IsSoundChunk, IsSoundOwned, IsSoundVersion, spelled, spelled_bound, spelled_chunk, spelled_list, spelled_owned, spelled_version};
 ghost use Rattle.value_compare.specs.Bounds.{bound_of};
 
-use crate::writing::{
+use crate::writer::{
     NEWEST_FORMAT, cut_after_err, put, put_namespace, put_some_key, put_u32, put_u64,
 };
 use bson_values::Memory;

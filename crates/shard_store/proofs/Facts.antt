@@ -7,16 +7,17 @@ use Rattle.std.proofs.lemmas.List.{map-append}
 use Rattle.bson_values.specs.Tree.{Datum}
 use Rattle.value_compare.specs.Keys.{is_key}
 use Rattle.value_compare.specs.Order.{same_value}
+use Rattle.bson_model.proofs.Booleans.{both}
 use Rattle.value_model.proofs.Spans.{same_is_key}
 use Rattle.node_model.specs.History.{Operation, insert_operation, same_key, key_written, Entry, writes_to, document_after, document_at, IsIn}
-use Rattle.history_model.proofs.LegalHistories.{both, insert_key, key_inserted}
+use Rattle.history_model.proofs.LegalHistories.{insert_key, key_inserted}
 use Rattle.history_model.proofs.Lists.{all_filter, all_from, in_push}
 use Rattle.history_model.proofs.StandingDocuments.{IsInsert}
 use Rattle.query_model.proofs.KeysAsked.{valid_from}
 use Rattle.value_model.specs.Keys.{key_of}
 use Rattle.shard_store.proofs.Seen.{AreZero}
 use Rattle.shard_store.specs.Entries.{Kept, entry_meant, entries_kept, note_kept, notes_kept}
-use Rattle.shard_store.specs.declared.planned.Planned.{Planned}
+use Rattle.shard_store.specs.declared.entry.Planned.{Planned}
 
 pub zero_from : (kept : List Kept) → ((k : Kept) → IsIn k kept → k.1.statement.txn ≡ pos 0) → AreZero kept
 zero_from kept each = all_from (λ (k : Kept). k.1.statement.txn ≡ pos 0) kept each

@@ -2,29 +2,26 @@
 use Rattle.std.proofs.Common.{◌≡◌, ◌<◌, ◌+◌, ℕ, List, [], ◌∷◌, ◌++◌, refl, sym, ap, subst, ◌∙◌, arith, append_assoc, append-nil}
 use Rattle.std.specs.Prelude.{Bool, true, false, ◌&&◌, Option, Some, None, Ok, map, if◌then◌else◌}
 use Rattle.std.specs.Arc.{arc_value}
-use Rattle.std.specs.List.{AllByRecursion}
 use Rattle.std.specs.Option.{option_map}
 use Rattle.std.specs.Str.{bytes_eq}
 use Rattle.bson_values.specs.Tree.{Datum, Fields}
 use Rattle.value_compare.specs.Keys.{valid_key}
 use Rattle.cluster_base.specs.declared.identity.RequestId.{RequestId}
 use Rattle.cluster_base.specs.declared.identity.Stmt.{Stmt}
-use Rattle.node_model.specs.Asked.{number_for}
+use Rattle.node_model.specs.Exchanges.{number_for}
 use Rattle.node_model.specs.History.{StatementNumber, insert_operation, same_key, key_written, effect, Entry, writes_to, document_left}
 use Rattle.node_model.specs.Letters.{Statement}
 use Rattle.node_model.specs.Outcomes.{Done, done_of}
-use Rattle.node_model.specs.Serving.{same_number, seen_before, entry_for}
+use Rattle.node_model.specs.Service.{same_number, seen_before, entry_for}
 use Rattle.history_model.proofs.LegalHistories.{insert_key, others_untouched}
+use Rattle.history_model.proofs.Lists.{all_both}
 use Rattle.history_model.proofs.Noted.{same_number_is}
 use Rattle.session_book.specs.Meanings.{number_meant}
+use Rattle.node_traits.specs.Ids.{id_meant}
 use Rattle.shard_store.specs.Entries.{entry_meant}
-use Rattle.shard_store.specs.Outcomes.{outcome_meant, done_meant, id_meant, statement_of}
+use Rattle.shard_store.specs.Outcomes.{outcome_meant, done_meant, statement_of}
 use Rattle.shard_store.specs.Plans.{IsNext, IsBehind, AreNext, IsServed, served_again, served_new}
-use Rattle.shard_store.specs.declared.planned.Planned.{Planned}
-
-pub all_both : {X : Type 0} (P Q R : X → Type 0) (xs : List X) → ((x : X) → P x → Q x → R x) → AllByRecursion P xs → AllByRecursion Q xs → AllByRecursion R xs
-all_both P Q R [] f ps qs = tt
-all_both P Q R (x ∷ xs) f ps qs = (f x ps.0 qs.0, all_both P Q R xs f ps.1 qs.1)
+use Rattle.shard_store.specs.declared.entry.Planned.{Planned}
 
 -- what was seen stays seen
 pub seen_prefix : (number : StatementNumber) (entries more : List Entry) (e : Entry) → seen_before number entries ≡ Some e → seen_before number (entries ++ more) ≡ Some e

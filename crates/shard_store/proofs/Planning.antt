@@ -10,7 +10,7 @@ use Rattle.history_model.proofs.Lists.{all_push, all_weaken}
 use Rattle.shard_store.proofs.Lists.{any_push}
 use Rattle.shard_store.specs.Plans.{IsNext, IsBehind, AreInTurn, IsOf, IsPlan}
 use Rattle.shard_store.specs.declared.plan.Plan.{Plan}
-use Rattle.shard_store.specs.declared.planned.Planned.{Planned}
+use Rattle.shard_store.specs.declared.entry.Planned.{Planned}
 
 turn_push : (ps : List Planned) (q : Planned) → AreInTurn ps → AllByRecursion (λ (p : Planned). IsBehind p q) ps → AreInTurn (ps ++ q ∷ [])
 turn_push [] q turn behind = (tt, tt)

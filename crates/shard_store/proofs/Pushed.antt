@@ -10,25 +10,20 @@ use Rattle.std.proofs.lemmas.Slice.Eq.{bytes_eq-Decides}
 use Rattle.bson_values.specs.Tree.{Datum, Fields}
 use Rattle.value_compare.specs.Keys.{valid_key}
 use Rattle.value_compare.specs.Order.{same_value}
-use Rattle.value_model.proofs.Spans.{same_value_equivalence}
 use Rattle.node_model.specs.Errors.{duplicate_key, object_too_large}
 use Rattle.node_model.specs.History.{insert_operation, Outcome, done, is_too_large, same_key, key_written, effect, Entry, writes_to, document_after, document_left, document_at, IsIn}
-use Rattle.history_model.proofs.LegalHistories.{insert_again, insert_key, insert_new, put_in, refused_leaves}
+use Rattle.history_model.proofs.LegalHistories.{insert_again, insert_key, insert_new, put_in, refused_leaves, same_written}
 use Rattle.history_model.proofs.Lists.{in_first, in_later}
 use Rattle.history_model.proofs.Stores.{document_after_push}
 use Rattle.history_model.specs.Versions.{one_more}
 use Rattle.shard_store.specs.Entries.{entry_meant, is_inserted, put_of, puts}
 use Rattle.shard_store.specs.Outcomes.{outcome_meant}
 use Rattle.shard_store.specs.Plans.{IsNext}
-use Rattle.shard_store.specs.declared.outcome.Outcome as answers
-use Rattle.shard_store.specs.declared.outcome.Outcome.TheVariants.{Inserted, Duplicate, TooLarge}
-use Rattle.shard_store.specs.declared.planned.Planned.{Planned}
+use Rattle.shard_store.specs.declared.outcome.InsertOutcome as answers
+use Rattle.shard_store.specs.declared.outcome.InsertOutcome.TheVariants.{Inserted, Duplicate, TooLarge}
+use Rattle.shard_store.specs.declared.entry.Planned.{Planned}
 
 -- keys that compare equal find the same
-same_written : (written : Option Datum) (a b : Datum) → same_value a b ≡ true → same_key written (Some a) ≡ same_key written (Some b)
-same_written None a b same = refl
-same_written (Some c) a b same = same_value_equivalence.symm c a ∙ same_value_equivalence.congr a b c same ∙ same_value_equivalence.symm b c
-
 pub same_left : (namespace : List ℕ) (a b : Datum) → same_value a b ≡ true → (before : Option Fields) (es : List Entry) →
     document_after namespace (Some a) before es ≡ document_after namespace (Some b) before es
 same_left namespace a b same before [] = refl
@@ -64,7 +59,7 @@ at_push n key t es e =
     by_test false = ap (λ (l : List Entry). document_left n key l) (append-nil before)
 
 -- an insert leaves its document exactly where it is told so
-left_as : (document : Fields) (key : Datum) → valid_key document ≡ Ok key → (o : answers.Outcome) (before : Option Fields) →
+left_as : (document : Fields) (key : Datum) → valid_key document ≡ Ok key → (o : answers.InsertOutcome) (before : Option Fields) →
     outcome_meant o ≡ (effect (insert_operation document) before).1 →
     (effect (insert_operation document) before).0 ≡ (if is_inserted o then Some document else before)
 left_as document key valid Inserted None told =

@@ -8,11 +8,11 @@ use Rattle.std.specs.Ordering.{int_eq}
 use Rattle.value_compare.specs.declared.words.Reply.{Reply}
 use Rattle.node_model.specs.History.{Session, StatementNumber, Entry}
 use Rattle.node_model.specs.Outcomes.{done_of}
-use Rattle.node_model.specs.Serving.{seen_before}
+use Rattle.node_model.specs.Service.{seen_before}
 use Rattle.history_model.specs.Notes.{Seen, new_statement, done_before, older_than, same_session, same_number, greatest_of, noted, seen_beside, seen}
 use Rattle.history_model.proofs.Noted.{same_number_is}
 use Rattle.session_book.specs.Meanings.{session_meant, number_meant}
-use Rattle.shard_store.specs.declared.outcome.Told.{Told}
+use Rattle.shard_store.specs.declared.outcome.InsertResult.{InsertResult}
 use Rattle.shard_store.specs.Outcomes.{outcome_meant, reply_meant, done_meant}
 use Rattle.shard_store.specs.Entries.{Kept, entry_meant, entries_kept, note_kept, notes_kept}
 
@@ -126,7 +126,7 @@ module _ (shard : ℕ) (number : StatementNumber) (kept : List Kept) (zero : Are
           sym (ap (λ (x : Kept). number_meant x.1.statement) same) ∙ same_number_is (number_meant d.1.statement) number s
       by_test false s e later = later e
 
-  told_as : (found : Option Kept) (told : Told) (reply : Reply) → with_number number kept ≡ found →
+  told_as : (found : Option Kept) (told : InsertResult) (reply : Reply) → with_number number kept ≡ found →
       seen_as found ≡ done_before told.time.0 reply → ((k : Kept) → reply ≡ reply_meant k.1.outcome → told.outcome ≡ k.1.outcome) →
       option_map done_of (option_map (λ (k : Kept). entry_meant shard k.0 k.1) found) ≡ Some (done_meant number.index told)
   told_as None told reply w e outcome = absurd cc
@@ -137,7 +137,7 @@ module _ (shard : ℕ) (number : StatementNumber) (kept : List Kept) (zero : Are
       λ i. Some (record { index = index i; time = time i; outcome = outcome_meant (sym (outcome k (sym words)) i) })
 
   -- what was done is told again
-  pub look_done : (told : Told) (reply : Reply) → seen (notes_kept kept) number ≡ done_before told.time.0 reply →
+  pub look_done : (told : InsertResult) (reply : Reply) → seen (notes_kept kept) number ≡ done_before told.time.0 reply →
       ((k : Kept) → reply ≡ reply_meant k.1.outcome → told.outcome ≡ k.1.outcome) →
       option_map done_of (seen_before number (entries_kept shard kept)) ≡ Some (done_meant number.index told)
   look_done told reply done outcome =

@@ -7,9 +7,9 @@ use Rattle.history_model.specs.Notes.{Note}
 use Rattle.history_model.specs.Versions.{Put}
 use Rattle.session_book.specs.Books.{note_meant}
 use Rattle.session_book.specs.Meanings.{number_meant}
-use Rattle.shard_store.specs.declared.outcome.Outcome.{Outcome}
-use Rattle.shard_store.specs.declared.outcome.Outcome.TheVariants.{Inserted, Duplicate, TooLarge}
-use Rattle.shard_store.specs.declared.planned.Planned.{Planned}
+use Rattle.shard_store.specs.declared.outcome.InsertOutcome.{InsertOutcome}
+use Rattle.shard_store.specs.declared.outcome.InsertOutcome.TheVariants.{Inserted, Duplicate, TooLarge}
+use Rattle.shard_store.specs.declared.entry.Planned.{Planned}
 use Rattle.shard_store.specs.Outcomes.{outcome_meant, reply_meant}
 
 -- the entry that was planned, of a shard and in a namespace
@@ -37,7 +37,7 @@ note_kept k = note_meant k.1.statement k.1.time (reply_meant k.1.outcome)
 abbrev pub notes_kept : List Kept → List (Note Reply)
 notes_kept kept = map note_kept kept
 
-abbrev pub is_inserted : Outcome → Bool
+abbrev pub is_inserted : InsertOutcome → Bool
 is_inserted Inserted = true
 is_inserted Duplicate = false
 is_inserted TooLarge = false

@@ -10,12 +10,12 @@ use Rattle.bson_values.specs.Tree.{Datum}
 use Rattle.node_model.specs.History.{insert_operation, effect, Entry, document_left}
 use Rattle.node_model.specs.Letters.{Statement}
 use Rattle.node_model.specs.Outcomes.{Done, done_of}
-use Rattle.node_model.specs.Serving.{seen_before, entry_for}
+use Rattle.node_model.specs.Service.{seen_before, entry_for}
 use Rattle.session_book.specs.Meanings.{number_meant}
 use Rattle.shard_store.specs.Entries.{entry_meant}
 use Rattle.shard_store.specs.Outcomes.{outcome_meant, statement_of}
 use Rattle.shard_store.specs.declared.plan.Plan.{Plan}
-use Rattle.shard_store.specs.declared.planned.Planned.{Planned}
+use Rattle.shard_store.specs.declared.entry.Planned.{Planned}
 
 -- The entry may follow these, the last of which is no later than `last`: it is told what its document does to what they leave under
 -- its key, and its statement is none of theirs.

@@ -7,7 +7,7 @@ use Rattle.shard_store.specs.Entries.{entries_kept}
 use Rattle.shard_store.specs.Collections.{room_under}
 use Rattle.shard_store.specs.Outcomes.{statement_of}
 use Rattle.shard_store.specs.declared.plan.Plan.{Plan}
-use Rattle.shard_store.specs.declared.planned.Planned.{Planned}
+use Rattle.shard_store.specs.declared.entry.Planned.{Planned}
 use Rattle.shard_store.specs.declared.store.ShardStore.{ShardStore}
 
 -- the entries so far, in order

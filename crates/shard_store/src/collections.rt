@@ -11,8 +11,8 @@ ghost use Rattle.bson_values.specs.Tree.{Datum};
 ghost use Rattle.history_model.specs.Versions.{one_more};
 ghost use Rattle.mvcc_collection.specs.Collections.{put_meant};
 
-use crate::outcome::Outcome;
-use crate::planned::Planned;
+use crate::entry::Planned;
+use crate::outcome::InsertOutcome;
 use bson_values::{Document, Memory};
 use cluster_base::Time;
 use mvcc_collection::Collection;
@@ -116,7 +116,7 @@ impl Collections {
             outcome,
             ..
         } = planned;
-        if outcome == Outcome::Inserted {
+        if outcome == InsertOutcome::Inserted {
             self.put(namespace, &key, time, document);
         }
     }

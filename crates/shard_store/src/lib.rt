@@ -2,12 +2,12 @@
 #![tactic(auto)]
 
 mod collections;
+mod entry;
 mod outcome;
 mod plan;
-mod planned;
 mod store;
 
-pub use outcome::{Outcome, Told};
+pub use entry::{Planned, own_statement};
+pub use outcome::{InsertOutcome, InsertResult};
 pub use plan::Plan;
-pub use planned::{Planned, own_statement};
 pub use store::ShardStore;

@@ -10,7 +10,7 @@ use value_compare::Reply;
 
 /// What a statement that inserts a document is told.
 #[derive(Clone, Copy, Debug, PartialEq, Eq)]
-pub enum Outcome {
+pub enum InsertOutcome {
     /// The document was put in.
     Inserted,
     /// There is a document with that key.
@@ -19,23 +19,23 @@ pub enum Outcome {
     TooLarge,
 }
 
-/// A statement was done at a time, and was told this.
+/// A statement that inserts was done at a time, and was told this.
 #[derive(Clone, Copy, Debug, PartialEq, Eq)]
-pub struct Told {
+pub struct InsertResult {
     /// The time of its entry.
     pub time: Time,
     /// What it was told.
-    pub outcome: Outcome,
+    pub outcome: InsertOutcome,
 }
 
-impl Outcome {
+impl InsertOutcome {
     /// How many documents were put in.
     pub fn count(self) -> u32
         ensures { result ≡ (outcome_meant self).count }
     {
         match self {
-            Outcome::Inserted => 1,
-            Outcome::Duplicate | Outcome::TooLarge => 0,
+            InsertOutcome::Inserted => 1,
+            InsertOutcome::Duplicate | InsertOutcome::TooLarge => 0,
         }
     }
 
@@ -44,9 +44,9 @@ impl Outcome {
         ensures { option_map meaning_of result ≡ (outcome_meant self).error }
     {
         match self {
-            Outcome::Inserted => None,
-            Outcome::Duplicate => Some(Code::DuplicateKey),
-            Outcome::TooLarge => Some(Code::ObjectTooLarge),
+            InsertOutcome::Inserted => None,
+            InsertOutcome::Duplicate => Some(Code::DuplicateKey),
+            InsertOutcome::TooLarge => Some(Code::ObjectTooLarge),
         }
     }
 
@@ -55,9 +55,9 @@ impl Outcome {
         ensures { result ≡ reply_meant self }
     {
         let code = match self {
-            Outcome::Inserted => 0,
-            Outcome::Duplicate => 11000,
-            Outcome::TooLarge => 10334,
+            InsertOutcome::Inserted => 0,
+            InsertOutcome::Duplicate => 11000,
+            InsertOutcome::TooLarge => 10334,
         };
         Reply {
             n: self.count(),
@@ -68,15 +68,15 @@ impl Outcome {
     }
 
     /// What a reply tells.
-    pub(crate) fn of(reply: &Reply) -> Outcome
-        ensures { (outcome : Outcome) → reply.now ≡ reply_meant outcome → result ≡ outcome }
+    pub(crate) fn of(reply: &Reply) -> InsertOutcome
+        ensures { (outcome : InsertOutcome) → reply.now ≡ reply_meant outcome → result ≡ outcome }
     {
         if reply.code == 0 {
-            Outcome::Inserted
+            InsertOutcome::Inserted
         } else if reply.code == 11000 {
-            Outcome::Duplicate
+            InsertOutcome::Duplicate
         } else {
-            Outcome::TooLarge
+            InsertOutcome::TooLarge
         }
     }
 }

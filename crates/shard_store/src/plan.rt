@@ -5,7 +5,7 @@ ghost use Rattle.std.specs.List.{list_any};
 ghost use Rattle.value_compare.specs.Order.{same_value};
 ghost use Rattle.node_model.specs.History.{Entry};
 
-use crate::planned::Planned;
+use crate::entry::Planned;
 use bson_values::Memory;
 use cluster_base::{RequestId, Time};
 use std::alloc::Global;

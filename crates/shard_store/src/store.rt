@@ -9,21 +9,22 @@ ghost use Rattle.value_compare.specs.Keys.{valid_key};
 ghost use Rattle.value_compare.specs.Order.{same_value};
 ghost use Rattle.cluster_base.specs.declared.identity.Session.{Session};
 ghost use Rattle.node_model.specs.History.{Entry, IsIn, document_at, document_left, effect, insert_operation};
-ghost use Rattle.node_model.specs.Asked.{number_for};
+ghost use Rattle.node_model.specs.Exchanges.{number_for};
 ghost use Rattle.node_model.specs.Outcomes.{done_of};
-ghost use Rattle.node_model.specs.Serving.{seen_before};
+ghost use Rattle.node_model.specs.Service.{seen_before};
 ghost use Rattle.command_model.specs.CommandSizes.{IsKeepable};
 ghost use Rattle.session_book.specs.Books.{NotesAre, room_in};
-ghost use Rattle.shard_store.specs.Outcomes.{done_meant, id_meant, outcome_meant};
+ghost use Rattle.node_traits.specs.Ids.{id_meant};
+ghost use Rattle.shard_store.specs.Outcomes.{done_meant, outcome_meant};
 ghost use Rattle.shard_store.specs.Entries.{Kept, entries_kept, entry_meant, notes_kept};
 ghost use Rattle.shard_store.specs.Codes.{AreShown, noted-prop, shown-prop};
 ghost use Rattle.shard_store.specs.Collections.{last_under, room_under};
 ghost use Rattle.shard_store.specs.Plans.{AreNext, IsNext, IsOf, IsPlan, IsServed, made_by, planned_in, time_of};
 
 use crate::collections::Collections;
-use crate::outcome::{Outcome, Told};
+use crate::entry::{Planned, own_statement};
+use crate::outcome::{InsertOutcome, InsertResult};
 use crate::plan::Plan;
-use crate::planned::{Planned, own_statement};
 use bson_values::{Document, Memory, Value};
 use cluster_base::{Namespace, NodeId, RequestId, Time};
 use ghost_list::GhostList;
@@ -77,14 +78,14 @@ impl ShardStore {
     }
 
     /// What the statement with this index of a request, whose client numbered none, was told, if it was seen before.
-    pub fn look(&self, id: RequestId, index: u32) -> Option<Told>
+    pub fn look(&self, id: RequestId, index: u32) -> Option<InsertResult>
         ensures { option_map (done_meant index) result ≡ option_map done_of (seen_before (number_for (id_meant id) index) (entries_of self.now)) }
     {
         match self.book.look(&own_statement(id, index)) {
             Seen::New => None,
-            Seen::Done { time, reply } => Some(Told {
+            Seen::Done { time, reply } => Some(InsertResult {
                 time,
-                outcome: Outcome::of(reply),
+                outcome: InsertOutcome::of(reply),
             }),
             Seen::Older(_) => None,
         }
@@ -115,17 +116,17 @@ impl ShardStore {
     }
 
     // What an insert of a document with this key is told.
-    fn outcome_of(&self, namespace: &Namespace, key: &Key, document: &Document) -> Outcome
+    fn outcome_of(&self, namespace: &Namespace, key: &Key, document: &Document) -> InsertOutcome
         requires keepable { IsKeepable document.now }
         requires valid { valid_key document.now ≡ Ok key.now }
         ensures { outcome_meant result ≡ (effect (insert_operation document.now) (document_left namespace.now (Some key.now) (entries_of self.now))).1 }
     {
         if self.document(namespace, key).is_some() {
-            Outcome::Duplicate
+            InsertOutcome::Duplicate
         } else if document.size() > MOST_BYTES {
-            Outcome::TooLarge
+            InsertOutcome::TooLarge
         } else {
-            Outcome::Inserted
+            InsertOutcome::Inserted
         }
     }
 
@@ -139,7 +140,7 @@ impl ShardStore {
         namespace: &Namespace,
         index: u32,
         document: &Arc<Document, Global>,
-    ) -> Result<Option<Told>, Memory>
+    ) -> Result<Option<InsertResult>, Memory>
         requires plan { IsPlan (entries_of self.now) (last_of self.now) namespace.now plan.old }
         requires keepable { IsKeepable (arc_value document.now) }
         requires room { time_of plan.old < 2 ^ 64 - 1 }
@@ -174,7 +175,7 @@ impl ShardStore {
             document: Arc::try_clone(document)?,
             outcome,
         })?;
-        Ok(Some(Told { time, outcome }))
+        Ok(Some(InsertResult { time, outcome }))
     }
 
     /// Makes room for the entries of a plan. Fails for want of memory. Either way nothing else is to be seen of it.

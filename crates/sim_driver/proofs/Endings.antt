@@ -9,9 +9,9 @@ use Rattle.driver_steps.specs.Worlds.{PostView}
 use Rattle.driver_steps.proofs.Seats.{held_kept}
 use Rattle.outside.proofs.Relations.{took_then}
 use Rattle.pipe_driver.specs.Counts.{RoseWhere}
-use Rattle.pipe_driver.proofs.Counts.{rose_after, rose_as}
+use Rattle.pipe_driver.proofs.Counts.{rose_after, rose_as, same_err}
 use Rattle.pipe_driver.proofs.Endings.{taking_stops}
-use Rattle.pipe_driver.specs.Buffers.{EndsTaking, at_source_end, at_read_fault, at_no_room}
+use Rattle.pipe_driver.specs.Buffers.{EndsTaking, at_source_end, at_read_fault}
 use Rattle.pipe_driver.specs.Schedules.{IsLast}
 use Rattle.pipe_driver.specs.declared.status.Status.{Status}
 use Rattle.pipe_driver.specs.declared.status.Status.TheVariants as statuses
@@ -19,7 +19,7 @@ use Rattle.script_lines.specs.Words.{HasNone}
 use Rattle.sim_driver.specs.Scripts.{ScriptView}
 use Rattle.sim_driver.specs.Simulations.{newline, AllPlayed, CameTo, Cause, input_ended, read_failed, write_failed, disk_failed, no_memory}
 use Rattle.sim_driver.specs.Simulations.{line_refused, line_unended, too_long, IsSimulated}
-use Rattle.sim_driver.specs.Playing.{Playing, StopsAt, at_refused_line, at_write_fault, at_disk_fault, at_no_memory, Stopped, HasStoppedIn}
+use Rattle.sim_driver.specs.Progress.{Playing, StopsAt, at_refused_line, at_write_fault, at_disk_fault, at_no_memory, Stopped, HasStoppedIn}
 use Rattle.sim_driver.proofs.Steps.{playing_full}
 
 module _ {S : Type 0} (view : S → SeatView) (seats : List S) (source : SourceCall) (sink : SinkCall) (routers limit : ℕ) (status : Status)
@@ -114,10 +114,6 @@ module _ {S : Type 0} (view : S → SeatView) (seats : List S) (source : SourceC
       by_taking _ is at_read_fault =
           ended post s statuses.ReadFailed (other (λ e. let clash : statuses.ReadFailed ≡ statuses.InputEnded = sym is ∙ e in absurd (cc clash)) ∙ is) p took
           (omega (arith, most)) (λ all. read_failed below none all)
-      by_taking _ is at_no_room =
-          ended_stopped statuses.OutOfMemory
-          (other (λ e. let clash : statuses.OutOfMemory ≡ statuses.InputEnded = sym is ∙ e in absurd (cc clash)) ∙ is)
-          (playing_full view seats post routers sink.tells sink.held_before sink.held_after consumed left s p) took (omega (arith, most))
 
       pub ended_taking : EndsTaking source.tells source.left_after told
           → IsSimulated source sink (AreKept view seats) (LeaveKept view seats) routers limit status
@@ -158,12 +154,11 @@ simulated_as source sink kept other leaves routers limit status says s = record 
 -- BYTES THAT ARE TAKEN
 
 -- a piece more was taken
-pub piece_taken : (tells : Bool) (first second third consumed begun bytes buffer cleared piece : List ℕ) (taken count : ℕ)
-    → Took tells first (consumed ++ begun) second → Took tells second bytes third → buffer ≡ cleared ++ bytes → cleared ≡ [] → piece ≡ buffer
+pub piece_taken : (tells : Bool) (first second third consumed begun bytes piece : List ℕ) (taken count : ℕ)
+    → Took tells first (consumed ++ begun) second → Took tells second bytes third → piece ≡ bytes
     → length consumed + length begun ≡ taken → length bytes ≡ count
     → Took tells first (consumed ++ (begun ++ piece)) third × (length (consumed ++ (begun ++ piece)) ≡ taken + count)
-piece_taken tells first second third consumed begun bytes buffer cleared piece taken count took more grown none is size counted =
-    let same : piece ≡ bytes = is ∙ (grown ∙ ap (λ (b : List ℕ). b ++ bytes) none) in
+piece_taken tells first second third consumed begun bytes piece taken count took more same size counted =
     let all : (consumed ++ begun) ++ bytes ≡ consumed ++ (begun ++ piece) =
     append_assoc consumed begun bytes ∙ ap (λ (b : List ℕ). consumed ++ (begun ++ b)) (sym same) in (
       subst (λ (b : List ℕ). Took tells first b third) all (took_then tells first (consumed ++ begun) second bytes third took more),
@@ -171,9 +166,6 @@ piece_taken tells first second third consumed begun bytes buffer cleared piece t
     )
 
 -- FAULTS
-
-told_once : {X : Type 0} (answer : Result X Status) (told known : Status) → answer ≡ Err told → answer ≡ Err known → told ≡ known
-told_once answer told known is e = cc
 
 pub reads_by : {X : Type 0} (answer : Result X Status) (told status : Status) → answer ≡ Err told → (told ≢ statuses.InputEnded → status ≡ told)
     → (status ≡ told) ⊎ (status ≡ statuses.BadInput) → (a b c : ℕ) → b ≡ a → RoseWhere (answer ≡ Err statuses.ReadFailed) b c
@@ -184,7 +176,7 @@ reads_by answer told status is other either a b c same where_it =
   where
     there : answer ≡ Err statuses.ReadFailed → status ≡ statuses.ReadFailed
     there e =
-        let one : told ≡ statuses.ReadFailed = told_once answer told statuses.ReadFailed is e in
+        let one : told ≡ statuses.ReadFailed = same_err answer told statuses.ReadFailed is e in
         other (λ ended. let clash : statuses.ReadFailed ≡ statuses.InputEnded = sym one ∙ ended in absurd (cc clash)) ∙ one
 
     back : (status ≡ told) ⊎ (status ≡ statuses.BadInput) → status ≡ statuses.ReadFailed → answer ≡ Err statuses.ReadFailed

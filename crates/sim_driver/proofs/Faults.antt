@@ -5,20 +5,15 @@ use Rattle.node_model.proofs.Schedules.{run_then}
 use Rattle.node_traits.specs.declared.outputs.StepFault.{StepFault}
 use Rattle.node_traits.specs.declared.outputs.StepFault.TheVariants.{Disk, Steps, Memory}
 use Rattle.node_traits.specs.declared.outputs.ToLink.{ToLink}
-use Rattle.driver_steps.specs.Seats.{SeatView, AreKept, AreHeldOrKept}
+use Rattle.driver_steps.specs.Seats.{SeatView}
 use Rattle.driver_steps.specs.Worlds.{PostView, StandsFor}
 use Rattle.driver_steps.specs.Moves.{HasStopped, IsUpTo}
 use Rattle.driver_steps.proofs.Seats.{held_kept}
 use Rattle.pipe_driver.specs.Stops.{status_for}
 use Rattle.pipe_driver.specs.declared.status.Status.{Status}
 use Rattle.pipe_driver.specs.declared.status.Status.TheVariants as statuses
+use Rattle.pipe_driver.proofs.Serving.{kept_at}
 use Rattle.sim_driver.specs.Moves.{AreStill, IsCut, IsLastOf}
-
-pub kept_at : {S : Type 0} (fault : StepFault) (view : S → SeatView) (seats : List S) (w : World) → AreHeldOrKept fault view seats w.nodes
-    → AreKept view seats w.nodes
-kept_at (Disk faults) view seats w are = are
-kept_at Steps view seats w are = held_kept view seats w.nodes are
-kept_at Memory view seats w are = held_kept view seats w.nodes are
 
 -- nothing happened where all stands for the world
 pub still : {S : Type 0} (view : S → SeatView) (seats : List S) (post : PostView) (handed : List ToLink) (w : World)

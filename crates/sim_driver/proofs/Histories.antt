@@ -1,7 +1,7 @@
 -- However a script ends, its nodes took part in one run, which makes one history.
 use Rattle.std.proofs.Common.{ℕ, List, ◌++◌}
 use Rattle.outside.specs.Devices.{SourceCall, SinkCall}
-use Rattle.node_model.specs.Kept.{creations_kept, entries_kept}
+use Rattle.node_model.specs.Journal.{creations_kept, entries_kept}
 use Rattle.node_model.specs.OneHistory.{OneHistory}
 use Rattle.node_model.specs.Tables.{first_shard}
 use Rattle.node_model.specs.World.{Held, World, Event, Run, journal_at, start}

@@ -14,8 +14,8 @@ use Rattle.script_lines.specs.Lines.{Line, Says, client_line, deliver_line, sett
 use Rattle.sim_driver.specs.Moves.{HasAsked, HasFault, HasDeliveredOne, HasSettledBut, AreStill, IsCut, IsFirstAsked, IsPartOfDelivery}
 use Rattle.pipe_driver.specs.declared.status.Status.{Status}
 use Rattle.pipe_driver.specs.declared.status.Status.TheVariants as statuses
-use Rattle.sim_driver.specs.Played.{HasPlayed, IsOfLine, StopsLine, stops_unplayed, stops_at_disk, stops_at_memory}
-use Rattle.sim_driver.specs.Played.{IsPartOfBytes, part_unread, part_read, names_nothing, StopsBytes, bytes_refused, bytes_at_disk, bytes_at_memory}
+use Rattle.sim_driver.specs.LineOutcomes.{HasPlayed, IsOfLine, StopsLine, stops_unplayed, stops_at_disk, stops_at_memory}
+use Rattle.sim_driver.specs.LineOutcomes.{IsPartOfBytes, part_unread, part_read, names_nothing, StopsBytes, bytes_refused, bytes_at_disk, bytes_at_memory}
 use Rattle.sim_driver.specs.Plays.{IsPlayed, plays_client, closes, plays_deliver, plays_settle, IsPartOfLine, part_of_client, part_of_deliver}
 use Rattle.sim_driver.specs.Plays.{client_events}
 use Rattle.sim_driver.specs.Scripts.{ScriptView, place_from}

@@ -1,17 +1,11 @@
 -- The lines of replies, one after another.
-use Rattle.std.proofs.Common.{◌≡◌, ℕ, ◌+◌, ◌<◌, ◌≤◌, List, [], ◌∷◌, ◌++◌, length, get_or, drop, sym, ap, ◌∙◌, append_assoc, append-nil, suc, add-one}
-use Rattle.std.proofs.Common.{drop-cons}
+use Rattle.std.proofs.Common.{◌≡◌, ℕ, ◌+◌, ◌<◌, ◌≤◌, List, [], ◌++◌, length, get_or, drop, sym, ap, ◌∙◌, append_assoc, append-nil}
 use Rattle.std.specs.Prelude.{◌==◌, if◌then◌else◌}
 use Rattle.std.proofs.lemmas.List.{drop_all}
 use Rattle.node_traits.specs.declared.outputs.ToLink.{ToLink}
-use Rattle.script_lines.specs.Printed.{reply_line}
+use Rattle.script_lines.specs.Output.{reply_line}
+use Rattle.pipe_driver.proofs.Puts.{reply_cut}
 use Rattle.sim_driver.specs.Scripts.{reply_lines}
-
--- the next reply, at a place
-reply_cut : (replies : List ToLink) (i : ℕ) (reply : ToLink) → i < length replies → reply ≡ get_or replies i reply
-    → drop i replies ≡ reply ∷ drop (i + 1) replies
-reply_cut replies i reply inside is =
-    rw add-one (drop-cons replies i reply inside ∙ ap (λ (first : ToLink). first ∷ drop (suc i) replies) (sym is))
 
 pub lines_more : (link : ℕ) (replies : List ToLink) (i : ℕ) (reply : ToLink) (all text text' : List ℕ) → i < length replies → reply ≡ get_or replies i reply
     → text ++ reply_lines link (drop i replies) ≡ all

@@ -24,12 +24,13 @@ use Rattle.pipe_driver.specs.declared.status.Status.TheVariants as statuses
 use Rattle.pipe_driver.proofs.Frames.{all_more}
 use Rattle.pipe_driver.proofs.Openings.{nothing_told}
 use Rattle.script_lines.specs.Words.{HasNone, IsCutAt}
+use Rattle.pipe_driver.proofs.Serving.{kept_at}
 use Rattle.sim_driver.specs.Scripts.{ScriptView, new_script, printed}
 use Rattle.sim_driver.specs.Moves.{AreStill, IsCut, IsLastOf}
-use Rattle.sim_driver.specs.Played.{HasPlayedBytes, IsPartOfBytes, part_read, StopsBytes, bytes_refused, bytes_at_disk, bytes_at_memory}
+use Rattle.sim_driver.specs.LineOutcomes.{HasPlayedBytes, IsPartOfBytes, part_read, StopsBytes, bytes_refused, bytes_at_disk, bytes_at_memory}
 use Rattle.sim_driver.specs.Simulations.{newline, bytes_of_lines, plays_none, plays_more, CameTo, came_opening, came_lines, came_part}
-use Rattle.sim_driver.specs.Playing.{Playing, StopsAt, at_refused_line, at_write_fault, at_disk_fault, at_no_memory, Stopped}
-use Rattle.sim_driver.proofs.Faults.{kept_at, run_more, still}
+use Rattle.sim_driver.specs.Progress.{Playing, StopsAt, at_refused_line, at_write_fault, at_disk_fault, at_no_memory, Stopped}
+use Rattle.sim_driver.proofs.Faults.{run_more, still}
 use Rattle.sim_driver.proofs.Plays.{whole_is_part}
 
 lines_more : (lines : List (List ℕ)) (bytes : List ℕ) → bytes_of_lines (lines ++ bytes ∷ []) ≡ bytes_of_lines lines ++ (bytes ++ newline ∷ [])

@@ -1,9 +1,9 @@
 pub mod Scripts
 pub mod Plays
 pub mod Moves
-pub mod Played
+pub mod LineOutcomes
 pub mod Simulations
-pub mod Playing
+pub mod Progress
 pub use Rattle.driver_steps.specs.Seats
 pub use Rattle.driver_steps.specs.Worlds
 pub use Rattle.node_model.specs.Schedule

@@ -4,7 +4,7 @@ use Rattle.std.specs.List.{flat_map}
 use Rattle.opmsg_frames.specs.Outline.{FrameFault}
 use Rattle.node_model.specs.Letters.{Letter}
 use Rattle.node_traits.specs.declared.outputs.ToLink.{ToLink}
-use Rattle.script_lines.specs.Printed.{closed_line, reply_line}
+use Rattle.script_lines.specs.Output.{closed_line, reply_line}
 use Rattle.sim_driver.specs.declared.script.Script.{Script}
 
 -- `link` is the number of the link that is open, `left` the bytes on it that begin no whole request, `replied` how many replies its requests get;

@@ -15,7 +15,7 @@ use Rattle.script_lines.specs.Lines.{Line, Says}
 use Rattle.script_lines.specs.Words.{HasNone, IsCutAt}
 use Rattle.sim_driver.specs.Scripts.{ScriptView, new_script, printed}
 use Rattle.sim_driver.specs.Plays.{IsPlayed}
-use Rattle.sim_driver.specs.Played.{IsPartOfBytes, IsRefused}
+use Rattle.sim_driver.specs.LineOutcomes.{IsPartOfBytes, IsRefused}
 
 -- the byte that ends a line
 abbrev pub newline : ℕ

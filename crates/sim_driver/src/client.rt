@@ -6,7 +6,7 @@ ghost use Rattle.node_traits.specs.declared.outputs.ToLink.{ToLink};
 ghost use Rattle.driver_steps.specs.Crashes.{Since};
 ghost use Rattle.driver_steps.specs.Seats.{AreOpen, faults_of, places_of, seat_since};
 ghost use Rattle.driver_steps.specs.Worlds.{StandsFor, post_view};
-ghost use Rattle.pipe_driver.specs.Counts.{OneRoseWhere};
+ghost use Rattle.pipe_driver.specs.Counts.{HaveRisenWhere};
 ghost use Rattle.pipe_driver.specs.Progress.{AreAskedAsRead};
 ghost use Rattle.pipe_driver.specs.Rounds.{first_router};
 ghost use Rattle.pipe_driver.specs.declared.status.Status.TheVariants as statuses;
@@ -63,7 +63,7 @@ pub fn ask_all<N: Node<Request = Request>, L: Log>(
 
     // Of the logs' disks.
     ensures other { IfErr result (λ status. (status ≡ statuses.DiskFailed) ⊎ (status ≡ statuses.OutOfMemory)) }
-    ensures disk_fault { OneRoseWhere (result ≡ Err statuses.DiskFailed) (faults_of L.fault_count seats.old.items) (faults_of L.fault_count seats.new.items) }
+    ensures disk_fault { HaveRisenWhere (result ≡ Err statuses.DiskFailed) (faults_of L.fault_count seats.old.items) (faults_of L.fault_count seats.new.items) }
     ensures places { places_of L.place seats.new.items ≡ places_of L.place seats.old.items }
 {
     let mut replied = replied;

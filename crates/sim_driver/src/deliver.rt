@@ -8,7 +8,7 @@ ghost use Rattle.node_traits.specs.declared.outputs.ToLink.{ToLink};
 ghost use Rattle.driver_steps.specs.Crashes.{Since};
 ghost use Rattle.driver_steps.specs.Seats.{AreOpen, faults_of, left_of, places_of, seat_since};
 ghost use Rattle.driver_steps.specs.Worlds.{StandsFor, post_view};
-ghost use Rattle.pipe_driver.specs.Counts.{OneRoseWhere};
+ghost use Rattle.pipe_driver.specs.Counts.{HaveRisenWhere};
 ghost use Rattle.pipe_driver.specs.declared.status.Status.TheVariants as statuses;
 ghost use Rattle.sim_driver.specs.Moves.{HasDeliveredOne, HasSettledBut, IsCut, IsPartOfDelivery, IsReceiverAt, PassesOrDelivers};
 ghost use Rattle.sim_driver.specs.Plays.{IsPartOfSettling};
@@ -98,7 +98,7 @@ pub fn deliver_at<R: Threads + Sync, N: Node, L: Log>(
 
     // Of the logs' disks.
     ensures other { IfErr result (λ status. (status ≡ statuses.DiskFailed) ⊎ (status ≡ statuses.OutOfMemory)) }
-    ensures disk_fault { OneRoseWhere (result ≡ Err statuses.DiskFailed) (faults_of L.fault_count seats.old.items) (faults_of L.fault_count seats.new.items) }
+    ensures disk_fault { HaveRisenWhere (result ≡ Err statuses.DiskFailed) (faults_of L.fault_count seats.old.items) (faults_of L.fault_count seats.new.items) }
     ensures places { places_of L.place seats.new.items ≡ places_of L.place seats.old.items }
 {
     let message = match copy_at(alloc, &post.waiting, at) {
@@ -142,7 +142,7 @@ fn deliver_unless<R: Threads + Sync, N: Node, L: Log>(
 
     // Of the logs' disks.
     ensures other { IfErr result (λ status. (status ≡ statuses.DiskFailed) ⊎ (status ≡ statuses.OutOfMemory)) }
-    ensures disk_fault { OneRoseWhere (result ≡ Err statuses.DiskFailed) (faults_of L.fault_count seats.old.items) (faults_of L.fault_count seats.new.items) }
+    ensures disk_fault { HaveRisenWhere (result ≡ Err statuses.DiskFailed) (faults_of L.fault_count seats.old.items) (faults_of L.fault_count seats.new.items) }
     ensures places { places_of L.place seats.new.items ≡ places_of L.place seats.old.items }
 {
     if early.contains(&at) {
@@ -183,7 +183,7 @@ pub fn settle_but<R: Threads + Sync, N: Node, L: Log>(
 
     // Of the logs' disks.
     ensures other { IfErr result (λ status. (status ≡ statuses.DiskFailed) ⊎ (status ≡ statuses.OutOfMemory)) }
-    ensures disk_fault { OneRoseWhere (result ≡ Err statuses.DiskFailed) (faults_of L.fault_count seats.old.items) (faults_of L.fault_count seats.new.items) }
+    ensures disk_fault { HaveRisenWhere (result ≡ Err statuses.DiskFailed) (faults_of L.fault_count seats.old.items) (faults_of L.fault_count seats.new.items) }
     ensures places { places_of L.place seats.new.items ≡ places_of L.place seats.old.items }
 {
     let mut at = next;

@@ -4,12 +4,12 @@ ghost use Rattle.std.specs.Prelude.{◌≡◌, ◌≢◌, ℕ, ◌<◌, List, []
 ghost use Rattle.driver_steps.specs.Crashes.{Since};
 ghost use Rattle.driver_steps.specs.Seats.{AreOpen, faults_of, places_of, seat_since};
 ghost use Rattle.driver_steps.specs.Worlds.{post_view};
-ghost use Rattle.pipe_driver.specs.Counts.{OneRoseWhere, RoseWhere};
+ghost use Rattle.pipe_driver.specs.Counts.{HaveRisenWhere, RoseWhere};
 ghost use Rattle.pipe_driver.specs.Progress.{AreAskedAsRead};
 ghost use Rattle.pipe_driver.specs.Rounds.{first_router};
 ghost use Rattle.pipe_driver.specs.declared.status.Status.TheVariants as statuses;
 ghost use Rattle.script_lines.specs.Words.{HasNone};
-ghost use Rattle.sim_driver.specs.Playing.{HasPlayedLines, HasStoppedIn, IsOfPlaying, Playing, Stopped};
+ghost use Rattle.sim_driver.specs.Progress.{HasPlayedLines, HasStoppedIn, IsOfPlaying, Playing, Stopped};
 ghost use Rattle.sim_driver.specs.Scripts.{script_view};
 ghost use Rattle.sim_driver.specs.Simulations.{newline};
 
@@ -67,7 +67,7 @@ pub fn answer_line<R: Threads + Sync, N: Node<Request = Request>, L: Log, K: Sin
 
     // Of the devices.
     ensures write_fault { RoseWhere (result ≡ Err statuses.WriteFailed) (K.fault_count out.old) (K.fault_count out.new) }
-    ensures disk_fault { OneRoseWhere (result ≡ Err statuses.DiskFailed) (faults_of L.fault_count seats.old.items) (faults_of L.fault_count seats.new.items) }
+    ensures disk_fault { HaveRisenWhere (result ≡ Err statuses.DiskFailed) (faults_of L.fault_count seats.old.items) (faults_of L.fault_count seats.new.items) }
     ensures places { places_of L.place seats.new.items ≡ places_of L.place seats.old.items }
 {
     let link = script.link;
@@ -125,7 +125,7 @@ pub fn play_piece<R: Threads + Sync, N: Node<Request = Request>, L: Log, K: Sink
 
     // Of the devices.
     ensures write_fault { RoseWhere (result ≡ Err statuses.WriteFailed) (K.fault_count out.old) (K.fault_count out.new) }
-    ensures disk_fault { OneRoseWhere (result ≡ Err statuses.DiskFailed) (faults_of L.fault_count seats.old.items) (faults_of L.fault_count seats.new.items) }
+    ensures disk_fault { HaveRisenWhere (result ≡ Err statuses.DiskFailed) (faults_of L.fault_count seats.old.items) (faults_of L.fault_count seats.new.items) }
     ensures places { places_of L.place seats.new.items ≡ places_of L.place seats.old.items }
 {
     let mut rest = piece;

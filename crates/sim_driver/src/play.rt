@@ -6,13 +6,13 @@ ghost use Rattle.node_traits.specs.declared.outputs.ToLink.{ToLink};
 ghost use Rattle.driver_steps.specs.Crashes.{Since};
 ghost use Rattle.driver_steps.specs.Seats.{AreOpen, faults_of, places_of, seat_since};
 ghost use Rattle.driver_steps.specs.Worlds.{StandsFor, post_view};
-ghost use Rattle.pipe_driver.specs.Counts.{OneRoseWhere};
+ghost use Rattle.pipe_driver.specs.Counts.{HaveRisenWhere};
 ghost use Rattle.pipe_driver.specs.Progress.{AreAskedAsRead};
 ghost use Rattle.pipe_driver.specs.Rounds.{first_router};
 ghost use Rattle.pipe_driver.specs.declared.status.Status.TheVariants as statuses;
 ghost use Rattle.script_lines.specs.Lines.{client_line, deliver_line, settle_line};
 ghost use Rattle.script_lines.specs.Meanings.{meaning_of};
-ghost use Rattle.sim_driver.specs.Played.{HasPlayed, HasPlayedBytes, IsOfLine, StopsBytes, StopsLine};
+ghost use Rattle.sim_driver.specs.LineOutcomes.{HasPlayed, HasPlayedBytes, IsOfLine, StopsBytes, StopsLine};
 ghost use Rattle.sim_driver.specs.Scripts.{script_view};
 
 use crate::client::ask_all;
@@ -63,7 +63,7 @@ pub fn play_client<N: Node<Request = Request>, L: Log>(
     ensures open_err { result ≡ Err statuses.BadInput → AreOpen L.is_open seats.new.items }
 
     // Of the logs' disks.
-    ensures disk_fault { OneRoseWhere (result ≡ Err statuses.DiskFailed) (faults_of L.fault_count seats.old.items) (faults_of L.fault_count seats.new.items) }
+    ensures disk_fault { HaveRisenWhere (result ≡ Err statuses.DiskFailed) (faults_of L.fault_count seats.old.items) (faults_of L.fault_count seats.new.items) }
     ensures places { places_of L.place seats.new.items ≡ places_of L.place seats.old.items }
 {
     if router != 0 {
@@ -124,7 +124,7 @@ pub fn play_deliver<R: Threads + Sync, N: Node, L: Log>(
     ensures open_err { result ≡ Err statuses.BadInput → AreOpen L.is_open seats.new.items }
 
     // Of the logs' disks.
-    ensures disk_fault { OneRoseWhere (result ≡ Err statuses.DiskFailed) (faults_of L.fault_count seats.old.items) (faults_of L.fault_count seats.new.items) }
+    ensures disk_fault { HaveRisenWhere (result ≡ Err statuses.DiskFailed) (faults_of L.fault_count seats.old.items) (faults_of L.fault_count seats.new.items) }
     ensures places { places_of L.place seats.new.items ≡ places_of L.place seats.old.items }
 {
     if node >= seats.len() as u64 {
@@ -174,7 +174,7 @@ pub fn play_settle<R: Threads + Sync, N: Node, L: Log>(
     ensures other { IfErr result (λ status. (status ≡ statuses.DiskFailed) ⊎ (status ≡ statuses.OutOfMemory)) }
 
     // Of the logs' disks.
-    ensures disk_fault { OneRoseWhere (result ≡ Err statuses.DiskFailed) (faults_of L.fault_count seats.old.items) (faults_of L.fault_count seats.new.items) }
+    ensures disk_fault { HaveRisenWhere (result ≡ Err statuses.DiskFailed) (faults_of L.fault_count seats.old.items) (faults_of L.fault_count seats.new.items) }
     ensures places { places_of L.place seats.new.items ≡ places_of L.place seats.old.items }
 {
     match settle_but(rt, alloc, seats, post, script.next, &script.early) {
@@ -221,7 +221,7 @@ pub fn play_said<R: Threads + Sync, N: Node<Request = Request>, L: Log>(
     ensures open_err { result ≡ Err statuses.BadInput → AreOpen L.is_open seats.new.items }
 
     // Of the logs' disks.
-    ensures disk_fault { OneRoseWhere (result ≡ Err statuses.DiskFailed) (faults_of L.fault_count seats.old.items) (faults_of L.fault_count seats.new.items) }
+    ensures disk_fault { HaveRisenWhere (result ≡ Err statuses.DiskFailed) (faults_of L.fault_count seats.old.items) (faults_of L.fault_count seats.new.items) }
     ensures places { places_of L.place seats.new.items ≡ places_of L.place seats.old.items }
 {
     match line {
@@ -279,7 +279,7 @@ pub fn play_line<R: Threads + Sync, N: Node<Request = Request>, L: Log>(
     ensures open_err { result ≡ Err statuses.BadInput → AreOpen L.is_open seats.new.items }
 
     // Of the logs' disks.
-    ensures disk_fault { OneRoseWhere (result ≡ Err statuses.DiskFailed) (faults_of L.fault_count seats.old.items) (faults_of L.fault_count seats.new.items) }
+    ensures disk_fault { HaveRisenWhere (result ≡ Err statuses.DiskFailed) (faults_of L.fault_count seats.old.items) (faults_of L.fault_count seats.new.items) }
     ensures places { places_of L.place seats.new.items ≡ places_of L.place seats.old.items }
 {
     match read_line(alloc, line) {

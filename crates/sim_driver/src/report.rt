@@ -1,7 +1,7 @@
 //! What is printed for a line.
 
 ghost use Rattle.std.specs.Prelude.{◌≡◌, ◌==◌, ◌++◌, [], IfOk, OnOk, if◌then◌else◌};
-ghost use Rattle.script_lines.specs.Printed.{reply_line};
+ghost use Rattle.script_lines.specs.Output.{reply_line};
 ghost use Rattle.sim_driver.specs.Scripts.{printed, reply_lines};
 
 use bson_values::Memory;

@@ -6,11 +6,11 @@ ghost use Rattle.node_model.specs.World.{start};
 ghost use Rattle.driver_steps.specs.Crashes.{Since};
 ghost use Rattle.driver_steps.specs.Seats.{AreHeld, AreKept, AreOpen, LeaveKept, faults_of, places_of, seat_since, seat_view, since_then};
 ghost use Rattle.driver_steps.specs.Worlds.{post_view};
-ghost use Rattle.pipe_driver.specs.Counts.{OneRoseWhere, RoseWhere};
+ghost use Rattle.pipe_driver.specs.Counts.{HaveRisenWhere, RoseWhere};
 ghost use Rattle.pipe_driver.specs.Progress.{AreAskedAsRead};
 ghost use Rattle.pipe_driver.specs.Rounds.{first_router};
 ghost use Rattle.pipe_driver.specs.declared.status.Status.TheVariants as statuses;
-ghost use Rattle.sim_driver.specs.Playing.{Playing};
+ghost use Rattle.sim_driver.specs.Progress.{Playing};
 ghost use Rattle.sim_driver.specs.Scripts.{new_script};
 ghost use Rattle.sim_driver.specs.Simulations.{IsSimulated};
 
@@ -21,13 +21,10 @@ use node_traits::Node;
 use opmsg_frames::Request;
 use outside::log::Log;
 use outside::streams::{Sink, Source};
-use pipe_driver::{Status, take_more};
+use pipe_driver::{PIECE, Status, new_piece, take_more};
 use std::alloc::Global;
 use std::marker::Sync;
 use std::thread::Threads;
-
-/// The most bytes that are asked of a source at once.
-const PIECE: u64 = 65_536;
 
 /// The status of a script whose input gives no more, with this cause, behind the beginning of a line.
 fn unended(cause: Status, begun: &[u8]) -> Status
@@ -71,7 +68,7 @@ pub fn simulate<R: Threads + Sync, N: Node<Request = Request>, L: Log, S: Source
     // Each fault of a device has its own status.
     ensures read_fault { RoseWhere (result ≡ statuses.ReadFailed) (S.fault_count input.old) (S.fault_count input.new) }
     ensures write_fault { RoseWhere (result ≡ statuses.WriteFailed) (K.fault_count out.old) (K.fault_count out.new) }
-    ensures disk_fault { OneRoseWhere (result ≡ statuses.DiskFailed) (faults_of L.fault_count seats.old.items) (faults_of L.fault_count seats.new.items) }
+    ensures disk_fault { HaveRisenWhere (result ≡ statuses.DiskFailed) (faults_of L.fault_count seats.old.items) (faults_of L.fault_count seats.new.items) }
     ensures places { places_of L.place seats.new.items ≡ places_of L.place seats.old.items }
 {
     let mut post = Post::new(alloc);
@@ -103,25 +100,27 @@ fn play_all<R: Threads + Sync, N: Node<Request = Request>, L: Log, S: Source, K:
     ensures len { vec_len seats.new ≡ vec_len seats.old }
     ensures read_fault { RoseWhere (result ≡ statuses.ReadFailed) (S.fault_count input.old) (S.fault_count input.new) }
     ensures write_fault { RoseWhere (result ≡ statuses.WriteFailed) (K.fault_count out.old) (K.fault_count out.new) }
-    ensures disk_fault { OneRoseWhere (result ≡ statuses.DiskFailed) (faults_of L.fault_count seats.old.items) (faults_of L.fault_count seats.new.items) }
+    ensures disk_fault { HaveRisenWhere (result ≡ statuses.DiskFailed) (faults_of L.fault_count seats.old.items) (faults_of L.fault_count seats.new.items) }
     ensures places { places_of L.place seats.new.items ≡ places_of L.place seats.old.items }
 {
     let mut post = post;
     let mut script = Script::new(alloc);
-    let mut piece = Vec::new(alloc);
+    let Ok(mut piece) = new_piece(alloc) else {
+        return Status::OutOfMemory;
+    };
     let mut begun = Vec::new(alloc);
     let mut taken = 0;
     'pieces: while taken < limit {
-        let room = (limit - taken).min(PIECE) as usize;
-        piece.clear();
-        match take_more(input, &mut piece, room) {
-            Ok(count) => taken += count as u64,
+        let room = (limit - taken).min(PIECE as u64) as usize;
+        let count = match take_more(input, &mut piece, room) {
+            Ok(count) => count,
             Err(status) => return unended(status, begun.as_slice()),
-        }
+        };
+        taken += count as u64;
         match play_piece(
             rt,
             alloc,
-            &piece,
+            &piece[..count],
             &mut begun,
             seats,
             &mut post,

@@ -7,7 +7,7 @@ use Rattle.bson_values.specs.Sizes.{items_count}
 use Rattle.bson_values.specs.Tree.{Datum, array_value, null_value, Items, no_items, item}
 use Rattle.bson_values.specs.View.{datum_of, items_of}
 use Rattle.bson_values.specs.declared.value.Value.{Value}
-use Rattle.field_paths.specs.Seen.{seen}
+use Rattle.field_paths.specs.References.{seen}
 use Rattle.field_paths.proofs.FieldLists.{next_one}
 use Rattle.query_model.specs.Paths.{elements}
 use Rattle.pipeline_model.specs.SortKeys.{KeyPart, empty_array, value_part, first_from, first_part, null_if, parts_of_value}

@@ -3,7 +3,7 @@
 ghost use Rattle.std.specs.Prelude.{◌≡◌, ◌∷◌, [], IfOk, None, Some, flat_map, map, unwrap_or};
 ghost use Rattle.bson_values.specs.Tree.{null_value};
 ghost use Rattle.bson_values.specs.View.{datum_of};
-ghost use Rattle.field_paths.specs.Seen.{seen};
+ghost use Rattle.field_paths.specs.References.{seen};
 ghost use Rattle.pipeline_model.specs.SortKeys.{directed, key_part, null_if, order_parts, parts_of_value, value_part};
 ghost use Rattle.query_model.specs.Paths.{elements};
 ghost use Rattle.sort_keys.specs.FirstPart.{best_of};

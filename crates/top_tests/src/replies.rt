@@ -35,7 +35,7 @@ fn is_reply(alloc: Global, bytes: &[u8], wanted: &[u8]) -> Result<bool, Fail> {
         return Ok(false);
     }
     let mut out = Vec::new(alloc);
-    write_reply(&request, -3, &document, &mut out)?;
+    write_reply(request.form, request.id, -3, &document, &mut out)?;
     Ok(out.as_slice() == wanted)
 }
 

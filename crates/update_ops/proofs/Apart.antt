@@ -2,13 +2,9 @@
 use Rattle.std.proofs.Common.{◌≡◌, ℕ, List, [], ◌∷◌, refl, sym, ap, ◌∙◌, true≢false}
 use Rattle.std.specs.Prelude.{Bool, true, false}
 use Rattle.std.specs.Str.{bytes_eq}
-use Rattle.std.proofs.lemmas.Slice.Eq.{bytes_eq-Decides}
 use Rattle.query_model.specs.Paths.{Path}
 use Rattle.query_model.specs.Changes.{is_apart}
-use Rattle.query_model.proofs.Puts.{same_bytes}
-
-pub equal_itself : (a : List ℕ) → bytes_eq a a ≡ true
-equal_itself a = (bytes_eq-Decides a a).1 refl
+use Rattle.query_model.proofs.Puts.{same_bytes, equal_itself}
 
 other_way : (a b : List ℕ) (turned : Bool) → bytes_eq b a ≡ turned → bytes_eq a b ≡ false → turned ≡ false
 other_way a b true same apart =

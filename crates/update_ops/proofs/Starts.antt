@@ -52,10 +52,6 @@ parts_read name path e = read_is name path (path_read (read_path name) path e)
 plain_name : (name : List ℕ) (path : Path) → result_map_both (λ (p : Path). p) path_fault (read_path name) ≡ Ok path → is_plain_path path ≡ not (has_dot name)
 plain_name name path e = ap is_plain_path (sym (parts_read name path e)) ∙ plain_parts name
 
-grouped : (a b c : Bool) → (a && (b && c)) ≡ ((a && b) && c)
-grouped true b c = refl
-grouped false b c = refl
-
 module _ (inner : Fields → Result Query QueryFault) (inner_tests : Fields → Result Tests QueryFault) where
   -- ---- which filters are plain
 

@@ -1,6 +1,6 @@
 -- What statements are told: how many documents were changed, and the key of one that was put in.
 use Rattle.std.proofs.Common.{◌≡◌, ℕ, ◌≤◌, List, length, refl, sym, ap, subst, ◌∙◌, arith}
-use Rattle.std.specs.Prelude.{◌↔◌, IsTrue, Bool, true, false, ◌||◌, Some, Result, Ok, Err, if◌then◌else◌}
+use Rattle.std.specs.Prelude.{◌↔◌, IsTrue, Bool, true, false, Some, Result, Ok, Err, if◌then◌else◌}
 use Rattle.std.specs.Result.{is_ok}
 use Rattle.std.specs.Str.{bytes_eq}
 use Rattle.std.proofs.lemmas.Bool.{ltb-false}
@@ -15,21 +15,18 @@ use Rattle.query_model.specs.Effects.{updated}
 use Rattle.query_model.proofs.EditOrder.{one_spelling}
 use Rattle.query_model.proofs.KeysStay.{change_keeps_key}
 use Rattle.query_model.proofs.KeysAsked.{valid_from}
-use Rattle.query_model.proofs.Puts.{same_bytes}
-use Rattle.update_ops.proofs.Apart.{equal_itself}
+use Rattle.query_model.proofs.Puts.{same_bytes, equal_itself}
+use Rattle.bson_model.specs.Limits.{most_bytes_kept}
+use Rattle.bson_model.proofs.Booleans.{neither}
 
-neither : (a b : Bool) → (a || b) ≡ false → a ≡ false
-neither true b h = absurd cc
-neither false b h = refl
-
-small : (after : Fields) → is_too_large after ≡ false → length (written after) ≤ 16777216
-small after h = ltb-false 16777216 (length (written after)) (neither _ _ h)
+small : (after : Fields) → is_too_large after ≡ false → length (written after) ≤ most_bytes_kept
+small after h = ltb-false most_bytes_kept (length (written after)) (neither _ _ h)
 
 -- documents of one spelling, one of which is not too large
 same_spelling : (before after : Fields) → AreFields before → AreFields after → is_too_large after ≡ false → bytes_eq (written before) (written after) ≡ true →
     after ≡ before
 same_spelling before after first second large same =
-    let short : length (written after) ≤ 16777216 = small after large in
+    let short : length (written after) ≤ most_bytes_kept = small after large in
     let bytes : length (written before) ≡ length (written after) = ap (λ (bs : List ℕ). length bs) (same_bytes (written before) (written after) same) in
     sym (one_spelling before after (written_spelled before first (omega (arith, short, bytes))) (written_spelled after second (omega (arith, short))) same)
 

@@ -2,7 +2,7 @@
 //! spans. For each file it prints how many rows hold, and each row that does not.
 #![tactic(auto)]
 
-mod built;
+mod builders;
 mod documents;
 mod equality;
 mod keys;
@@ -11,7 +11,7 @@ mod levels;
 mod order;
 mod spans;
 
-use crate::built::Built;
+use crate::builders::Built;
 use crate::documents::{Documents, Prefixes};
 use crate::equality::Equality;
 use crate::keys::{KeyTypes, Keys};

@@ -18,7 +18,7 @@ enum Next {
 
 /// What the framer gave: a line for each request, and the requests' bytes, one behind another.
 #[derive(Drop)]
-struct Told {
+struct RequestLines {
     lines: String,
     bytes: Vec<u8>,
 }
@@ -128,7 +128,7 @@ fn put_malformed(
 /// Puts the line of what the framer gives next, if it gives a request or a fault. Gives whether it was a request.
 fn put_next(
     alloc: Global,
-    told: &mut Told,
+    told: &mut RequestLines,
     framer: &mut Framer,
     as_query: bool,
 ) -> Result<Next, RowFault> {
@@ -153,7 +153,7 @@ fn put_next(
 /// Puts the lines of all that the framer gives once it has the piece. Gives whether no fault was met.
 fn put_piece(
     alloc: Global,
-    told: &mut Told,
+    told: &mut RequestLines,
     framer: &mut Framer,
     piece: &[u8],
     as_query: bool,
@@ -172,7 +172,7 @@ fn put_piece(
 /// Puts the lines of the bytes, in pieces of at most so many. Gives whether no fault was met.
 fn put_pieces(
     alloc: Global,
-    told: &mut Told,
+    told: &mut RequestLines,
     framer: &mut Framer,
     bytes: &[u8],
     most: usize,
@@ -195,7 +195,12 @@ fn are_joined(bytes: &[u8], prefix: &[u8], rest: &[u8]) -> bool {
 }
 
 /// Puts what stands behind the requests; another line where their bytes and the rest are not those that came in.
-fn put_end(alloc: Global, told: &mut Told, bytes: &[u8], rest: &[u8]) -> Result<(), RowFault> {
+fn put_end(
+    alloc: Global,
+    told: &mut RequestLines,
+    bytes: &[u8],
+    rest: &[u8],
+) -> Result<(), RowFault> {
     put_rest(alloc, &mut told.lines, rest.len())?;
     if !are_joined(bytes, &told.bytes, rest) {
         put_line(&mut told.lines, "other bytes")?;
@@ -211,7 +216,7 @@ pub fn told_of(
     cutting: Cutting,
     as_query: bool,
 ) -> Result<String, RowFault> {
-    let mut told = Told {
+    let mut told = RequestLines {
         lines: String::new(alloc),
         bytes: Vec::new(alloc),
     };

@@ -3,7 +3,7 @@ use Rattle.std.specs.Prelude.{Option, None, IfSome, IsOkAnd, IsSome}
 use Rattle.outside.specs.Devices.{sink_call, source_call}
 use Rattle.cluster_top.specs.Arguments.{command_of, node_count_of}
 use Rattle.cluster_top.specs.declared.arguments.Command.{Command}
-use Rattle.cluster_main.specs.Left.{command_in}
+use Rattle.cluster_main.specs.Disks.{command_in}
 use Rattle.cluster_main.proofs.Unstarted.{as_they_were, led_by, none_unless, some_unless}
 use Rattle.cluster_main.proofs.status.status_of.Goals as goal
 

@@ -1,8 +1,9 @@
 use Rattle.std.proofs.Common.{List, map, refl, sym, subst, append-nil, rules}
+use Rattle.outside.proofs.Relations.{none_fell_self}
 use Rattle.cluster_top.specs.Disks.{IsEmptyAll, SomeFile, three}
 use Rattle.cluster_top.specs.declared.status.Status.TheVariants as statuses
 use Rattle.cluster_top.proofs.Asked.{asked_as_read}
-use Rattle.cluster_top.proofs.Counts.{none_fell, one_rose_numbered, rose_numbered}
+use Rattle.cluster_top.proofs.Counts.{one_rose_numbered, rose_numbered}
 use Rattle.cluster_top.proofs.Statuses.{has_number, is_status, refused_or_damaged, six_or_five}
 use Rattle.cluster_top.proofs.top.run.Goals as goal
 
@@ -10,7 +11,7 @@ pub returns-in-None-clause-untouched : goal.returns-in-None-clause-untouched
 returns-in-None-clause-untouched g c = λ refused. (refl, (λ told. refl, refl), (λ told. sym (append-nil (g.K.Sink.held c.args.out.now)), refl))
 
 pub returns-in-None-clause-none_fell : goal.returns-in-None-clause-none_fell
-returns-in-None-clause-none_fell g c = none_fell (map g.D.Disk.fault_count c.args.disks.items)
+returns-in-None-clause-none_fell g c = none_fell_self (map g.D.Disk.fault_count c.args.disks.items)
 
 pub returns-in-None-clause-words : goal.returns-in-None-clause-words
 returns-in-None-clause-words g c = rw (sym c.read_command.ensures, c.in-None.is) (λ two. refl, λ none. c.number.ensures)

@@ -1,6 +1,6 @@
 use Rattle.std.proofs.Common.{◌≡◌, drop}
 use Rattle.bson_values.specs.Tree.{joined_items}
-use Rattle.command_model.specs.Shown.{document_items}
+use Rattle.command_model.specs.AnswerParts.{document_items}
 use Rattle.command_answers.proofs.find.batch.Given as goal
 
 abbrev pub invariant-loop-document : goal.invariant-loop-document

@@ -1,4 +1,4 @@
-use Rattle.field_paths.specs.Seen.{seen}
+use Rattle.field_paths.specs.References.{seen}
 use Rattle.field_paths.proofs.Walks.{pushed}
 use Rattle.field_paths.proofs.values.+push.Goals as goal
 

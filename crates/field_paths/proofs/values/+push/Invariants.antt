@@ -1,7 +1,7 @@
 -- The parts that are left fall. What was put, and what is left of the array, is what the whole gives.
 use Rattle.std.proofs.Common.{◌≡◌, ◌∷◌, ◌++◌, ◌+◌, ◌*◌, length, drop}
 use Rattle.bson_values.specs.View.{items_of}
-use Rattle.field_paths.specs.Seen.{seen}
+use Rattle.field_paths.specs.References.{seen}
 use Rattle.query_model.specs.Paths.{values_from}
 use Rattle.bson_values.specs.Tree.{array_value}
 use Rattle.field_paths.proofs.values.+push.Given as goal

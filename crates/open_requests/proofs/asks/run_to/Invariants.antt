@@ -1,5 +1,5 @@
 use Rattle.std.proofs.Common.{◌≡◌, ◌++◌, drop, map}
-use Rattle.node_model.specs.Asked.{RequestId}
+use Rattle.node_model.specs.Exchanges.{RequestId}
 use Rattle.node_model.specs.RouterRows.{run_to}
 use Rattle.protocol_model.specs.Statements.{statement_meant}
 use Rattle.open_requests.proofs.asks.run_to.Given as goal

@@ -1,10 +1,12 @@
-use Rattle.std.proofs.Common.{◌≡◌, ◌≤◌, ◌<◌, ℕ, ◌+◌, ◌++◌, List, [], length, refl, arith, sym, ap, ◌∙◌, length-append}
+use Rattle.std.proofs.lemmas.List.{length-take-le}
+use Rattle.std.specs.Result.{is_ok}
+use Rattle.std.proofs.Common.{true, take, ◌≡◌, ◌≤◌, ◌<◌, ℕ, ◌+◌, ◌++◌, List, [], length, refl, arith, sym, ap, ◌∙◌, length-append}
 use Rattle.outside.specs.Devices.{sink_call, source_call}
 use Rattle.driver_steps.specs.Seats.{seat_since}
-use Rattle.driver_steps.specs.Worlds.{post_view}
 use Rattle.pipe_driver.specs.Rest.{Unframed}
 use Rattle.pipe_driver.specs.declared.status.Status.TheVariants as statuses
-use Rattle.pipe_driver.proofs.Counts.{all_still, one_rose_by, rose_by, still}
+use Rattle.pipe_driver.proofs.Buffers.{as_ok}
+use Rattle.pipe_driver.proofs.Counts.{have_risen_by, none_has_risen, rose_by, still}
 use Rattle.pipe_driver.proofs.Framings.{all_fed}
 use Rattle.pipe_driver.proofs.Endings.{ended_at_limit, ended_full, ended_serving, ended_taking, round_length, taking_stops, took_no_more, took_round}
 use Rattle.pipe_driver.proofs.connection.serve.Goals as goal
@@ -12,6 +14,7 @@ use Rattle.pipe_driver.proofs.connection.serve.Goals as goal
 pub pieces-init : goal.pieces-init
 pieces-init g c = record {
   most = omega arith;
+  room = c.in-Ok.ensures;
   partial = rw c.new-framer.ensures refl;
   fed = rw c.new-framer.ensures refl;
   fault = rw c.new-framer.ensures refl;
@@ -25,16 +28,24 @@ pieces-init g c = record {
   went = λ asks since routers some s. ([], rw c.new-framer.ensures refl, (λ told. rw c.new-framer.ensures refl), s);
 }
 
+pub returns-in_default-clause-piped : goal.returns-in_default-clause-piped
+returns-in_default-clause-piped g c = λ asks since routers some s.
+    ended_full (seat_since g.N.Node.state g.L.Log.tells g.L.Log.records g.L.Log.holds g.L.Log.finds g.L.Log.moment g.L.Log.left_since since)
+    c.args.seats.now.items
+    (source_call g.S.Source.tells g.S.Source.left g.S.Source.fault_count c.args.input.now c.args.input.now)
+    (sink_call g.K.Sink.tells g.K.Sink.held g.K.Sink.fault_count c.args.out.now c.args.out.now) (g.C.Clock.gives c.args.clock.now) routers c.args.limit
+    c.ended.result.rest c.ended.result.status [] [] _ 0 c.ended.ensures.status s (λ told. refl) (omega arith) refl c.ended.ensures.rest
+
 pub returns-then-is_err-clause-piped : goal.returns-then-is_err-clause-piped
 returns-then-is_err-clause-piped g c = λ asks since routers some s.
     let went = c.pieces.invariant.went asks since routers some s in
-    let counted : c.ended.result.rest ≡ length c.pieces.framer.bytes =
-    omega (arith, c.ended.ensures.rest, ap length c.rest.ensures, ap length c.reserve.ensures.bytes) in
+    let counted : c.ended-then-is_err.result.rest ≡ length c.pieces.framer.bytes =
+    omega (arith, c.ended-then-is_err.ensures.rest, ap length c.rest.ensures, ap length c.reserve.ensures.bytes) in
     ended_full (seat_since g.N.Node.state g.L.Log.tells g.L.Log.records g.L.Log.holds g.L.Log.finds g.L.Log.moment g.L.Log.left_since since)
     c.pieces.seats.items
     (source_call g.S.Source.tells g.S.Source.left g.S.Source.fault_count c.args.input.now c.pieces.input)
     (sink_call g.K.Sink.tells g.K.Sink.held g.K.Sink.fault_count c.args.out.now c.pieces.out) (g.C.Clock.gives c.args.clock.now) routers c.args.limit
-    c.ended.result.rest c.ended.result.status went.0 c.pieces.framer.bytes _ c.pieces.replied c.ended.ensures.status went.3
+    c.ended-then-is_err.result.rest c.ended-then-is_err.result.status went.0 c.pieces.framer.bytes _ c.pieces.puts c.ended-then-is_err.ensures.status went.3
     went.2 (omega (arith, went.1, c.pieces.invariant.most)) c.pieces.invariant.partial counted
 
 pub returns-in-Err-clause-piped : goal.returns-in-Err-clause-piped
@@ -48,9 +59,9 @@ returns-in-Err-clause-piped g c = λ asks since routers some s.
     c.pieces.seats.items
     (source_call g.S.Source.tells g.S.Source.left g.S.Source.fault_count c.args.input.now c.take_more.new.input)
     (sink_call g.K.Sink.tells g.K.Sink.held g.K.Sink.fault_count c.args.out.now c.pieces.out) (g.C.Clock.gives c.args.clock.now) routers c.args.limit
-    c.ended-in-Err.result.rest c.ended-in-Err.result.status went.0 c.pieces.framer.bytes _ c.pieces.replied c.in-Err.status
+    c.ended-in-Err.result.rest c.ended-in-Err.result.status went.0 c.pieces.framer.bytes _ c.pieces.puts c.in-Err.status
     c.ended-in-Err.ensures.status c.in-Err.ensures.taken.1 went.3
-    (took_no_more _ _ _ _ _ went.2 c.in-Err.ensures.taken.0.took) below c.pieces.invariant.partial counted
+    (took_no_more _ _ _ _ _ went.2 c.in-Err.ensures.taken.0) below c.pieces.invariant.partial counted
 
 pub returns-in-Err-clause-read_fault : goal.returns-in-Err-clause-read_fault
 returns-in-Err-clause-read_fault g c =
@@ -63,22 +74,60 @@ returns-in-Err-clause-write_fault g c =
 
 pub returns-in-Err-clause-disk_fault : goal.returns-in-Err-clause-disk_fault
 returns-in-Err-clause-disk_fault g c =
-    all_still _ _ _ (λ is. (taking_stops _ _ c.in-Err.status c.in-Err.ensures.taken.1).1 (sym c.ended-in-Err.ensures.status ∙ is)) c.pieces.invariant.disks_calm
+    none_has_risen _ _ _ (λ is. (taking_stops _ _ c.in-Err.status c.in-Err.ensures.taken.1).1 (sym c.ended-in-Err.ensures.status ∙ is)) c.pieces.invariant.disks_calm
+
+-- room was made for what is fed
+pub returns-in_default-feed-clause-piped : goal.returns-in_default-feed-clause-piped
+returns-in_default-feed-clause-piped g c = λ asks since routers some s.
+    let size : length (take c.in-Ok-take_more.count c.take_more.new.piece.items) ≡ c.in-Ok-take_more.count =
+    length-take-le c.in-Ok-take_more.count c.take_more.new.piece.items (omega (
+      arith,
+      c.in-Ok-take_more.ensures.most,
+      c.min-room.ensures,
+      c.take_more.ensures.len,
+      c.pieces.invariant.room,
+      c.take_more.new.piece.ok,
+    )) in
+    let fed : length (take c.in-Ok-take_more.count c.deref.result.now) ≡ c.in-Ok-take_more.count =
+    ap (λ (b : List ℕ). length (take c.in-Ok-take_more.count b)) c.deref.ensures.value ∙ size in
+    let made : is_ok c.reserve.result ≡ true = grind (arith, c.is_err.ensures.negation, c.if-is_err.false) in
+    let room : c.min-room.result ≤ c.reserve.new.self.room = as_ok c.reserve.result _ made c.reserve.ensures.room in
+    let well = c.in_default-feed.ensures.room (omega (arith, fed, room, c.in-Ok-take_more.ensures.most)) (omega (
+      arith,
+      fed,
+      c.in-Ok-take_more.ensures.most,
+      c.min-room.ensures,
+      c.pieces-test.true,
+      c.pieces.invariant.fed,
+      c.reserve.ensures.offset,
+      ap length c.reserve.ensures.bytes,
+      c.requires.limit,
+    )) in
+    absurd (cc well)
 
 pub answer_all-requires-clause-fed : goal.answer_all-requires-clause-fed
 answer_all-requires-clause-fed g c =
-    let more = c.in-Ok.ensures.taken in
+    let more = c.in-Ok-take_more.ensures.taken in
+    let bytes : List ℕ = take c.in-Ok-take_more.count c.take_more.new.piece.items in
+    let size : length bytes ≡ c.in-Ok-take_more.count =
+    length-take-le c.in-Ok-take_more.count c.take_more.new.piece.items (omega (
+      arith,
+      c.in-Ok-take_more.ensures.most,
+      c.min-room.ensures,
+      c.take_more.ensures.len,
+      c.pieces.invariant.room,
+      c.take_more.new.piece.ok,
+    )) in
     let step = c.in-Ok-feed.ensures.taken in
-    let fed : c.feed.new.self.bytes ≡ c.pieces.framer.bytes ++ more.bytes =
-    all_fed c.pieces.framer.bytes c.reserve.new.self.bytes c.feed.new.self.bytes c.deref.result.now c.take_more.new.buffer.items c.clear.new.self.items
-    more.bytes
-    c.reserve.ensures.bytes step.0 c.deref.ensures.value more.buffer c.clear.ensures.items in
+    let fed : c.feed.new.self.bytes ≡ c.pieces.framer.bytes ++ bytes =
+    all_fed c.pieces.framer.bytes c.reserve.new.self.bytes c.feed.new.self.bytes _ bytes c.reserve.ensures.bytes step.0
+    (ap (λ (b : List ℕ). take c.in-Ok-take_more.count b) c.deref.ensures.value) in
     omega (
       arith,
       ap length fed,
-      length-append c.pieces.framer.bytes more.bytes,
-      more.count_of,
-      more.most,
+      length-append c.pieces.framer.bytes bytes,
+      size,
+      c.in-Ok-take_more.ensures.most,
       c.min-room.ensures,
       c.pieces-test.true,
       c.pieces.invariant.fed,
@@ -89,22 +138,32 @@ answer_all-requires-clause-fed g c =
 
 pub pieces-preserved : goal.pieces-preserved
 pieces-preserved g c =
-    let more = c.in-Ok.ensures.taken in
+    let more = c.in-Ok-take_more.ensures.taken in
+    let bytes : List ℕ = take c.in-Ok-take_more.count c.take_more.new.piece.items in
+    let size : length bytes ≡ c.in-Ok-take_more.count =
+    length-take-le c.in-Ok-take_more.count c.take_more.new.piece.items (omega (
+      arith,
+      c.in-Ok-take_more.ensures.most,
+      c.min-room.ensures,
+      c.take_more.ensures.len,
+      c.pieces.invariant.room,
+      c.take_more.new.piece.ok,
+    )) in
     let step = c.in-Ok-feed.ensures.taken in
-    let fed : c.feed.new.self.bytes ≡ c.pieces.framer.bytes ++ more.bytes =
-    all_fed c.pieces.framer.bytes c.reserve.new.self.bytes c.feed.new.self.bytes c.deref.result.now c.take_more.new.buffer.items c.clear.new.self.items
-    more.bytes
-    c.reserve.ensures.bytes step.0 c.deref.ensures.value more.buffer c.clear.ensures.items in
-    let most : c.pieces.taken + c.in-Ok.count ≤ c.args.limit = omega (arith, more.most, c.min-room.ensures, c.pieces-test.true) in
+    let fed : c.feed.new.self.bytes ≡ c.pieces.framer.bytes ++ bytes =
+    all_fed c.pieces.framer.bytes c.reserve.new.self.bytes c.feed.new.self.bytes _ bytes c.reserve.ensures.bytes step.0
+    (ap (λ (b : List ℕ). take c.in-Ok-take_more.count b) c.deref.ensures.value) in
+    let most : c.pieces.taken + c.in-Ok-take_more.count ≤ c.args.limit = omega (arith, c.in-Ok-take_more.ensures.most, c.min-room.ensures, c.pieces-test.true) in
     record {
       most = most;
+      room = c.take_more.ensures.len ∙ c.pieces.invariant.room;
       partial = c.in-Ok-answer_all.ensures.partial;
       fed = omega (
         arith,
         c.answer_all.ensures.fed,
         ap length fed,
-        length-append c.pieces.framer.bytes more.bytes,
-        more.count_of,
+        length-append c.pieces.framer.bytes bytes,
+        size,
         c.pieces.invariant.fed,
         step.1,
         c.reserve.ensures.offset,
@@ -119,34 +178,54 @@ pieces-preserved g c =
       places = c.answer_all.ensures.places ∙ c.pieces.invariant.places;
       went = λ asks since routers some s.
           let went = c.pieces.invariant.went asks since routers some s in
-          let more = c.in-Ok.ensures.taken in
+          let more = c.in-Ok-take_more.ensures.taken in
+          let bytes : List ℕ = take c.in-Ok-take_more.count c.take_more.new.piece.items in
+          let size : length bytes ≡ c.in-Ok-take_more.count =
+          length-take-le c.in-Ok-take_more.count c.take_more.new.piece.items (omega (
+            arith,
+            c.in-Ok-take_more.ensures.most,
+            c.min-room.ensures,
+            c.take_more.ensures.len,
+            c.pieces.invariant.room,
+            c.take_more.new.piece.ok,
+          )) in
           let step = c.in-Ok-feed.ensures.taken in
           let rest : List ℕ = c.answer_all.new.framer.bytes in
-          let fed : c.feed.new.self.bytes ≡ c.pieces.framer.bytes ++ more.bytes =
-          all_fed c.pieces.framer.bytes c.reserve.new.self.bytes c.feed.new.self.bytes c.deref.result.now c.take_more.new.buffer.items c.clear.new.self.items
-          more.bytes c.reserve.ensures.bytes step.0 c.deref.ensures.value more.buffer c.clear.ensures.items in
+          let fed : c.feed.new.self.bytes ≡ c.pieces.framer.bytes ++ bytes =
+          all_fed c.pieces.framer.bytes c.reserve.new.self.bytes c.feed.new.self.bytes _ bytes c.reserve.ensures.bytes step.0
+          (ap (λ (b : List ℕ). take c.in-Ok-take_more.count b) c.deref.ensures.value) in
           let round = c.in-Ok-answer_all.ensures.served asks since routers some (g.K.Sink.held c.args.out.now) went.0 went.3 in
-          let sum : length round.0 + length rest ≡ c.pieces.taken + c.in-Ok.count =
-          round_length went.0 c.pieces.framer.bytes more.bytes c.feed.new.self.bytes round.0 rest c.pieces.taken c.in-Ok.count went.1 more.count_of fed
+          let sum : length round.0 + length rest ≡ c.pieces.taken + c.in-Ok-take_more.count =
+          round_length went.0 c.pieces.framer.bytes bytes c.feed.new.self.bytes round.0 rest c.pieces.taken c.in-Ok-take_more.count went.1 size fed
           round.1 in
-          let took = took_round _ _ _ _ went.0 c.pieces.framer.bytes more.bytes c.feed.new.self.bytes round.0 rest went.2 more.took fed round.1 in
+          let took = took_round _ _ _ _ went.0 c.pieces.framer.bytes bytes c.feed.new.self.bytes round.0 rest went.2 more.took fed round.1 in
           (round.0, sum, took, round.2.1);
     }
 
 pub returns-in-Err-answer_all-clause-piped : goal.returns-in-Err-answer_all-clause-piped
 returns-in-Err-answer_all-clause-piped g c = λ asks since routers some s.
     let went = c.pieces.invariant.went asks since routers some s in
-    let more = c.in-Ok.ensures.taken in
+    let more = c.in-Ok-take_more.ensures.taken in
+    let bytes : List ℕ = take c.in-Ok-take_more.count c.take_more.new.piece.items in
+    let size : length bytes ≡ c.in-Ok-take_more.count =
+    length-take-le c.in-Ok-take_more.count c.take_more.new.piece.items (omega (
+      arith,
+      c.in-Ok-take_more.ensures.most,
+      c.min-room.ensures,
+      c.take_more.ensures.len,
+      c.pieces.invariant.room,
+      c.take_more.new.piece.ok,
+    )) in
     let step = c.in-Ok-feed.ensures.taken in
     let rest : List ℕ = c.answer_all.new.framer.bytes in
-    let fed : c.feed.new.self.bytes ≡ c.pieces.framer.bytes ++ more.bytes =
-    all_fed c.pieces.framer.bytes c.reserve.new.self.bytes c.feed.new.self.bytes c.deref.result.now c.take_more.new.buffer.items c.clear.new.self.items
-    more.bytes c.reserve.ensures.bytes step.0 c.deref.ensures.value more.buffer c.clear.ensures.items in
+    let fed : c.feed.new.self.bytes ≡ c.pieces.framer.bytes ++ bytes =
+    all_fed c.pieces.framer.bytes c.reserve.new.self.bytes c.feed.new.self.bytes _ bytes c.reserve.ensures.bytes step.0
+    (ap (λ (b : List ℕ). take c.in-Ok-take_more.count b) c.deref.ensures.value) in
     let round = c.in-Err-answer_all.ensures.served asks since routers some (g.K.Sink.held c.args.out.now) went.0 went.3 in
-    let sum : length round.0 + length rest ≡ c.pieces.taken + c.in-Ok.count =
-    round_length went.0 c.pieces.framer.bytes more.bytes c.feed.new.self.bytes round.0 rest c.pieces.taken c.in-Ok.count went.1 more.count_of fed round.1 in
-    let took = took_round _ _ _ _ went.0 c.pieces.framer.bytes more.bytes c.feed.new.self.bytes round.0 rest went.2 more.took fed round.1 in
-    let most : c.pieces.taken + c.in-Ok.count ≤ c.args.limit = omega (arith, more.most, c.min-room.ensures, c.pieces-test.true) in
+    let sum : length round.0 + length rest ≡ c.pieces.taken + c.in-Ok-take_more.count =
+    round_length went.0 c.pieces.framer.bytes bytes c.feed.new.self.bytes round.0 rest c.pieces.taken c.in-Ok-take_more.count went.1 size fed round.1 in
+    let took = took_round _ _ _ _ went.0 c.pieces.framer.bytes bytes c.feed.new.self.bytes round.0 rest went.2 more.took fed round.1 in
+    let most : c.pieces.taken + c.in-Ok-take_more.count ≤ c.args.limit = omega (arith, c.in-Ok-take_more.ensures.most, c.min-room.ensures, c.pieces-test.true) in
     let counted : Unframed rest c.ended-in-Err-answer_all.result.rest =
     rw (c.ended-in-Err-answer_all.ensures.rest, sym c.rest-in-Err-answer_all.ensures) c.unframed.ensures in
     ended_serving (seat_since g.N.Node.state g.L.Log.tells g.L.Log.records g.L.Log.holds g.L.Log.finds g.L.Log.moment g.L.Log.left_since since)
@@ -168,7 +247,7 @@ returns-in-Err-answer_all-clause-write_fault g c =
 
 pub returns-in-Err-answer_all-clause-disk_fault : goal.returns-in-Err-answer_all-clause-disk_fault
 returns-in-Err-answer_all-clause-disk_fault g c =
-    one_rose_by c.answer_all.result c.ended-in-Err-answer_all.result.status c.in-Err-answer_all.status statuses.DiskFailed _ _ _ c.in-Err-answer_all.is
+    have_risen_by c.answer_all.result c.ended-in-Err-answer_all.result.status c.in-Err-answer_all.status statuses.DiskFailed _ _ _ c.in-Err-answer_all.is
     c.ended-in-Err-answer_all.ensures.status c.pieces.invariant.disks_calm c.answer_all.ensures.disk_fault
 
 pub returns-clause-piped : goal.returns-clause-piped
@@ -179,7 +258,7 @@ returns-clause-piped g c = λ asks since routers some s.
     c.pieces.seats.items
     (source_call g.S.Source.tells g.S.Source.left g.S.Source.fault_count c.args.input.now c.pieces.input)
     (sink_call g.K.Sink.tells g.K.Sink.held g.K.Sink.fault_count c.args.out.now c.pieces.out) (g.C.Clock.gives c.args.clock.now) routers c.args.limit
-    c.ended-2.result.rest c.ended-2.result.status went.0 c.pieces.framer.bytes _ c.pieces.replied c.ended-2.ensures.status went.3 went.2
+    c.ended-2.result.rest c.ended-2.result.status went.0 c.pieces.framer.bytes _ c.pieces.puts c.ended-2.ensures.status went.3 went.2
     (omega (arith, went.1, c.pieces.invariant.most, c.pieces-test.false)) c.pieces.invariant.partial counted
 
 pub returns-in-Err-answer_all-clause-open : goal.returns-in-Err-answer_all-clause-open

@@ -5,6 +5,7 @@ use Rattle.opmsg_frames.specs.Outline.{outline, partial_outline}
 use Rattle.driver_steps.specs.Crashes.{Since}
 use Rattle.driver_steps.specs.Seats.{AreOpen, faults_of, places_of, seat_since}
 use Rattle.driver_steps.specs.Worlds.{post_view}
+use Rattle.pipe_driver.specs.Buffers.{piece_room}
 use Rattle.pipe_driver.specs.Progress.{AreAskedAsRead, Serving}
 use Rattle.pipe_driver.proofs.connection.serve.Given as goal
 
@@ -18,7 +19,8 @@ invariant-pieces g l = record {
   partial : outline l.framer.bytes ≡ partial_outline;
   fed : l.framer.offset + length l.framer.bytes ≡ l.taken;
   fault : l.framer.fault ≡ None;
-  count : l.replied ≤ l.framer.offset;
+  count : l.puts ≤ l.framer.offset;
+  room : vec_len l.piece ≡ piece_room;
   len : vec_len l.seats ≡ vec_len l.fn.seats;
   are_open : AreOpen g.L.Log.is_open l.seats.items;
   source_calm : g.S.Source.fault_count l.input ≡ g.S.Source.fault_count l.fn.input;
@@ -33,5 +35,5 @@ invariant-pieces g l = record {
       × Took g.S.Source.tells (g.S.Source.left l.fn.input) (consumed ++ l.framer.bytes) (g.S.Source.left l.input)
       × Serving (seat_since g.N.Node.state g.L.Log.tells g.L.Log.records g.L.Log.holds g.L.Log.finds g.L.Log.moment g.L.Log.left_since since)
       l.seats.items (post_view (λ m. g.N.Mail.Mail.letter m) l.post)
-      (g.C.Clock.gives l.clock) routers g.K.Sink.tells (g.K.Sink.held l.fn.out) (g.K.Sink.held l.out) consumed l.replied;
+      (g.C.Clock.gives l.clock) routers g.K.Sink.tells (g.K.Sink.held l.fn.out) (g.K.Sink.held l.out) consumed l.puts;
 }

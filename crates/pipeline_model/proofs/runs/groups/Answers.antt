@@ -1,7 +1,7 @@
 use Rattle.std.proofs.Common.{◌≡◌, ◌∷◌, [], refl}
 use Rattle.std.specs.Prelude.{true, false}
 use Rattle.pipeline_model.specs.Runs.{group_run, count_run, skip_run, no_stage_run}
-use Rattle.pipeline_model.specs.SamplePipelines.{long}
+use Rattle.query_model.specs.SampleChanges.{long}
 use Rattle.pipeline_model.proofs.SampleRuns.{less}
 use Rattle.pipeline_model.proofs.runs.groups.Goals as goal
 

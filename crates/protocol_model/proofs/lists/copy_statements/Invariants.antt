@@ -1,5 +1,5 @@
 use Rattle.std.proofs.Common.{◌≡◌, ◌++◌, drop, map}
-use Rattle.node_traits.specs.Asked.{RequestId}
+use Rattle.node_traits.specs.Exchanges.{RequestId}
 use Rattle.protocol_model.specs.Statements.{statement_meant}
 use Rattle.protocol_model.proofs.lists.copy_statements.Given as goal
 

@@ -2,10 +2,11 @@ use Rattle.std.proofs.Common.{◌≡◌, ◌++◌, ◌∷◌, [], ◌∙◌, map
 use Rattle.std.proofs.lemmas.Result.{err_from_is_err_and}
 use Rattle.std.proofs.lemmas.List.{map_push}
 use Rattle.chunk_table.specs.Meanings.{chunk_meant}
-use Rattle.record_reader.specs.Read.{IsHeldChunk}
+use Rattle.record_reader.specs.SoundRecords.{IsHeldChunk}
 use Rattle.record_reader.specs.Readers.{chunk_at, items_at}
-use Rattle.record_reader.proofs.Items.{all_behind, counted, ends, failed, fails, goes_on}
+use Rattle.record_reader.proofs.Items.{counted, ends, failed, fails, goes_on}
 use Rattle.record_reader.proofs.chunks.read_each_chunk.Goals as goal
+use Rattle.history_model.proofs.Lists.{all_push}
 
 pub returns-in_err-chunk-clause-found : goal.returns-in_err-chunk-clause-found
 returns-in_err-chunk-clause-found c =
@@ -18,7 +19,7 @@ loop-preserved c =
     let e : map chunk_meant c.push.new.self.items ≡ map chunk_meant c.loop.chunks.items ++ chunk_meant c.in_ok-chunk.chunk ∷ [] = rw c.in_ok-push.ensures.items (map_push chunk_meant c.loop.chunks.items c.in_ok-chunk.chunk) in
     rw e (record {
       so_far = goes_on chunk_at c.args.count c.loop.counter (map chunk_meant c.loop.chunks.items) (chunk_meant c.in_ok-chunk.chunk) c.loop.left.now c.in_ok-chunk.rest.now c.args.bytes.now c.loop-test.true c.in_ok-chunk.ensures.found c.loop.invariant.so_far;
-      held = all_behind IsHeldChunk (map chunk_meant c.loop.chunks.items) (chunk_meant c.in_ok-chunk.chunk) c.loop.invariant.held c.in_ok-chunk.ensures.held;
+      held = all_push IsHeldChunk (map chunk_meant c.loop.chunks.items) (chunk_meant c.in_ok-chunk.chunk) c.loop.invariant.held c.in_ok-chunk.ensures.held;
     })
 
 pub returns-clause-found : goal.returns-clause-found

@@ -1,6 +1,6 @@
 use Rattle.std.proofs.Common.{map}
 use Rattle.std.specs.List.{AllByRecursion}
-use Rattle.record_reader.specs.Read.{IsHeldChunk}
+use Rattle.record_reader.specs.SoundRecords.{IsHeldChunk}
 use Rattle.chunk_table.specs.Meanings.{chunk_meant}
 use Rattle.record_reader.specs.Readers.{chunk_at}
 use Rattle.record_reader.proofs.Items.{ReadSoFar}

@@ -9,7 +9,7 @@ use Rattle.command_model.specs.Insert.{Insert}
 use Rattle.chunk_model.specs.SampleCollections.{creation}
 use Rattle.history_model.specs.History.{Legal, IsIn, StatementNumber, router_session}
 use Rattle.history_model.proofs.Lists.{all_at, in_first, in_later, in_none}
-use Rattle.reply_model.specs.Asked.{RequestId, Asked, is_session_of}
+use Rattle.reply_model.specs.Exchanges.{RequestId, Asked, is_session_of}
 use Rattle.reply_model.specs.OneHistory.{AreDifferent, Given, WasSent, WasWanted, IsRightOf, IsKnown, IsPlaced}
 use Rattle.reply_model.specs.Right.{IsPart, IsRight, right_find, right_insert}
 use Rattle.reply_model.specs.SampleExchanges.{all_asked, both_entries, first, first_entry, first_told, id_at, moments, second, second_entry, second_told, tells, third, third_told}

@@ -7,7 +7,7 @@ use Rattle.chunk_model.specs.Catalogue.{Creation}
 use Rattle.chunk_model.specs.SampleCollections.{creation}
 use Rattle.history_model.specs.History.{StatementNumber}
 use Rattle.history_model.proofs.Lists.{all_at, in_first, in_none}
-use Rattle.reply_model.specs.Asked.{Asked, number_for}
+use Rattle.reply_model.specs.Exchanges.{Asked, number_for}
 use Rattle.reply_model.specs.Earlier.{IsEntryOf}
 use Rattle.reply_model.specs.OneHistory.{IsInsertInto, IsPlaced, WasWanted}
 use Rattle.reply_model.specs.SampleExchanges.{all_asked, first, first_entry, second, second_entry, third}

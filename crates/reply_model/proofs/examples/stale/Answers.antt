@@ -4,7 +4,7 @@ use Rattle.std.specs.Prelude.{true}
 use Rattle.command_model.specs.Times.{timestamp}
 use Rattle.history_model.specs.History.{router_session}
 use Rattle.history_model.proofs.Lists.{all_at}
-use Rattle.reply_model.specs.Asked.{Asked, is_session_of}
+use Rattle.reply_model.specs.Exchanges.{Asked, is_session_of}
 use Rattle.reply_model.specs.SampleExchanges.{all_asked}
 use Rattle.reply_model.proofs.examples.stale.Goals as goal
 

@@ -2,7 +2,7 @@
 use Rattle.std.proofs.Common.{◌≡◌, ◌≤◌, ap, arith}
 use Rattle.std.specs.Prelude.{pos}
 use Rattle.history_model.proofs.Lists.{all_at, in_none}
-use Rattle.reply_model.specs.Asked.{RequestId, Asked}
+use Rattle.reply_model.specs.Exchanges.{RequestId, Asked}
 use Rattle.reply_model.specs.SampleExchanges.{all_asked, id_at}
 use Rattle.reply_model.proofs.examples.wrong_replies.Goals as goal
 

@@ -1,6 +1,6 @@
 use Rattle.std.proofs.Common.{◌≡◌, ◌++◌, ◌<◌, ◌^◌, map}
 use Rattle.std.specs.Vec.Iter.{into_iter_items}
-use Rattle.node_model.specs.Asked as asked
+use Rattle.node_model.specs.Exchanges as asked
 use Rattle.node_model.specs.RouterRows as rows
 use Rattle.protocol_model.specs.Statements.{statement_meant}
 use Rattle.router_node.proofs.plans.statements_of.Given as goal

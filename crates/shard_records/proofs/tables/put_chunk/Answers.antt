@@ -1,7 +1,7 @@
 use Rattle.std.proofs.Common.{ap, ◌∙◌, ◌++◌, List, ℕ}
 use Rattle.std.proofs.lemmas.Result.{on_ok_weaker}
 use Rattle.chunk_table.specs.Meanings.{version_meant}
-use Rattle.record_model.specs.Spelled.{spelled_bound, spelled_version, spelled_list, spelled_owned}
+use Rattle.record_model.specs.RecordFormat.{spelled_bound, spelled_version, spelled_list, spelled_owned}
 use Rattle.shard_records.proofs.Puts.{then}
 use Rattle.shard_records.proofs.tables.put_chunk.Goals as goal
 

@@ -1,7 +1,7 @@
 use Rattle.std.proofs.Common.{◌<◌, length, arith}
 use Rattle.chunk_table.specs.Meanings.{chunk_meant}
 use Rattle.chunk_table.specs.Whole.{IsWritableChunk}
-use Rattle.record_model.specs.Spelled.{IsSoundChunk, spelled_chunk}
+use Rattle.record_model.specs.RecordFormat.{IsSoundChunk, spelled_chunk}
 use Rattle.shard_records.proofs.Lists.{all_at, goes_on}
 use Rattle.shard_records.proofs.tables.put_each_chunk.Goals as goal
 

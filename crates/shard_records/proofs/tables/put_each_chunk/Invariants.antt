@@ -1,6 +1,6 @@
 use Rattle.std.proofs.Common.{take, length, ◌≡◌}
 use Rattle.chunk_table.specs.Meanings.{chunk_meant}
-use Rattle.record_model.specs.Spelled.{IsSoundChunk, spelled_chunk}
+use Rattle.record_model.specs.RecordFormat.{IsSoundChunk, spelled_chunk}
 use Rattle.shard_records.proofs.Lists.{PutSoFar}
 use Rattle.shard_records.proofs.tables.put_each_chunk.Given as goal
 

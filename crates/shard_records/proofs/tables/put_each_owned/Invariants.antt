@@ -1,6 +1,6 @@
 use Rattle.std.proofs.Common.{take, length, ◌≡◌}
 use Rattle.chunk_table.specs.Meanings.{owned_meant}
-use Rattle.record_model.specs.Spelled.{IsSoundOwned, spelled_owned}
+use Rattle.record_model.specs.RecordFormat.{IsSoundOwned, spelled_owned}
 use Rattle.shard_records.proofs.Lists.{PutSoFar}
 use Rattle.shard_records.proofs.tables.put_each_owned.Given as goal
 

@@ -1,6 +1,6 @@
 use Rattle.std.proofs.Common.{[], ◌∷◌, ap, ◌∙◌, ◌++◌, List, ℕ}
 use Rattle.std.proofs.lemmas.Result.{on_ok_weaker}
-use Rattle.record_model.specs.Spelled.{eight, spelled_chunk, spelled_list, spelled_string}
+use Rattle.record_model.specs.RecordFormat.{eight, spelled_chunk, spelled_list, spelled_string}
 use Rattle.shard_records.proofs.Puts.{then}
 use Rattle.shard_records.proofs.tables.put_table.Goals as goal
 

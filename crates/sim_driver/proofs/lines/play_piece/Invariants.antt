@@ -5,7 +5,7 @@ use Rattle.driver_steps.specs.Seats.{AreOpen, faults_of, places_of, seat_since}
 use Rattle.driver_steps.specs.Worlds.{post_view}
 use Rattle.pipe_driver.specs.Progress.{AreAskedAsRead}
 use Rattle.script_lines.specs.Words.{HasNone}
-use Rattle.sim_driver.specs.Playing.{Playing}
+use Rattle.sim_driver.specs.Progress.{Playing}
 use Rattle.sim_driver.specs.Scripts.{script_view}
 use Rattle.sim_driver.specs.Simulations.{newline}
 use Rattle.sim_driver.proofs.lines.play_piece.Given as goal

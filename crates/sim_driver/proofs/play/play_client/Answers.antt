@@ -3,7 +3,7 @@ use Rattle.driver_steps.specs.Seats.{seat_since}
 use Rattle.driver_steps.specs.Worlds.{post_view}
 use Rattle.script_lines.specs.Lines.{client_line}
 use Rattle.sim_driver.specs.Moves.{HasAsked, IsFirstAsked}
-use Rattle.sim_driver.specs.Played.{stops_unplayed, stops_at_memory}
+use Rattle.sim_driver.specs.LineOutcomes.{stops_unplayed, stops_at_memory}
 use Rattle.sim_driver.specs.Plays.{IsPartOfLine, no_router}
 use Rattle.sim_driver.specs.Scripts.{script_view}
 use Rattle.sim_driver.proofs.Faults.{cut_as, still}

@@ -5,7 +5,7 @@ use Rattle.driver_steps.proofs.Seats.{held_len}
 use Rattle.script_lines.specs.Lines.{deliver_line}
 use Rattle.sim_driver.specs.Moves.{IsPartOfDelivery}
 use Rattle.sim_driver.specs.Plays.{IsPartOfLine, no_message, no_node}
-use Rattle.sim_driver.specs.Played.{stops_unplayed, stops_at_memory}
+use Rattle.sim_driver.specs.LineOutcomes.{stops_unplayed, stops_at_memory}
 use Rattle.sim_driver.specs.Scripts.{place_from, script_view}
 use Rattle.sim_driver.proofs.Deliveries.{all_sent}
 use Rattle.sim_driver.proofs.Faults.{cut_as, still}

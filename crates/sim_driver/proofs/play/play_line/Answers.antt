@@ -1,6 +1,6 @@
 use Rattle.driver_steps.specs.Seats.{seat_since}
 use Rattle.script_lines.specs.Meanings.{meaning_of}
-use Rattle.sim_driver.specs.Played.{bytes_refused, says_none}
+use Rattle.sim_driver.specs.LineOutcomes.{bytes_refused, says_none}
 use Rattle.sim_driver.specs.Scripts.{script_view}
 use Rattle.sim_driver.proofs.Faults.{still}
 use Rattle.sim_driver.proofs.PlayedLines.{bytes_stop, bytes_unread}

@@ -1,19 +1,21 @@
-use Rattle.std.proofs.Common.{◌∙◌, List, [], ℕ, length, refl, sym, ap, subst, arith, length-append}
+use Rattle.std.proofs.lemmas.List.{length-take-le}
+use Rattle.std.proofs.Common.{◌≡◌, take, ◌∙◌, List, [], ℕ, length, refl, sym, ap, subst, arith, length-append}
 use Rattle.outside.specs.Devices.{sink_call, source_call}
 use Rattle.outside.specs.Streams.{Took}
 use Rattle.driver_steps.specs.Seats.{seat_since}
 use Rattle.driver_steps.specs.Worlds.{post_view}
 use Rattle.pipe_driver.specs.declared.status.Status.TheVariants as statuses
-use Rattle.pipe_driver.proofs.Counts.{all_still, one_rose_by, rose_by, still}
+use Rattle.pipe_driver.proofs.Counts.{have_risen_by, none_has_risen, rose_by, still}
 use Rattle.pipe_driver.proofs.Endings.{took_no_more}
 use Rattle.sim_driver.specs.Scripts.{new_script, script_view}
-use Rattle.sim_driver.proofs.Endings.{ended_at_limit, ended_taking, ended_within, no_fault_of_disks, no_fault_of_writes, piece_taken, reads_by}
-use Rattle.sim_driver.proofs.Steps.{playing_from}
+use Rattle.sim_driver.proofs.Endings.{ended_at_limit, ended_stopped, ended_taking, ended_within, no_fault_of_disks, no_fault_of_writes, piece_taken, reads_by}
+use Rattle.sim_driver.proofs.Steps.{playing_from, playing_full}
 use Rattle.sim_driver.proofs.simulation.play_all.Goals as goal
 
 pub pieces-init : goal.pieces-init
 pieces-init g c = record {
   most = omega arith;
+  room = c.in-Ok.ensures;
   begun = rw c.new-begun.ensures.items tt;
   fault = c.new-script.ensures.fault;
   len = refl;
@@ -32,6 +34,16 @@ pieces-init g c = record {
   );
 }
 
+pub returns-in_default-clause-simulated : goal.returns-in_default-clause-simulated
+returns-in_default-clause-simulated g c asks since routers some p =
+    let view = seat_since g.N.Node.state g.L.Log.tells g.L.Log.records g.L.Log.holds g.L.Log.finds g.L.Log.moment g.L.Log.left_since since in
+    ended_stopped view c.args.seats.now.items
+    (source_call g.S.Source.tells g.S.Source.left g.S.Source.fault_count c.args.input.now c.args.input.now)
+    (sink_call g.K.Sink.tells g.K.Sink.held g.K.Sink.fault_count c.args.out.now c.args.out.now) routers c.args.limit
+    statuses.OutOfMemory [] [] statuses.OutOfMemory refl
+    (playing_full view c.args.seats.now.items (post_view (λ m. g.N.Mail.Mail.letter m) c.args.post) routers g.K.Sink.tells (g.K.Sink.held c.args.out.now)
+    (g.K.Sink.held c.args.out.now) [] [] new_script p) (λ told. refl) (omega arith)
+
 pub returns-in-Err-clause-simulated : goal.returns-in-Err-clause-simulated
 returns-in-Err-clause-simulated g c asks since routers some p =
     let went = c.pieces.invariant.went asks since routers some p in
@@ -40,7 +52,7 @@ returns-in-Err-clause-simulated g c asks since routers some p =
     (source_call g.S.Source.tells g.S.Source.left g.S.Source.fault_count c.args.input.now c.take_more.new.input)
     (sink_call g.K.Sink.tells g.K.Sink.held g.K.Sink.fault_count c.args.out.now c.pieces.out) routers c.args.limit c.unended.result
     went.0 c.pieces.begun.items (post_view (λ m. g.N.Mail.Mail.letter m) c.pieces.post) (script_view c.pieces.script) went.3
-    (took_no_more _ _ _ _ _ went.2 c.in-Err.ensures.taken.0.took) c.pieces.invariant.begun
+    (took_no_more _ _ _ _ _ went.2 c.in-Err.ensures.taken.0) c.pieces.invariant.begun
     (omega (arith, went.1, c.pieces-test.true)) c.in-Err.status (λ e. c.unended.ensures.none (c.as_slice.ensures.value ∙ e))
     (λ ne. c.unended.ensures.some (λ e. ne (sym c.as_slice.ensures.value ∙ e))) c.unended.ensures.other c.in-Err.ensures.taken.1
 
@@ -55,14 +67,25 @@ returns-in-Err-clause-write_fault g c =
 
 pub returns-in-Err-clause-disk_fault : goal.returns-in-Err-clause-disk_fault
 returns-in-Err-clause-disk_fault g c =
-    all_still _ _ _ (no_fault_of_disks _ _ c.in-Err.status c.unended.result c.in-Err.ensures.taken.1 c.unended.ensures.either) c.pieces.invariant.disks_calm
+    none_has_risen _ _ _ (no_fault_of_disks _ _ c.in-Err.status c.unended.result c.in-Err.ensures.taken.1 c.unended.ensures.either) c.pieces.invariant.disks_calm
 
 pub pieces-preserved : goal.pieces-preserved
 pieces-preserved g c =
-    let more = c.in-Ok.ensures.taken in
+    let more = c.in-Ok-take_more.ensures.taken in
+    let bytes : List ℕ = take c.in-Ok-take_more.count c.take_more.new.piece.items in
+    let size : length bytes ≡ c.in-Ok-take_more.count =
+    length-take-le c.in-Ok-take_more.count c.take_more.new.piece.items (omega (
+      arith,
+      c.in-Ok-take_more.ensures.most,
+      c.min-room.ensures,
+      c.take_more.ensures.len,
+      c.pieces.invariant.room,
+      c.take_more.new.piece.ok,
+    )) in
     record {
-      most = omega (arith, more.most, c.min-room.ensures, c.pieces-test.true);
+      most = omega (arith, c.in-Ok-take_more.ensures.most, c.min-room.ensures, c.pieces-test.true);
       begun = c.in-Ok-play_piece.ensures.begun;
+      room = c.take_more.ensures.len ∙ c.pieces.invariant.room;
       fault = c.in-Ok-play_piece.ensures.fault;
       len = c.play_piece.ensures.len ∙ c.pieces.invariant.len;
       are_open = c.in-Ok-play_piece.ensures.«open»;
@@ -72,10 +95,21 @@ pieces-preserved g c =
       places = c.play_piece.ensures.places ∙ c.pieces.invariant.places;
       went = λ asks since routers some p.
           let went = c.pieces.invariant.went asks since routers some p in
-          let more = c.in-Ok.ensures.taken in
+          let more = c.in-Ok-take_more.ensures.taken in
+          let bytes : List ℕ = take c.in-Ok-take_more.count c.take_more.new.piece.items in
+          let size : length bytes ≡ c.in-Ok-take_more.count =
+          length-take-le c.in-Ok-take_more.count c.take_more.new.piece.items (omega (
+            arith,
+            c.in-Ok-take_more.ensures.most,
+            c.min-room.ensures,
+            c.take_more.ensures.len,
+            c.pieces.invariant.room,
+            c.take_more.new.piece.ok,
+          )) in
           let h = c.in-Ok-play_piece.ensures.played asks since routers some (g.K.Sink.held c.args.out.now) went.0 went.3 in
-          let t = piece_taken _ _ _ _ went.0 c.pieces.begun.items more.bytes c.take_more.new.buffer.items c.clear.new.self.items c.deref.result.now
-          c.pieces.taken c.in-Ok.count went.2 more.took more.buffer c.clear.ensures.items c.deref.ensures.value went.1 more.count_of in (
+          let t = piece_taken _ _ _ _ went.0 c.pieces.begun.items bytes _
+          c.pieces.taken c.in-Ok-take_more.count went.2 more.took
+          (ap (λ (b : List ℕ). take c.in-Ok-take_more.count b) c.deref.ensures.value) went.1 size in (
             h.consumed,
             omega (arith, t.1, ap (λ (l : List ℕ). length l) h.whole, length-append h.consumed c.play_piece.new.begun.items),
             subst (λ (l : List ℕ). Took g.S.Source.tells (g.S.Source.left c.args.input.now) l (g.S.Source.left c.take_more.new.input)) h.whole t.0,
@@ -86,16 +120,27 @@ pieces-preserved g c =
 pub returns-in-Err-play_piece-clause-simulated : goal.returns-in-Err-play_piece-clause-simulated
 returns-in-Err-play_piece-clause-simulated g c asks since routers some p =
     let went = c.pieces.invariant.went asks since routers some p in
-    let more = c.in-Ok.ensures.taken in
-    let t = piece_taken _ _ _ _ went.0 c.pieces.begun.items more.bytes c.take_more.new.buffer.items c.clear.new.self.items c.deref.result.now
-    c.pieces.taken c.in-Ok.count went.2 more.took more.buffer c.clear.ensures.items c.deref.ensures.value went.1 more.count_of in
+    let more = c.in-Ok-take_more.ensures.taken in
+    let bytes : List ℕ = take c.in-Ok-take_more.count c.take_more.new.piece.items in
+    let size : length bytes ≡ c.in-Ok-take_more.count =
+    length-take-le c.in-Ok-take_more.count c.take_more.new.piece.items (omega (
+      arith,
+      c.in-Ok-take_more.ensures.most,
+      c.min-room.ensures,
+      c.take_more.ensures.len,
+      c.pieces.invariant.room,
+      c.take_more.new.piece.ok,
+    )) in
+    let t = piece_taken _ _ _ _ went.0 c.pieces.begun.items bytes _
+    c.pieces.taken c.in-Ok-take_more.count went.2 more.took
+    (ap (λ (b : List ℕ). take c.in-Ok-take_more.count b) c.deref.ensures.value) went.1 size in
     ended_within (seat_since g.N.Node.state g.L.Log.tells g.L.Log.records g.L.Log.holds g.L.Log.finds g.L.Log.moment g.L.Log.left_since since)
     c.play_piece.new.seats.items
     (source_call g.S.Source.tells g.S.Source.left g.S.Source.fault_count c.args.input.now c.take_more.new.input)
     (sink_call g.K.Sink.tells g.K.Sink.held g.K.Sink.fault_count c.args.out.now c.play_piece.new.out) routers c.args.limit
     c.in-Err-play_piece.status _
     (c.in-Err-play_piece.ensures.stopped asks since routers some (g.K.Sink.held c.args.out.now) went.0 went.3) t.0
-    (omega (arith, t.1, more.most, c.min-room.ensures, c.pieces-test.true))
+    (omega (arith, t.1, c.in-Ok-take_more.ensures.most, c.min-room.ensures, c.pieces-test.true))
 
 pub returns-in-Err-play_piece-clause-read_fault : goal.returns-in-Err-play_piece-clause-read_fault
 returns-in-Err-play_piece-clause-read_fault g c =
@@ -108,7 +153,7 @@ returns-in-Err-play_piece-clause-write_fault g c =
 
 pub returns-in-Err-play_piece-clause-disk_fault : goal.returns-in-Err-play_piece-clause-disk_fault
 returns-in-Err-play_piece-clause-disk_fault g c =
-    one_rose_by c.play_piece.result c.in-Err-play_piece.status c.in-Err-play_piece.status statuses.DiskFailed _ _ _ c.in-Err-play_piece.is refl
+    have_risen_by c.play_piece.result c.in-Err-play_piece.status c.in-Err-play_piece.status statuses.DiskFailed _ _ _ c.in-Err-play_piece.is refl
     c.pieces.invariant.disks_calm c.play_piece.ensures.disk_fault
 
 pub returns-clause-simulated : goal.returns-clause-simulated

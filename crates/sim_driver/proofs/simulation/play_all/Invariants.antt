@@ -4,9 +4,10 @@ use Rattle.outside.specs.Streams.{Took}
 use Rattle.driver_steps.specs.Crashes.{Since}
 use Rattle.driver_steps.specs.Seats.{AreOpen, faults_of, places_of, seat_since}
 use Rattle.driver_steps.specs.Worlds.{post_view}
+use Rattle.pipe_driver.specs.Buffers.{piece_room}
 use Rattle.pipe_driver.specs.Progress.{AreAskedAsRead}
 use Rattle.script_lines.specs.Words.{HasNone}
-use Rattle.sim_driver.specs.Playing.{Playing}
+use Rattle.sim_driver.specs.Progress.{Playing}
 use Rattle.sim_driver.specs.Scripts.{new_script, script_view}
 use Rattle.sim_driver.specs.Simulations.{newline}
 use Rattle.sim_driver.proofs.simulation.play_all.Given as goal
@@ -20,6 +21,7 @@ invariant-pieces g l = record {
   most : l.taken ≤ l.limit;
   begun : HasNone newline l.begun.items;
   fault : l.script.framer.fault ≡ None;
+  room : vec_len l.piece ≡ piece_room;
   len : vec_len l.seats ≡ vec_len l.fn.seats;
   are_open : AreOpen g.L.Log.is_open l.seats.items;
   source_calm : g.S.Source.fault_count l.input ≡ g.S.Source.fault_count l.fn.input;

@@ -1,7 +1,7 @@
 -- The first of what came and of what is left is that of the whole.
 use Rattle.std.proofs.Common.{◌≡◌, drop}
 use Rattle.std.specs.Prelude.{flat_map, None}
-use Rattle.field_paths.specs.Seen.{seen}
+use Rattle.field_paths.specs.References.{seen}
 use Rattle.pipeline_model.specs.SortKeys.{directed, order_parts, parts_of_value}
 use Rattle.sort_keys.specs.FirstPart.{best_of}
 use Rattle.sort_keys.specs.View.{best_seen, direction_of}

@@ -1,5 +1,5 @@
 use Rattle.std.proofs.Common.{◌∙◌, ap}
-use Rattle.field_paths.specs.Seen.{seen}
+use Rattle.field_paths.specs.References.{seen}
 use Rattle.pipeline_model.specs.SortKeys.{directed, order_parts}
 use Rattle.sort_keys.proofs.Firsts.{first_found}
 use Rattle.sort_keys.specs.View.{best_seen, direction_of}

@@ -9,7 +9,8 @@ use Rattle.group_accum.proofs.groups.Groups.finish.Given as goal
 
 abbrev pub invariant-rows : goal.invariant-rows
 invariant-rows l =
-    option_map (λ ds. map arc_value l.shown.items ++ ds) (documents_of l.fn.self.spec (rows_of l.rest.entries)) ≡ documents_of l.fn.self.spec (rows_of l.initial.rest.entries)
+    option_map (λ ds. map arc_value l.shown.items ++ ds) (documents_of (arc_value l.fn.self.spec) (rows_of l.rest.entries))
+    ≡ documents_of (arc_value l.fn.self.spec) (rows_of l.initial.rest.entries)
 
 abbrev pub decreases-rows : goal.decreases-rows
 decreases-rows l = btree_map_len l.rest

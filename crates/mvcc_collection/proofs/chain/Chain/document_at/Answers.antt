@@ -1,4 +1,4 @@
-use Rattle.std.proofs.Common.{arith, map, ap, sym, ◌∙◌, ◌≡◌, Some}
+use Rattle.std.proofs.Common.{arith, map, ap, sym, ◌∙◌, ◌≡◌}
 use Rattle.std.specs.Arc.{arc_value}
 use Rattle.std.specs.Option.{option_map}
 use Rattle.mvcc_collection.specs.View.{dated, dated_with}

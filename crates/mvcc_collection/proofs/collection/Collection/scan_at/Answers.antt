@@ -18,7 +18,8 @@ pub returns : goal.returns
 unfolding at_in
 returns c =
     let span = span_of c.args.span.now in
-    let es = c.args.self.now.chains.entries in
+    let es = c.args.self.now.places.entries in
+    let cs = c.args.self.now.chains.items in
     let t = c.args.time.0 in
     let found = map (λ d. arc_value d) c.loop-key.documents.items in
     let all = c.into_iter-key-iterator.result in
@@ -27,6 +28,6 @@ returns c =
     ∙ rw (c.edges.ensures.first, c.edges.ensures.last) refl in
     let none = c.in-None.ensures.steps.0 in
     let keys : AreKeys all = c.loop-key.invariant.keys (rw none tt) in
-    let whole : found ≡ values_of (rows_in t all) = sym (append-nil found) ∙ ap (λ rest. found ++ values_of (rows_in t rest)) (sym none)
+    let whole : found ≡ values_of (rows_in cs t all) = sym (append-nil found) ∙ ap (λ rest. found ++ values_of (rows_in cs t rest)) (sym none)
     ∙ c.loop-key.invariant.listed in
-    rw whole (lists_span span es all t c.edges.ensures.span between keys c.range-key-items.ensures.ordered)
+    rw whole (lists_span span es all cs t c.edges.ensures.span between keys c.range-key-items.ensures.ordered)

@@ -3,7 +3,7 @@ use Rattle.node_model.specs.RouterRows as rows
 use Rattle.protocol_model.specs.Bodies.{at_meant}
 use Rattle.open_requests.specs.Works.{open_meant}
 use Rattle.open_requests.specs.declared.work.OpenRequest.{OpenRequest}
-use Rattle.open_requests.proofs.Settled.{settled_all}
+use Rattle.open_requests.proofs.Turns.{settled_all}
 use Rattle.open_requests.proofs.list.OpenList.learn.Goals as goal
 
 pub loop-place-preserved : goal.loop-place-preserved

@@ -6,7 +6,7 @@ use Rattle.node_model.specs.States as states
 use Rattle.node_model.specs.Tables as tables
 use Rattle.protocol_model.specs.Bodies.{at_meant}
 use Rattle.open_requests.specs.Lists.{opens_of, taken_of}
-use Rattle.open_requests.specs.Settled.{settled}
+use Rattle.open_requests.specs.Turns.{settled}
 use Rattle.open_requests.specs.Works.{open_meant}
 use Rattle.open_requests.proofs.list.OpenList.learn.Given as goal
 

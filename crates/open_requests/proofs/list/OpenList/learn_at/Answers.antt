@@ -4,11 +4,11 @@ use Rattle.node_model.specs.States.{for_shards}
 use Rattle.std.specs.List.{slice_set}
 use Rattle.open_requests.specs.declared.work.Wait.TheVariants.{ForShards}
 use Rattle.protocol_model.specs.Bodies.{at_meant}
-use Rattle.open_requests.specs.Settled.{settled}
+use Rattle.open_requests.specs.Turns.{settled}
 use Rattle.open_requests.specs.Works.{open_meant}
 use Rattle.open_requests.specs.declared.work.OpenRequest.{OpenRequest}
 use Rattle.open_requests.proofs.Places.{rises_removed}
-use Rattle.open_requests.proofs.Settled.{settled_put, same_item}
+use Rattle.open_requests.proofs.Turns.{settled_put, same_item}
 use Rattle.open_requests.proofs.Waits.{rises_at}
 use Rattle.open_requests.proofs.list.OpenList.learn_at.Goals as goal
 

@@ -1,5 +1,5 @@
 use Rattle.std.proofs.Common.{◌≡◌, ◌+◌, drop}
-use Rattle.open_requests.specs.Rising.{place_of}
+use Rattle.open_requests.specs.Order.{place_of}
 use Rattle.open_requests.proofs.list.OpenList.place.Given as goal
 
 abbrev pub invariant-loop-request : goal.invariant-loop-request

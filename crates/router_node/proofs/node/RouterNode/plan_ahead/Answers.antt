@@ -2,8 +2,8 @@ use Rattle.std.proofs.Common.{ap, ◌∙◌, ℕ, [], ◌∷◌, arith, rules}
 use Rattle.node_model.specs.Answers.{refusal_answer}
 use Rattle.node_model.specs.RouterRows as rows
 use Rattle.node_traits.specs.Effects.{puts_of}
+use Rattle.node_traits.specs.Ids.{id_meant}
 use Rattle.open_requests.specs.Works.{open_meant}
-use Rattle.protocol_model.specs.Bodies.{id_meant}
 use Rattle.router_node.specs.RouterStates.{router_of}
 use Rattle.router_node.proofs.Heard.{heard_by}
 use Rattle.node_model.specs.Answers.{answer_document}

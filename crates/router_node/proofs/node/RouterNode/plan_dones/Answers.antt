@@ -1,8 +1,8 @@
 use Rattle.std.proofs.Common.{ap, sym, map}
 use Rattle.node_model.specs.RouterRows as rows
+use Rattle.node_traits.specs.Ids.{id_meant}
 use Rattle.open_requests.specs.Works.{open_meant, work_meant}
 use Rattle.open_requests.specs.declared.work.Work.{Work}
-use Rattle.protocol_model.specs.Bodies.{id_meant}
 use Rattle.protocol_model.specs.Statements.{done_meant}
 use Rattle.router_node.specs.RouterStates.{router_of}
 use Rattle.router_node.proofs.Heard.{heard_late}

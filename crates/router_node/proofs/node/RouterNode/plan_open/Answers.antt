@@ -3,7 +3,7 @@ use Rattle.node_model.specs.Letters.{client_input}
 use Rattle.node_model.specs.RouterRows as rows
 use Rattle.open_requests.specs.declared.work.OpenRequest.{OpenRequest}
 use Rattle.protocol_model.specs.Messages.{letter_of}
-use Rattle.protocol_model.specs.Requests.{request_of}
+use Rattle.protocol_model.specs.Heads.{head_request}
 use Rattle.router_node.specs.RouterStates.{router_of}
 use Rattle.router_node.specs.declared.step_plan.Change.TheVariants.{Opens}
 use Rattle.std.proofs.Common.{w32, ℤ}
@@ -19,14 +19,14 @@ returns c =
     let n = c.args.self.now in
     let r = router_of n in
     let link = c.args.asked.link in
-    let request = request_of c.args.asked.request in
+    let request = head_request c.args.asked.head in
     let fits : SFits w32 c.args.asked.number = search rules in
     let number : ℤ = to_z w32 (of_z w32 c.args.asked.number) in
     let o : OpenRequest = record {
       count = c.args.count;
       link = c.args.asked.link;
       number = number;
-      request = c.args.asked.request;
+      head = c.args.asked.head;
       namespace = c.args.namespace;
       wait = c.in_ok-wait.wait;
       work = c.args.work;

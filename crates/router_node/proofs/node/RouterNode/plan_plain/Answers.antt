@@ -4,7 +4,7 @@ use Rattle.node_model.specs.RouterRows as rows
 use Rattle.node_traits.specs.Lists.{listed}
 use Rattle.command_answers.specs.AnswerMeanings.{answer_meant}
 use Rattle.protocol_model.specs.Messages.{letter_of}
-use Rattle.protocol_model.specs.Requests.{request_of}
+use Rattle.protocol_model.specs.Heads.{head_request}
 use Rattle.protocol_model.specs.declared.message.Message.{Message}
 use Rattle.router_node.specs.Rows.{TookRow, started}
 use Rattle.router_node.specs.RouterStates.{router_of}
@@ -21,7 +21,7 @@ pub returns : goal.returns
 returns c =
     let n = c.args.self.now in
     let r = router_of n in
-    let request = request_of c.args.asked.request in
+    let request = head_request c.args.asked.head in
     let number = c.args.asked.number in
     let i = client_input c.args.asked.link number request in
     let reply = listed c.in_ok-reply.reply in

@@ -2,9 +2,9 @@ use Rattle.std.proofs.Common.{◌≡◌, ap, sym, subst, ℕ, List, [], map, fal
 use Rattle.node_model.specs.Letters.{letter_input}
 use Rattle.node_model.specs.RouterRows as rows
 use Rattle.node_model.specs.States as states
+use Rattle.node_traits.specs.Ids.{id_meant}
 use Rattle.open_requests.specs.Askers.{letters_of}
 use Rattle.open_requests.specs.Works.{open_meant, wait_meant}
-use Rattle.protocol_model.specs.Bodies.{id_meant}
 use Rattle.protocol_model.specs.Statements.{done_meant, statement_meant}
 use Rattle.router_node.specs.RouterStates.{router_of}
 use Rattle.router_node.proofs.Heard.{heard_by, notes_so, found}

@@ -2,9 +2,9 @@ use Rattle.std.proofs.Common.{ap, sym, ◌∙◌, ℕ, map}
 use Rattle.node_model.specs.Letters.{read_rows}
 use Rattle.std.specs.Arc.{arc_value}
 use Rattle.node_model.specs.RouterRows as rows
+use Rattle.node_traits.specs.Ids.{id_meant}
 use Rattle.open_requests.specs.Works.{open_meant, work_meant}
 use Rattle.open_requests.specs.declared.work.Work.{Work}
-use Rattle.protocol_model.specs.Bodies.{id_meant}
 use Rattle.router_node.specs.RouterStates.{router_of}
 use Rattle.router_node.proofs.Heard.{heard_late}
 use Rattle.router_node.proofs.Fates.{rows_of_none, rows_of_write, rows_of_turn}

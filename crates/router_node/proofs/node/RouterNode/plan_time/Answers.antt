@@ -1,9 +1,9 @@
 use Rattle.std.proofs.Common.{ap, sym, ◌∙◌}
 use Rattle.node_model.specs.RouterRows as rows
+use Rattle.node_traits.specs.Ids.{id_meant}
 use Rattle.open_requests.specs.Works.{open_meant, work_meant, wait_meant}
 use Rattle.open_requests.specs.declared.work.Work.{Work}
 use Rattle.open_requests.specs.declared.work.Wait.{Wait}
-use Rattle.protocol_model.specs.Bodies.{id_meant}
 use Rattle.router_node.specs.RouterStates.{router_of}
 use Rattle.router_node.proofs.Heard.{heard_late}
 use Rattle.router_node.proofs.Fates.{time_of_none, time_of_write, time_not_awaited}

@@ -2,11 +2,11 @@ use Rattle.std.proofs.Common.{◌≡◌, ◌∷◌, ℕ, List, [], refl, sym, ap
 use Rattle.std.specs.Prelude.{filter, not}
 use Rattle.std.specs.Arc.{arc_value}
 use Rattle.chunk_table.specs.Tables.{Table, with_table}
-use Rattle.node_traits.specs.Kept.{kept_table}
+use Rattle.node_traits.specs.Journal.{kept_table}
 use Rattle.node_traits.specs.Letters.{letter_input, writes}
 use Rattle.node_traits.specs.ShardRows.{ShardRow, shard_learn, tries, wants_table}
 use Rattle.shard_records.specs.Records.{table_record}
-use Rattle.shard_records.specs.Spelled.{spelled, IsSound}
+use Rattle.shard_records.specs.RecordFormat.{spelled, IsSound}
 use Rattle.shard_node.specs.State.{shard_meant}
 use Rattle.shard_node.proofs.node.ShardNode.learn.Goals as goal
 

@@ -4,13 +4,14 @@ use Rattle.std.specs.Arc.{arc_value}
 use Rattle.std.specs.Option.{option_map}
 use Rattle.bson_values.specs.Tree.{Fields}
 use Rattle.bson_values.specs.View.{datum_of}
-use Rattle.chunk_table.specs.Found.{sent_meant}
+use Rattle.chunk_table.specs.VerdictMeanings.{sent_meant}
 use Rattle.node_model.specs.Right.{found}
-use Rattle.node_model.specs.Serving.{documents_at}
+use Rattle.node_model.specs.Service.{documents_at}
 use Rattle.node_traits.specs.Letters as letters
 use Rattle.node_traits.specs.Letters.{half_ask, letter_input}
 use Rattle.node_traits.specs.ShardRows.{heard, says, shard_read}
-use Rattle.protocol_model.specs.Bodies.{id_meant, half_meant}
+use Rattle.node_traits.specs.Ids.{id_meant}
+use Rattle.protocol_model.specs.Bodies.{half_meant}
 use Rattle.shard_node.proofs.Planned.{told_planned, documents_under}
 use Rattle.shard_node.specs.State.{shard_meant}
 use Rattle.shard_node.proofs.node.ShardNode.plan_read.Goals as goal

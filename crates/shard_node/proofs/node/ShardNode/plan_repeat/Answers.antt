@@ -1,10 +1,10 @@
 use Rattle.std.proofs.Common.{◌≡◌, ◌++◌, ◌∷◌, [], ap, ◌∙◌, rules}
 use Rattle.std.specs.Prelude.{List, map}
-use Rattle.chunk_table.specs.Found.{sent_meant}
+use Rattle.chunk_table.specs.VerdictMeanings.{sent_meant}
 use Rattle.node_traits.specs.Letters.{letter_input, write_done}
 use Rattle.node_traits.specs.Outcomes as outcomes
 use Rattle.node_traits.specs.ShardRows.{heard, says, shard_repeat}
-use Rattle.protocol_model.specs.Bodies.{id_meant}
+use Rattle.node_traits.specs.Ids.{id_meant}
 use Rattle.protocol_model.specs.Statements.{done_meant, statement_meant}
 use Rattle.shard_store.specs.Outcomes as told
 use Rattle.shard_node.proofs.Planned.{told_planned}

@@ -3,7 +3,8 @@ use Rattle.std.specs.Prelude.{map}
 use Rattle.std.specs.Arc.{arc_value}
 use Rattle.node_traits.specs.Letters.{letter_input, read_rows}
 use Rattle.node_traits.specs.ShardRows.{heard, shard_rows}
-use Rattle.protocol_model.specs.Bodies.{id_meant, half_meant}
+use Rattle.node_traits.specs.Ids.{id_meant}
+use Rattle.protocol_model.specs.Bodies.{half_meant}
 use Rattle.shard_node.proofs.Planned.{told_planned, is_half}
 use Rattle.shard_node.specs.State.{shard_meant}
 use Rattle.shard_node.proofs.node.ShardNode.plan_rows.Goals as goal

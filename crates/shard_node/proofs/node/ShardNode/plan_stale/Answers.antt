@@ -4,7 +4,7 @@ use Rattle.chunk_table.specs.Tables.{table_of}
 use Rattle.chunk_table.specs.Verdicts.{router_is_old, verdict_of}
 use Rattle.node_traits.specs.Letters.{letter_input, stale}
 use Rattle.node_traits.specs.ShardRows.{Ask, heard, shard_stale}
-use Rattle.protocol_model.specs.Bodies.{id_meant}
+use Rattle.node_traits.specs.Ids.{id_meant}
 use Rattle.protocol_model.specs.Messages.{letter_of}
 use Rattle.shard_node.proofs.Planned.{told_planned}
 use Rattle.shard_node.specs.Asks.{ask_meant}

@@ -1,7 +1,7 @@
 use Rattle.std.proofs.Common.{ap}
 use Rattle.node_traits.specs.Letters.{letter_input, time_told}
 use Rattle.node_traits.specs.ShardRows.{heard, shard_time}
-use Rattle.protocol_model.specs.Bodies.{id_meant}
+use Rattle.node_traits.specs.Ids.{id_meant}
 use Rattle.shard_node.proofs.Planned.{told_planned}
 use Rattle.shard_node.specs.State.{shard_meant}
 use Rattle.shard_node.proofs.node.ShardNode.plan_time.Goals as goal

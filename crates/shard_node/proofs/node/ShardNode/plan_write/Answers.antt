@@ -1,9 +1,9 @@
 use Rattle.std.proofs.Common.{◌≡◌, ◌∷◌, [], ap, sym, ◌∙◌, rules}
 use Rattle.std.specs.Prelude.{List, map}
-use Rattle.chunk_table.specs.Found.{sent_meant}
+use Rattle.chunk_table.specs.VerdictMeanings.{sent_meant}
 use Rattle.node_traits.specs.Letters.{letter_input, write_ask, write_done}
 use Rattle.node_traits.specs.ShardRows.{heard, says, shard_empty}
-use Rattle.protocol_model.specs.Bodies.{id_meant}
+use Rattle.node_traits.specs.Ids.{id_meant}
 use Rattle.protocol_model.specs.Statements.{done_meant, statement_meant}
 use Rattle.protocol_model.specs.declared.statement.Statement.{Statement}
 use Rattle.shard_store.specs.Plans.{made_by}

@@ -1,10 +1,10 @@
 use Rattle.std.proofs.Common.{◌≡◌, ◌<◌, ◌+◌, ℕ, [], drop, length, map}
 use Rattle.node_traits.specs.Effects.{last_time}
-use Rattle.protocol_model.specs.Bodies.{id_meant}
+use Rattle.node_traits.specs.Ids.{id_meant}
 use Rattle.protocol_model.specs.Statements.{done_meant, statement_meant}
 use Rattle.shard_store.specs.Plans.{IsPlan, made_by, planned_in, time_of}
 use Rattle.shard_store.specs.Stores.{entries_of, last_of}
-use Rattle.shard_node.specs.Serving.{GoesOn}
+use Rattle.shard_node.specs.Progress.{GoesOn}
 use Rattle.shard_node.specs.Writes.{AreKept}
 use Rattle.shard_node.proofs.node.ShardNode.serve_all.Given as goal
 

@@ -2,7 +2,7 @@ use Rattle.std.proofs.Common.{◌≡◌, ◌≤◌, ℕ, List, drop}
 use Rattle.std.specs.List.{AllByRecursion}
 use Rattle.bson_values.specs.Tree.{Datum}
 use Rattle.shard_store.specs.Collections.{shown_in, last_under, room_under}
-use Rattle.shard_store.specs.declared.planned.Planned.{Planned}
+use Rattle.shard_store.specs.declared.entry.Planned.{Planned}
 use Rattle.shard_store.proofs.collections.Collections.reserve_all.Given as goal
 
 abbrev pub invariant-loop-entry : goal.invariant-loop-entry

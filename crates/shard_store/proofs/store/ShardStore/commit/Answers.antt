@@ -2,14 +2,15 @@ use Rattle.std.proofs.Common.{◌≡◌, ◌≤◌, ◌+◌, ◌++◌, ◌∷◌
 use Rattle.std.specs.Prelude.{Bool, map, if◌then◌else◌}
 use Rattle.std.specs.List.{AllByRecursion}
 use Rattle.std.specs.Vec.Iter.{into_iter_items}
+use Rattle.history_model.proofs.Lists.{all_both}
 use Rattle.node_model.specs.History.{Entry}
-use Rattle.shard_store.proofs.Following.{all_both, next_on}
+use Rattle.shard_store.proofs.Following.{next_on}
 use Rattle.shard_store.specs.Collections.{room_under}
 use Rattle.shard_store.specs.Entries.{entry_meant}
 use Rattle.shard_store.specs.Outcomes.{statement_of}
 use Rattle.shard_store.specs.Plans.{AreNext, IsBehind}
 use Rattle.shard_store.specs.Stores.{entries_of, last_of, shard_of}
-use Rattle.shard_store.specs.declared.planned.Planned.{Planned}
+use Rattle.shard_store.specs.declared.entry.Planned.{Planned}
 use Rattle.shard_store.proofs.store.ShardStore.commit.Goals as goal
 
 pub loop-planned-preserved : goal.loop-planned-preserved

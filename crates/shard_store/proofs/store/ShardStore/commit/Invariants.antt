@@ -8,7 +8,7 @@ use Rattle.shard_store.specs.Entries.{entry_meant}
 use Rattle.shard_store.specs.Outcomes.{statement_of}
 use Rattle.shard_store.specs.Plans.{AreNext, made_by}
 use Rattle.shard_store.specs.Stores.{entries_of, last_of, shard_of}
-use Rattle.shard_store.specs.declared.planned.Planned.{Planned}
+use Rattle.shard_store.specs.declared.entry.Planned.{Planned}
 use Rattle.shard_store.proofs.store.ShardStore.commit.Given as goal
 
 abbrev pub invariant-loop-planned : goal.invariant-loop-planned

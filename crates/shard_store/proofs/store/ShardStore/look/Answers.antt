@@ -1,12 +1,12 @@
 use Rattle.std.proofs.Common.{◌≡◌, refl, sym, ap, ◌∙◌}
-use Rattle.node_model.specs.Asked.{number_for}
+use Rattle.node_model.specs.Exchanges.{number_for}
 use Rattle.history_model.specs.Notes.{new_statement, done_before, older_than, seen}
 use Rattle.session_book.specs.Books.{seen_in}
 use Rattle.session_book.specs.Meanings.{number_meant}
+use Rattle.node_traits.specs.Ids.{id_meant}
 use Rattle.shard_store.proofs.Facts.{zero_from}
 use Rattle.shard_store.proofs.Seen.{look_new, look_done, never_older}
 use Rattle.shard_store.specs.Entries.{notes_kept}
-use Rattle.shard_store.specs.Outcomes.{id_meant}
 use Rattle.shard_store.proofs.store.ShardStore.look.Goals as goal
 
 pub returns-in-New : goal.returns-in-New

@@ -8,14 +8,15 @@ use Rattle.bson_values.specs.View.{datum_of}
 use Rattle.value_compare.specs.Keys.{valid_key}
 use Rattle.value_compare.specs.Order.{same_value}
 use Rattle.cluster_base.specs.declared.identity.RequestId.{RequestId}
-use Rattle.node_model.specs.Asked.{number_for}
+use Rattle.node_model.specs.Exchanges.{number_for}
 use Rattle.node_model.specs.History.{insert_operation, effect, document_left}
+use Rattle.node_traits.specs.Ids.{id_meant}
 use Rattle.shard_store.proofs.Following.{again, next_from, own_from, served_next}
 use Rattle.shard_store.specs.Entries.{entry_meant}
-use Rattle.shard_store.specs.Outcomes.{done_meant, id_meant}
+use Rattle.shard_store.specs.Outcomes.{done_meant}
 use Rattle.shard_store.specs.Plans.{AreNext, IsServed, left_for_later, made_by, planned_in, time_of}
 use Rattle.shard_store.specs.Stores.{entries_of, last_of, shard_of}
-use Rattle.shard_store.specs.declared.planned.Planned.{Planned}
+use Rattle.shard_store.specs.declared.entry.Planned.{Planned}
 use Rattle.shard_store.proofs.store.ShardStore.serve.Goals as goal
 
 pub returns-in-Some-clause-served : goal.returns-in-Some-clause-served

@@ -1,0 +1,123 @@
+use Rattle.std.proofs.Common.{◌∙◌, ◌≡◌, [], refl, sym, map, append-nil}
+use Rattle.outside.specs.Devices.{sink_call, source_call}
+use Rattle.journal_frames.specs.Files.{Stands}
+use Rattle.node_model.specs.World.{start}
+use Rattle.driver_steps.proofs.Crashes.{leads_nowhere}
+use Rattle.pipe_driver.proofs.Counts.{none_fell_after, still}
+use Rattle.cluster_top.specs.Crashes.{IsOfTheWay, LeaveTheWay}
+use Rattle.cluster_top.specs.Disks.{IsEmptyAll, three}
+use Rattle.cluster_top.specs.OpenJournals.{disks_of}
+use Rattle.cluster_top.specs.Stops.{at_opening_fault}
+use Rattle.cluster_top.specs.declared.status.Status.TheVariants as statuses
+use Rattle.cluster_top.proofs.Crashes.{all_then, all_weaker, never_of, of_the_start}
+use Rattle.cluster_top.proofs.Counts.{all_still, one_of_them_rose, one_rose_after, one_rose_as}
+use Rattle.cluster_top.proofs.Unserved.{empty_kept, none_kept, opening_not_refused, opening_stopped, still_empty, unopened}
+use Rattle.cluster_top.proofs.service.run_nodes.Goals as goal
+
+pub returns-in-Ok-false-clause-damaged : goal.returns-in-Ok-false-clause-damaged
+returns-in-Ok-false-clause-damaged g c = λ is.
+    (c.untouched.ensures.rest, (λ told. refl, refl), (λ told. sym (append-nil (g.K.Sink.held c.args.out.now)), refl), λ told. c.in-Ok-false.ensures.some told c.in-Ok-false.field-0-test)
+
+pub returns-in-Ok-false-clause-disk_fault : goal.returns-in-Ok-false-clause-disk_fault
+returns-in-Ok-false-clause-disk_fault g c =
+    rw c.untouched.ensures.disks
+    (all_still _ (map g.D.Disk.fault_count (three {D = g.row.D.Denot} c.args.disks)) (map g.D.Disk.fault_count (three {D = g.row.D.Denot} c.are_empty.new.self))
+    (λ is. let clash : statuses.DamagedJournal ≡ statuses.DiskFailed = sym c.untouched.ensures.status ∙ is in cc) c.in-Ok-false.ensures.calm)
+
+pub returns-in-Err-clause-headline : goal.returns-in-Err-clause-headline
+returns-in-Err-clause-headline g c = λ asked new empty other.
+    rw (c.untouched-in-Err.ensures.disks, c.untouched-in-Err.ensures.status)
+    (unopened (source_call g.S.Source.tells g.S.Source.left g.S.Source.fault_count c.args.input.now c.args.input.now) (sink_call g.K.Sink.tells g.K.Sink.held g.K.Sink.fault_count c.args.out.now c.args.out.now)
+    g.D.Disk.tells (map g.D.Disk.content (three {D = g.row.D.Denot} c.are_empty.new.self)) (LeaveTheWay g.D.Disk.tells g.D.Disk.moment g.D.Disk.left_since (three {D = g.row.D.Denot} c.args.disks) (three {D = g.row.D.Denot} c.are_empty.new.self))
+    (g.C.Clock.gives c.args.clock.now) _ c.args.command statuses.DiskFailed at_opening_fault (λ e. cc)
+    c.untouched-in-Err.ensures.rest (λ told. refl) (λ told. sym (append-nil (g.K.Sink.held c.args.out.now)))
+    (λ told. empty_kept _ _ _
+    (still_empty g.D.Disk.tells (map g.D.Disk.content (three {D = g.row.D.Denot} c.args.disks)) (map g.D.Disk.content (three {D = g.row.D.Denot} c.are_empty.new.self)) c.in-Err.ensures.same empty told))
+    (λ told. all_weaker g.D.Disk.moment g.D.Disk.left_since (λ at file. ⊥) (λ at file. IsOfTheWay (start 1) at file) (three {D = g.row.D.Denot} c.args.disks) (three {D = g.row.D.Denot} c.are_empty.new.self) never_of (c.in-Err.ensures.leaves told)))
+
+pub returns-in-Err-clause-disk_fault : goal.returns-in-Err-clause-disk_fault
+returns-in-Err-clause-disk_fault g c =
+    rw c.untouched-in-Err.ensures.disks
+    (one_of_them_rose _ (map g.D.Disk.fault_count (three {D = g.row.D.Denot} c.args.disks)) (map g.D.Disk.fault_count (three {D = g.row.D.Denot} c.are_empty.new.self)) c.untouched-in-Err.ensures.status
+    c.in-Err.ensures.cause)
+
+pub returns-in-Err-open_all-clause-headline : goal.returns-in-Err-open_all-clause-headline
+returns-in-Err-open_all-clause-headline g c = λ asked new empty other.
+    let still : IsEmptyAll g.D.Disk.tells (map g.D.Disk.content (three {D = g.row.D.Denot} c.are_empty.new.self)) =
+    still_empty g.D.Disk.tells (map g.D.Disk.content (three {D = g.row.D.Denot} c.args.disks)) (map g.D.Disk.content (three {D = g.row.D.Denot} c.are_empty.new.self)) c.in-Ok-true.ensures.same empty in
+    rw (c.untouched-in-Err-open_all.ensures.disks, c.untouched-in-Err-open_all.ensures.status)
+    (unopened (source_call g.S.Source.tells g.S.Source.left g.S.Source.fault_count c.args.input.now c.args.input.now) (sink_call g.K.Sink.tells g.K.Sink.held g.K.Sink.fault_count c.args.out.now c.args.out.now)
+    g.D.Disk.tells (map g.D.Disk.content (three {D = g.row.D.Denot} c.in-Err-open_all.field-0.disks))
+    (LeaveTheWay g.D.Disk.tells g.D.Disk.moment g.D.Disk.left_since (three {D = g.row.D.Denot} c.args.disks) (three {D = g.row.D.Denot} c.in-Err-open_all.field-0.disks)) (g.C.Clock.gives c.args.clock.now) _ c.args.command c.in-Err-open_all.field-0.status c.in-Err-open_all.ensures.stops
+    (λ is. other (c.untouched-in-Err-open_all.ensures.status ∙ is)) c.untouched-in-Err-open_all.ensures.rest (λ told. refl) (λ told. sym (append-nil (g.K.Sink.held c.args.out.now)))
+    (λ told. let kept = c.in-Err-open_all.ensures.kept still told in none_kept _ _ _ kept.0 kept.1.0 kept.1.1.0)
+    (λ told. all_weaker g.D.Disk.moment g.D.Disk.left_since (λ at file. Stands file []) (λ at file. IsOfTheWay (start 1) at file) (three {D = g.row.D.Denot} c.args.disks) (three {D = g.row.D.Denot} c.in-Err-open_all.field-0.disks)
+    (λ at file none. of_the_start (start 1) at file (leads_nowhere (start 1)) none)
+    (all_then g.D.Disk.moment g.D.Disk.left_since (λ at file. Stands file []) (three {D = g.row.D.Denot} c.args.disks) (three {D = g.row.D.Denot} c.are_empty.new.self) (three {D = g.row.D.Denot} c.in-Err-open_all.field-0.disks) (c.in-Ok-true.ensures.leaves told)
+    (c.in-Err-open_all.ensures.leaves_err still told))))
+
+pub returns-in-Err-open_all-clause-status : goal.returns-in-Err-open_all-clause-status
+returns-in-Err-open_all-clause-status g c = λ is. (opening_not_refused _ c.in-Err-open_all.ensures.stops).0 (sym c.untouched-in-Err-open_all.ensures.status ∙ is)
+
+pub returns-in-Err-open_all-clause-read_fault : goal.returns-in-Err-open_all-clause-read_fault
+returns-in-Err-open_all-clause-read_fault g c =
+    still _ _ _ (λ is. (opening_not_refused _ c.in-Err-open_all.ensures.stops).1 (sym c.untouched-in-Err-open_all.ensures.status ∙ is)) refl
+
+pub returns-in-Err-open_all-clause-write_fault : goal.returns-in-Err-open_all-clause-write_fault
+returns-in-Err-open_all-clause-write_fault g c =
+    still _ _ _ (λ is. (opening_not_refused _ c.in-Err-open_all.ensures.stops).2 (sym c.untouched-in-Err-open_all.ensures.status ∙ is)) refl
+
+pub returns-in-Err-open_all-clause-disk_fault : goal.returns-in-Err-open_all-clause-disk_fault
+returns-in-Err-open_all-clause-disk_fault g c =
+    rw c.untouched-in-Err-open_all.ensures.disks
+    (one_rose_after _ (map g.D.Disk.fault_count (three {D = g.row.D.Denot} c.args.disks)) (map g.D.Disk.fault_count (three {D = g.row.D.Denot} c.are_empty.new.self))
+    (map g.D.Disk.fault_count (three {D = g.row.D.Denot} c.in-Err-open_all.field-0.disks)) c.in-Ok-true.ensures.calm
+    (one_rose_as (c.in-Err-open_all.field-0.status ≡ statuses.DiskFailed) _ (map g.D.Disk.fault_count (three {D = g.row.D.Denot} c.are_empty.new.self))
+    (map g.D.Disk.fault_count (three {D = g.row.D.Denot} c.in-Err-open_all.field-0.disks)) (λ is. c.untouched-in-Err-open_all.ensures.status ∙ is)
+    (λ is. sym c.untouched-in-Err-open_all.ensures.status ∙ is) c.in-Err-open_all.ensures.fault))
+
+pub returns-in-Err-open_all-clause-later : goal.returns-in-Err-open_all-clause-later
+returns-in-Err-open_all-clause-later g c =
+    rw c.untouched-in-Err-open_all.ensures.disks
+    (none_fell_after (map g.D.Disk.fault_count (three {D = g.row.D.Denot} c.args.disks)) (map g.D.Disk.fault_count (three {D = g.row.D.Denot} c.are_empty.new.self))
+    (map g.D.Disk.fault_count (three {D = g.row.D.Denot} c.in-Err-open_all.field-0.disks)) c.in-Ok-true.ensures.calm c.in-Err-open_all.ensures.later_err)
+
+pub returns-in-Err-open_all-clause-places : goal.returns-in-Err-open_all-clause-places
+returns-in-Err-open_all-clause-places g c = rw c.untouched-in-Err-open_all.ensures.disks (c.in-Err-open_all.ensures.places_err ∙ c.in-Ok-true.ensures.places)
+
+pub returns-in-Err-open_all-clause-durable : goal.returns-in-Err-open_all-clause-durable
+returns-in-Err-open_all-clause-durable g c = λ told empty failed wanted.
+    let still : IsEmptyAll g.D.Disk.tells (map g.D.Disk.content (three {D = g.row.D.Denot} c.are_empty.new.self)) =
+    still_empty g.D.Disk.tells (map g.D.Disk.content (three {D = g.row.D.Denot} c.args.disks)) (map g.D.Disk.content (three {D = g.row.D.Denot} c.are_empty.new.self)) c.in-Ok-true.ensures.same empty in
+    absurd (opening_stopped c.in-Err-open_all.field-0.status c.in-Err-open_all.ensures.stops (λ is. failed (c.untouched-in-Err-open_all.ensures.status ∙ is))
+    (λ is. wanted (c.untouched-in-Err-open_all.ensures.status ∙ is)) (λ is. c.in-Err-open_all.ensures.damaged still is told))
+
+pub returns-in-Ok-clause-headline : goal.returns-in-Ok-clause-headline
+returns-in-Ok-clause-headline g c = λ asked new empty other.
+    let still : IsEmptyAll g.D.Disk.tells (map g.D.Disk.content (three {D = g.row.D.Denot} c.are_empty.new.self)) =
+    still_empty g.D.Disk.tells (map g.D.Disk.content (three {D = g.row.D.Denot} c.args.disks)) (map g.D.Disk.content (three {D = g.row.D.Denot} c.are_empty.new.self)) c.in-Ok-true.ensures.same empty in
+    c.serve.ensures.headline asked new (c.in-Ok.ensures.opened still) (three {D = g.row.D.Denot} c.args.disks)
+    (λ told. all_then g.D.Disk.moment g.D.Disk.left_since (λ at file. Stands file []) (three {D = g.row.D.Denot} c.args.disks) (three {D = g.row.D.Denot} c.are_empty.new.self) (disks_of {D = g.row.D.Denot} c.in-Ok.journals) (c.in-Ok-true.ensures.leaves told)
+    (c.in-Ok.ensures.leaves still told))
+
+pub returns-in-Ok-clause-durable : goal.returns-in-Ok-clause-durable
+returns-in-Ok-clause-durable g c = λ told empty failed wanted. c.serve.ensures.durable told failed wanted
+
+pub returns-in-Ok-clause-status : goal.returns-in-Ok-clause-status
+returns-in-Ok-clause-status g c = c.serve.ensures.status.0
+
+pub returns-in-Ok-clause-damaged : goal.returns-in-Ok-clause-damaged
+returns-in-Ok-clause-damaged g c = λ is. absurd (c.serve.ensures.status.1 is)
+
+pub returns-in-Ok-clause-disk_fault : goal.returns-in-Ok-clause-disk_fault
+returns-in-Ok-clause-disk_fault g c =
+    one_rose_after _ (map g.D.Disk.fault_count (three {D = g.row.D.Denot} c.args.disks)) (map g.D.Disk.fault_count (disks_of {D = g.row.D.Denot} c.in-Ok.journals)) (map g.D.Disk.fault_count (three {D = g.row.D.Denot} c.serve.result.disks))
+    (c.in-Ok.ensures.calm ∙ c.in-Ok-true.ensures.calm) c.serve.ensures.disk_fault
+
+pub returns-in-Ok-clause-later : goal.returns-in-Ok-clause-later
+returns-in-Ok-clause-later g c =
+    none_fell_after (map g.D.Disk.fault_count (three {D = g.row.D.Denot} c.args.disks)) (map g.D.Disk.fault_count (disks_of {D = g.row.D.Denot} c.in-Ok.journals)) (map g.D.Disk.fault_count (three {D = g.row.D.Denot} c.serve.result.disks))
+    (c.in-Ok.ensures.calm ∙ c.in-Ok-true.ensures.calm) c.serve.ensures.later
+
+pub returns-in-Ok-clause-places : goal.returns-in-Ok-clause-places
+returns-in-Ok-clause-places g c = c.serve.ensures.places ∙ c.in-Ok.ensures.places ∙ c.in-Ok-true.ensures.places

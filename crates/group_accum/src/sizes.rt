@@ -1,0 +1,59 @@
+//! How many bytes the rows of a part have.
+
+ghost use Rattle.std.specs.Prelude.{◌≡◌, length, map, sum_by};
+ghost use Rattle.bson_model.specs.Spelling.{written_value};
+ghost use Rattle.bson_values.specs.View.{datum_of};
+ghost use Rattle.pipeline_model.specs.Lengths.{cell_length, row_length};
+ghost use Rattle.group_accum.specs.Rows.{rows_of};
+ghost use Rattle.group_accum.specs.Sizes.{capped};
+ghost use Rattle.group_accum.specs.View.{cell_of};
+
+use crate::absorb::Cell;
+use crate::key::GroupKey;
+use std::collections::BTreeMap;
+
+/// What a document of one field has beside the field's name and value.
+const FRAME: usize = 7;
+
+// The bytes of a cell on its way, or the greatest `usize` where that is less.
+#[tactic(auto, using(crate::proofs::RowBytes::extreme_bytes))]
+fn cell_size(cell: &Cell) -> usize
+    ensures { result ≡ capped (cell_length (cell_of cell.now)) }
+{
+    match cell {
+        Cell::Sum { .. } => 16,
+        Cell::Count(_) => 16,
+        Cell::Extreme(value) => value.size().saturating_add(FRAME + 1),
+    }
+}
+
+// The bytes of the cells of a row, or the greatest `usize` where that is less.
+fn cells_size(cells: &[Cell]) -> usize
+    ensures { result ≡ capped (sum_by cell_length (map cell_of cells.now)) }
+{
+    let mut size = 0usize;
+    for cell in cells {
+        size = size.saturating_add(cell_size(cell));
+    }
+    size
+}
+
+// The bytes of a row on its way, or the greatest `usize` where that is less.
+#[tactic(auto, using(crate::proofs::RowBytes::key_bytes))]
+fn row_size(key: &GroupKey, cells: &[Cell]) -> usize
+    ensures { result ≡ capped (row_length (record { key = key.now; cells = map cell_of cells.now })) }
+{
+    let key = key.value().size().saturating_add(FRAME + 3);
+    key.saturating_add(cells_size(cells))
+}
+
+/// The bytes of rows on their way, or the greatest `usize` where that is less.
+pub(crate) fn rows_size(rows: &BTreeMap<GroupKey, Vec<Cell>>) -> usize
+    ensures { result ≡ capped (sum_by row_length (rows_of rows.now.entries)) }
+{
+    let mut size = 0usize;
+    for (key, cells) in rows {
+        size = size.saturating_add(row_size(key, cells));
+    }
+    size
+}

@@ -1,0 +1,33 @@
+-- What it means that whatever was asked is answered.
+use Rattle.std.specs.Prelude.{◌≡◌, List, [], Ok}
+use Rattle.std.specs.List.{AllByRecursion}
+use Rattle.node_model.specs.Insert.{Insert}
+use Rattle.node_model.specs.Command.{insert_command, command_of}
+use Rattle.node_model.specs.Tables.{first_shard}
+use Rattle.node_model.specs.History.{Entry, IsIn}
+use Rattle.node_model.specs.Exchanges.{Asked, Answered}
+use Rattle.node_model.specs.Right.{IsWhole}
+use Rattle.node_model.specs.OneHistory.{ids_told}
+use Rattle.node_model.specs.Journal.{entries_kept}
+use Rattle.node_model.specs.States.{NodeState, catalogue_state, shard_state, router_state}
+use Rattle.node_model.specs.World.{Held, World, journal_at}
+
+-- no request is open, and no ask waits for a table
+abbrev pub IsQuiet : NodeState → Type 0
+IsQuiet (catalogue_state c) = Unit {0}
+IsQuiet (shard_state s) = s.parked ≡ []
+IsQuiet (router_state r) = r.requests ≡ []
+
+-- the request was told something
+abbrev pub IsAnswered : List Answered → Asked → Type 0
+IsAnswered answered a = IsIn a.id (ids_told answered)
+
+-- of an insert all statements stand, up to the error that ends an ordered one, also where no reply is put
+abbrev pub IsServed : List Entry → Asked → Type 0
+IsServed history a = (insert : Insert) → command_of a.request ≡ Ok (insert_command insert) → IsWhole history a.id insert
+
+-- Every request that was taken is answered, every insert among them stands whole, and nothing is under way.
+pub record AreAnswered (w : World) : Type 0 where
+  pub answered : AllByRecursion (IsAnswered w.answered) w.asked
+  pub served : AllByRecursion (IsServed (entries_kept (journal_at w.nodes first_shard))) w.asked
+  pub quiet : AllByRecursion (λ (h : Held). IsQuiet h.state) w.nodes

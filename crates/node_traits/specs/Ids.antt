@@ -1,0 +1,6 @@
+-- What the number of a request in the program is, by the definitions.
+use Rattle.cluster_base.specs.declared.identity.RequestId.{RequestId}
+use Rattle.node_model.specs.Exchanges as asked
+
+abbrev pub id_meant : RequestId → asked.RequestId
+id_meant id = record { router = id.router.0; life = id.life; count = id.count }

@@ -1,0 +1,5 @@
+pub mod Answered
+pub mod Evaluated
+pub mod FirstRows
+pub mod Loops
+pub mod Sorts

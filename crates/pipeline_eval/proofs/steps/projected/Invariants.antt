@@ -1,0 +1,9 @@
+-- What there is, and what is left of the others, is what is left of all.
+use Rattle.std.proofs.Common.{◌≡◌, ◌++◌, drop, map}
+use Rattle.std.specs.Arc.{arc_value}
+use Rattle.pipeline_model.specs.Projections.{project}
+use Rattle.pipeline_eval.proofs.steps.projected.Given as goal
+
+abbrev pub invariant-loop-document : goal.invariant-loop-document
+invariant-loop-document l =
+    map arc_value l.left.items ++ map (project l.rules) (map arc_value (drop l.document-index l.documents)) ≡ map (project l.rules) (map arc_value l.documents)

@@ -1,0 +1,61 @@
+//! What halves give.
+
+ghost use Rattle.std.specs.Prelude.{◌≡◌, ◌<◌, ◌≤◌, ◌^◌, IfNone, IfSome};
+
+use bson_values::Document;
+use group_accum::PartialList;
+use std::alloc::Global;
+use std::marker::Model;
+use std::sync::Arc;
+
+/// Below this is the number of documents of a part.
+const DOCUMENTS_OF_PART: u64 = 1 << 58;
+
+/// A number of documents of a part: below 2^58.
+#[derive(Drop)]
+pub struct PartCount {
+    count: u64,
+}
+
+impl Model for PartCount {
+    ghost use Rattle.std.specs.Prelude.{ℕ, ◌<◌, ◌^◌};
+
+    ghost Value = { ℕ };
+
+    ghost view = { λ c. c.count };
+
+    ghost invariant = { λ c. c.count < 2 ^ 58 };
+}
+
+impl PartCount {
+    /// The number; none where it is 2^58 or more.
+    pub fn of(count: u64) -> Option<PartCount>
+        ensures count { IfSome result (λ c. c ≡ count) }
+        ensures none { IfNone result (2 ^ 58 ≤ count) }
+    {
+        if count < DOCUMENTS_OF_PART {
+            Some(PartCount { count })
+        } else {
+            None
+        }
+    }
+
+    /// The number.
+    pub fn get(&self) -> u64
+        ensures count { result ≡ self.now }
+        ensures bound { result < 2 ^ 58 }
+    {
+        self.count
+    }
+}
+
+/// What a half gives of a part of the documents.
+#[derive(Drop)]
+pub enum Rows {
+    /// Documents.
+    Docs(Vec<Arc<Document, Global>>),
+    /// The rows that they are grouped into.
+    Partials(PartialList),
+    /// Their number.
+    Counted(PartCount),
+}

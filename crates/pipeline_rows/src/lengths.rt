@@ -1,0 +1,93 @@
+//! How many bytes are too many.
+
+use crate::halves::rows_of_each;
+use crate::long_documents::long_documents;
+use bson_values::Document;
+use fixtures::{RowFault, Rows, field, number};
+use group_merge::merge;
+use pipeline_eval::{EvalFault, eval, eval_half};
+use pipeline_lang::Pipeline;
+use pipeline_split::split;
+use std::alloc::Global;
+use std::sync::Arc;
+
+/// `LENGTHS | ANSWER | HALF`: of documents of these lengths, what the pipeline without stages tells of its answer, and the same of what
+/// is merged, each document being a part by itself; and what its half tells. That is `fits`, or the number of bytes that are too many.
+#[derive(Drop)]
+pub struct Lengths;
+
+impl Rows for Lengths {
+    fn holds(&mut self, alloc: Global, row: &str) -> Result<bool, RowFault> {
+        let (lengths, rest) = field(row);
+        let (answer, half) = field(rest);
+        let documents = long_documents(alloc, lengths)?;
+        if !half_tells(alloc, &documents, half)? {
+            return Ok(false);
+        }
+        if !merge_tells(alloc, &documents, answer)? {
+            return Ok(false);
+        }
+        whole_tells(alloc, documents, answer)
+    }
+}
+
+// The pipeline without stages.
+fn no_stages(alloc: Global) -> Pipeline {
+    Pipeline::of(Vec::new(alloc))
+}
+
+fn whole_tells(
+    alloc: Global,
+    documents: Vec<Arc<Document, Global>>,
+    wanted: &str,
+) -> Result<bool, RowFault> {
+    let pipeline = no_stages(alloc);
+    match eval(alloc, &pipeline, documents) {
+        Ok(_documents) => Ok(wanted == "fits"),
+        Err(fault) => is_told(fault, wanted),
+    }
+}
+
+fn half_tells(
+    alloc: Global,
+    documents: &[Arc<Document, Global>],
+    wanted: &str,
+) -> Result<bool, RowFault> {
+    let pipeline = no_stages(alloc);
+    let (half, _by) = split(alloc, &pipeline)?;
+    match eval_half(alloc, &half, documents) {
+        Ok(_rows) => Ok(wanted == "fits"),
+        Err(fault) => is_told(fault, wanted),
+    }
+}
+
+fn merge_tells(
+    alloc: Global,
+    documents: &[Arc<Document, Global>],
+    wanted: &str,
+) -> Result<bool, RowFault> {
+    let pipeline = no_stages(alloc);
+    let (half, by) = split(alloc, &pipeline)?;
+    let parts = rows_of_each(alloc, &half, documents)?;
+    match merge(alloc, &by, parts) {
+        Ok(_documents) => Ok(wanted == "fits"),
+        Err(fault) => is_told(fault, wanted),
+    }
+}
+
+// Whether that is why there is no answer: so many bytes are too many.
+fn is_told(fault: EvalFault, wanted: &str) -> Result<bool, RowFault> {
+    match fault {
+        EvalFault::TooMuch { bytes } => is_number(bytes, wanted),
+        EvalFault::Overflow => Ok(false),
+        EvalFault::Memory => Err(RowFault::Memory),
+    }
+}
+
+fn is_number(bytes: u64, wanted: &str) -> Result<bool, RowFault> {
+    if wanted == "fits" {
+        return Ok(false);
+    }
+    let most = number::<u64>(wanted)?;
+    Ok(bytes == most)
+}

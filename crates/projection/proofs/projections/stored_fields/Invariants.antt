@@ -1,0 +1,10 @@
+-- What was put, and what stays of the fields that are left, is what stays of the whole.
+use Rattle.std.proofs.Common.{◌≡◌, drop}
+use Rattle.bson_values.specs.Tree.{joined}
+use Rattle.bson_values.specs.View.{fields_of}
+use Rattle.pipeline_model.specs.Projections.{fields_named, stays}
+use Rattle.projection.proofs.projections.stored_fields.Given as goal
+
+abbrev pub invariant-loop-stored : goal.invariant-loop-stored
+invariant-loop-stored l =
+    joined l.left (fields_named (stays l.projection) (fields_of (drop l.stored-index l.stored-items))) ≡ fields_named (stays l.projection) l.document

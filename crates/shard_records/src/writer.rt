@@ -1,0 +1,317 @@
+//! Writing a record as bytes.
+//!
+//! What is put stands behind the bytes that were there. After an `Err` a part may stand there too.
+
+ghost use Rattle.std.specs.Prelude.{◌≡◌, ◌<◌, ◌^◌, ◌++◌, ◌∷◌, [], length, take, FitsSigned, OnErr, OnOk};
+ghost use Rattle.std.specs.Int.{cast_unsigned, w64};
+ghost use Rattle.record_model.specs.Names.{IsNamespace};
+ghost use Rattle.bson_values.specs.Spelling.{written};
+ghost use Rattle.record_model.specs.RecordFormat.{IsSoundOperation, IsSound, IsSoundKey, IsSoundNumber, IsSoundOutcome, IsSoundSession, IsSoundDocument, IsSoundKeyValue, eight, four, key_document, spelled, spelled_creation, spelled_entry, spelled_key, spelled_number, spelled_outcome, spelled_session, spelled_string, spelled_operation};
+ghost use Rattle.record_model.specs.Records.{create_record, entry_record};
+ghost use Rattle.shard_records.specs.Meanings.{entry_meant, number_meant, outcome_meant, record_meant, session_meant, operation_lent};
+ghost use Rattle.shard_records.specs.Sizes.{FitsRecord, IsWritableOperation, IsWritableKey, IsWritableRecord};
+ghost use Rattle.bson_values.specs.Limits.{IsWritable};
+
+use crate::record::{Record, WordsRef};
+use crate::tables::put_table;
+use bson_values::{Document, Memory, Name, write};
+use byteorder::{ByteOrder, LittleEndian};
+use cluster_base::{Namespace, Session, Stmt, Time};
+use value_compare::{Key, Reply};
+
+/// The format that records are written in.
+pub(crate) const NEWEST_FORMAT: u8 = 0x01;
+
+/// Puts the record's one spelling in the newest format behind the bytes. Each document in the record has at most 100
+/// levels and 300,000,000 bytes.
+///
+/// # Errors
+/// `Memory` for want of memory, and then the bytes are as they were.
+pub fn write_record(kept: &Record, out: &mut Vec<u8>) -> Result<(), Memory>
+    requires { IsWritableRecord (record_meant kept.now) }
+    ensures ok { OnOk result (out.new.items ≡ out.old.items ++ spelled 1 (record_meant kept.now)) }
+    // Where it is sound, its bytes spell no other record.
+    ensures sound { OnOk result (IsSound (record_meant kept.now)) }
+    ensures err { OnErr result (out.new.items ≡ out.old.items) }
+{
+    let len = out.len();
+    let done = put_record(kept, out);
+    cut_after_err(done, len, out)
+}
+
+/// Puts the one spelling, in the newest format, of the record of an entry of these parts behind the bytes, and copies no document.
+/// Each document in it has at most 100 levels and 300,000,000 bytes, that of a key with it.
+///
+/// # Errors
+/// `Memory` for want of memory, and then the bytes are as they were.
+pub fn write_entry(
+    time: Time,
+    namespace: &Namespace,
+    statement: &Stmt,
+    words: &WordsRef<'_>,
+    reply: &Reply,
+    out: &mut Vec<u8>,
+) -> Result<(), Memory>
+    requires words { IsWritableOperation (operation_lent words.now) }
+    requires upserted { IsWritableKey (outcome_meant reply.now).upserted }
+    ensures ok { OnOk result (out.new.items ≡ out.old.items ++ spelled 1 (entry_record (entry_meant time namespace.now statement.now (operation_lent words.now) reply.now))) }
+    ensures sound { OnOk result (IsSound (entry_record (entry_meant time namespace.now statement.now (operation_lent words.now) reply.now))) }
+    ensures err { OnErr result (out.new.items ≡ out.old.items) }
+{
+    let len = out.len();
+    let done = put_entry(time, namespace, statement, words, reply, out);
+    cut_after_err(done, len, out)
+}
+
+/// What was done; after an `Err` the bytes are cut to that length.
+pub(crate) fn cut_after_err(
+    done: Result<(), Memory>,
+    len: usize,
+    out: &mut Vec<u8>,
+) -> Result<(), Memory>
+    ensures same { result ≡ done }
+    ensures ok { OnOk result (out.new.items ≡ out.old.items) }
+    ensures err { OnErr result (out.new.items ≡ take len out.old.items) }
+{
+    if done.is_err() {
+        out.truncate(len);
+    }
+    done
+}
+
+/// Puts the bytes.
+pub(crate) fn put(bytes: &[u8], out: &mut Vec<u8>) -> Result<(), Memory>
+    ensures ok { OnOk result (out.new.items ≡ out.old.items ++ bytes.now) }
+    ensures kept { take (length out.old.items) out.new.items ≡ out.old.items }
+{
+    out.extend_from_slice(bytes)?;
+    Ok(())
+}
+
+/// Puts the number's four bytes, the lowest first.
+pub(crate) fn put_u32(n: u32, out: &mut Vec<u8>) -> Result<(), Memory>
+    ensures ok { OnOk result (out.new.items ≡ out.old.items ++ four n) }
+    ensures kept { take (length out.old.items) out.new.items ≡ out.old.items }
+{
+    let mut bytes = [0; 4];
+    LittleEndian::write_u32(&mut bytes, n);
+    put(&bytes, out)
+}
+
+/// Puts the number's eight bytes, the lowest first.
+pub(crate) fn put_u64(n: u64, out: &mut Vec<u8>) -> Result<(), Memory>
+    ensures ok { OnOk result (out.new.items ≡ out.old.items ++ eight n) }
+    ensures kept { take (length out.old.items) out.new.items ≡ out.old.items }
+{
+    let mut bytes = [0; 8];
+    LittleEndian::write_u64(&mut bytes, n);
+    put(&bytes, out)
+}
+
+/// Puts a namespace: the number of its bytes, and its bytes.
+pub(crate) fn put_namespace(namespace: &Namespace, out: &mut Vec<u8>) -> Result<(), Memory>
+    ensures ok { OnOk result (out.new.items ≡ out.old.items ++ spelled_string namespace.now) }
+    ensures kept { take (length out.old.items) out.new.items ≡ out.old.items }
+    ensures namespace { IsNamespace namespace.now }
+{
+    let text = namespace.as_str();
+    put_u32(text.len() as u32, out)?;
+    put(text.as_bytes(), out)
+}
+
+/// Puts a document.
+fn put_document(document: &Document, out: &mut Vec<u8>) -> Result<(), Memory>
+    requires { FitsRecord document.now }
+    ensures ok { OnOk result (out.new.items ≡ out.old.items ++ written document.now) }
+    ensures sound { OnOk result (IsSoundDocument document.now) }
+    ensures kept { take (length out.old.items) out.new.items ≡ out.old.items }
+{
+    write(document, out)
+}
+
+/// Puts the key that an upsert gave, if there is one.
+fn put_key(key: &Option<Key>, out: &mut Vec<u8>) -> Result<(), Memory>
+    requires { IsWritableKey key.now }
+    ensures ok { OnOk result (out.new.items ≡ out.old.items ++ spelled_key key.now) }
+    ensures sound { OnOk result (IsSoundKey key.now) }
+    ensures kept { take (length out.old.items) out.new.items ≡ out.old.items }
+{
+    match key {
+        None => put(&[0x00], out),
+        Some(key) => {
+            put(&[0x01], out)?;
+            put_some_key(key, out)
+        }
+    }
+}
+
+/// Puts a key as the document that has it alone.
+pub(crate) fn put_some_key(key: &Key, out: &mut Vec<u8>) -> Result<(), Memory>
+    requires { IsWritable (key_document key.now) }
+    ensures ok { OnOk result (out.new.items ≡ out.old.items ++ written (key_document key.now)) }
+    ensures sound { OnOk result (IsSoundKeyValue key.now) }
+    ensures kept { take (length out.old.items) out.new.items ≡ out.old.items }
+{
+    let alloc = *out.allocator();
+    let mut document = Document::new(alloc);
+    document.push(Name::of(alloc, "_id")?, key.value().copy()?)?;
+    write(&document, out)
+}
+
+/// Puts whose statement it is.
+fn put_session(session: &Session, out: &mut Vec<u8>) -> Result<(), Memory>
+    ensures ok { OnOk result (out.new.items ≡ out.old.items ++ spelled_session (session_meant session.now)) }
+    ensures sound { OnOk result (IsSoundSession (session_meant session.now)) }
+    ensures kept { take (length out.old.items) out.new.items ≡ out.old.items }
+{
+    match session {
+        Session::Client(id) => {
+            put(&[0x00], out)?;
+            put(id, out)
+        }
+        Session::Router {
+            node,
+            life,
+            request,
+        } => {
+            put(&[0x01], out)?;
+            put_u32(node.0, out)?;
+            put_u64(*life, out)?;
+            put_u64(*request, out)
+        }
+    }
+}
+
+/// Puts the number of a statement's write command in its session; below zero that of the number and 2^64.
+fn put_txn(statement: &Stmt, out: &mut Vec<u8>) -> Result<(), Memory>
+    ensures ok { OnOk result (out.new.items ≡ out.old.items ++ eight (cast_unsigned w64 statement.now.txn)) }
+    ensures fits { FitsSigned w64 statement.now.txn }
+    ensures kept { take (length out.old.items) out.new.items ≡ out.old.items }
+{
+    put_u64(statement.txn.cast_unsigned(), out)
+}
+
+/// Puts the number of a statement.
+fn put_statement(statement: &Stmt, out: &mut Vec<u8>) -> Result<(), Memory>
+    ensures ok { OnOk result (out.new.items ≡ out.old.items ++ spelled_number (number_meant statement.now)) }
+    ensures sound { OnOk result (IsSoundNumber (number_meant statement.now)) }
+    ensures kept { take (length out.old.items) out.new.items ≡ out.old.items }
+{
+    put_session(&statement.session, out)?;
+    put_txn(statement, out)?;
+    put_u32(statement.index, out)
+}
+
+/// Puts what a statement does.
+fn put_operation(words: &WordsRef<'_>, out: &mut Vec<u8>) -> Result<(), Memory>
+    requires { IsWritableOperation (operation_lent words.now) }
+    ensures ok { OnOk result (out.new.items ≡ out.old.items ++ spelled_operation (operation_lent words.now)) }
+    ensures sound { OnOk result (IsSoundOperation (operation_lent words.now)) }
+    ensures kept { take (length out.old.items) out.new.items ≡ out.old.items }
+{
+    match words {
+        WordsRef::Insert(document) => {
+            put(&[0x01], out)?;
+            put_document(document, out)
+        }
+        WordsRef::Update {
+            filter,
+            change,
+            upsert,
+        } => {
+            put(&[0x02], out)?;
+            put_document(filter, out)?;
+            put_document(change, out)?;
+            put(&[u8::from(*upsert)], out)
+        }
+        WordsRef::Delete { filter } => {
+            put(&[0x03], out)?;
+            put_document(filter, out)
+        }
+    }
+}
+
+/// Puts what a statement is told.
+fn put_reply(reply: &Reply, out: &mut Vec<u8>) -> Result<(), Memory>
+    requires { IsWritableKey (outcome_meant reply.now).upserted }
+    ensures ok { OnOk result (out.new.items ≡ out.old.items ++ spelled_outcome (outcome_meant reply.now)) }
+    ensures sound { OnOk result (IsSoundOutcome (outcome_meant reply.now)) }
+    ensures kept { take (length out.old.items) out.new.items ≡ out.old.items }
+{
+    put_u32(reply.n, out)?;
+    put_u32(reply.modified, out)?;
+    put_key(&reply.upserted, out)?;
+    put_u32(reply.code.cast_unsigned(), out)
+}
+
+/// Puts the record of an entry of these parts.
+fn put_entry(
+    time: Time,
+    namespace: &Namespace,
+    statement: &Stmt,
+    words: &WordsRef<'_>,
+    reply: &Reply,
+    out: &mut Vec<u8>,
+) -> Result<(), Memory>
+    requires words { IsWritableOperation (operation_lent words.now) }
+    requires upserted { IsWritableKey (outcome_meant reply.now).upserted }
+    ensures ok { OnOk result (out.new.items ≡ out.old.items ++ spelled 1 (entry_record (entry_meant time namespace.now statement.now (operation_lent words.now) reply.now))) }
+    ensures sound { OnOk result (IsSound (entry_record (entry_meant time namespace.now statement.now (operation_lent words.now) reply.now))) }
+    ensures kept { take (length out.old.items) out.new.items ≡ out.old.items }
+{
+    put(&[NEWEST_FORMAT, 0x02], out)?;
+    put_u64(time.0, out)?;
+    put_namespace(namespace, out)?;
+    put_statement(statement, out)?;
+    put_operation(words, out)?;
+    put_reply(reply, out)
+}
+
+/// Puts the record of a collection that begins.
+fn put_creation(
+    namespace: &Namespace,
+    epoch: u64,
+    at: Time,
+    out: &mut Vec<u8>,
+) -> Result<(), Memory>
+    ensures ok { OnOk result (out.new.items ≡ out.old.items ++ spelled 1 (create_record (record { namespace = namespace.now; epoch = epoch; at = at.0 }))) }
+    ensures sound { OnOk result (IsSound (create_record (record { namespace = namespace.now; epoch = epoch; at = at.0 }))) }
+    ensures kept { take (length out.old.items) out.new.items ≡ out.old.items }
+{
+    put(&[NEWEST_FORMAT, 0x20], out)?;
+    put_namespace(namespace, out)?;
+    put_u64(epoch, out)?;
+    put_u64(at.0, out)
+}
+
+/// Puts a record.
+fn put_record(kept: &Record, out: &mut Vec<u8>) -> Result<(), Memory>
+    requires { IsWritableRecord (record_meant kept.now) }
+    ensures ok { OnOk result (out.new.items ≡ out.old.items ++ spelled 1 (record_meant kept.now)) }
+    ensures sound { OnOk result (IsSound (record_meant kept.now)) }
+    ensures kept { take (length out.old.items) out.new.items ≡ out.old.items }
+{
+    match kept {
+        Record::Table(table) => put_table(table, out),
+        Record::Entry {
+            time,
+            namespace,
+            statement,
+            op,
+            reply,
+        } => put_entry(*time, namespace, statement, &WordsRef::of(op), reply, out),
+        Record::Create {
+            namespace,
+            epoch,
+            at,
+        } => put_creation(namespace, *epoch, *at, out),
+        Record::Life(number) => {
+            put(&[NEWEST_FORMAT, 0x30], out)?;
+            put_u64(*number, out)
+        }
+        Record::Block(number) => {
+            put(&[NEWEST_FORMAT, 0x31], out)?;
+            put_u64(*number, out)
+        }
+    }
+}
