@@ -7,8 +7,9 @@ program takes 1.5 GB at most for a message of up to 48,000,000 bytes, also of ma
 (`initdb`, `pg_ctl`, `psql`; as another user where this is root) it also tells how long one statement of 1,000 rows takes there, with
 synchronous commit. The program is $CLUSTER, or `cluster` at the top of the repository. Client and program share one processor, so that no
 figure is of how long a sleeping one takes to wake. With $SPEED_SYNC_MS each sync takes so many milliseconds more, here and in the program
-(a library that is loaded before libc; wants `cc`): so a disk is measured that syncs as slowly as one that turns. Each figure is the best of
-some rounds. Ends with status 1 where a wanted bound does not hold. Usage: speed.py [ROUNDS]
+(a library that is loaded before libc; wants `cc`): so a disk is measured that syncs as slowly as one that turns; then fewer inserts are
+made, and neither their growth nor PostgreSQL is measured. Each figure is the best of some rounds. Ends with status 1 where a wanted
+bound does not hold. Usage: speed.py [ROUNDS]
 """
 import os
 import pathlib
@@ -210,18 +211,22 @@ def main():
     rounds = int(sys.argv[1]) if len(sys.argv) > 1 else 3
     os.sched_setaffinity(0, {max(os.sched_getaffinity(0))})
     synced, few, many = [], [], []
+    most = 60 if SYNC_MS else 500
     for _ in range(rounds):
-        synced.append(syncs(500))
-        few.append(inserts(2_000, 500))
-        many.append(inserts(20_000, 500))
+        synced.append(syncs(most))
+        few.append(inserts(2 * most if SYNC_MS else 2_000, most))
+        if not SYNC_MS:
+            many.append(inserts(20_000, most))
     ratio = min(synced) / min(few)
     held = [tell("inserts a second of one link to syncs a second", f"{1 / min(few):.0f} to {1 / min(synced):.0f}, {ratio:.2f}", "0.45", ratio >= 0.45)]
-    growth = min(many) / min(few)
-    held.append(tell("an insert among 20,000 to one among 2,000", f"{growth:.2f}", "at most 1.3", growth <= 1.3))
+    if many:
+        growth = min(many) / min(few)
+        held.append(tell("an insert among 20,000 to one among 2,000", f"{growth:.2f}", "at most 1.3", growth <= 1.3))
     took, size = min(thousand() for _ in range(rounds))
     alone = min(appended(size) for _ in range(rounds))
-    held.append(tell(f"1,000 documents to one append of {size} bytes", f"{took * 1000:.2f} ms to {alone * 1000:.2f} ms, {alone / took:.2f}", "0.8", alone >= 0.8 * took))
-    other = postgres(rounds)
+    figure = f"{took * 1000:.2f} ms to {alone * 1000:.2f} ms, {alone / took:.2f}"
+    held.append(tell(f"1,000 documents to one append of {size} bytes", figure, "0.8", alone >= 0.8 * took))
+    other = None if SYNC_MS else postgres(rounds)
     if other is not None:
         held.append(tell("1,000 documents to a statement of 1,000 rows", f"{took * 1000:.2f} ms to {other * 1000:.2f} ms", "no more", took <= other))
     for name, documents in (
