@@ -1,2 +1,3 @@
 mod Batches
+mod WriteParts
 pub use Rattle.command_model.proofs.SmallAnswers

@@ -1,6 +1,6 @@
 -- What the program's errors of statements mean.
 use Rattle.std.specs.Prelude.{List, [], ◌∷◌}
-use Rattle.command_model.specs.Insert as model
+use Rattle.command_model.specs.Writes as model
 use Rattle.command_answers.specs.declared.answer.WriteError.{WriteError}
 use Rattle.command_answers.specs.Refusals.{refusal_meant}
 

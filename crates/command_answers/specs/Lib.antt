@@ -1,5 +1,7 @@
 pub mod AnswerMeanings
 pub mod Errors
+pub mod Kinds
 pub mod Refusals
+pub mod Upserts
 pub use Rattle.command_model.specs.Answers
-pub use Rattle.command_model.specs.Insert
+pub use Rattle.command_model.specs.Writes

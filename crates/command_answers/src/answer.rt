@@ -6,7 +6,10 @@ ghost use Rattle.command_model.specs.CommandLimits.{most_statements};
 use crate::refusal::Refusal;
 use bson_values::{Document, Text};
 use cluster_base::Time;
+use std::alloc::Global;
 use std::marker::Model;
+use std::sync::Arc;
+use value_compare::Key;
 
 /// The most statements of one command (MongoDB manual, "hello", `maxWriteBatchSize`).
 pub const MOST_STATEMENTS: u32 = 100_000;
@@ -56,6 +59,21 @@ pub struct WriteError {
     pub refusal: Refusal,
 }
 
+/// What a write does with documents (MongoDB manual, "insert", "update", "delete").
+#[derive(Clone, Copy, Debug, PartialEq, Eq)]
+pub enum WriteKind {
+    Insert,
+    Update,
+    Delete,
+}
+
+/// The key of the document that the statement with this index put in, having met none (MongoDB manual, "update", `upserted`).
+#[derive(Drop)]
+pub struct Upserted {
+    pub index: StatementIndex,
+    pub key: Arc<Key, Global>,
+}
+
 /// What a request is answered.
 #[derive(Drop)]
 pub enum Answer {
@@ -70,9 +88,13 @@ pub enum Answer {
     },
     /// To `ping` and `endSessions`.
     Done,
-    /// To `insert`: how many documents were inserted, the errors, and the time of the operation.
-    Insert {
+    /// To a write: how many documents were put in, met or taken out, how many were changed, the keys that upserts put in, the errors, and
+    /// the time of the operation.
+    Write {
+        kind: WriteKind,
         count: u32,
+        modified: u32,
+        upserted: Vec<Upserted>,
         errors: Vec<WriteError>,
         time: Time,
     },

@@ -7,8 +7,8 @@ ghost use Rattle.command_answers.specs.AnswerMeanings.{answer_meant};
 use crate::answer::Answer;
 use crate::find::find_document;
 use crate::handshake::{done_answer, hello_answer, legacy_answer};
-use crate::insert::insert_document;
 use crate::refusal::refusal_document;
+use crate::writes::write_document;
 use bson_values::{Document, Memory};
 use std::alloc::Global;
 
@@ -20,11 +20,14 @@ pub fn write_answer(alloc: Global, answer: &Answer) -> Result<Document, Memory>
         Answer::Hello { moment } => hello_answer(alloc, *moment),
         Answer::Legacy { moment, hello_ok } => legacy_answer(alloc, *moment, *hello_ok),
         Answer::Done => done_answer(alloc),
-        Answer::Insert {
+        Answer::Write {
+            kind,
             count,
+            modified,
+            upserted,
             errors,
             time,
-        } => insert_document(alloc, *count, errors, *time),
+        } => write_document(alloc, *kind, *count, *modified, upserted, errors, *time),
         Answer::Find {
             namespace,
             documents,

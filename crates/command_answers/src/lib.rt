@@ -5,10 +5,10 @@ mod answer;
 mod documents;
 mod find;
 mod handshake;
-mod insert;
 mod parts;
 mod refusal;
+mod writes;
 
-pub use answer::{Answer, MOST_STATEMENTS, StatementIndex, WriteError};
+pub use answer::{Answer, MOST_STATEMENTS, StatementIndex, Upserted, WriteError, WriteKind};
 pub use documents::write_answer;
 pub use refusal::{Evidence, Refusal};

@@ -5,12 +5,22 @@ use Rattle.opmsg_model.specs.Tree.{Fields}
 use Rattle.base_model.specs.Refusals.{Refusal}
 use Rattle.base_model.specs.ReplyParts.{operation_time}
 use Rattle.base_model.proofs.Replies.{time_of_refusal}
-use Rattle.command_model.specs.Insert.{WriteError}
-use Rattle.command_model.specs.Answers.{hello_answer, legacy_answer, done_answer, insert_answer, find_answer, refusal_answer, answer_document}
+use Rattle.command_model.specs.Writes.{WriteKind, insert_kind, update_kind, delete_kind, WriteError, Upserted, WriteSummary, write_errors_shown, upserted_shown}
+use Rattle.command_model.specs.AnswerParts.{ok, operation_time_at}
+use Rattle.command_model.specs.Answers.{hello_answer, legacy_answer, done_answer, write_answer, find_answer, refusal_answer, answer_document}
 
-pub time_of_insert : (count : ℕ) (errors : List WriteError) (time : ℕ) → operation_time (Some (answer_document (insert_answer count errors time))) ≡ Some time
-time_of_insert count [] time = refl
-time_of_insert count (e ∷ errors) time = refl
+behind_errors : (errors : List WriteError) (time : ℕ) → operation_time (Some (write_errors_shown errors (ok (operation_time_at time)))) ≡ Some time
+behind_errors [] time = refl
+behind_errors (e ∷ errors) time = refl
+
+behind_upserted : (upserted : List Upserted) (errors : List WriteError) (time : ℕ) → operation_time (Some (upserted_shown upserted (write_errors_shown errors (ok (operation_time_at time))))) ≡ Some time
+behind_upserted [] errors time = behind_errors errors time
+behind_upserted (u ∷ upserted) errors time = behind_errors errors time
+
+pub time_of_write : (kind : WriteKind) (told : WriteSummary) → operation_time (Some (answer_document (write_answer kind told))) ≡ Some told.time
+time_of_write insert_kind told = behind_errors told.errors told.time
+time_of_write update_kind told = behind_upserted told.upserted told.errors told.time
+time_of_write delete_kind told = behind_errors told.errors told.time
 
 pub time_of_find : (namespace : List ℕ) (documents : List Fields) (time : ℕ) → operation_time (Some (answer_document (find_answer namespace documents time))) ≡ Some time
 time_of_find namespace documents time = refl

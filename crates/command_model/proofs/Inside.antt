@@ -5,8 +5,9 @@ use Rattle.std.specs.Str.{bytes_eq}
 use Rattle.opmsg_model.specs.Tree.{Datum, document_value, Items, no_items, item, Fields, no_fields, field, get, value_depth, array_depth, document_depth}
 use Rattle.opmsg_model.specs.Spelling.{written_value, written_items, written_fields}
 use Rattle.opmsg_model.specs.MessageSizes.{IsSmall}
-use Rattle.command_model.specs.Insert.{documents_in}
-use Rattle.opmsg_model.proofs.Lengths.{length-item, length-field}
+use Rattle.command_model.specs.Statements.{document_or_none}
+use Rattle.command_model.specs.Writes.{documents_in}
+use Rattle.opmsg_model.proofs.Lengths.{length-framed, length-item, length-field}
 
 abbrev pub IsInside : Datum → Fields → Type 0
 IsInside value ms = (suc (value_depth value) ≤ document_depth ms) × (length (written_value value) ≤ length (written_fields ms))
@@ -41,3 +42,14 @@ items_small i (item (document_value ms) ds) documents low short e =
     (omega arith, omega (arith, length-item i (document_value ms) ds))
     (λ more is. items_small (i + 1) ds more (omega arith) (omega (arith, length-item i (document_value ms) ds)) is)
 items_small i (item d ds) documents low short e = absurd cc
+
+found_small : (name : List ℕ) (ms : Fields) (found : Option Datum) → get name ms ≡ found → IsSmall ms → IsSmall (document_or_none found)
+found_small name ms None is small = (omega arith, omega arith)
+found_small name ms (Some (document_value inner)) is small =
+    let inside = got_inside name ms (document_value inner) is in
+    (omega (arith, inside.0, small.0), omega (arith, inside.1, small.1, length-framed (written_fields inner), length-framed (written_fields ms)))
+found_small name ms (Some value) is small = (omega arith, omega arith)
+
+-- the document in a field of a small document is small
+pub document_small : (name : List ℕ) (ms : Fields) → IsSmall ms → IsSmall (document_or_none (get name ms))
+document_small name ms small = found_small name ms (get name ms) refl small

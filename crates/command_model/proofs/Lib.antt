@@ -1,6 +1,7 @@
 pub mod ShortErrors
 pub mod Passed
 pub mod Inside
+pub mod Judged
 pub mod Rows
 pub mod Taken
 pub mod SmallAnswers

@@ -1,17 +1,13 @@
--- What passes the checks: a field by its rule, the documents of an insert by their number and their keys.
+-- What passes the checks: a field by its rule, statements by their number.
 use Rattle.std.proofs.Common.{◌≡◌, ◌≢◌, ℕ, ◌≤◌, List, [], ◌∷◌, length, refl, Bool, true, false, Option, Some, None, if◌then◌else◌, subst}
-use Rattle.std.specs.List.{AllByRecursion}
 use Rattle.std.specs.Str.{bytes_eq}
 use Rattle.std.proofs.lemmas.Slice.Eq.{bytes_eq-Decides}
 use Rattle.std.proofs.lemmas.Bool.{and_parts, leb-true}
 use Rattle.opmsg_model.specs.Tree.{Datum, Fields, no_fields, field, get}
-use Rattle.value_model.specs.Keys.{is_key, key_of}
-use Rattle.base_model.specs.Errors.{ErrorCode, bad_value, failed_to_parse, shard_key_not_found}
+use Rattle.base_model.specs.Errors.{ErrorCode, bad_value, failed_to_parse}
 use Rattle.command_model.specs.Checks.{Verdict, first_of, is_one_of, unless_passes}
-use Rattle.opmsg_model.specs.MessageSizes.{IsSmall}
 use Rattle.command_model.specs.Fields.{Rule, by_rule, check_fields, find_rule}
-use Rattle.command_model.specs.Insert.{check_count, check_statement, check_statements, is_statement_count}
-use Rattle.command_model.specs.CommandSizes.{IsKeepable}
+use Rattle.command_model.specs.Writes.{check_count, is_statement_count}
 use Rattle.command_model.specs.CommandLimits.{most_statements}
 
 pub passed_parts : (v : Verdict) (vs : List Verdict) → first_of (v ∷ vs) ≡ None → (v ≡ None) × (first_of vs ≡ None)
@@ -21,7 +17,7 @@ passed_parts (Some error) vs e = absurd cc
 pub passed_last : (v : Verdict) → first_of (v ∷ []) ≡ None → v ≡ None
 passed_last v e = (passed_parts v [] e).0
 
-passed_test : (b : Bool) (error : ErrorCode) → unless_passes b error ≡ None → b ≡ true
+pub passed_test : (b : Bool) (error : ErrorCode) → unless_passes b error ≡ None → b ≡ true
 passed_test true error e = refl
 passed_test false error e = cc
 
@@ -64,34 +60,3 @@ few_documents documents e =
 pub some_counted : (documents : List Fields) → check_count documents ≡ None → documents ≢ []
 some_counted [] e none = absurd cc
 some_counted (document ∷ documents) e none = absurd cc
-
-abbrev key_verdict : Option Datum → Verdict
-key_verdict o = elim o [ None ↦ Some shard_key_not_found | Some key ↦ unless_passes (is_key key) bad_value ]
-
-with_key : (o : Option Datum) (document : Fields) → key_of document ≡ o → IsSmall document → key_verdict o ≡ None → IsKeepable document
-with_key None document found small e = absurd cc
-with_key (Some key) document found small e = record { small = small; key = key; found = found; is = passed_test (is_key key) bad_value e }
-
--- small documents that pass may be kept
-pub keepable : (documents : List Fields) → AllByRecursion IsSmall documents → check_statements documents ≡ None → AllByRecursion IsKeepable documents
-keepable [] small e = tt
-keepable (document ∷ documents) small e =
-    let told = passed_parts (check_statement document) (check_statements documents ∷ []) e in
-    (with_key (key_of document) document refl small.0 told.0, keepable documents small.1 (passed_last (check_statements documents) told.1))
-
--- a document that has a key
-pub record HasKey (document : Fields) : Type 0 where
-  pub key : Datum
-  pub found : key_of document ≡ Some key
-  pub is : is_key key ≡ true
-
-key_passed : (o : Option Datum) (document : Fields) → key_of document ≡ o → key_verdict o ≡ None → HasKey document
-key_passed None document found e = absurd cc
-key_passed (Some key) document found e = record { key = key; found = found; is = passed_test (is_key key) bad_value e }
-
--- documents that pass have keys
-pub keys_passed : (documents : List Fields) → check_statements documents ≡ None → AllByRecursion HasKey documents
-keys_passed [] e = tt
-keys_passed (document ∷ documents) e =
-    let told = passed_parts (check_statement document) (check_statements documents ∷ []) e in
-    (key_passed (key_of document) document refl told.0, keys_passed documents (passed_last (check_statements documents) told.1))

@@ -3,14 +3,23 @@ use Rattle.std.proofs.Common.{ℕ, ◌≤◌, List, [], ◌∷◌, length, Bool,
 use Rattle.std.specs.List.{AllByRecursion}
 use Rattle.std.specs.Str.{bytes_eq}
 use Rattle.opmsg_model.specs.Tree.{Datum, string_value, document_value, array_value, binary_value, boolean_value, timestamp_value, Fields, no_fields, field, get}
-use Rattle.value_model.specs.Keys.{is_key, key_of}
+use Rattle.std.specs.Prelude.{ℤ, pos, Result, Ok, Err}
+use Rattle.std.specs.Ordering.{int_eq}
+use Rattle.pipeline_model.specs.Operands.{whole_number}
+use Rattle.query_model.specs.Queries.{QueryFault}
+use Rattle.query_model.specs.Writes.{Write}
+use Rattle.history_model.specs.History.{Operation, read_operation}
+use Rattle.value_model.specs.Keys.{is_key}
 use Rattle.opmsg_model.specs.Requests.{Form, msg_form, query_form}
-use Rattle.base_model.specs.Errors.{ErrorCode, bad_value, failed_to_parse, shard_key_not_found}
+use Rattle.base_model.specs.Errors.{ErrorCode, bad_value, failed_to_parse, type_mismatch}
 use Rattle.command_model.specs.Checks.{Verdict, first_of, is_one_of, unless_passes}
 use Rattle.command_model.specs.Fields.{Rule, any_value, boolean_needed, by_rule, check_inner_fields, check_fields, check_required, check_session, common_rules, document_needed, find_rule, names_of, session_id, session_rules, string_needed}
 use Rattle.command_model.specs.Forms.{CommandForm, SequenceRule, Sequences, check_collection, check_command, check_database, check_sequence, check_sequences, database_of}
 use Rattle.command_model.specs.Handshake.{handshake_rules}
-use Rattle.command_model.specs.Insert.{check_count, check_documents, check_statement, check_statements, documents_in, documents_needed, insert_rules, some_needed}
+use Rattle.command_model.specs.Statements.{StatementForm, check_key, check_statement, check_statements, check_words, key_asked_by}
+use Rattle.command_model.specs.Update.{update_rules}
+use Rattle.command_model.specs.Delete.{delete_rules, limit_needed}
+use Rattle.command_model.specs.Writes.{WriteKind, insert_kind, update_kind, delete_kind, check_count, check_documents, documents_in, documents_needed, some_needed, statement_form, write_rules}
 use Rattle.command_model.specs.Find.{check_concern, check_filter, check_level, check_time, concern_rules, filter_needed, find_rules, is_snapshot}
 use Rattle.command_model.specs.Command.{Command}
 
@@ -97,8 +106,8 @@ documents_short : (value : Datum) → IsShort (documents_needed value)
 documents_short (array_value ds) = check_documents_short (documents_in ds)
 documents_short value = omega arith
 
-pub insert_short : AreShort insert_rules
-insert_short = (documents_short, (boolean_short, (document_short (λ ms. None) (λ ms. tt), (boolean_short, common_short))))
+pub write_short : (form : StatementForm) → AreShort (write_rules form)
+write_short form = (documents_short, (boolean_short, (document_short (λ ms. None) (λ ms. tt), (boolean_short, common_short))))
 
 level_short : (value : Datum) → IsShort (check_level value)
 level_short (string_value s) = unless_short _ bad_value (omega arith)
@@ -135,24 +144,58 @@ pub filter_needed_short : (o : Option Datum) → IsShort (filter_needed o)
 filter_needed_short None = omega arith
 filter_needed_short (Some value) = tt
 
-statement_short : (document : Fields) → IsShort (check_statement document)
-statement_short document = by_key (key_of document)
-  where
-    by_key : (o : Option Datum) → IsShort (elim o [ None ↦ Some shard_key_not_found | Some key ↦ unless_passes (is_key key) bad_value ])
-    by_key None = omega arith
-    by_key (Some key) = unless_short (is_key key) bad_value (omega arith)
+-- statements
 
-pub statements_short : (documents : List Fields) → IsShort (check_statements documents)
-statements_short [] = tt
-statements_short (document ∷ documents) =
-    first_short (check_statement document) (check_statements documents ∷ []) (statement_short document) (first_short (check_statements documents) [] (statements_short documents) tt)
+key_short : (o : Option Datum) → IsShort (check_key o)
+key_short None = omega arith
+key_short (Some key) = unless_short (is_key key) bad_value (omega arith)
+
+words_short : (operation : Operation) → IsShort (check_words operation)
+words_short operation = by_words (read_operation operation)
+  where
+    by_words : (read : Result Write QueryFault) → IsShort (elim read [ Ok write ↦ None | Err fault ↦ Some bad_value ])
+    by_words (Ok write) = tt
+    by_words (Err fault) = omega arith
+
+limit_short : (value : Datum) → IsShort (limit_needed value)
+limit_short value = by_number (whole_number value)
+  where
+    by_number : (o : Option ℤ) → IsShort (elim o [ None ↦ Some type_mismatch | Some n ↦ unless_passes (int_eq n (pos 0) || int_eq n (pos 1)) bad_value ])
+    by_number None = omega arith
+    by_number (Some n) = unless_short _ bad_value (omega arith)
+
+any_document_short : (value : Datum) → IsShort (document_needed (λ ms. None) value)
+any_document_short value = document_short (λ ms. None) (λ ms. tt) value
+
+two_required_short : (rules : List Rule) (first second : List ℕ) (statement : Fields) → AreShort rules →
+    IsShort (first_of (check_inner_fields rules statement ∷ check_required first statement ∷ check_required second statement ∷ []))
+two_required_short rules first second statement short =
+    first_short (check_inner_fields rules statement) _ (inner_fields_short rules statement short)
+    (first_short (check_required first statement) _ (required_short first statement) (first_short (check_required second statement) [] (required_short second statement) tt))
+
+fields_of_statement_short : (kind : WriteKind) (statement : Fields) → IsShort ((statement_form kind).check statement)
+fields_of_statement_short insert_kind statement = tt
+fields_of_statement_short update_kind statement = two_required_short update_rules (codes "q") (codes "u") statement (any_document_short, (any_document_short, (boolean_short, (boolean_short, tt))))
+fields_of_statement_short delete_kind statement = two_required_short delete_rules (codes "q") (codes "limit") statement (any_document_short, (limit_short, tt))
+
+statement_short : (kind : WriteKind) (statement : Fields) → IsShort (check_statement (statement_form kind) statement)
+statement_short kind statement =
+    let operation : Operation = (statement_form kind).operation statement in
+    first_short ((statement_form kind).check statement) _ (fields_of_statement_short kind statement)
+    (first_short (check_key (key_asked_by operation)) _ (key_short (key_asked_by operation)) (first_short (check_words operation) [] (words_short operation) tt))
+
+pub statements_short : (kind : WriteKind) (statements : List Fields) → IsShort (check_statements (statement_form kind) statements)
+statements_short kind [] = tt
+statements_short kind (statement ∷ statements) =
+    first_short (check_statement (statement_form kind) statement) (check_statements (statement_form kind) statements ∷ []) (statement_short kind statement)
+    (first_short (check_statements (statement_form kind) statements) [] (statements_short kind statements) tt)
 
 abbrev pub IsShortSequence : Option SequenceRule → Type 0
 IsShortSequence None = Unit {0}
 IsShortSequence (Some rule) = (documents : List Fields) → IsShort (rule.check documents)
 
-pub documents_sequence_short : IsShortSequence (Some (record { identifier = codes "documents"; check = check_count }))
-documents_sequence_short = count_short
+pub documents_sequence_short : (identifier : List ℕ) → IsShortSequence (Some (record { identifier = identifier; check = check_count }))
+documents_sequence_short identifier = count_short
 
 -- each check of the form tells short errors
 pub record IsShortForm (form : CommandForm Command) : Type 0 where

@@ -1,5 +1,5 @@
 -- The documents of small answers are small.
-use Rattle.std.proofs.Common.{◌≡◌, ℕ, ◌+◌, ◌*◌, ◌≤◌, ◌^◌, List, [], ◌∷◌, length, refl, Bool, true, false, nat_lt, Option, Some, None, if◌then◌else◌, codes, pos, arith, subst}
+use Rattle.std.proofs.Common.{◌≡◌, ℕ, ◌+◌, ◌*◌, ◌<◌, ◌≤◌, ◌^◌, List, [], ◌∷◌, length, refl, Bool, true, false, nat_lt, Option, Some, None, if◌then◌else◌, codes, pos, arith, subst}
 use Rattle.std.specs.List.{AllByRecursion}
 use Rattle.std.proofs.lemmas.Fmt.{length-decimal-le}
 use Rattle.opmsg_model.specs.Tree.{string_value, document_value, array_value, int32_value, int64_value, timestamp_value, Items, no_items, Fields, no_fields, field, value_depth, array_depth, document_depth}
@@ -7,14 +7,14 @@ use Rattle.opmsg_model.specs.Spelling.{written, written_value, written_items, wr
 use Rattle.opmsg_model.specs.MessageSizes.{IsSmall, IsWithin}
 use Rattle.base_model.specs.Refusals.{Evidence, Refusal, evidence_document, no_evidence, place_evidence, greatest_evidence, cursor_evidence, moments_evidence, disk_evidence, steps_evidence, node_evidence, number_evidence, oldest_evidence, bytes_evidence}
 use Rattle.base_model.specs.ReplyParts.{evidence_shown, refusal_reply, shown_if, write_error}
-use Rattle.command_model.specs.AnswerParts.{count, document_items, ok, operation_time_at}
-use Rattle.command_model.specs.Insert.{WriteError, write_error_items, write_errors_shown}
+use Rattle.command_model.specs.AnswerParts.{count, document_items, number, ok, operation_time_at}
+use Rattle.command_model.specs.Writes.{WriteKind, insert_kind, update_kind, delete_kind, WriteError, Upserted, WriteSummary, write_error_items, write_errors_shown, upserted_items, upserted_shown, changes_shown}
 use Rattle.command_model.specs.Find.{cursor}
-use Rattle.command_model.specs.Answers.{Answer, hello_answer, legacy_answer, done_answer, insert_answer, find_answer, refusal_answer, answer_document}
-use Rattle.command_model.specs.CommandSizes.{IsSmallAnswer, IsSmallError, IsSmallRefusal}
+use Rattle.command_model.specs.Answers.{Answer, hello_answer, legacy_answer, done_answer, write_answer, find_answer, refusal_answer, answer_document}
+use Rattle.command_model.specs.CommandSizes.{IsSmallAnswer, IsSmallError, IsSmallRefusal, IsSmallSummary, keys_length}
 use Rattle.opmsg_model.proofs.Lengths.{length-framed, length-item, length-field, length-string}
 use Rattle.opmsg_model.specs.Limits.{most_bytes_written, most_depth_written}
-use Rattle.command_model.specs.CommandLimits.{most_statements}
+use Rattle.command_model.specs.CommandLimits.{most_bytes_upserted, most_statements}
 
 hello_small : (moment : ℕ) → IsWithin most_depth_written most_bytes_written (answer_document (hello_answer moment))
 hello_small moment = (omega arith, omega arith)
@@ -91,14 +91,48 @@ errors_small i (e ∷ errors) few all =
       omega (arith, first.1, others.1, length-decimal-le 5 i (omega arith) (omega arith) (omega arith), length-item i (document_value (write_error e.index e.refusal)) (write_error_items errors)),
     )
 
--- what stands behind the count of an insert
-insert_behind_small : (errors : List WriteError) (time : ℕ) → (length errors ≤ most_statements) × AllByRecursion IsSmallError errors → (document_depth (write_errors_shown errors (ok (operation_time_at time))) ≤ 103) × (length (written_fields (write_errors_shown errors (ok (operation_time_at time)))) ≤ 41001000)
-insert_behind_small [] time all = (omega arith, omega arith)
-insert_behind_small (e ∷ errors) time all =
+-- the errors, and what every answer ends with
+errors_behind_small : (errors : List WriteError) (time : ℕ) → length errors ≤ most_statements → AllByRecursion IsSmallError errors →
+    (document_depth (write_errors_shown errors (ok (operation_time_at time))) ≤ 103) × (length (written_fields (write_errors_shown errors (ok (operation_time_at time)))) ≤ 41001000)
+errors_behind_small [] time few all = (omega arith, omega arith)
+errors_behind_small (e ∷ errors) time few all =
     let shown : Items = write_error_items (e ∷ errors) in
-    let items = errors_small 0 (e ∷ errors) (omega (arith, all.0)) all.1 in (
+    let items = errors_small 0 (e ∷ errors) (omega (arith, few)) all in (
       omega (arith, items.0),
-      omega (arith, all.0, items.1, length-framed (written_items 0 shown), length-field (codes "writeErrors") (array_value shown) (ok (operation_time_at time))),
+      omega (arith, few, items.1, length-framed (written_items 0 shown), length-field (codes "writeErrors") (array_value shown) (ok (operation_time_at time))),
+    )
+
+abbrev key_shown : Upserted → Fields
+key_shown u = field (codes "index") (number u.index) (field (codes "_id") u.key no_fields)
+
+-- a key without depth, with the index of its statement
+key_small : (u : Upserted) → value_depth u.key ≡ 0 → (document_depth (key_shown u) ≤ 1) × (length (written (key_shown u)) ≤ length (written_value u.key) + 30)
+key_small u flat = (
+  omega (arith, flat),
+  omega (arith, length-framed (written_fields (key_shown u)), length-field (codes "index") (number u.index) (field (codes "_id") u.key no_fields), length-field (codes "_id") u.key no_fields),
+)
+
+-- keys without depth, from an index on that has at most five digits
+keys_small : (i : ℕ) (upserted : List Upserted) → i + length upserted ≤ most_statements → AllByRecursion (λ (u : Upserted). (u.index < most_statements) × (value_depth u.key ≡ 0)) upserted →
+    (array_depth (upserted_items upserted) ≤ 2) × (length (written_items i (upserted_items upserted)) ≤ keys_length upserted + 40 * length upserted)
+keys_small i [] few all = (omega arith, omega arith)
+keys_small i (u ∷ upserted) few all =
+    let first = key_small u all.0.1 in
+    let others = keys_small (i + 1) upserted (omega arith) all.1 in (
+      omega (arith, first.0, others.0),
+      omega (arith, first.1, others.1, length-decimal-le 5 i (omega arith) (omega arith) (omega arith), length-item i (document_value (key_shown u)) (upserted_items upserted)),
+    )
+
+-- the keys, in front of what is small
+keys_behind_small : (upserted : List Upserted) (more : Fields) → length upserted ≤ most_statements → AllByRecursion (λ (u : Upserted). (u.index < most_statements) × (value_depth u.key ≡ 0)) upserted →
+    keys_length upserted ≤ most_bytes_upserted → document_depth more ≤ 103 → length (written_fields more) ≤ 41001000 →
+    (document_depth (upserted_shown upserted more) ≤ 103) × (length (written_fields (upserted_shown upserted more)) ≤ 295002000)
+keys_behind_small [] more few all short low rest = (omega (arith, low), omega (arith, rest))
+keys_behind_small (u ∷ upserted) more few all short low rest =
+    let shown : Items = upserted_items (u ∷ upserted) in
+    let items = keys_small 0 (u ∷ upserted) (omega (arith, few)) all in (
+      omega (arith, items.0, low),
+      omega (arith, few, short, items.1, rest, length-framed (written_items 0 shown), length-field (codes "upserted") (array_value shown) more),
     )
 
 -- a count takes eight bytes at most
@@ -109,13 +143,26 @@ count_small n = by_test (nat_lt n (2 ^ 31))
     by_test true = (refl, omega arith)
     by_test false = (refl, omega arith)
 
-insert_small : (n : ℕ) (errors : List WriteError) (time : ℕ) → (length errors ≤ most_statements) × AllByRecursion IsSmallError errors → IsWithin most_depth_written most_bytes_written (answer_document (insert_answer n errors time))
-insert_small n errors time all =
-    let counted = count_small n in
-    let behind : Fields = write_errors_shown errors (ok (operation_time_at time)) in
-    let behind_small = insert_behind_small errors time all in (
+-- what stands behind the count
+changes_small : (kind : WriteKind) (told : WriteSummary) → IsSmallSummary told →
+    (document_depth (changes_shown kind told (write_errors_shown told.errors (ok (operation_time_at told.time)))) ≤ 103)
+    × (length (written_fields (changes_shown kind told (write_errors_shown told.errors (ok (operation_time_at told.time))))) ≤ 295003000)
+changes_small insert_kind told small = let errors = errors_behind_small told.errors told.time small.few small.short in (errors.0, omega (arith, errors.1))
+changes_small update_kind told small =
+    let more : Fields = write_errors_shown told.errors (ok (operation_time_at told.time)) in
+    let errors = errors_behind_small told.errors told.time small.few small.short in
+    let keys = keys_behind_small told.upserted more small.few_keys small.flat small.short_keys errors.0 errors.1 in
+    let counted = count_small told.modified in
+    (omega (arith, counted.0, keys.0), omega (arith, counted.1, keys.1, length-field (codes "nModified") (count told.modified) (upserted_shown told.upserted more)))
+changes_small delete_kind told small = let errors = errors_behind_small told.errors told.time small.few small.short in (errors.0, omega (arith, errors.1))
+
+write_small : (kind : WriteKind) (told : WriteSummary) → IsSmallSummary told → IsWithin most_depth_written most_bytes_written (answer_document (write_answer kind told))
+write_small kind told small =
+    let counted = count_small told.count in
+    let behind : Fields = changes_shown kind told (write_errors_shown told.errors (ok (operation_time_at told.time))) in
+    let behind_small = changes_small kind told small in (
       omega (arith, counted.0, behind_small.0),
-      omega (arith, counted.1, behind_small.1, length-framed (written_fields (field (codes "n") (count n) behind)), length-field (codes "n") (count n) behind),
+      omega (arith, counted.1, behind_small.1, length-framed (written_fields (field (codes "n") (count told.count) behind)), length-field (codes "n") (count told.count) behind),
     )
 
 -- at most one small document
@@ -182,6 +229,6 @@ pub answer_small : (answer : Answer) → IsSmallAnswer answer → IsWithin most_
 answer_small (hello_answer moment) small = hello_small moment
 answer_small (legacy_answer moment shown) small = legacy_small moment shown
 answer_small done_answer small = done_small
-answer_small (insert_answer n errors time) small = insert_small n errors time small
+answer_small (write_answer kind told) small = write_small kind told small
 answer_small (find_answer namespace documents time) (named, few, all) = find_small namespace documents time named few all
 answer_small (refusal_answer refusal) small = refusal_small refusal small

@@ -1,6 +1,7 @@
--- What a small request asks for is small, and an insert has documents.
-use Rattle.std.proofs.Common.{◌≡◌, ◌≢◌, ℕ, ◌≤◌, List, [], ◌∷◌, length, refl, Option, Some, None, Ok, Err, codes, arith, subst}
-use Rattle.std.specs.Prelude.{Result}
+-- What a small request asks for is small, and a write command has statements.
+use Rattle.std.proofs.Common.{◌≡◌, ◌≢◌, ℕ, ◌≤◌, List, [], ◌∷◌, length, refl, false, Option, Some, None, Ok, Err, codes, arith, subst, ◌∙◌, sym}
+use Rattle.std.specs.Prelude.{Result, map}
+use Rattle.std.specs.Str.{bytes_eq}
 use Rattle.std.specs.List.{AllByRecursion}
 use Rattle.opmsg_model.specs.Tree.{Datum, array_value, Fields, no_fields, field, get}
 use Rattle.opmsg_model.specs.Spelling.{written_items, written_fields}
@@ -9,16 +10,18 @@ use Rattle.opmsg_model.specs.MessageSizes.{IsSmall, IsSmallBody}
 use Rattle.base_model.specs.Errors.{failed_to_parse}
 use Rattle.base_model.specs.Refusals.{Refusal}
 use Rattle.command_model.specs.Checks.{Verdict, is_one_of}
-use Rattle.command_model.specs.Fields.{check_fields, names_of}
-use Rattle.command_model.specs.Forms.{CommandForm, Sequences, check_collection, check_command, check_database, check_sequence, check_sequences, command_by, database_of, made_into}
+use Rattle.command_model.specs.Fields.{by_rule, check_fields, find_rule, names_of}
+use Rattle.command_model.specs.Forms.{CommandForm, SequenceRule, Sequences, check_collection, check_command, check_database, check_sequence, check_sequences, command_by, database_of, made_into}
 use Rattle.command_model.specs.Handshake.{handshake_form, legacy_of}
-use Rattle.command_model.specs.Insert.{Insert, check_count, check_documents, check_statements, documents_asked, documents_needed, documents_of_value, insert_form, insert_rules, or_documents, some_needed}
+use Rattle.command_model.specs.Statements.{StatementForm, check_statements}
+use Rattle.command_model.specs.Writes.{WriteKind, insert_kind, update_kind, delete_kind, WriteCommand, check_count, check_documents, documents_asked, documents_needed, documents_of_value, or_documents, some_needed, statement_form, write_form, write_rules}
 use Rattle.command_model.specs.Find.{find_form}
-use Rattle.command_model.specs.Command.{Command, hello_command, legacy_command, ping_command, end_sessions_command, insert_command, find_command, rows, form_of, by_form, by_verdict, command_asked, command_in, command_of, or_refusal}
+use Rattle.command_model.specs.Command.{Command, hello_command, legacy_command, ping_command, end_sessions_command, write_command, find_command, rows, form_of, by_form, by_verdict, command_asked, command_in, command_of, or_refusal}
 use Rattle.command_model.specs.CommandSizes.{IsKeepable, IsSmallCommand, IsTaken}
 use Rattle.opmsg_model.proofs.Lengths.{length-framed}
-use Rattle.command_model.proofs.ShortErrors.{IsShort, IsShortForm, collection_short, command_short, documents_sequence_short, filter_needed_short, find_short, handshake_short, insert_short, some_short, statements_short}
-use Rattle.command_model.proofs.Passed.{HasKey, keys_passed, few_documents, keepable, field_passed, passed_else, passed_last, passed_parts, some_counted}
+use Rattle.command_model.proofs.ShortErrors.{IsShort, IsShortForm, collection_short, command_short, documents_sequence_short, filter_needed_short, find_short, handshake_short, some_short, statements_short, write_short}
+use Rattle.command_model.proofs.Passed.{few_documents, field_passed, passed_else, passed_last, passed_parts, some_counted}
+use Rattle.command_model.proofs.Judged.{HasKey, keepable, keys_passed}
 use Rattle.command_model.proofs.Inside.{got_inside, items_small}
 use Rattle.command_model.proofs.Rows.{found_row}
 use Rattle.command_model.specs.CommandLimits.{most_statements}
@@ -26,47 +29,51 @@ use Rattle.command_model.specs.CommandLimits.{most_statements}
 abbrev AreSmall : Sequences → Type 0
 AreSmall sequences = AllByRecursion (λ s. AllByRecursion IsSmall s.1) sequences
 
--- an insert has documents, each with a key
-abbrev HasDocuments : Command → Type 0
-HasDocuments hello_command = Unit {0}
-HasDocuments (legacy_command legacy) = Unit {0}
-HasDocuments ping_command = Unit {0}
-HasDocuments end_sessions_command = Unit {0}
-HasDocuments (insert_command insert) = (insert.documents ≢ []) × AllByRecursion HasKey insert.documents
-HasDocuments (find_command find) = Unit {0}
+-- a write command has statements, each with a key
+abbrev HasStatements : Command → Type 0
+HasStatements hello_command = Unit {0}
+HasStatements (legacy_command legacy) = Unit {0}
+HasStatements ping_command = Unit {0}
+HasStatements end_sessions_command = Unit {0}
+HasStatements (write_command write) = (write.operations ≢ []) × AllByRecursion HasKey write.operations
+HasStatements (find_command find) = Unit {0}
 
--- a command of that name and form that passes has documents, and is as small as its request
+-- a command of that name and form that passes has statements, and is as small as its request
 record IsSound (name : List ℕ) (form : CommandForm Command) : Type 0 where
   short : IsShortForm form
-  some : (sent : Form) (value : Datum) (others : Fields) (sequences : Sequences) → check_command form sent name value others sequences ≡ None → HasDocuments (command_by form sent name value others sequences)
+  some : (sent : Form) (value : Datum) (others : Fields) (sequences : Sequences) → check_command form sent name value others sequences ≡ None → HasStatements (command_by form sent name value others sequences)
   small : (sent : Form) (value : Datum) (others : Fields) (sequences : Sequences) → IsSmall (field name value others) → AreSmall sequences → check_command form sent name value others sequences ≡ None →
       IsSmallCommand (command_by form sent name value others sequences)
 
--- the documents of an insert are counted
+-- the statements of a write command are counted
+
+abbrev counting : List ℕ → Option SequenceRule
+counting identifier = Some (record { identifier = identifier; check = check_count })
 
 counted_value : (value : Datum) (documents : List Fields) → documents_needed value ≡ None → documents_of_value value ≡ Some documents → check_count documents ≡ None
 counted_value (array_value ds) documents passed is = subst (λ (o : Option (List Fields)). check_documents o ≡ None) is passed
 counted_value value documents passed is = absurd cc
 
-counted_sequence : (given : List (List ℕ)) (sequences : Sequences) (documents : List Fields) → check_sequences insert_form.sequence given sequences ≡ None → elim sequences [ [] ↦ None | s ∷ more ↦ Some s.1 ] ≡ Some documents → check_count documents ≡ None
-counted_sequence given [] documents passed is = absurd cc
-counted_sequence given (s ∷ more) documents passed is =
+counted_sequence : (identifier : List ℕ) (given : List (List ℕ)) (sequences : Sequences) (documents : List Fields) → check_sequences (counting identifier) given sequences ≡ None →
+    elim sequences [ [] ↦ None | s ∷ more ↦ Some s.1 ] ≡ Some documents → check_count documents ≡ None
+counted_sequence identifier given [] documents passed is = absurd cc
+counted_sequence identifier given (s ∷ more) documents passed is =
     let same : s.1 ≡ documents = cc in
-    let told = passed_parts (check_sequence insert_form.sequence (is_one_of s.0 given) s) (check_sequences insert_form.sequence (s.0 ∷ given) more ∷ []) passed in
+    let told = passed_parts (check_sequence (counting identifier) (is_one_of s.0 given) s) (check_sequences (counting identifier) (s.0 ∷ given) more ∷ []) passed in
     subst (λ (l : List Fields). check_count l ≡ None) same (passed_else _ _ told.0)
 
-counted_asked : (o : Option Datum) (given : List (List ℕ)) (sequences : Sequences) (documents : List Fields) → ((value : Datum) → o ≡ Some value → documents_needed value ≡ None) →
-    check_sequences insert_form.sequence given sequences ≡ None → elim o [ Some value ↦ documents_of_value value | None ↦ elim sequences [ [] ↦ None | s ∷ more ↦ Some s.1 ] ] ≡ Some documents → check_count documents ≡ None
-counted_asked None given sequences documents needed passed is = counted_sequence given sequences documents passed is
-counted_asked (Some value) given sequences documents needed passed is = counted_value value documents (needed value refl) is
+counted_asked : (identifier : List ℕ) (o : Option Datum) (given : List (List ℕ)) (sequences : Sequences) (documents : List Fields) → ((value : Datum) → o ≡ Some value → documents_needed value ≡ None) →
+    check_sequences (counting identifier) given sequences ≡ None → elim o [ Some value ↦ documents_of_value value | None ↦ elim sequences [ [] ↦ None | s ∷ more ↦ Some s.1 ] ] ≡ Some documents → check_count documents ≡ None
+counted_asked identifier None given sequences documents needed passed is = counted_sequence identifier given sequences documents passed is
+counted_asked identifier (Some value) given sequences documents needed passed is = counted_value value documents (needed value refl) is
 
 -- and small
 
-small_value : (document : Fields) (value : Datum) (documents : List Fields) → IsSmall document → get (codes "documents") document ≡ Some value → documents_of_value value ≡ Some documents → AllByRecursion IsSmall documents
-small_value document (array_value ds) documents small got is =
-    let inside = got_inside (codes "documents") document (array_value ds) got in
+small_value : (identifier : List ℕ) (document : Fields) (value : Datum) (documents : List Fields) → IsSmall document → get identifier document ≡ Some value → documents_of_value value ≡ Some documents → AllByRecursion IsSmall documents
+small_value identifier document (array_value ds) documents small got is =
+    let inside = got_inside identifier document (array_value ds) got in
     items_small 0 ds documents (omega (arith, inside.0, small.0)) (omega (arith, inside.1, small.1, length-framed (written_items 0 ds), length-framed (written_fields document))) is
-small_value document value documents small got is = absurd cc
+small_value identifier document value documents small got is = absurd cc
 
 small_sequence : (sequences : Sequences) (documents : List Fields) → AreSmall sequences → elim sequences [ [] ↦ None | s ∷ more ↦ Some s.1 ] ≡ Some documents → AllByRecursion IsSmall documents
 small_sequence [] documents small is = absurd cc
@@ -74,60 +81,94 @@ small_sequence (s ∷ more) documents small is =
     let same : s.1 ≡ documents = cc in
     subst (λ (l : List Fields). AllByRecursion IsSmall l) same small.0
 
-small_asked : (o : Option Datum) (document : Fields) (sequences : Sequences) (documents : List Fields) → IsSmall document → AreSmall sequences → get (codes "documents") document ≡ o →
+small_asked : (identifier : List ℕ) (o : Option Datum) (document : Fields) (sequences : Sequences) (documents : List Fields) → IsSmall document → AreSmall sequences → get identifier document ≡ o →
     elim o [ Some value ↦ documents_of_value value | None ↦ elim sequences [ [] ↦ None | s ∷ more ↦ Some s.1 ] ] ≡ Some documents → AllByRecursion IsSmall documents
-small_asked None document sequences documents small all got is = small_sequence sequences documents all is
-small_asked (Some value) document sequences documents small all got is = small_value document value documents small got is
+small_asked identifier None document sequences documents small all got is = small_sequence sequences documents all is
+small_asked identifier (Some value) document sequences documents small all got is = small_value identifier document value documents small got is
 
--- an insert that passes all checks
-record Passes (value : Datum) (others : Fields) (sequences : Sequences) : Type 0 where
-  counted : (documents : List Fields) → documents_asked (field (codes "insert") value others) sequences ≡ Some documents → check_count documents ≡ None
-  needed : some_needed (documents_asked (field (codes "insert") value others) sequences) ≡ None
-  judged : check_statements (or_documents (documents_asked (field (codes "insert") value others) sequences)) ≡ None
+-- a write command that passes all checks
+record Passes (form : StatementForm) (document : Fields) (sequences : Sequences) : Type 0 where
+  counted : (documents : List Fields) → documents_asked form document sequences ≡ Some documents → check_count documents ≡ None
+  needed : some_needed (documents_asked form document sequences) ≡ None
+  judged : check_statements form (or_documents (documents_asked form document sequences)) ≡ None
 
-insert_passes : (sent : Form) (value : Datum) (others : Fields) (sequences : Sequences) → check_command (made_into insert_command insert_form) sent (codes "insert") value others sequences ≡ None → Passes value others sequences
-insert_passes sent value others sequences passed =
-    let document : Fields = field (codes "insert") value others in
+-- the field of the statements is looked at by its own rule
+statements_rule : (kind : WriteKind) (value : Datum) → by_rule (Some failed_to_parse) (find_rule (statement_form kind).identifier (write_rules (statement_form kind))) false value ≡ documents_needed value
+statements_rule insert_kind value = refl
+statements_rule update_kind value = refl
+statements_rule delete_kind value = refl
+
+behind_own : (own name : List ℕ) (value : Datum) (others : Fields) → bytes_eq own name ≡ false → get name (field own value others) ≡ get name others
+behind_own own name value others differs = rw differs refl
+
+-- the names of write commands, which are no names of their statements
+abbrev name_of_kind : WriteKind → List ℕ
+name_of_kind insert_kind = codes "insert"
+name_of_kind update_kind = codes "update"
+name_of_kind delete_kind = codes "delete"
+
+names_differ : (kind : WriteKind) → bytes_eq (name_of_kind kind) (statement_form kind).identifier ≡ false
+names_differ insert_kind = refl
+names_differ update_kind = refl
+names_differ delete_kind = refl
+
+abbrev form_of_kind : WriteKind → CommandForm Command
+form_of_kind kind = made_into write_command (write_form kind)
+
+write_passes : (kind : WriteKind) (sent : Form) (value : Datum) (others : Fields) (sequences : Sequences) → check_command (form_of_kind kind) sent (name_of_kind kind) value others sequences ≡ None →
+    Passes (statement_form kind) (field (name_of_kind kind) value others) sequences
+write_passes kind sent value others sequences passed =
+    let own : List ℕ = name_of_kind kind in
+    let form : StatementForm = statement_form kind in
+    let document : Fields = field own value others in
     let first = passed_parts (check_database sent (get (codes "$db") document)) _ passed in
     let second = passed_parts (check_collection (database_of sent document) value) _ first.1 in
-    let third = passed_parts (check_fields (Some failed_to_parse) insert_rules (codes "insert" ∷ []) others) _ second.1 in
-    let fourth = passed_parts (check_sequences insert_form.sequence (codes "insert" ∷ names_of others) sequences) _ third.1 in
-    let fifth = passed_parts (some_needed (documents_asked document sequences)) _ fourth.1 in
+    let third = passed_parts (check_fields (Some failed_to_parse) (write_rules form) (own ∷ []) others) _ second.1 in
+    let fourth = passed_parts (check_sequences (counting form.identifier) (own ∷ names_of others) sequences) _ third.1 in
+    let fifth = passed_parts (some_needed (documents_asked form document sequences)) _ fourth.1 in
     record {
-      counted = λ documents is. counted_asked (get (codes "documents") document) (codes "insert" ∷ names_of others) sequences documents
-          (λ d got. field_passed insert_rules (codes "insert" ∷ []) others (codes "documents") d third.0 got) fourth.0 is;
+      counted = λ documents is. counted_asked form.identifier (get form.identifier document) (own ∷ names_of others) sequences documents
+          (λ d got. sym (statements_rule kind d) ∙ field_passed (write_rules form) (own ∷ []) others form.identifier d third.0 (sym (behind_own own form.identifier value others (names_differ kind)) ∙ got)) fourth.0 is;
       needed = fifth.0;
-      judged = passed_last (check_statements (or_documents (documents_asked document sequences))) fifth.1;
+      judged = passed_last (check_statements form (or_documents (documents_asked form document sequences))) fifth.1;
     }
 
-some_of : (o : Option (List Fields)) → ((documents : List Fields) → o ≡ Some documents → check_count documents ≡ None) → some_needed o ≡ None → or_documents o ≢ []
-some_of None counted needed none = absurd cc
-some_of (Some documents) counted needed none = some_counted documents (counted documents refl) none
+some_of : (form : StatementForm) (o : Option (List Fields)) → ((documents : List Fields) → o ≡ Some documents → check_count documents ≡ None) → some_needed o ≡ None → map form.operation (or_documents o) ≢ []
+some_of form None counted needed none = absurd cc
+some_of form (Some []) counted needed none = some_counted [] (counted [] refl) refl
+some_of form (Some (document ∷ documents)) counted needed none = absurd cc
 
-small_of : (o : Option (List Fields)) → ((documents : List Fields) → o ≡ Some documents → check_count documents ≡ None) → ((documents : List Fields) → o ≡ Some documents → AllByRecursion IsSmall documents) → check_statements (or_documents o) ≡ None →
-    (length (or_documents o) ≤ most_statements) × AllByRecursion IsKeepable (or_documents o)
-small_of None counted small judged = (omega arith, tt)
-small_of (Some documents) counted small judged = (few_documents documents (counted documents refl), keepable documents (small documents refl) judged)
+length_of_map : (form : StatementForm) (documents : List Fields) → length (map form.operation documents) ≡ length documents
+length_of_map form [] = refl
+length_of_map form (document ∷ documents) = omega (arith, length_of_map form documents)
 
-insert_sound : IsSound (codes "insert") (made_into insert_command insert_form)
-insert_sound = record {
+small_of : (kind : WriteKind) (o : Option (List Fields)) → ((documents : List Fields) → o ≡ Some documents → check_count documents ≡ None) → ((documents : List Fields) → o ≡ Some documents → AllByRecursion IsSmall documents) →
+    check_statements (statement_form kind) (or_documents o) ≡ None →
+    (length (map (statement_form kind).operation (or_documents o)) ≤ most_statements) × AllByRecursion IsKeepable (map (statement_form kind).operation (or_documents o))
+small_of kind None counted small judged = (omega arith, tt)
+small_of kind (Some documents) counted small judged =
+    (omega (arith, length_of_map (statement_form kind) documents, few_documents documents (counted documents refl)), keepable kind documents (small documents refl) judged)
+
+write_sound : (kind : WriteKind) → IsSound (name_of_kind kind) (form_of_kind kind)
+write_sound kind = record {
   short = record {
     own_check = collection_short;
-    each_rule = insert_short;
+    each_rule = write_short (statement_form kind);
     others = omega arith;
-    sequence_rule = documents_sequence_short;
-    needed = λ document sequences. some_short (documents_asked document sequences);
-    last = λ document sequences. statements_short (or_documents (documents_asked document sequences));
+    sequence_rule = documents_sequence_short (statement_form kind).identifier;
+    needed = λ document sequences. some_short (documents_asked (statement_form kind) document sequences);
+    last = λ document sequences. statements_short kind (or_documents (documents_asked (statement_form kind) document sequences));
   };
   some = λ sent value others sequences passed.
-      let passes = insert_passes sent value others sequences passed in (
-        some_of (documents_asked (field (codes "insert") value others) sequences) passes.counted passes.needed,
-        keys_passed (or_documents (documents_asked (field (codes "insert") value others) sequences)) passes.judged,
-      );
+      let asked : Option (List Fields) = documents_asked (statement_form kind) (field (name_of_kind kind) value others) sequences in
+      let passes = write_passes kind sent value others sequences passed in
+      (some_of (statement_form kind) asked passes.counted passes.needed, keys_passed (statement_form kind) (or_documents asked) passes.judged);
   small = λ sent value others sequences small all passed.
-      let passes = insert_passes sent value others sequences passed in
-      small_of (documents_asked (field (codes "insert") value others) sequences) passes.counted
-      (λ documents is. small_asked (get (codes "documents") (field (codes "insert") value others)) (field (codes "insert") value others) sequences documents small all refl is) passes.judged;
+      let form : StatementForm = statement_form kind in
+      let document : Fields = field (name_of_kind kind) value others in
+      let passes = write_passes kind sent value others sequences passed in
+      small_of kind (documents_asked form document sequences) passes.counted
+      (λ documents is. small_asked form.identifier (get form.identifier document) document sequences documents small all refl is) passes.judged;
 }
 
 find_sound : IsSound (codes "find") (made_into find_command find_form)
@@ -155,7 +196,7 @@ handshake_is_short command = record {
   last = λ document sequences. tt;
 }
 
-handshake_sound : (name : List ℕ) (command : Fields → Command) → ((ms : Fields) → HasDocuments (command ms)) → ((ms : Fields) → IsSmallCommand (command ms)) → IsSound name (handshake_form command)
+handshake_sound : (name : List ℕ) (command : Fields → Command) → ((ms : Fields) → HasStatements (command ms)) → ((ms : Fields) → IsSmallCommand (command ms)) → IsSound name (handshake_form command)
 handshake_sound name command some small = record {
   short = handshake_is_short command;
   some = λ sent value others sequences passed. some (field name value others);
@@ -171,7 +212,7 @@ all_sound = (
       handshake_sound (codes "ismaster") (λ document. legacy_command (legacy_of document)) (λ ms. tt) (λ ms. tt),
       (
         handshake_sound (codes "ping") (λ document. ping_command) (λ ms. tt) (λ ms. tt),
-        (handshake_sound (codes "endSessions") (λ document. end_sessions_command) (λ ms. tt) (λ ms. tt), (insert_sound, (find_sound, tt))),
+        (handshake_sound (codes "endSessions") (λ document. end_sessions_command) (λ ms. tt) (λ ms. tt), (write_sound insert_kind, (write_sound update_kind, (write_sound delete_kind, (find_sound, tt))))),
       ),
     ),
   ),
@@ -203,28 +244,28 @@ body_taken sent (faulty_body fault place) small = omega arith
 pub command_taken : (request : Request) → IsSmallBody request.body → IsTaken (command_of request)
 command_taken request small = body_taken request.form request.body small
 
--- an insert has documents
+-- a write command has statements
 
-abbrev HaveDocuments : Result Command Refusal → Type 0
-HaveDocuments (Ok command) = HasDocuments command
-HaveDocuments (Err refusal) = Unit {0}
+abbrev HaveStatements : Result Command Refusal → Type 0
+HaveStatements (Ok command) = HasStatements command
+HaveStatements (Err refusal) = Unit {0}
 
-by_verdict_some : (v : Verdict) (command : Command) → (v ≡ None → HasDocuments command) → HaveDocuments (or_refusal (by_verdict v command))
+by_verdict_some : (v : Verdict) (command : Command) → (v ≡ None → HasStatements command) → HaveStatements (or_refusal (by_verdict v command))
 by_verdict_some None command some = some refl
 by_verdict_some (Some error) command some = tt
 
-by_form_some : (form : Option (CommandForm Command)) (sent : Form) (own : List ℕ) (value : Datum) (others : Fields) (sequences : Sequences) → form_of own ≡ form → HaveDocuments (or_refusal (by_form form sent own value others sequences))
+by_form_some : (form : Option (CommandForm Command)) (sent : Form) (own : List ℕ) (value : Datum) (others : Fields) (sequences : Sequences) → form_of own ≡ form → HaveStatements (or_refusal (by_form form sent own value others sequences))
 by_form_some None sent own value others sequences found = tt
 by_form_some (Some form) sent own value others sequences found =
     by_verdict_some (check_command form sent own value others sequences) (command_by form sent own value others sequences) (λ passed. (sound_of own form found).some sent value others sequences passed)
 
-body_some : (sent : Form) (body : Body) → HaveDocuments (command_in sent body)
+body_some : (sent : Form) (body : Body) → HaveStatements (command_in sent body)
 body_some sent (read_body no_fields sequences) = tt
 body_some sent (read_body (field own value others) sequences) = by_form_some (form_of own) sent own value others sequences refl
 body_some sent (faulty_body fault place) = tt
 
-pub some_documents : (request : Request) (insert : Insert) → command_of request ≡ Ok (insert_command insert) → insert.documents ≢ []
-some_documents request insert is = (subst HaveDocuments is (body_some request.form request.body)).0
+pub some_operations : (request : Request) (write : WriteCommand) → command_of request ≡ Ok (write_command write) → write.operations ≢ []
+some_operations request write is = (subst HaveStatements is (body_some request.form request.body)).0
 
-pub documents_with_keys : (request : Request) (insert : Insert) → command_of request ≡ Ok (insert_command insert) → AllByRecursion HasKey insert.documents
-documents_with_keys request insert is = (subst HaveDocuments is (body_some request.form request.body)).1
+pub operations_with_keys : (request : Request) (write : WriteCommand) → command_of request ≡ Ok (write_command write) → AllByRecursion HasKey write.operations
+operations_with_keys request write is = (subst HaveStatements is (body_some request.form request.body)).1

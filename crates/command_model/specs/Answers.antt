@@ -4,7 +4,7 @@ use Rattle.opmsg_model.specs.Tree.{Fields}
 use Rattle.base_model.specs.Refusals.{Refusal}
 use Rattle.base_model.specs.ReplyParts.{refusal_reply}
 use Rattle.command_model.specs.Handshake.{hello_document, legacy_document, done_document}
-use Rattle.command_model.specs.Insert.{WriteError, insert_document}
+use Rattle.command_model.specs.Writes.{WriteKind, WriteSummary, write_document}
 use Rattle.command_model.specs.Find.{find_document}
 
 pub data Answer : Type 0 where
@@ -14,8 +14,8 @@ pub data Answer : Type 0 where
   legacy_answer : ℕ → Bool → Answer
   -- to `ping` and `endSessions`
   done_answer : Answer
-  -- how many documents were inserted, the errors, the operation's time
-  insert_answer : ℕ → List WriteError → ℕ → Answer
+  -- what its statements are told together
+  write_answer : WriteKind → WriteSummary → Answer
   -- the namespace, the documents, and the time that they were read at
   find_answer : List ℕ → List Fields → ℕ → Answer
   refusal_answer : Refusal → Answer
@@ -25,6 +25,6 @@ abbrev pub answer_document : Answer → Fields
 answer_document (hello_answer moment) = hello_document moment
 answer_document (legacy_answer moment shown) = legacy_document moment shown
 answer_document done_answer = done_document
-answer_document (insert_answer n errors time) = insert_document n errors time
+answer_document (write_answer kind told) = write_document kind told
 answer_document (find_answer namespace documents time) = find_document namespace documents time
 answer_document (refusal_answer refusal) = refusal_reply refusal

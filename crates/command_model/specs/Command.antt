@@ -9,7 +9,7 @@ use Rattle.base_model.specs.Refusals.{Refusal, no_document_at, without_evidence}
 use Rattle.command_model.specs.Checks.{Verdict}
 use Rattle.command_model.specs.Forms.{CommandForm, Sequences, check_command, command_by, made_into}
 use Rattle.command_model.specs.Handshake.{Legacy, handshake_form, legacy_of}
-use Rattle.command_model.specs.Insert.{Insert, insert_form}
+use Rattle.command_model.specs.Writes.{WriteCommand, insert_kind, update_kind, delete_kind, write_form}
 use Rattle.command_model.specs.Find.{Find, find_form}
 
 pub data Command : Type 0 where
@@ -18,7 +18,7 @@ pub data Command : Type 0 where
   legacy_command : Legacy → Command
   ping_command : Command
   end_sessions_command : Command
-  insert_command : Insert → Command
+  write_command : WriteCommand → Command
   find_command : Find → Command
 
 pub record Row : Type 0 where
@@ -35,7 +35,9 @@ rows =
     ∷ record { name = codes "ismaster"; form = legacy_form }
     ∷ record { name = codes "ping"; form = handshake_form (λ document. ping_command) }
     ∷ record { name = codes "endSessions"; form = handshake_form (λ document. end_sessions_command) }
-    ∷ record { name = codes "insert"; form = made_into insert_command insert_form }
+    ∷ record { name = codes "insert"; form = made_into write_command (write_form insert_kind) }
+    ∷ record { name = codes "update"; form = made_into write_command (write_form update_kind) }
+    ∷ record { name = codes "delete"; form = made_into write_command (write_form delete_kind) }
     ∷ record { name = codes "find"; form = made_into find_command find_form }
     ∷ []
 

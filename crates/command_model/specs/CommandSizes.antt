@@ -1,40 +1,50 @@
--- How large the documents of commands and answers are. A message has at most 48,000,000 bytes, and an insert at most 100,000
--- documents (MongoDB manual, "MongoDB Limits and Thresholds").
-use Rattle.std.specs.Prelude.{◌≡◌, ◌<◌, ◌≤◌, length, true, Some, Result, Ok, Err}
+-- How large the documents of commands and answers are. A message has at most 48,000,000 bytes, and a write at most 100,000
+-- statements (MongoDB manual, "MongoDB Limits and Thresholds").
+use Rattle.std.specs.Prelude.{◌≡◌, ◌<◌, ◌≤◌, ◌+◌, ℕ, List, [], ◌∷◌, length, Some, Result, Ok, Err}
 use Rattle.std.specs.List.{AllByRecursion}
-use Rattle.opmsg_model.specs.Tree.{Datum, Fields}
-use Rattle.value_model.specs.Keys.{is_key, key_of}
+use Rattle.opmsg_model.specs.Tree.{Datum, value_depth}
 use Rattle.opmsg_model.specs.MessageSizes.{IsSmall}
 use Rattle.base_model.specs.Refusals.{Refusal}
-use Rattle.command_model.specs.Insert.{Insert, WriteError}
-use Rattle.command_model.specs.Answers.{Answer, hello_answer, legacy_answer, done_answer, insert_answer, find_answer, refusal_answer}
-use Rattle.command_model.specs.Command.{Command, hello_command, legacy_command, ping_command, end_sessions_command, insert_command, find_command}
-use Rattle.command_model.specs.CommandLimits.{most_statements}
+use Rattle.opmsg_model.specs.Spelling.{written_value}
+use Rattle.query_model.specs.Writes.{Write}
+use Rattle.query_model.specs.Effects.{write_key}
+use Rattle.history_model.specs.History.{Operation, insert_operation, update_operation, delete_operation, read_operation}
+use Rattle.command_model.specs.Writes.{Upserted, WriteCommand, WriteError, WriteSummary}
+use Rattle.command_model.specs.Answers.{Answer, hello_answer, legacy_answer, done_answer, write_answer, find_answer, refusal_answer}
+use Rattle.command_model.specs.Command.{Command, hello_command, legacy_command, ping_command, end_sessions_command, write_command, find_command}
+use Rattle.command_model.specs.CommandLimits.{most_statements, most_bytes_upserted}
 
--- a document that is kept has a key
-pub record IsKeepable (document : Fields) : Type 0 where
-  pub small : IsSmall document
+-- the documents of an operation are small
+abbrev pub AreSmallWords : Operation → Type 0
+AreSmallWords (insert_operation document) = IsSmall document
+AreSmallWords (update_operation filter words upsert) = IsSmall filter × IsSmall words
+AreSmallWords (delete_operation filter) = IsSmall filter
+
+-- an operation that is kept is a write, under a key
+pub record IsKeepable (operation : Operation) : Type 0 where
+  pub small : AreSmallWords operation
+  pub write : Write
+  pub reads : read_operation operation ≡ Ok write
   pub key : Datum
-  pub found : key_of document ≡ Some key
-  pub is : is_key key ≡ true
+  pub under : write_key write ≡ Some key
 
--- few documents, each of which may be kept
-abbrev pub IsSmallInsert : Insert → Type 0
-IsSmallInsert insert = (length insert.documents ≤ most_statements) × AllByRecursion IsKeepable insert.documents
+-- few statements, each of which may be kept
+abbrev pub IsSmallWrite : WriteCommand → Type 0
+IsSmallWrite command = (length command.operations ≤ most_statements) × AllByRecursion IsKeepable command.operations
 
 abbrev pub IsSmallCommand : Command → Type 0
 IsSmallCommand hello_command = Unit {0}
 IsSmallCommand (legacy_command legacy) = Unit {0}
 IsSmallCommand ping_command = Unit {0}
 IsSmallCommand end_sessions_command = Unit {0}
-IsSmallCommand (insert_command insert) = IsSmallInsert insert
+IsSmallCommand (write_command command) = IsSmallWrite command
 IsSmallCommand (find_command find) = Unit {0}
 
 -- the error's name is short; evidence always is
 abbrev pub IsSmallRefusal : Refusal → Type 0
 IsSmallRefusal refusal = length refusal.error.name ≤ 100
 
--- an error of a statement that an insert can have
+-- an error that a statement can have
 abbrev pub IsSmallError : WriteError → Type 0
 IsSmallError e = (e.index < most_statements) × IsSmallRefusal e.refusal
 
@@ -43,11 +53,24 @@ abbrev pub IsTaken : Result Command Refusal → Type 0
 IsTaken (Ok command) = IsSmallCommand command
 IsTaken (Err refusal) = IsSmallRefusal refusal
 
+-- how many bytes keys take
+abbrev pub keys_length : List Upserted → ℕ
+keys_length [] = 0
+keys_length (u ∷ upserted) = length (written_value u.key) + keys_length upserted
+
+-- few errors and few keys, which are short together
+pub record IsSmallSummary (told : WriteSummary) : Type 0 where
+  pub few : length told.errors ≤ most_statements
+  pub short : AllByRecursion IsSmallError told.errors
+  pub few_keys : length told.upserted ≤ most_statements
+  pub flat : AllByRecursion (λ (u : Upserted). (u.index < most_statements) × (value_depth u.key ≡ 0)) told.upserted
+  pub short_keys : keys_length told.upserted ≤ most_bytes_upserted
+
 -- an answer to such
 abbrev pub IsSmallAnswer : Answer → Type 0
 IsSmallAnswer (hello_answer moment) = Unit {0}
 IsSmallAnswer (legacy_answer moment shown) = Unit {0}
 IsSmallAnswer done_answer = Unit {0}
-IsSmallAnswer (insert_answer count errors time) = (length errors ≤ most_statements) × AllByRecursion IsSmallError errors
+IsSmallAnswer (write_answer kind told) = IsSmallSummary told
 IsSmallAnswer (find_answer namespace documents time) = (length namespace ≤ 255) × (length documents ≤ 1) × AllByRecursion IsSmall documents
 IsSmallAnswer (refusal_answer refusal) = IsSmallRefusal refusal

@@ -4,7 +4,11 @@ pub mod Forms
 pub mod CommandLimits
 pub mod AnswerParts
 pub mod Handshake
+pub mod Statements
 pub mod Insert
+pub mod Update
+pub mod Delete
+pub mod Writes
 pub mod Find
 pub mod Command
 pub mod Answers

@@ -45,3 +45,35 @@ insert_with others = field (codes "insert") (string_value (codes "c")) others
 -- {x: 1}
 abbrev pub without_id : Fields
 without_id = field (codes "x") number_one no_fields
+
+-- {$set: {x: 1}}
+abbrev pub change_one : Fields
+change_one = field (codes "$set") (document_value without_id) no_fields
+
+-- {q: filter, u: {$set: {x: 1}}, ..}
+abbrev pub set_one : Fields → Fields → Fields
+set_one filter others = field (codes "q") (document_value filter) (field (codes "u") (document_value change_one) others)
+
+-- {q: filter, limit: limit}
+abbrev pub taken_out : Fields → Datum → Fields
+taken_out filter limit = field (codes "q") (document_value filter) (field (codes "limit") limit no_fields)
+
+-- {update: "c", updates: [statement], $db: "d"}
+abbrev pub update_with : Fields → Fields
+update_with statement =
+    field (codes "update") (string_value (codes "c")) (field (codes "updates") (array_value (item (document_value statement) no_items)) database_d)
+
+-- {delete: "c", deletes: [statement], $db: "d"}
+abbrev pub delete_with : Fields → Fields
+delete_with statement =
+    field (codes "delete") (string_value (codes "c")) (field (codes "deletes") (array_value (item (document_value statement) no_items)) database_d)
+
+-- {update: "c", updates: [first, second], $db: "d"}
+abbrev pub update_two : Fields → Fields → Fields
+update_two first second =
+    field (codes "update") (string_value (codes "c"))
+    (field (codes "updates") (array_value (item (document_value first) (item (document_value second) no_items))) database_d)
+
+-- {_id: 1, "a.b": 1}
+abbrev pub dotted : Fields
+dotted = field (codes "_id") number_one (field (codes "a.b") number_one no_fields)

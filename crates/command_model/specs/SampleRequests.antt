@@ -1,5 +1,5 @@
 -- Requests of one collection, with their answers, to try the definitions on.
-use Rattle.std.specs.Prelude.{ℕ, List, [], ◌∷◌, codes, Option, Some, None, Bool, pos, if◌then◌else◌, true, false}
+use Rattle.std.specs.Prelude.{ℕ, List, [], ◌∷◌, codes, Option, Some, None, Bool, pos, if◌then◌else◌, false}
 use Rattle.opmsg_model.specs.Tree.{Datum, string_value, document_value, array_value, boolean_value, int32_value, int64_value, timestamp_value, no_items, item, Fields, no_fields, field, joined}
 use Rattle.opmsg_model.specs.Spelling.{written}
 use Rattle.opmsg_model.specs.Faults.{Fault}

@@ -4,25 +4,34 @@
 
 mod laws;
 
-ghost use Rattle.std.specs.Prelude.{◌≡◌, ◌∷◌, [], codes, true, pos, Some, None, Ok, Err};
+ghost use Rattle.std.specs.Prelude.{◌≡◌, ◌∷◌, [], codes, true, false, pos, negsuc, Some, None, Ok, Err};
 ghost use Rattle.opmsg_model.specs.Faults.{string_fault};
 ghost use Rattle.opmsg_model.specs.Tree.{array_value, boolean_value, document_value, int32_value, int64_value, item, field, no_items, no_fields, string_value, timestamp_value};
 ghost use Rattle.opmsg_model.specs.Requests.{faulty_body, msg_form, query_form, read_body};
 ghost use Rattle.base_model.specs.Refusals.{no_evidence, place_evidence, without_evidence};
 ghost use Rattle.base_model.specs.Errors.{bad_value, command_not_found, failed_to_parse, invalid_bson, invalid_namespace, shard_key_not_found, type_mismatch};
-ghost use Rattle.command_model.specs.Command.{command_of, find_command, insert_command, legacy_command, ping_command};
-ghost use Rattle.command_model.specs.SampleCommands.{database_d, id_only, insert_of, insert_two, insert_with, message, number_one, sent_as, with_sequence, without_id};
-ghost use Rattle.command_model.specs.Answers.{answer_document, find_answer, insert_answer, refusal_answer};
+ghost use Rattle.history_model.specs.History.{delete_operation, insert_operation, update_operation};
+ghost use Rattle.command_model.specs.Command.{command_of, find_command, legacy_command, ping_command, write_command};
+ghost use Rattle.command_model.specs.Writes.{delete_kind, insert_kind, update_kind};
+ghost use Rattle.command_model.specs.SampleCommands.{change_one, database_d, delete_with, dotted, id_only, insert_of, insert_two, insert_with, message, number_one, sent_as, set_one, taken_out, update_two, update_with, with_sequence, without_id};
+ghost use Rattle.command_model.specs.Answers.{answer_document, find_answer, refusal_answer, write_answer};
 
 pub use laws::{answers_are_small, commands_are_small, evidence_is_small};
 
 /// Requests that are commands.
 pub fn commands()
-    ensures insert { command_of (message (insert_of (id_only number_one))) ≡ Ok (insert_command (record { namespace = codes "d.c"; documents = id_only number_one ∷ []; ordered = true })) }
+    ensures insert { command_of (message (insert_of (id_only number_one))) ≡ Ok (write_command (record { kind = insert_kind; namespace = codes "d.c"; operations = insert_operation (id_only number_one) ∷ []; ordered = true })) }
     ensures ping { command_of (message (field (codes "ping") number_one database_d)) ≡ Ok ping_command }
     ensures handshake { command_of (sent_as query_form (read_body (field (codes "isMaster") (boolean_value true) (field (codes "helloOk") (boolean_value true) no_fields)) [])) ≡ Ok (legacy_command (record { shows_hello_ok = true })) }
     ensures passed_over { command_of (message (field (codes "ping") number_one (field (codes "x") number_one (field (codes "x") number_one database_d)))) ≡ Ok ping_command }
-    ensures sequence { command_of (with_sequence (insert_with database_d) (codes "documents") (id_only number_one ∷ [])) ≡ Ok (insert_command (record { namespace = codes "d.c"; documents = id_only number_one ∷ []; ordered = true })) }
+    ensures sequence { command_of (with_sequence (insert_with database_d) (codes "documents") (id_only number_one ∷ [])) ≡ Ok (write_command (record { kind = insert_kind; namespace = codes "d.c"; operations = insert_operation (id_only number_one) ∷ []; ordered = true })) }
+    ensures update { command_of (message (update_with (set_one (id_only number_one) no_fields))) ≡ Ok (write_command (record { kind = update_kind; namespace = codes "d.c"; operations = update_operation (id_only number_one) change_one false ∷ []; ordered = true })) }
+    ensures upsert { command_of (message (update_with (set_one (id_only number_one) (field (codes "upsert") (boolean_value true) (field (codes "multi") (boolean_value true) no_fields))))) ≡ Ok (write_command (record { kind = update_kind; namespace = codes "d.c"; operations = update_operation (id_only number_one) change_one true ∷ []; ordered = true })) }
+    ensures no_upsert { command_of (message (update_with (set_one (id_only number_one) (field (codes "upsert") (boolean_value false) (field (codes "multi") (boolean_value true) no_fields))))) ≡ Ok (write_command (record { kind = update_kind; namespace = codes "d.c"; operations = update_operation (id_only number_one) change_one false ∷ []; ordered = true })) }
+    ensures one_upsert { command_of (message (update_with (set_one (id_only number_one) (field (codes "upsert") (boolean_value true) (field (codes "multi") (boolean_value false) no_fields))))) ≡ Ok (write_command (record { kind = update_kind; namespace = codes "d.c"; operations = update_operation (id_only number_one) change_one true ∷ []; ordered = true })) }
+    ensures update_sequence { command_of (with_sequence (field (codes "update") (string_value (codes "c")) database_d) (codes "updates") (set_one (id_only number_one) no_fields ∷ [])) ≡ Ok (write_command (record { kind = update_kind; namespace = codes "d.c"; operations = update_operation (id_only number_one) change_one false ∷ []; ordered = true })) }
+    ensures delete_sequence { command_of (with_sequence (field (codes "delete") (string_value (codes "c")) database_d) (codes "deletes") (taken_out (id_only number_one) number_one ∷ [])) ≡ Ok (write_command (record { kind = delete_kind; namespace = codes "d.c"; operations = delete_operation (id_only number_one) ∷ []; ordered = true })) }
+    ensures delete { command_of (message (delete_with (taken_out (id_only number_one) (int64_value (pos 0))))) ≡ Ok (write_command (record { kind = delete_kind; namespace = codes "d.c"; operations = delete_operation (id_only number_one) ∷ []; ordered = true })) }
     ensures find { command_of (message (field (codes "find") (string_value (codes "c")) (field (codes "filter") (document_value (id_only number_one)) database_d))) ≡ Ok (find_command (record { namespace = codes "d.c"; key = number_one; at = None })) }
 {}
 
@@ -54,6 +63,39 @@ pub fn later_refusals()
     ensures second_document { command_of (message (insert_two (id_only number_one) (id_only (array_value no_items)))) ≡ Err (without_evidence bad_value) }
 {}
 
+/// Refusals of updates and deletes by the fields of a statement, by its key and by its words, in this order.
+pub fn refused_statements()
+    ensures not_listed { command_of (message (update_with (set_one (id_only number_one) (field (codes "hint") number_one no_fields)))) ≡ Err (without_evidence failed_to_parse) }
+    ensures given_twice { command_of (message (update_with (set_one (id_only number_one) (field (codes "q") (document_value no_fields) no_fields)))) ≡ Err (without_evidence failed_to_parse) }
+    ensures change_type { command_of (message (update_with (field (codes "q") (document_value (id_only number_one)) (field (codes "u") (array_value no_items) no_fields)))) ≡ Err (without_evidence type_mismatch) }
+    ensures no_change { command_of (message (update_with (field (codes "q") (document_value (id_only number_one)) no_fields))) ≡ Err (without_evidence failed_to_parse) }
+    ensures no_limit { command_of (message (delete_with (field (codes "q") (document_value (id_only number_one)) no_fields))) ≡ Err (without_evidence failed_to_parse) }
+    ensures limit_value { command_of (message (delete_with (taken_out (id_only number_one) (int32_value (pos 2))))) ≡ Err (without_evidence bad_value) }
+    ensures limit_type { command_of (message (delete_with (taken_out (id_only number_one) (boolean_value true)))) ≡ Err (without_evidence type_mismatch) }
+    ensures no_key { command_of (message (delete_with (taken_out without_id number_one))) ≡ Err (without_evidence shard_key_not_found) }
+    ensures listed_keys { command_of (message (delete_with (taken_out (id_only (document_value (field (codes "$in") (array_value (item number_one no_items)) no_fields))) number_one))) ≡ Err (without_evidence shard_key_not_found) }
+    ensures wrong_key { command_of (message (delete_with (taken_out (id_only (document_value (field (codes "a") number_one no_fields))) number_one))) ≡ Err (without_evidence bad_value) }
+    ensures fields_first { command_of (message (delete_with (taken_out without_id (int32_value (pos 2))))) ≡ Err (without_evidence bad_value) }
+    ensures key_first { command_of (message (update_with (set_one without_id (field (codes "upsert") (boolean_value true) no_fields)))) ≡ Err (without_evidence shard_key_not_found) }
+    ensures filter_fault { command_of (message (delete_with (taken_out (field (codes "_id") number_one (field (codes "$where") number_one no_fields)) number_one))) ≡ Err (without_evidence bad_value) }
+    ensures other_sequence { command_of (with_sequence (field (codes "update") (string_value (codes "c")) database_d) (codes "documents") (set_one (id_only number_one) no_fields ∷ [])) ≡ Err (without_evidence failed_to_parse) }
+    ensures empty_sequence { command_of (with_sequence (field (codes "update") (string_value (codes "c")) database_d) (codes "updates") []) ≡ Err (without_evidence bad_value) }
+    ensures no_document { command_of (message (field (codes "update") (string_value (codes "c")) (field (codes "updates") (array_value (item (document_value (set_one without_id no_fields)) (item number_one no_items))) database_d))) ≡ Err (without_evidence type_mismatch) }
+    ensures no_filter { command_of (message (update_with (field (codes "u") (document_value change_one) no_fields))) ≡ Err (without_evidence failed_to_parse) }
+    ensures no_filter_to_delete { command_of (message (delete_with (field (codes "limit") number_one no_fields))) ≡ Err (without_evidence failed_to_parse) }
+    ensures filter_type { command_of (message (update_with (field (codes "q") number_one (field (codes "u") (document_value change_one) no_fields)))) ≡ Err (without_evidence type_mismatch) }
+    ensures filter_type_to_delete { command_of (message (delete_with (field (codes "q") number_one (field (codes "limit") number_one no_fields)))) ≡ Err (without_evidence type_mismatch) }
+    ensures types_first { command_of (message (update_with (field (codes "u") (array_value no_items) no_fields))) ≡ Err (without_evidence type_mismatch) }
+    ensures limit_below { command_of (message (delete_with (taken_out (id_only number_one) (int32_value (negsuc 0))))) ≡ Err (without_evidence bad_value) }
+    ensures upsert_type { command_of (message (update_with (set_one (id_only number_one) (field (codes "upsert") number_one no_fields)))) ≡ Err (without_evidence type_mismatch) }
+    ensures multi_type { command_of (message (update_with (set_one (id_only number_one) (field (codes "multi") number_one no_fields)))) ≡ Err (without_evidence type_mismatch) }
+    ensures first_words { command_of (message (update_two (field (codes "q") (document_value (id_only number_one)) (field (codes "u") (document_value (field (codes "$foo") number_one no_fields)) no_fields)) (set_one without_id no_fields))) ≡ Err (without_evidence bad_value) }
+    ensures first_key { command_of (message (update_two (set_one without_id no_fields) (field (codes "q") number_one (field (codes "u") (document_value change_one) no_fields)))) ≡ Err (without_evidence shard_key_not_found) }
+    ensures upsert_words { command_of (message (update_with (set_one dotted (field (codes "upsert") (boolean_value true) no_fields)))) ≡ Err (without_evidence bad_value) }
+    ensures update_words { command_of (message (update_with (set_one dotted no_fields))) ≡ Ok (write_command (record { kind = update_kind; namespace = codes "d.c"; operations = update_operation dotted change_one false ∷ []; ordered = true })) }
+    ensures change_fault { command_of (message (update_with (field (codes "q") (document_value (id_only number_one)) (field (codes "u") (document_value (field (codes "$foo") number_one no_fields)) no_fields)))) ≡ Err (without_evidence bad_value) }
+{}
+
 /// Requests that two checks refuse, of which the earlier decides: the name and `$db`, `$db` and the own field, the own field
 /// and another, a field and a sequence, a sequence and a filter that is wanted, a sequence and a document; and of two
 /// documents the first. A request without documents can't also have a bad one, so there is no pair of these two.
@@ -67,8 +109,8 @@ pub fn earlier_refusals()
     ensures first_document { command_of (message (insert_two without_id (id_only (document_value no_fields)))) ≡ Err (without_evidence shard_key_not_found) }
 {}
 
-/// Answers, as documents: a find's, the refusal of a command that is none, one with evidence, and the errors of an insert's
-/// statements with and without evidence.
+/// Answers, as documents: a find's, the refusal of a command that is none, one with evidence, the errors of an insert's
+/// statements with and without evidence, an update's with what an upsert put in, and a delete's.
 pub fn answers()
     ensures find { answer_document (find_answer (codes "d.c") (id_only number_one ∷ []) 4294967296002) ≡
         field (codes "cursor") (document_value
@@ -89,7 +131,7 @@ pub fn answers()
         (field (codes "code") (int32_value (pos 22))
         (field (codes "codeName") (string_value (codes "InvalidBSON"))
         (field (codes "evidence") (document_value (field (codes "place") (int64_value (pos 49)) no_fields)) no_fields)))) }
-    ensures statements { answer_document (insert_answer 0 (record { index = 3; refusal = record { error = invalid_bson; evidence = place_evidence 49 } } ∷ record { index = 4; refusal = record { error = bad_value; evidence = no_evidence } } ∷ []) 7) ≡
+    ensures statements { answer_document (write_answer insert_kind (record { count = 0; modified = 0; upserted = []; errors = record { index = 3; refusal = record { error = invalid_bson; evidence = place_evidence 49 } } ∷ record { index = 4; refusal = record { error = bad_value; evidence = no_evidence } } ∷ []; time = 7 })) ≡
         field (codes "n") (int32_value (pos 0))
         (field (codes "writeErrors") (array_value
         (item (document_value
@@ -104,4 +146,26 @@ pub fn answers()
         no_items)))
         (field (codes "ok") number_one
         (field (codes "operationTime") (timestamp_value 7) no_fields))) }
+    ensures update { answer_document (write_answer update_kind (record { count = 2; modified = 1; upserted = record { index = 1; key = number_one } ∷ []; errors = []; time = 7 })) ≡
+        field (codes "n") (int32_value (pos 2))
+        (field (codes "nModified") (int32_value (pos 1))
+        (field (codes "upserted") (array_value
+        (item (document_value (field (codes "index") (int32_value (pos 1)) (field (codes "_id") number_one no_fields))) no_items))
+        (field (codes "ok") number_one
+        (field (codes "operationTime") (timestamp_value 7) no_fields)))) }
+    ensures both { answer_document (write_answer update_kind (record { count = 2; modified = 0; upserted = record { index = 1; key = number_one } ∷ []; errors = record { index = 2; refusal = without_evidence bad_value } ∷ []; time = 7 })) ≡
+        field (codes "n") (int32_value (pos 2))
+        (field (codes "nModified") (int32_value (pos 0))
+        (field (codes "upserted") (array_value
+        (item (document_value (field (codes "index") (int32_value (pos 1)) (field (codes "_id") number_one no_fields))) no_items))
+        (field (codes "writeErrors") (array_value
+        (item (document_value
+        (field (codes "index") (int32_value (pos 2))
+        (field (codes "code") (int32_value (pos 2))
+        (field (codes "errmsg") (string_value (codes "BadValue")) no_fields))))
+        no_items))
+        (field (codes "ok") number_one
+        (field (codes "operationTime") (timestamp_value 7) no_fields))))) }
+    ensures delete { answer_document (write_answer delete_kind (record { count = 1; modified = 0; upserted = []; errors = []; time = 7 })) ≡
+        field (codes "n") number_one (field (codes "ok") number_one (field (codes "operationTime") (timestamp_value 7) no_fields)) }
 {}

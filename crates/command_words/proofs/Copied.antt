@@ -1,5 +1,5 @@
 -- Documents that are copied out of an array, and lists of documents.
-use Rattle.std.proofs.Common.{◌≡◌, ℕ, suc, ◌+◌, ◌<◌, ◌≤◌, List, [], ◌∷◌, ◌++◌, length, get_or, drop, refl, sym, ◌∙◌, ap, add-one, drop-cons, Option, Some, None, append_assoc, append-nil, true, false, arith, codes}
+use Rattle.std.proofs.Common.{◌≡◌, ℕ, suc, ◌+◌, ◌<◌, ◌≤◌, List, [], ◌∷◌, ◌++◌, length, get_or, drop, refl, sym, ◌∙◌, ap, add-one, drop-cons, Option, Some, None, append_assoc, append-nil, true, false, arith}
 use Rattle.std.specs.Option.{is_some}
 use Rattle.std.proofs.lemmas.List.{drop_all}
 use Rattle.bson_values.specs.Tree.{Datum, document_value, Items, no_items, item, Fields, get}
@@ -10,7 +10,8 @@ use Rattle.bson_values.specs.View.{datum_of, items_of}
 use Rattle.command_model.specs.Checks.{unless_passes}
 use Rattle.opmsg_frames.specs.declared.lists.Sequence.{Sequence}
 use Rattle.opmsg_frames.specs.Lists.{pairs_of}
-use Rattle.command_model.specs.Insert.{check_documents, documents_asked, documents_in, documents_of_value, is_statement_count}
+use Rattle.command_model.specs.Statements.{StatementForm}
+use Rattle.command_model.specs.Writes.{check_documents, documents_asked, documents_in, documents_of_value, is_statement_count}
 
 abbrev pub with_prefix : List Fields → Option (List Fields) → Option (List Fields)
 with_prefix prefix None = None
@@ -80,6 +81,6 @@ there : (o : Option Datum) (documents : List Fields) → o ≡ None → true ≡
 there None documents e = refl
 there (Some value) documents e = absurd cc
 
-pub some_sequence : (document : Fields) (sequences : List Sequence) → 1 ≤ length sequences → get (codes "documents") document ≡ None → true ≡ is_some (documents_asked document (pairs_of sequences))
-some_sequence document [] some none = absurd (omega arith)
-some_sequence document (s ∷ more) some none = there (get (codes "documents") document) s.documents none
+pub some_sequence : (form : StatementForm) (document : Fields) (sequences : List Sequence) → 1 ≤ length sequences → get form.identifier document ≡ None → true ≡ is_some (documents_asked form document (pairs_of sequences))
+some_sequence form document [] some none = absurd (omega arith)
+some_sequence form document (s ∷ more) some none = there (get form.identifier document) s.documents none

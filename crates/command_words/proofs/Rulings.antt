@@ -30,7 +30,7 @@ pub one_more : (names : List (List ℕ)) (ms : List Field) (m : Field) → names
 one_more names [] m = refl
 one_more names (n ∷ ms) m = one_more (n.name ∷ names) ms m
 
-last_of : (v : Verdict) → first_of (v ∷ []) ≡ v
+pub last_of : (v : Verdict) → first_of (v ∷ []) ≡ v
 last_of None = refl
 last_of (Some e) = refl
 

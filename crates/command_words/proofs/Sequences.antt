@@ -1,4 +1,4 @@
--- The sequences of an insert.
+-- The sequences of a command.
 use Rattle.std.proofs.Common.{◌≡◌, ℕ, ◌≤◌, List, [], ◌∷◌, length, get_or, refl, sym, ◌∙◌, ap, subst, Bool, true, false, ◌||◌, not, Option, Some, None, if◌then◌else◌, arith}
 use Rattle.std.specs.Option.{is_some, option_map}
 use Rattle.std.specs.Str.{bytes_eq}

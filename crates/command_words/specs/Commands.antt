@@ -1,5 +1,5 @@
 -- What the program's commands are.
-use Rattle.std.specs.Prelude.{◌≡◌, Result, Ok, Err}
+use Rattle.std.specs.Prelude.{◌≡◌, map, Result, Ok, Err}
 use Rattle.std.specs.Option.{option_map}
 use Rattle.command_model.specs.Errors.{ErrorCode}
 use Rattle.command_model.specs.Refusals as history
@@ -7,25 +7,32 @@ use Rattle.bson_values.specs.View.{datum_of}
 use Rattle.cluster_base.specs.Codes.{meaning_of}
 use Rattle.cluster_base.specs.declared.time.Time.{Time}
 use Rattle.command_model.specs.Handshake as handshakes
-use Rattle.command_model.specs.Insert as inserts
+use Rattle.command_model.specs.Writes as writes
 use Rattle.command_model.specs.Find as finds
 use Rattle.command_model.specs.Command as model
 use Rattle.command_words.specs.declared.handshake.Legacy as legacies
-use Rattle.command_words.specs.declared.insert.Insert as program_inserts
+use Rattle.command_words.specs.declared.writes.WriteCommand as program_writes
 use Rattle.command_words.specs.declared.find.Find as program_finds
 use Rattle.command_words.specs.declared.command.Command.{Command}
-use Rattle.command_words.specs.declared.command.Command.TheVariants.{Hello, Legacy, Ping, EndSessions, Insert, Find}
+use Rattle.command_words.specs.declared.command.Command.TheVariants.{Hello, Legacy, Ping, EndSessions, Write, Find}
 use Rattle.command_words.specs.declared.fault.CommandFault.{CommandFault}
 use Rattle.command_words.specs.declared.fault.CommandFault.TheVariants as faults
 use Rattle.command_words.specs.declared.fault.CheckFault.{CheckFault}
 use Rattle.command_words.specs.declared.fault.CheckFault.TheVariants.{Refused, Memory}
+use Rattle.command_answers.specs.Kinds.{kind_meant}
 use Rattle.command_answers.specs.Refusals.{refusal_meant}
+use Rattle.shard_records.specs.Meanings.{operation_meant}
 
 abbrev pub legacy_meant : legacies.Legacy → handshakes.Legacy
 legacy_meant legacy = record { shows_hello_ok = legacy.shows_hello_ok }
 
-abbrev pub insert_meant : program_inserts.Insert → inserts.Insert
-insert_meant insert = record { namespace = insert.namespace; documents = insert.documents.items; ordered = insert.ordered }
+abbrev pub write_meant : program_writes.WriteCommand → writes.WriteCommand
+write_meant write = record {
+  kind = kind_meant write.kind;
+  namespace = write.namespace;
+  operations = map operation_meant write.operations.items;
+  ordered = write.ordered;
+}
 
 abbrev pub find_meant : program_finds.Find → finds.Find
 find_meant find = record { namespace = find.namespace; key = datum_of find.key; at = option_map (λ (t : Time). t.0) find.at }
@@ -35,7 +42,7 @@ command_meant Hello = model.hello_command
 command_meant (Legacy legacy) = model.legacy_command (legacy_meant legacy)
 command_meant Ping = model.ping_command
 command_meant EndSessions = model.end_sessions_command
-command_meant (Insert insert) = model.insert_command (insert_meant insert)
+command_meant (Write write) = model.write_command (write_meant write)
 command_meant (Find find) = model.find_command (find_meant find)
 
 -- the program gives the command or the error that the checks tell; want of memory is free

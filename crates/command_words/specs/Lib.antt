@@ -1,5 +1,6 @@
 pub mod Commands
 pub mod Drafts
+pub mod Faults
 pub mod FieldNames
 pub mod Handshakes
 pub mod Rows

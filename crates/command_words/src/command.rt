@@ -15,16 +15,17 @@ ghost use Rattle.command_answers.specs.Refusals.{refusal_meant};
 ghost use Rattle.command_words.specs.Drafts.{Drafts};
 ghost use Rattle.command_words.specs.Rows.{row_meant};
 
+use crate::copies::documents_or_none;
 use crate::documents::documents_moved;
 use crate::draft::Draft;
 use crate::fault::{CheckFault, CommandFault};
 use crate::find::{Find, FindForm};
 use crate::forms::read_by;
 use crate::handshake::{HandshakeForm, Legacy};
-use crate::insert::{Insert, InsertForm, documents_or_none};
+use crate::writes::{WriteCommand, WriteForm};
 use bson_values::{BsonFault, Document};
 use cluster_base::Code;
-use command_answers::{Evidence, Refusal};
+use command_answers::{Evidence, Refusal, WriteKind};
 use opmsg_frames::{Body, Form, Request, Sequence, SequenceList};
 use std::alloc::Global;
 
@@ -36,7 +37,8 @@ pub enum Command {
     Legacy(Legacy),
     Ping,
     EndSessions,
-    Insert(Insert),
+    /// `insert`, `update` and `delete`.
+    Write(WriteCommand),
     Find(Find),
 }
 
@@ -44,7 +46,7 @@ pub enum Command {
 #[derive(Clone, Copy)]
 pub(crate) enum AnyForm {
     Handshake(HandshakeForm),
-    Insert(InsertForm),
+    Write(WriteForm),
     Find(FindForm),
 }
 
@@ -63,7 +65,17 @@ fn form_of(name: &str) -> Option<AnyForm>
     } else if "endSessions" == name {
         Some(AnyForm::Handshake(HandshakeForm::EndSessions))
     } else if "insert" == name {
-        Some(AnyForm::Insert(InsertForm))
+        Some(AnyForm::Write(WriteForm {
+            kind: WriteKind::Insert,
+        }))
+    } else if "update" == name {
+        Some(AnyForm::Write(WriteForm {
+            kind: WriteKind::Update,
+        }))
+    } else if "delete" == name {
+        Some(AnyForm::Write(WriteForm {
+            kind: WriteKind::Delete,
+        }))
     } else if "find" == name {
         Some(AnyForm::Find(FindForm))
     } else {
@@ -71,7 +83,7 @@ fn form_of(name: &str) -> Option<AnyForm>
     }
 }
 
-// What the document of a body and document sequences ask for, by the form of their request; but for the documents of an insert.
+// What the document of a body and document sequences ask for, by the form of their request; but for the statements of a write.
 fn draft_of(
     alloc: Global,
     sent: Form,
@@ -88,12 +100,12 @@ fn draft_of(
     };
     match form {
         AnyForm::Handshake(form) => read_by(&form, alloc, sent, &own.value, document, sequences),
-        AnyForm::Insert(form) => read_by(&form, alloc, sent, &own.value, document, sequences),
+        AnyForm::Write(form) => read_by(&form, alloc, sent, &own.value, document, sequences),
         AnyForm::Find(form) => read_by(&form, alloc, sent, &own.value, document, sequences),
     }
 }
 
-// What the document of a body and document sequences ask for; the documents of an insert are copied.
+// What the document of a body and document sequences ask for; the documents of a write's statements are copied.
 fn read_documents(
     alloc: Global,
     sent: Form,
@@ -104,15 +116,15 @@ fn read_documents(
 {
     match draft_of(alloc, sent, document, sequences) {
         Ok(Draft::Whole(command)) => Ok(command),
-        Ok(Draft::Insert(insert)) => {
-            let documents = documents_or_none(alloc, document, sequences)?;
-            insert.with_documents(documents)
+        Ok(Draft::Write(write)) => {
+            let statements = documents_or_none(alloc, write.kind, document, sequences)?;
+            write.with_statements(alloc, statements)
         }
         Err(fault) => Err(fault),
     }
 }
 
-// The same of a document and sequences that are given away; the documents of an insert are moved into it.
+// The same of a document and sequences that are given away; the documents of a write's statements are moved into it.
 fn take_documents(
     alloc: Global,
     sent: Form,
@@ -123,9 +135,9 @@ fn take_documents(
 {
     match draft_of(alloc, sent, &document, sequences.as_slice()) {
         Ok(Draft::Whole(command)) => Ok(command),
-        Ok(Draft::Insert(insert)) => {
-            let documents = documents_moved(alloc, document, sequences)?;
-            insert.with_documents(documents)
+        Ok(Draft::Write(write)) => {
+            let statements = documents_moved(alloc, write.kind, document, sequences)?;
+            write.with_statements(alloc, statements)
         }
         Err(fault) => Err(fault),
     }
@@ -176,7 +188,7 @@ impl Command {
         }
     }
 
-    /// The same of a request that is given away: the documents of an insert are moved into the command, and none is copied. The
+    /// The same of a request that is given away: the documents of a write's statements are moved into the command, and none is copied. The
     /// request's own bytes are let go.
     pub fn take(alloc: Global, request: Request) -> Result<Command, CommandFault>
         ensures { (meant : wire.Request) → IsMeant request meant → Answers result (model.command_of meant) }

@@ -1,19 +1,23 @@
-//! The documents of an insert, moved out of a request that is given away.
+//! The documents of statements, moved out of a request that is given away.
 
 ghost use Rattle.std.specs.Prelude.{◌≡◌, IfOk};
 ghost use Rattle.std.specs.Option.{option_map};
 ghost use Rattle.bson_values.specs.Tree.{get};
 ghost use Rattle.bson_values.specs.View.{datum_of, fields_of, items_of};
 ghost use Rattle.opmsg_frames.specs.Lists.{pairs_of};
-ghost use Rattle.command_model.specs.Insert as model;
+ghost use Rattle.command_answers.specs.Kinds.{kind_meant};
+ghost use Rattle.command_model.specs.Writes as model;
+ghost use Rattle.command_model.specs.Writes.{statement_form};
 ghost use Rattle.command_words.specs.Drafts.{first_documents};
 
+use crate::writes::statements_name;
 use bson_values::{Document, Field, Memory, Value};
+use command_answers::WriteKind;
 use opmsg_frames::{Sequence, SequenceList};
 use std::alloc::Global;
 
-// The value of the first field of that name.
-fn value_named(fields: Vec<Field>, name: &str) -> Option<Value>
+/// The value of the first field of that name.
+pub(crate) fn value_named(fields: Vec<Field>, name: &str) -> Option<Value>
     ensures { option_map datum_of result ≡ get name.now (fields_of fields.items) }
 {
     for field in fields {
@@ -38,7 +42,7 @@ fn documents_in(alloc: Global, values: Vec<Value>) -> Result<Option<Vec<Document
     Ok(Some(documents))
 }
 
-// The documents of an insert by its field.
+// The documents of statements by their field.
 fn documents_of_value(alloc: Global, value: Value) -> Result<Option<Vec<Document>>, Memory>
     ensures { IfOk result (λ o. option_map (λ v. v.items) o ≡ model.documents_of_value (datum_of value)) }
 {
@@ -59,29 +63,32 @@ fn documents_of_first(sequences: Vec<Sequence>) -> Option<Vec<Document>>
     }
 }
 
-// The documents of an insert, by its field or by its sequence.
+// The documents of statements, by their field or by their sequence.
 fn documents_asked(
     alloc: Global,
+    kind: WriteKind,
     document: Document,
     sequences: SequenceList,
 ) -> Result<Option<Vec<Document>>, Memory>
-    ensures { IfOk result (λ o. option_map (λ v. v.items) o ≡ model.documents_asked document sequences) }
+    ensures { IfOk result (λ o. option_map (λ v. v.items) o ≡ model.documents_asked (statement_form (kind_meant kind)) document sequences) }
 {
-    match value_named(document.into_fields(), "documents") {
+    match value_named(document.into_fields(), statements_name(kind)) {
         Some(value) => documents_of_value(alloc, value),
         None => Ok(documents_of_first(sequences.into_sequences())),
     }
 }
 
-/// The documents of an insert that has some, moved out of its request; else none. Room is made for their row alone.
+/// The documents of a command's statements, moved out of its request; none where it has none. Room is made for their row alone. Fails
+/// for want of memory.
 pub(crate) fn documents_moved(
     alloc: Global,
+    kind: WriteKind,
     document: Document,
     sequences: SequenceList,
 ) -> Result<Vec<Document>, Memory>
-    ensures { IfOk result (λ v. v.items ≡ model.or_documents (model.documents_asked document sequences)) }
+    ensures { IfOk result (λ v. v.items ≡ model.or_documents (model.documents_asked (statement_form (kind_meant kind)) document sequences)) }
 {
-    match documents_asked(alloc, document, sequences)? {
+    match documents_asked(alloc, kind, document, sequences)? {
         Some(documents) => Ok(documents),
         None => Ok(Vec::new(alloc)),
     }

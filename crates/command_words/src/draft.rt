@@ -1,41 +1,51 @@
-//! Commands whose documents are still in their request.
+//! Commands whose statements are still in their request.
 
 ghost use Rattle.std.specs.Prelude.{◌≡◌};
+ghost use Rattle.command_answers.specs.Kinds.{kind_meant};
 ghost use Rattle.command_words.specs.Commands.{Tells};
 ghost use Rattle.command_words.specs.Drafts.{judged};
 
 use crate::command::Command;
 use crate::fault::CheckFault;
-use crate::insert::{Insert, check_statements};
+use crate::statements::operations_of;
+use crate::writes::WriteCommand;
 use bson_values::Document;
 use cluster_base::Namespace;
+use command_answers::WriteKind;
+use std::alloc::Global;
 
-/// An insert, but for its documents.
+/// A write, but for its statements.
 #[derive(Drop)]
-pub(crate) struct InsertDraft {
+pub(crate) struct WriteDraft {
+    pub kind: WriteKind,
     pub namespace: Namespace,
     pub ordered: bool,
 }
 
-/// A command, but for the documents of an insert.
+/// A command, but for the statements of a write.
 #[derive(Drop)]
 pub(crate) enum Draft {
     Whole(Command),
-    Insert(InsertDraft),
+    Write(WriteDraft),
 }
 
-impl InsertDraft {
-    /// The insert of these documents, unless one of them may not be kept.
-    pub(crate) fn with_documents(self, documents: Vec<Document>) -> Result<Command, CheckFault>
-        ensures { Tells result (judged self.namespace self.ordered documents.items) }
+impl WriteDraft {
+    /// The write of these statements, unless one of them is refused; or want of memory.
+    pub(crate) fn with_statements(
+        self,
+        alloc: Global,
+        statements: Vec<Document>,
+    ) -> Result<Command, CheckFault>
+        ensures { Tells result (judged (kind_meant self.kind) self.namespace self.ordered statements.items) }
     {
-        if let Some(code) = check_statements(&documents) {
-            return Err(CheckFault::Refused(code));
+        match operations_of(alloc, self.kind, statements) {
+            Ok(operations) => Ok(Command::Write(WriteCommand {
+                kind: self.kind,
+                namespace: self.namespace,
+                operations,
+                ordered: self.ordered,
+            })),
+            Err(fault) => Err(fault),
         }
-        Ok(Command::Insert(Insert {
-            namespace: self.namespace,
-            documents,
-            ordered: self.ordered,
-        }))
     }
 }

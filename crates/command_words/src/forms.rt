@@ -50,7 +50,7 @@ pub(crate) trait CommandForm {
     fn check_needed(&self, document: &Document, sequences: &[Sequence]) -> Option<Code>
         ensures { verdict_meant result ≡ (form self.now).check_needed document.now (pairs_of sequences.now) };
 
-    /// The command, but for the documents of an insert, which are judged last; unless what is judged last fails.
+    /// The command, but for the statements of a write, which are judged last; unless what is judged last fails.
     fn finish(
         &self,
         alloc: Global,
@@ -143,7 +143,7 @@ fn check_sequences<F: CommandForm>(
     }
 }
 
-/// The command of that form, but for the documents of an insert; or the first error, in the one order. `own` is the value of
+/// The command of that form, but for the statements of a write; or the first error, in the one order. `own` is the value of
 /// the document's first field.
 pub(crate) fn read_by<F: CommandForm>(
     form: &F,

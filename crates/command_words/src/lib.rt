@@ -3,17 +3,19 @@
 
 mod checks;
 mod command;
+mod copies;
 mod documents;
 mod draft;
 mod fault;
 mod find;
 mod forms;
 mod handshake;
-mod insert;
 mod rules;
+mod statements;
+mod writes;
 
 pub use command::Command;
 pub use fault::CommandFault;
 pub use find::Find;
 pub use handshake::Legacy;
-pub use insert::Insert;
+pub use writes::WriteCommand;

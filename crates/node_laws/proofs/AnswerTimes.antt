@@ -2,12 +2,13 @@
 use Rattle.std.proofs.Common.{◌≡◌, ℕ, ◌≤◌, List, [], ◌∷◌, refl, arith}
 use Rattle.std.specs.Prelude.{Some, None, Bool}
 use Rattle.std.specs.List.{AllByRecursion}
-use Rattle.node_model.proofs.AnswerTimes.{time_of_insert, time_of_legacy, time_refused}
+use Rattle.node_model.proofs.AnswerTimes.{time_of_write, time_of_legacy, time_refused}
 use Rattle.node_model.specs.Tree.{Fields}
+use Rattle.node_model.specs.Writes.{WriteKind}
 use Rattle.node_model.specs.Refusals.{Refusal}
 use Rattle.node_model.specs.ReplyParts.{operation_time}
 use Rattle.node_model.specs.Answers.{Answer, hello_answer, legacy_answer, done_answer, find_answer, refusal_answer, answer_document}
-use Rattle.node_model.specs.Outcomes.{Done, time_of, sum_of, errors_of, answer_of}
+use Rattle.node_model.specs.Outcomes.{Done, time_of, summary_of, answer_of}
 
 -- an answer shows no time above this one
 abbrev pub ShowsBelow : ℕ → Answer → Type 0
@@ -39,6 +40,6 @@ greatest_below : (bound : ℕ) (dones : List Done) → AllByRecursion (λ (d : D
 greatest_below bound [] all = omega arith
 greatest_below bound (d ∷ dones) all = let first = all.0 in let rest = greatest_below bound dones all.1 in omega arith
 
-pub insert_below : (bound : ℕ) (dones : List Done) → AllByRecursion (λ (d : Done). d.time ≤ bound) dones → ShowsBelow bound (answer_of dones)
-insert_below bound dones all = shows_one bound (time_of dones) (answer_of dones) (time_of_insert (sum_of dones) (errors_of dones) (time_of dones))
+pub write_below : (bound : ℕ) (kind : WriteKind) (dones : List Done) → AllByRecursion (λ (d : Done). d.time ≤ bound) dones → ShowsBelow bound (answer_of kind dones)
+write_below bound kind dones all = shows_one bound (time_of dones) (answer_of kind dones) (time_of_write kind (summary_of dones))
     (greatest_below bound dones all)

@@ -10,15 +10,15 @@ use Rattle.node_model.specs.Tree.{Datum, Fields}
 use Rattle.node_model.specs.Keys.{range_span}
 use Rattle.value_model.specs.Order.{same_value}
 use Rattle.value_model.proofs.Spans.{same_inside}
-use Rattle.node_model.specs.Insert.{Insert}
+use Rattle.node_model.specs.Writes.{WriteCommand}
 use Rattle.node_model.specs.Find.{Find}
 use Rattle.node_model.specs.Answers.{find_answer, answer_document}
 use Rattle.node_model.specs.Catalogue.{Creation}
 use Rattle.node_model.specs.Tables.{Chunk, first_chunk, first_table, first_shard, owner_among, owner_at}
-use Rattle.node_model.specs.History.{Entry, key_written, same_key, writes_to, effect, document_after, document_left, document_at}
+use Rattle.node_model.specs.History.{Operation, Entry, key_written, same_key, writes_to, effect, document_after, document_left, document_at}
 use Rattle.node_model.specs.Exchanges.{RequestId, Asked, Answered, entries_by}
 use Rattle.node_model.specs.Outcomes.{done_of, answer_of}
-use Rattle.node_model.specs.Right.{found, ends, AreStatements, AreAll, IsPart, IsWhole, time_read, IsRight, right_insert, right_find, right_ahead, right_hello, right_legacy, right_ping, right_end_sessions, right_refusal}
+use Rattle.node_model.specs.Right.{found, ends, AreStatements, AreAll, IsPart, IsWhole, time_read, IsRight, right_write, right_find, right_ahead, right_hello, right_legacy, right_ping, right_end_sessions, right_refusal}
 use Rattle.node_model.specs.OneHistory.{StandsInPart, IsPlaced}
 use Rattle.node_laws.proofs.Views.{View, entries_in, creations_in, Later}
 use Rattle.node_laws.proofs.Facts.{NoneBegan, HasNoOwner, IsSettled, AnswerFits}
@@ -26,25 +26,25 @@ use Rattle.node_laws.proofs.Lists.{all_behind}
 use Rattle.node_laws.proofs.Growth.{more_entries, entries_by_longer, began_grows}
 
 -- behind all statements no entry of them follows
-nothing_follows : (id : RequestId) (namespace : List ℕ) (ordered : Bool) (index : ℕ) (documents : List Fields) (es more : List Entry) → AreStatements id namespace ordered index documents (es ++ more) → AreAll ordered documents (map done_of es) → more ≡ []
+nothing_follows : (id : RequestId) (namespace : List ℕ) (ordered : Bool) (index : ℕ) (operations : List Operation) (es more : List Entry) → AreStatements id namespace ordered index operations (es ++ more) → AreAll ordered operations (map done_of es) → more ≡ []
 nothing_follows id namespace ordered index [] [] [] each all = refl
 nothing_follows id namespace ordered index [] [] (e ∷ more) each all = absurd each
 nothing_follows id namespace ordered index [] (e ∷ es) more each all = absurd each
-nothing_follows id namespace ordered index (d ∷ documents) [] more each all = absurd all
-nothing_follows id namespace ordered index (d ∷ documents) (e ∷ es) more each all = by_end (ends ordered (done_of e)) refl all (λ others. nothing_follows id namespace ordered (index + 1) documents es more each.2 others)
+nothing_follows id namespace ordered index (d ∷ operations) [] more each all = absurd all
+nothing_follows id namespace ordered index (d ∷ operations) (e ∷ es) more each all = by_end (ends ordered (done_of e)) refl all (λ others. nothing_follows id namespace ordered (index + 1) operations es more each.2 others)
   where
     no_front : (xs ys : List Entry) → xs ++ ys ≡ [] → ys ≡ []
     no_front [] ys h = h
     no_front (x ∷ xs) ys h = absurd (cc)
 
-    by_end : (t : Bool) → ends ordered (done_of e) ≡ t → (elim t as (λ b. Type 0) [ true ↦ map done_of es ≡ [] | false ↦ AreAll ordered documents (map done_of es) ]) → (AreAll ordered documents (map done_of es) → more ≡ []) → more ≡ []
+    by_end : (t : Bool) → ends ordered (done_of e) ≡ t → (elim t as (λ b. Type 0) [ true ↦ map done_of es ≡ [] | false ↦ AreAll ordered operations (map done_of es) ]) → (AreAll ordered operations (map done_of es) → more ≡ []) → more ≡ []
     by_end true h last later = no_front es more (each.1 h)
     by_end false h others later = later others
 
-whole_stays : (history more : List Entry) (id : RequestId) (insert : Insert) → IsPart (history ++ more) id insert → IsWhole history id insert → entries_by id (history ++ more) ≡ entries_by id history
-whole_stays history more id insert part whole =
+whole_stays : (history more : List Entry) (id : RequestId) (write : WriteCommand) → IsPart (history ++ more) id write → IsWhole history id write → entries_by id (history ++ more) ≡ entries_by id history
+whole_stays history more id write part whole =
     let longer = entries_by_longer id history more in
-    let none : entries_by id more ≡ [] = nothing_follows id insert.namespace insert.ordered 0 insert.documents (entries_by id history) (entries_by id more) (subst (λ l. AreStatements id insert.namespace insert.ordered 0 insert.documents l) longer part) whole.all in
+    let none : entries_by id more ≡ [] = nothing_follows id write.namespace write.ordered 0 write.operations (entries_by id history) (entries_by id more) (subst (λ l. AreStatements id write.namespace write.ordered 0 write.operations l) longer part) whole.all in
     longer ∙ ap (λ l. entries_by id history ++ l) none ∙ append-nil (entries_by id history)
 
 -- an entry counts at a time under a key only where it is not above the time and writes the key
@@ -132,10 +132,10 @@ find_stays v w a find later settled placed =
     ∙ unchanged find.namespace (Some find.key) (time_read a find) (entries_in v first_shard) m.more (counts_nothing v w a find m.more later settled m.above behind)
 
 right_stays : (v w : View) (a : Asked) (t : Answered) → Later v w → StandsInPart (entries_in w first_shard) a → AllByRecursion (IsPlaced (creations_in w)) (entries_in w first_shard) → IsSettled v a t → IsRight (entries_in v first_shard) a t → IsRight (entries_in w first_shard) a t
-right_stays v w a t later part placed settled (right_insert insert asks whole told) =
+right_stays v w a t later part placed settled (right_write write asks whole told) =
     let m = more_entries v w first_shard later in
-    let same : entries_by a.id (entries_in w first_shard) ≡ entries_by a.id (entries_in v first_shard) = ap (λ l. entries_by a.id l) m.same ∙ whole_stays (entries_in v first_shard) m.more a.id insert (subst (λ l. IsPart l a.id insert) m.same (part insert asks)) whole in
-    right_insert insert asks (record { part = part insert asks; all = subst (λ l. AreAll insert.ordered insert.documents (map done_of l)) (sym same) whole.all }) (told ∙ ap (λ l. answer_document (answer_of (map done_of l))) (sym same))
+    let same : entries_by a.id (entries_in w first_shard) ≡ entries_by a.id (entries_in v first_shard) = ap (λ l. entries_by a.id l) m.same ∙ whole_stays (entries_in v first_shard) m.more a.id write (subst (λ l. IsPart l a.id write) m.same (part write asks)) whole in
+    right_write write asks (record { part = part write asks; all = subst (λ l. AreAll write.ordered write.operations (map done_of l)) (sym same) whole.all }) (told ∙ ap (λ l. answer_document (answer_of write.kind (map done_of l))) (sym same))
 right_stays v w a t later part placed settled (right_find find asks reached told) =
     right_find find asks reached (told ∙ ap (λ d. answer_document (find_answer find.namespace (found d) (time_read a find))) (sym (find_stays v w a find later (settled find asks reached) placed)))
 right_stays v w a t later part placed settled (right_ahead find named asks names ahead told) = right_ahead find named asks names ahead told

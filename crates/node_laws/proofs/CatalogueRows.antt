@@ -70,7 +70,7 @@ names_longer [] c new names = (tt, tt)
 names_longer (d ∷ creations) c new names = (all_append (λ (e : Creation). e.namespace ≢ d.namespace) creations (c ∷ []) names.0 ((λ e. new.0 (sym e)), tt), names_longer creations c new.1 names.1)
 
 wanted_for : (asked : List Asked) (namespace : List ℕ) (time at : ℕ) → time < at → IsWanted asked namespace time → WasWanted asked (begun_at namespace at)
-wanted_for asked namespace time at less s = record { request = s.request; taken = s.taken; into = s.into; later = let p = s.past in omega arith }
+wanted_for asked namespace time at less s = record { request = s.request; taken = s.taken; writes = s.writes; later = let p = s.past in omega arith }
 
 -- the facts on the catalogue at a later time
 later_catalogue : (asked : List Asked) (at time : ℕ) (kept : List Kept) (c : Catalogue) → c.time ≤ time → CatalogueFits asked at kept c → CatalogueFits asked at kept (record { me = c.me; time = time; tables = c.tables })

@@ -4,16 +4,16 @@ use Rattle.std.specs.Prelude.{Option, Some, None, Ok, true, map, length, drop}
 use Rattle.std.specs.List.{AllByRecursion}
 use Rattle.node_model.specs.Tree.{Datum, Fields}
 use Rattle.node_model.specs.ReplyParts.{operation_time}
-use Rattle.node_model.specs.Insert.{Insert}
+use Rattle.node_model.specs.Writes.{WriteCommand}
 use Rattle.node_model.specs.Find.{Find}
-use Rattle.node_model.specs.Command.{insert_command, find_command, command_of}
+use Rattle.node_model.specs.Command.{write_command, find_command, command_of}
 use Rattle.node_model.specs.Catalogue.{Creation}
 use Rattle.node_model.specs.Tables.{Table, first_table, first_shard, owner_at}
 use Rattle.node_model.specs.History.{Entry, Legal, IsIn, document_at}
 use Rattle.node_model.specs.Exchanges.{RequestId, Asked, Answered, entries_by}
 use Rattle.node_model.specs.Outcomes.{Done, done_of}
 use Rattle.node_model.specs.Right.{found, ends, told_by, time_read}
-use Rattle.node_model.specs.OneHistory.{IsInsertInto, WasSent, WasWanted, StandsInPart, IsPlaced, IsRightOf, IsFresh, IsInOrder, Given, WasMet, ids_asked, ids_told, AreDifferent, AreDifferentNames}
+use Rattle.node_model.specs.OneHistory.{IsWriteIn, WasSent, WasWanted, StandsInPart, IsPlaced, IsRightOf, IsFresh, IsInOrder, Given, WasMet, ids_asked, ids_told, AreDifferent, AreDifferentNames}
 use Rattle.node_model.specs.Journal.{Kept, entries_kept, creations_kept}
 use Rattle.node_model.specs.Letters.{At, no_time, at_time, Statement, Half, key_half, Body, table_ask, table_told, write_ask, write_done, read_ask, half_ask, read_rows, stale, time_ask, time_told, Letter}
 use Rattle.node_model.specs.States.{Catalogue, Shard, Router, Work, writing, reading, for_time, Open, NodeState, catalogue_state, shard_state, router_state, time_of_node}
@@ -76,18 +76,18 @@ pub record IsShown (v : View) (asked : List Asked) (sender time : ℕ) (id : Req
 -- owns their keys, and the message is not older than what the router knew.
 pub record IsWriteOf (v : View) (asked : List Asked) (receiver time : ℕ) (id : RequestId) (ordered : Bool) (namespace : List ℕ) (statements : List Statement) : Type 0 where
   pub request : Asked
-  pub insert : Insert
+  pub write : WriteCommand
   pub front : List Done
   pub standing : List Done
   pub back : List Statement
   pub taken : IsIn request asked
   pub own : request.id ≡ id
-  pub asks : command_of request.request ≡ Ok (insert_command insert)
-  pub order : ordered ≡ insert.ordered
-  pub name : namespace ≡ insert.namespace
+  pub asks : command_of request.request ≡ Ok (write_command write)
+  pub order : ordered ≡ write.ordered
+  pub name : namespace ≡ write.namespace
   pub stands : told_by id (entries_in v first_shard) ≡ front ++ standing
   pub goes_on : AllByRecursion (λ d. ends ordered d ≡ false) front
-  pub next : drop (length front) (statements_from id 0 insert.documents) ≡ statements ++ back
+  pub next : drop (length front) (statements_from id 0 write.operations) ≡ statements ++ back
   pub owned : AllByRecursion (IsOwned v time namespace receiver) statements
   pub fresh : request.time ≤ time
 
@@ -100,11 +100,11 @@ pub record IsDoneBy (v : View) (sender time : ℕ) (id : RequestId) (d : Done) :
 
 -- MESSAGES
 
--- a table that is to be begun is wanted by an insert
+-- a table that is to be begun is wanted by a write
 pub record IsWanted (asked : List Asked) (namespace : List ℕ) (time : ℕ) : Type 0 where
   pub request : Asked
   pub taken : IsIn request asked
-  pub into : IsInsertInto namespace request
+  pub writes : IsWriteIn namespace request
   pub past : request.time ≤ time
 
 abbrev pub AtFits : At → ℕ → Type 0
@@ -162,9 +162,9 @@ pub record ShardFits (v : View) (asked : List Asked) (at : ℕ) (kept : List Kep
 
 -- what a request still has to do
 abbrev pub WorkFits : View → Asked → (namespace : List ℕ) → Work → Type 0
-WorkFits v a namespace (writing ordered statements answers) =
-    (insert : Insert) × (command_of a.request ≡ Ok (insert_command insert)) × (namespace ≡ insert.namespace) × (ordered ≡ insert.ordered)
-    × (statements ≡ statements_from a.id 0 insert.documents)
+WorkFits v a namespace (writing kind ordered statements answers) =
+    (write : WriteCommand) × (command_of a.request ≡ Ok (write_command write)) × (kind ≡ write.kind) × (namespace ≡ write.namespace) × (ordered ≡ write.ordered)
+    × (statements ≡ statements_from a.id 0 write.operations)
     × ((standing : List Done) × (told_by a.id (entries_in v first_shard) ≡ answers ++ standing))
     × AllByRecursion (λ d. ends ordered d ≡ false) answers
 WorkFits v a namespace (reading at half) =
@@ -173,7 +173,7 @@ WorkFits v a namespace (reading at half) =
 
 -- what a write was told so far is not above a time
 abbrev pub AreSeen : ℕ → Work → Type 0
-AreSeen time (writing ordered statements answers) = AllByRecursion (λ (d : Done). d.time ≤ time) answers
+AreSeen time (writing kind ordered statements answers) = AllByRecursion (λ (d : Done). d.time ≤ time) answers
 AreSeen time (reading at half) = Unit {0}
 
 -- an open request was taken by this router in this life, and is not answered

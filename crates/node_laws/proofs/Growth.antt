@@ -160,7 +160,7 @@ write_grows v w asked more receiver time id ordered namespace statements later a
     let t = told_grows v w id a.front a.standing later a.stands in
     record {
       request = a.request;
-      insert = a.insert;
+      write = a.write;
       front = a.front;
       standing = t.0;
       back = a.back;
@@ -189,7 +189,7 @@ done_grows v w sender time id d later b =
 -- MESSAGES
 
 pub wanted_grows : (asked more : List Asked) (namespace : List ℕ) (time : ℕ) → IsWanted asked namespace time → IsWanted (asked ++ more) namespace time
-wanted_grows asked more namespace time s = record { request = s.request; taken = in_prefix s.request asked more s.taken; into = s.into; past = s.past }
+wanted_grows asked more namespace time s = record { request = s.request; taken = in_prefix s.request asked more s.taken; writes = s.writes; past = s.past }
 
 table_fits_grows : (v w : View) (time : ℕ) (namespace : List ℕ) (at : At) (table : Option Table) → Later v w → TableFits v time namespace at table → TableFits w time namespace at table
 table_fits_grows v w time namespace at (Some t) later f = (known_grows v w time time t later (omega arith) f.0, f.1)
@@ -215,14 +215,14 @@ letter_grows v w asked more m later f = body_grows v w asked more m.sender m.rec
 -- WORK, ENTRIES AND TIMES
 
 pub work_grows : (v w : View) (a : Asked) (namespace : List ℕ) (work : Work) → Later v w → WorkFits v a namespace work → WorkFits w a namespace work
-work_grows v w a namespace (writing ordered statements answers) later (insert, asks, name, order, all, (standing, stands), goes_on) = (insert, asks, name, order, all, told_grows v w a.id answers standing later stands, goes_on)
+work_grows v w a namespace (writing kind ordered statements answers) later (write, asks, is, name, order, all, (standing, stands), goes_on) = (write, asks, is, name, order, all, told_grows v w a.id answers standing later stands, goes_on)
 work_grows v w a namespace (reading at half) later f = f
 
 pub sent_grows : (asked more : List Asked) (e : Entry) → WasSent asked e → WasSent (asked ++ more) e
-sent_grows asked more e s = record { request = s.request; taken = in_prefix s.request asked more s.taken; into = s.into; own = s.own; later = s.later }
+sent_grows asked more e s = record { request = s.request; taken = in_prefix s.request asked more s.taken; writes = s.writes; own = s.own; later = s.later }
 
 pub creation_wanted_grows : (asked more : List Asked) (c : Creation) → WasWanted asked c → WasWanted (asked ++ more) c
-creation_wanted_grows asked more c s = record { request = s.request; taken = in_prefix s.request asked more s.taken; into = s.into; later = s.later }
+creation_wanted_grows asked more c s = record { request = s.request; taken = in_prefix s.request asked more s.taken; writes = s.writes; later = s.later }
 
 pub placed_grows : (v w : View) (e : Entry) → Later v w → IsPlaced (creations_in v) e → IsPlaced (creations_in w) e
 placed_grows v w e later p = record { creation = p.creation; key = p.key; begun = creation_stays v w p.creation later p.begun; name = p.name; before = p.before; writes = p.writes; owner = p.owner }

@@ -64,8 +64,8 @@ row_moments _ _ _ _ (router_take r link number request namespace work b p) = rec
 row_moments _ _ _ _ (router_learn r m namespace create at table says) = record { me = refl; moment = refl; time = omega arith; reached = λ h. omega arith; taken = tt }
 row_moments _ _ _ _ (router_reach r m id q at half says o w t le) = record { me = refl; moment = refl; time = omega arith; reached = λ h. omega arith; taken = tt }
 row_moments _ _ _ _ (router_ahead r m id q at half says o w t le) = record { me = refl; moment = refl; time = omega arith; reached = λ h. omega arith; taken = tt }
-row_moments _ _ _ _ (router_note r m id dones q ordered statements answers says o w n c) = record { me = refl; moment = refl; time = omega arith; reached = λ h. omega arith; taken = tt }
-row_moments _ _ _ _ (router_wrote r m id dones q ordered statements answers says o w n c) = record { me = refl; moment = refl; time = omega arith; reached = λ h. omega arith; taken = tt }
+row_moments _ _ _ _ (router_note r m id dones q kind ordered statements answers says o w n c) = record { me = refl; moment = refl; time = omega arith; reached = λ h. omega arith; taken = tt }
+row_moments _ _ _ _ (router_wrote r m id dones q kind ordered statements answers says o w n c) = record { me = refl; moment = refl; time = omega arith; reached = λ h. omega arith; taken = tt }
 row_moments _ _ _ _ (router_read r m id rows q at half says o w) = record { me = refl; moment = refl; time = omega arith; reached = λ h. omega arith; taken = tt }
 row_moments _ _ _ _ (router_late r m l) = record { me = refl; moment = refl; time = omega arith; reached = λ h. omega arith; taken = tt }
 row_moments _ _ _ _ (router_skip r m s) = record { me = refl; moment = refl; time = omega arith; reached = λ h. h; taken = tt }

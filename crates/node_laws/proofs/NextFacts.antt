@@ -34,10 +34,10 @@ next_keeps r time tables namespace told q = by_test (is_for_table q.wait && byte
     by_own at false = refl
 
     by_work : (work : Work) → KeepsCount r q (elim work as (λ (x : Work). Next) [
-      | writing ordered statements answers ↦ stays q []
+      | writing kind ordered statements answers ↦ stays q []
       | reading at half ↦ if is_for told at then is_told (reply_to r time q (empty_answer q at)) else stays q []
     ])
-    by_work (writing ordered statements answers) = refl
+    by_work (writing kind ordered statements answers) = refl
     by_work (reading at half) = by_own at (is_for told at)
 
     by_table : (table : Option Table) → KeepsCount r q (next_waiting r time told q table)
@@ -90,10 +90,10 @@ module _ (v : View) (asked : List Asked) (answered : List Answered) (given : Lis
 
       by_work : (work : Work) → WorkFits v o.request q.namespace work → is_ahead s.time work ≡ false → table_for (adopted table tables) q.namespace work ≡ None
           → Goes (elim work as (λ (x : Work). Next) [
-            | writing ordered statements answers ↦ stays q []
+            | writing kind ordered statements answers ↦ stays q []
             | reading at half ↦ if is_for told at then is_told (reply_to r s.time q (empty_answer q at)) else stays q []
           ])
-      by_work (writing ordered statements answers) work reached none = (same, tt)
+      by_work (writing kind ordered statements answers) work reached none = (same, tt)
       by_work (reading at (key_half key)) work reached none = by_own at key (is_for told at) refl work (ltb-false s.time at reached) none
 
   waiting_fits : (q : Open) (o : IsOpenOf v asked answered r q) → o.request.came < now + 1 → is_ahead s.time q.work ≡ false → q.namespace ≡ namespace

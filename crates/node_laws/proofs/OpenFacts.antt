@@ -19,7 +19,7 @@ abbrev pub with_own : Router → Router → Router
 with_own r s = record { me = r.me; time = s.time; life = r.life; begun = s.begun; moment = s.moment; count = s.count; tables = s.tables; requests = s.requests }
 
 pub ahead_later : (a b : ℕ) (work : Work) → a ≤ b → is_ahead a work ≡ false → is_ahead b work ≡ false
-ahead_later a b (writing ordered statements answers) le not_ahead = refl
+ahead_later a b (writing kind ordered statements answers) le not_ahead = refl
 ahead_later a b (reading at half) le not_ahead = by_test (nat_lt b at) refl
   where
     by_test : (t : Bool) → nat_lt b at ≡ t → nat_lt b at ≡ false
@@ -30,7 +30,7 @@ ahead_later a b (reading at half) le not_ahead = by_test (nat_lt b at) refl
     by_test false h = h
 
 pub seen_later : (a b : ℕ) (work : Work) → a ≤ b → AreSeen a work → AreSeen b work
-seen_later a b (writing ordered statements answers) le all = all_weaken (λ (d : Done). d.time ≤ a) (λ (d : Done). d.time ≤ b) answers (λ d l. omega arith) all
+seen_later a b (writing kind ordered statements answers) le all = all_weaken (λ (d : Done). d.time ≤ a) (λ (d : Done). d.time ≤ b) answers (λ d l. omega arith) all
 seen_later a b (reading at half) le all = tt
 
 -- an open request goes on, with other work

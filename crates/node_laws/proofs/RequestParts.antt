@@ -5,12 +5,12 @@ use Rattle.std.specs.Prelude.{Option, Some, None, Result, Ok, true, false, map, 
 use Rattle.std.specs.List.{AllByRecursion}
 use Rattle.std.proofs.lemmas.List.{length-map}
 use Rattle.chunk_model.proofs.FirstTables.{only_now, owned_at}
-use Rattle.node_model.specs.Tree.{Datum, Fields}
-use Rattle.node_model.specs.Insert.{Insert}
+use Rattle.node_model.specs.Tree.{Datum}
+use Rattle.node_model.specs.Writes.{WriteCommand}
 use Rattle.node_model.specs.Refusals.{Refusal}
-use Rattle.node_model.specs.Command.{Command, insert_command, command_of}
+use Rattle.node_model.specs.Command.{Command, write_command, command_of}
 use Rattle.node_model.specs.Tables.{Table, first_table, first_shard, owner_now}
-use Rattle.node_model.specs.History.{Entry, IsIn, key_written}
+use Rattle.node_model.specs.History.{Operation, Entry, IsIn, key_written}
 use Rattle.node_model.specs.Exchanges.{RequestId, same_request, Asked, is_session_of, entries_by}
 use Rattle.node_model.specs.Outcomes.{Done, done_of}
 use Rattle.node_model.specs.Right.{ends, AreStatements, IsPart, told_by}
@@ -66,24 +66,24 @@ owned_placed v time namespace receiver e (shard, name, o) later =
 
 -- STATEMENTS OF A REQUEST
 
-own_from : (id : RequestId) (index : ℕ) (documents : List Fields) → AreOwn id (statements_from id index documents)
+own_from : (id : RequestId) (index : ℕ) (operations : List Operation) → AreOwn id (statements_from id index operations)
 own_from id index [] = tt
-own_from id index (d ∷ documents) = (own_session id, own_from id (index + 1) documents)
+own_from id index (d ∷ operations) = (own_session id, own_from id (index + 1) operations)
 
-drop_statements : (id : RequestId) (index n : ℕ) (documents : List Fields)
-    → drop n (statements_from id index documents) ≡ statements_from id (index + n) (drop n documents)
-drop_statements id index zero documents = ap (λ k. statements_from id k documents) (omega arith)
+drop_statements : (id : RequestId) (index n : ℕ) (operations : List Operation)
+    → drop n (statements_from id index operations) ≡ statements_from id (index + n) (drop n operations)
+drop_statements id index zero operations = ap (λ k. statements_from id k operations) (omega arith)
 drop_statements id index (suc n) [] = refl
-drop_statements id index (suc n) (d ∷ documents) = drop_statements id (index + 1) n documents
-    ∙ ap (λ k. statements_from id k (drop n documents)) (omega arith)
+drop_statements id index (suc n) (d ∷ operations) = drop_statements id (index + 1) n operations
+    ∙ ap (λ k. statements_from id k (drop n operations)) (omega arith)
 
 -- the statements of an ask are numbered by its request
 pub ask_own : (v : View) (asked : List Asked) (receiver time : ℕ) (id : RequestId) (ordered : Bool) (namespace : List ℕ) (statements : List Statement)
     → IsWriteOf v asked receiver time id ordered namespace statements → AreOwn id statements
 ask_own v asked receiver time id ordered namespace statements a =
     all_prefix (λ (s : Statement). is_session_of id s.number.session ≡ true) statements a.back
-    (subst (λ l. AreOwn id l) (sym (drop_statements id 0 (length a.front) a.insert.documents) ∙ a.next)
-    (own_from id (0 + length a.front) (drop (length a.front) a.insert.documents)))
+    (subst (λ l. AreOwn id l) (sym (drop_statements id 0 (length a.front) a.write.operations) ∙ a.next)
+    (own_from id (0 + length a.front) (drop (length a.front) a.write.operations)))
 
 -- what some entries were told is what the first of them were told
 pub record ToldFirst (entries : List Entry) (front : List Done) : Type 0 where
@@ -100,31 +100,31 @@ told_first (x ∷ entries) (d ∷ front) standing e =
     let t = told_first entries front standing (cc) in
     record { ahead = x ∷ t.ahead; behind = t.behind; split = ap (λ l. x ∷ l) t.split; told = ap (λ l. done_of x ∷ l) t.told ∙ ap (λ y. y ∷ front) first }
 
-pub request_part : (id : RequestId) (shard : ℕ) (namespace : List ℕ) (ordered : Bool) (documents : List Fields) (entries : List Entry) (time : ℕ)
+pub request_part : (id : RequestId) (shard : ℕ) (namespace : List ℕ) (ordered : Bool) (operations : List Operation) (entries : List Entry) (time : ℕ)
     (statements : List Statement) (dones : List Done) (made : List Entry) (last : ℕ)
     → Serves shard namespace ordered entries time statements dones made last → (front standing : List Done) (back : List Statement)
     → told_by id entries ≡ front ++ standing → AllByRecursion (λ d. ends ordered d ≡ false) front
-    → drop (length front) (statements_from id 0 documents) ≡ statements ++ back → AreStatements id namespace ordered 0 documents (entries_by id entries)
-    → AreStatements id namespace ordered 0 documents (entries_by id (entries ++ made))
-request_part id shard namespace ordered documents entries time statements dones made last serves front standing back told goes next part =
+    → drop (length front) (statements_from id 0 operations) ≡ statements ++ back → AreStatements id namespace ordered 0 operations (entries_by id entries)
+    → AreStatements id namespace ordered 0 operations (entries_by id (entries ++ made))
+request_part id shard namespace ordered operations entries time statements dones made last serves front standing back told goes next part =
     let t = told_first (entries_by id entries) front standing told in
-    let all : AreStatements id namespace ordered 0 documents (t.ahead ++ t.behind) =
-    subst (λ l. AreStatements id namespace ordered 0 documents l) t.split part in
+    let all : AreStatements id namespace ordered 0 operations (t.ahead ++ t.behind) =
+    subst (λ l. AreStatements id namespace ordered 0 operations l) t.split part in
     let count : length t.ahead ≡ length front = sym (length-map t.ahead done_of) ∙ ap (λ (l : List Done). length l) t.told in
-    let from : statements_from id (0 + length t.ahead) (drop (length t.ahead) documents) ≡ statements ++ back =
-    sym (drop_statements id 0 (length t.ahead) documents) ∙ ap (λ n. drop n (statements_from id 0 documents)) count ∙ next in
+    let from : statements_from id (0 + length t.ahead) (drop (length t.ahead) operations) ≡ statements ++ back =
+    sym (drop_statements id 0 (length t.ahead) operations) ∙ ap (λ n. drop n (statements_from id 0 operations)) count ∙ next in
     let goes_on : GoOn ordered t.ahead = all_unmapped (λ d. ends ordered d ≡ false) done_of t.ahead
     (subst (λ l. AllByRecursion (λ d. ends ordered d ≡ false) l) (sym t.told) goes) in
     let new = serves_stands id shard namespace ordered entries time statements dones made last serves (0 + length t.ahead)
-    (drop (length t.ahead) documents) back t.ahead t.behind from
+    (drop (length t.ahead) operations) back t.ahead t.behind from
     (record {
       split = t.split;
-      below = front_below id namespace ordered 0 documents t.ahead t.behind all;
-      from = behind_front id namespace ordered 0 documents t.ahead t.behind all;
+      below = front_below id namespace ordered 0 operations t.ahead t.behind all;
+      from = behind_front id namespace ordered 0 operations t.ahead t.behind all;
     }) in
-    subst (λ l. AreStatements id namespace ordered 0 documents l)
+    subst (λ l. AreStatements id namespace ordered 0 operations l)
     (sym (entries_by_longer id entries made ∙ ap (λ l. l ++ entries_by id made) t.split ∙ append_assoc t.ahead t.behind (entries_by id made)))
-    (other_back id namespace ordered 0 documents t.ahead t.behind (t.behind ++ entries_by id made) goes_on all new)
+    (other_back id namespace ordered 0 operations t.ahead t.behind (t.behind ++ entries_by id made) goes_on all new)
 
 -- ALL REQUESTS
 
@@ -134,27 +134,27 @@ none_of_other a b [] other own = refl
 none_of_other a b (e ∷ made) other own = ap (λ t. if t then e ∷ entries_by b made else entries_by b made) (other_made a b e.number.session other own.0)
     ∙ none_of_other a b made other own.1
 
-insert_is : (r : Result Command Refusal) (a b : Insert) → r ≡ Ok (insert_command a) → r ≡ Ok (insert_command b) → a ≡ b
-insert_is r a b e h = cc
+write_is : (r : Result Command Refusal) (a b : WriteCommand) → r ≡ Ok (write_command a) → r ≡ Ok (write_command b) → a ≡ b
+write_is r a b e h = cc
 
 -- where of one request a prefix stands, and none of the others made an entry, of each a prefix stands
-pub parts_longer : (asked : List Asked) (entries made : List Entry) (own : Asked) (insert : Insert) → AreDifferent (ids_asked asked) → IsIn own asked
-    → command_of own.request ≡ Ok (insert_command insert)
-    → AllByRecursion (λ (e : Entry). is_session_of own.id e.number.session ≡ true) made → IsPart (entries ++ made) own.id insert
+pub parts_longer : (asked : List Asked) (entries made : List Entry) (own : Asked) (write : WriteCommand) → AreDifferent (ids_asked asked) → IsIn own asked
+    → command_of own.request ≡ Ok (write_command write)
+    → AllByRecursion (λ (e : Entry). is_session_of own.id e.number.session ≡ true) made → IsPart (entries ++ made) own.id write
     → AllByRecursion (StandsInPart entries) asked → AllByRecursion (StandsInPart (entries ++ made)) asked
-parts_longer asked entries made own insert different taken asks mine part parts =
+parts_longer asked entries made own write different taken asks mine part parts =
     all_within (StandsInPart entries) (StandsInPart (entries ++ made)) asked (λ a i p. each a i p) parts
   where
     by_id : (a : Asked) → IsIn a asked → StandsInPart entries a → (t : Bool) → same_request own.id a.id ≡ t → StandsInPart (entries ++ made) a
     by_id a i old true same wanted is =
         let one : own ≡ a = one_asked own a asked different taken i (same_id own.id a.id same) in
-        let inserts : insert ≡ wanted = insert_is (command_of own.request) insert wanted asks (ap (λ (b : Asked). command_of b.request) one ∙ is) in
-        subst (λ (b : Asked). IsPart (entries ++ made) b.id wanted) one (subst (λ n. IsPart (entries ++ made) own.id n) inserts part)
+        let writes : write ≡ wanted = write_is (command_of own.request) write wanted asks (ap (λ (b : Asked). command_of b.request) one ∙ is) in
+        subst (λ (b : Asked). IsPart (entries ++ made) b.id wanted) one (subst (λ n. IsPart (entries ++ made) own.id n) writes part)
     by_id a i old false other wanted is =
         let different : own.id ≢ a.id = λ e. true_false (sym (own_session own.id) ∙ ap (λ n. same_request own.id n) e ∙ other) in
         let same : entries_by a.id (entries ++ made) ≡ entries_by a.id entries = entries_by_longer a.id entries made
         ∙ ap (λ l. entries_by a.id entries ++ l) (none_of_other own.id a.id made different mine) ∙ append-nil (entries_by a.id entries) in
-        subst (λ l. AreStatements a.id wanted.namespace wanted.ordered 0 wanted.documents l) (sym same) (old wanted is)
+        subst (λ l. AreStatements a.id wanted.namespace wanted.ordered 0 wanted.operations l) (sym same) (old wanted is)
       where
         true_false : true ≡ false → ⊥
         true_false e = cc

@@ -1,17 +1,16 @@
 -- What new requests and answers leave of the facts on old ones.
-use Rattle.std.proofs.Common.{◌≡◌, ◌≢◌, ◌⊎◌, inl, inr, ℕ, ◌+◌, ◌<◌, List, [], ◌∷◌, ◌++◌, refl, sym, ap, subst, ◌∙◌, arith, Bool}
-use Rattle.std.specs.Prelude.{true, false, ◌==◌, ◌&&◌, if◌then◌else◌}
+use Rattle.std.proofs.Common.{◌≡◌, ◌≢◌, ℕ, ◌+◌, ◌<◌, List, [], ◌∷◌, ◌++◌, refl, sym, ap, subst, ◌∙◌, arith, Bool}
+use Rattle.std.specs.Prelude.{true, false, if◌then◌else◌}
 use Rattle.std.specs.List.{AllByRecursion}
-use Rattle.std.proofs.lemmas.Bool.{eqb-true}
 use Rattle.history_model.proofs.Lists.{all_weaken, all_append, all_at}
-use Rattle.node_model.specs.History.{Session, client_session, router_session, Entry, IsIn}
+use Rattle.node_model.specs.History.{Session, client_session, router_session, Entry}
 use Rattle.node_model.specs.Exchanges.{RequestId, same_request, Asked, Answered, is_session_of, entries_by}
 use Rattle.node_model.specs.Right.{AreStatements}
 use Rattle.node_model.specs.OneHistory.{WasSent, StandsInPart, IsNotBefore, IsFresh, ids_asked, AreDifferent}
 use Rattle.node_model.specs.Letters.{Taken, Reply}
 use Rattle.node_model.specs.World.{asked_by, answered_by}
 use Rattle.node_model.proofs.Requests.{same_id}
-use Rattle.node_laws.proofs.Lists.{all_of, all_unmapped}
+use Rattle.node_laws.proofs.Lists.{all_of}
 
 -- a request that is new: none before has its number
 abbrev pub IsNew : List Asked → Asked → Type 0
@@ -53,7 +52,7 @@ none_by asked a (e ∷ history) new sent =
 pub parts_grow : (asked more : List Asked) (history : List Entry) → AreDifferent (ids_asked (asked ++ more)) → AllByRecursion (WasSent asked) history → AllByRecursion (StandsInPart history) asked → AllByRecursion (StandsInPart history) (asked ++ more)
 parts_grow asked more history different sent parts =
     all_append (StandsInPart history) asked more parts
-    (all_weaken (IsNew asked) (StandsInPart history) more (λ a new insert asks. subst (λ l. AreStatements a.id insert.namespace insert.ordered 0 insert.documents l) (sym (none_by asked a history new sent)) tt) (new_ones asked more different))
+    (all_weaken (IsNew asked) (StandsInPart history) more (λ a new write asks. subst (λ l. AreStatements a.id write.namespace write.ordered 0 write.operations l) (sym (none_by asked a history new sent)) tt) (new_ones asked more different))
 
 -- what is answered in this step is answered in it, by this router
 pub answered_now : (now : ℕ) (replies : List Reply) → AllByRecursion (λ (t : Answered). t.step ≡ now) (answered_by now replies)

@@ -5,15 +5,15 @@ use Rattle.std.specs.List.{AllByRecursion}
 use Rattle.history_model.proofs.Lists.{all_at}
 use Rattle.node_model.specs.Tree.{Datum, Fields}
 use Rattle.node_model.specs.Refusals.{Refusal, time_ahead}
-use Rattle.node_model.specs.Insert.{Insert}
+use Rattle.node_model.specs.Writes.{WriteCommand, WriteKind}
 use Rattle.node_model.specs.Find.{Find}
-use Rattle.node_model.specs.Command.{Command, hello_command, legacy_command, ping_command, end_sessions_command, insert_command, find_command, command_of}
+use Rattle.node_model.specs.Command.{Command, hello_command, legacy_command, ping_command, end_sessions_command, write_command, find_command, command_of}
 use Rattle.node_model.specs.Answers.{Answer, hello_answer, legacy_answer, find_answer, refusal_answer, answer_document}
 use Rattle.node_model.specs.Tables.{first_shard}
 use Rattle.node_model.specs.History.{IsIn, document_at}
 use Rattle.node_model.specs.Exchanges.{RequestId, Asked, Answered, entries_by}
 use Rattle.node_model.specs.Outcomes.{Done, answer_of}
-use Rattle.node_model.specs.Right.{found, IsPart, told_by, AreAll, time_read, IsRight, right_insert, right_find, right_ahead, right_hello, right_legacy, right_ping, right_end_sessions, right_refusal}
+use Rattle.node_model.specs.Right.{found, IsPart, told_by, AreAll, time_read, IsRight, right_write, right_find, right_ahead, right_hello, right_legacy, right_ping, right_end_sessions, right_refusal}
 use Rattle.node_model.specs.OneHistory.{StandsInPart, ids_asked, AreDifferent}
 use Rattle.node_model.specs.Letters.{Statement, Half, key_half, Reply}
 use Rattle.node_model.specs.States.{Work, writing, reading, Open, Router}
@@ -34,8 +34,8 @@ as_answered now x = record { id = x.id; link = x.link; number = x.number; reques
 one_find : (command : Result Command Refusal) (f g : Find) → command ≡ Ok (find_command f) → command ≡ Ok (find_command g) → f ≡ g
 one_find command f g a b = cc
 
-no_insert : (command : Result Command Refusal) (f : Find) (insert : Insert) → command ≡ Ok (insert_command insert) → command ≡ Ok (find_command f) → ⊥
-no_insert command f insert a b = cc
+no_write : (command : Result Command Refusal) (f : Find) (write : WriteCommand) → command ≡ Ok (write_command write) → command ≡ Ok (find_command f) → ⊥
+no_write command f write a b = cc
 
 -- an open request is told rightly
 pub answer_fits : (v : View) (asked : List Asked) (answered : List Answered) (r : Router) (time now : ℕ)
@@ -141,44 +141,45 @@ ahead_settled v a t namespace at half (own, owns, name, shows, when) ahead find 
     let times : at ≡ time_read a find = when ∙ ap (λ (f : Find). time_read a f) same in
     absurd (omega arith)
 
--- INSERTS
+-- WRITES
 
-pub record NotedFits (v : View) (a : Asked) (namespace : List ℕ) (ordered : Bool) (statements : List Statement) (told : List Done) : Type 0 where
-  pub insert : Insert
-  pub asks : command_of a.request ≡ Ok (insert_command insert)
-  pub name : namespace ≡ insert.namespace
-  pub order : ordered ≡ insert.ordered
-  pub all : statements ≡ statements_from a.id 0 insert.documents
+pub record NotedFits (v : View) (a : Asked) (namespace : List ℕ) (kind : WriteKind) (ordered : Bool) (statements : List Statement) (told : List Done) : Type 0 where
+  pub write : WriteCommand
+  pub asks : command_of a.request ≡ Ok (write_command write)
+  pub is : kind ≡ write.kind
+  pub name : namespace ≡ write.namespace
+  pub order : ordered ≡ write.ordered
+  pub all : statements ≡ statements_from a.id 0 write.operations
   pub more : List Done
   pub stands : told_by a.id (entries_in v first_shard) ≡ told ++ more
-  pub part : IsPart (entries_in v first_shard) a.id insert
+  pub part : IsPart (entries_in v first_shard) a.id write
 
 pub noted_fits : (v : View) (asked : List Asked) (a : Asked) (sender time : ℕ) (id : RequestId) (namespace : List ℕ)
-    (ordered : Bool) (statements : List Statement) (answers dones : List Done)
-    → NeighboursFit v asked → IsIn a asked → a.id ≡ id → WorkFits v a namespace (writing ordered statements answers) → sender ≡ first_shard
-    → AllByRecursion (IsDoneBy v sender time id) dones → NotedFits v a namespace ordered statements (noted answers dones)
-noted_fits v asked a sender time id namespace ordered statements answers dones n taken own
-    (insert, asks, name, order, all, (standing, stands), goes_on) first done =
-    let part : IsPart (entries_in v first_shard) a.id insert = all_at (StandsInPart (entries_in v first_shard)) a asked n.parts taken insert asks in
+    (kind : WriteKind) (ordered : Bool) (statements : List Statement) (answers dones : List Done)
+    → NeighboursFit v asked → IsIn a asked → a.id ≡ id → WorkFits v a namespace (writing kind ordered statements answers) → sender ≡ first_shard
+    → AllByRecursion (IsDoneBy v sender time id) dones → NotedFits v a namespace kind ordered statements (noted answers dones)
+noted_fits v asked a sender time id namespace kind ordered statements answers dones n taken own
+    (write, asks, is, name, order, all, (standing, stands), goes_on) first done =
+    let part : IsPart (entries_in v first_shard) a.id write = all_at (StandsInPart (entries_in v first_shard)) a asked n.parts taken write asks in
     let mine : AllByRecursion (IsDoneBy v first_shard time a.id) dones =
     subst (λ p. AllByRecursion (IsDoneBy v p time a.id) dones) first (subst (λ i. AllByRecursion (IsDoneBy v sender time i) dones) (sym own) done) in
-    let r = noted_stands v first_shard time a.id insert.namespace insert.ordered insert.documents answers standing dones part stands mine in
-    record { insert = insert; asks = asks; name = name; order = order; all = all; more = r.0; stands = r.1; part = part }
+    let r = noted_stands v first_shard time a.id write.namespace write.ordered write.operations answers standing dones part stands mine in
+    record { write = write; asks = asks; is = is; name = name; order = order; all = all; more = r.0; stands = r.1; part = part }
 
-pub wrote_right : (v : View) (a : Asked) (t : Answered) (namespace : List ℕ) (ordered : Bool) (statements : List Statement) (told : List Done)
-    → NotedFits v a namespace ordered statements told
-    → is_answered ordered statements told ≡ true → t.document ≡ answer_document (answer_of told) → IsRight (entries_in v first_shard) a t
-wrote_right v a t namespace ordered statements told n whole document =
-    let every : is_answered n.insert.ordered (statements_from a.id 0 n.insert.documents) told ≡ true =
-    ap (λ l. is_answered n.insert.ordered l told) (sym n.all) ∙ ap (λ b. is_answered b statements told) (sym n.order) ∙ whole in
-    let w : IsAllTold n.insert.ordered n.insert.documents told n.more =
-    told_whole a.id n.insert.namespace n.insert.ordered 0 n.insert.documents (entries_by a.id (entries_in v first_shard)) told n.more n.part n.stands every in
+pub wrote_right : (v : View) (a : Asked) (t : Answered) (namespace : List ℕ) (kind : WriteKind) (ordered : Bool) (statements : List Statement) (told : List Done)
+    → NotedFits v a namespace kind ordered statements told
+    → is_answered ordered statements told ≡ true → t.document ≡ answer_document (answer_of kind told) → IsRight (entries_in v first_shard) a t
+wrote_right v a t namespace kind ordered statements told n whole document =
+    let every : is_answered n.write.ordered (statements_from a.id 0 n.write.operations) told ≡ true =
+    ap (λ l. is_answered n.write.ordered l told) (sym n.all) ∙ ap (λ b. is_answered b statements told) (sym n.order) ∙ whole in
+    let w : IsAllTold n.write.ordered n.write.operations told n.more =
+    told_whole a.id n.write.namespace n.write.ordered 0 n.write.operations (entries_by a.id (entries_in v first_shard)) told n.more n.part n.stands every in
     let same : told_by a.id (entries_in v first_shard) ≡ told = n.stands ∙ ap (λ l. told ++ l) w.last ∙ append-nil told in
-    right_insert n.insert n.asks (record { part = n.part; all = subst (λ l. AreAll n.insert.ordered n.insert.documents l) (sym same) w.all })
-    (document ∙ ap (λ l. answer_document (answer_of l)) (sym same))
+    right_write n.write n.asks (record { part = n.part; all = subst (λ l. AreAll n.write.ordered n.write.operations l) (sym same) w.all })
+    (document ∙ ap (λ k. answer_document (answer_of k told)) n.is ∙ ap (λ l. answer_document (answer_of n.write.kind l)) (sym same))
 
-pub wrote_settled : (v : View) (a : Asked) (t : Answered) (insert : Insert) → command_of a.request ≡ Ok (insert_command insert) → IsSettled v a t
-wrote_settled v a t insert asks find finds reached = absurd (no_insert (command_of a.request) find insert asks finds)
+pub wrote_settled : (v : View) (a : Asked) (t : Answered) (write : WriteCommand) → command_of a.request ≡ Ok (write_command write) → IsSettled v a t
+wrote_settled v a t write asks find finds reached = absurd (no_write (command_of a.request) find write asks finds)
 
 -- AT ONCE
 
@@ -236,5 +237,5 @@ plain_fits v a t r id bound answer (Ok end_sessions_command) asks moment plan do
       settled = other_command v a t (Ok end_sessions_command) asks (λ find e. cc);
       below = subst (λ x. ShowsBelow bound x) same (done_below bound);
     }
-plain_fits v a t r id bound answer (Ok (insert_command insert)) asks moment plan document = absurd (no_plan r _ _ answer plan)
+plain_fits v a t r id bound answer (Ok (write_command write)) asks moment plan document = absurd (no_plan r _ _ answer plan)
 plain_fits v a t r id bound answer (Ok (find_command find)) asks moment plan document = absurd (no_plan r _ _ answer plan)

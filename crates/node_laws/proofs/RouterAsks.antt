@@ -8,6 +8,7 @@ use Rattle.chunk_model.proofs.FirstTables.{only_at}
 use Rattle.node_model.specs.Tree.{Datum}
 use Rattle.node_model.specs.Tables.{Table, first_shard, table_of, owner_at}
 use Rattle.node_model.specs.Verdicts.{sent_by}
+use Rattle.node_model.specs.Writes.{WriteKind}
 use Rattle.node_model.specs.History.{IsIn}
 use Rattle.node_model.specs.Exchanges.{RequestId, Asked, Answered}
 use Rattle.node_model.specs.Outcomes.{Done}
@@ -79,12 +80,12 @@ owned_by v time namespace shard t s k name owner = record {
 module _ (v : View) (asked : List Asked) (given : List Given) (r : Router) (time : ℕ) (met : IsMet v given time) where
   -- WHAT SHARDS ARE ASKED
 
-  writes_fit : (id : RequestId) (namespace : List ℕ) (t : Table) (ordered : Bool) (statements : List Statement) (answers : List Done) (left : List Statement)
-      → IsAsking v asked id time namespace (writing ordered statements answers) → IsKnownTable v time t → t.namespace ≡ namespace
+  writes_fit : (id : RequestId) (namespace : List ℕ) (t : Table) (kind : WriteKind) (ordered : Bool) (statements : List Statement) (answers : List Done) (left : List Statement)
+      → IsAsking v asked id time namespace (writing kind ordered statements answers) → IsKnownTable v time t → t.namespace ≡ namespace
       → unanswered statements answers ≡ left
       → AllByRecursion (IsSaid v asked given) (asks_to_write r time id namespace t ordered left)
-  writes_fit id namespace t ordered statements answers [] a k name here = tt
-  writes_fit id namespace t ordered statements answers (s ∷ left) a k name here = by_owner (owner_of_statement t s)
+  writes_fit id namespace t kind ordered statements answers [] a k name here = tt
+  writes_fit id namespace t kind ordered statements answers (s ∷ left) a k name here = by_owner (owner_of_statement t s)
     where
       fits : (shard : ℕ) → IsWriteOf v asked shard time id ordered namespace (run_to t shard (s ∷ left))
       fits shard =
@@ -92,18 +93,18 @@ module _ (v : View) (asked : List Asked) (given : List Given) (r : Router) (time
           let work = a.does in
           subst (λ i. IsWriteOf v asked shard time i ordered namespace (run_to t shard (s ∷ left))) a.own (record {
             request = a.request;
-            insert = work.0;
+            write = work.0;
             front = answers;
-            standing = work.5.0;
+            standing = work.6.0;
             back = split.0;
             taken = a.taken;
             own = refl;
             asks = work.1;
-            order = work.3;
-            name = work.2;
-            stands = work.5.1;
-            goes_on = work.6;
-            next = ap (λ l. drop (length answers) l) (sym work.4) ∙ here ∙ split.1;
+            order = work.4;
+            name = work.3;
+            stands = work.6.1;
+            goes_on = work.7;
+            next = ap (λ l. drop (length answers) l) (sym work.5) ∙ here ∙ split.1;
             owned = all_weaken (λ x. owner_of_statement t x ≡ Some shard) (IsOwned v time namespace shard) (run_to t shard (s ∷ left))
                 (λ x o. owned_by v time namespace shard t x k name o) (run_owned t shard (s ∷ left));
             fresh = a.past;
@@ -141,8 +142,8 @@ module _ (v : View) (asked : List Asked) (given : List Given) (r : Router) (time
 
   pub shards_fit : (count : ℕ) (namespace : List ℕ) (t : Table) (work : Work) → IsAsking v asked (id_of r count) time namespace work → IsKnownTable v time t
       → t.namespace ≡ namespace → is_ahead time work ≡ false → AllByRecursion (IsSaid v asked given) (asks_shards r time count namespace t work)
-  shards_fit count namespace t (writing ordered statements answers) a k name reached =
-      writes_fit (id_of r count) namespace t ordered statements answers (unanswered statements answers) a k name refl
+  shards_fit count namespace t (writing kind ordered statements answers) a k name reached =
+      writes_fit (id_of r count) namespace t kind ordered statements answers (unanswered statements answers) a k name refl
   shards_fit count namespace t (reading at (key_half key)) a k name reached = reads_fit (id_of r count) namespace t at key a k
       (reached_by at (key_half key) reached)
 
@@ -150,9 +151,9 @@ module _ (v : View) (asked : List Asked) (given : List Given) (r : Router) (time
 
   pub table_ask_fits : (id : RequestId) (namespace : List ℕ) (work : Work) → IsAsking v asked id time namespace work → is_ahead time work ≡ false
       → IsSaid v asked given (asks_table r time namespace work)
-  table_ask_fits id namespace (writing ordered statements answers) a reached =
+  table_ask_fits id namespace (writing kind ordered statements answers) a reached =
       let work = a.does in
-      ((tt, record { request = a.request; taken = a.taken; into = record { insert = work.0; asks = work.1; name = sym work.2 }; past = a.past }), met)
+      ((tt, record { request = a.request; taken = a.taken; writes = record { write = work.0; asks = work.1; name = sym work.3 }; past = a.past }), met)
   table_ask_fits id namespace (reading at half) a reached = (reached_by at half reached, met)
 
   -- WHAT A REQUEST ASKS FOR

@@ -7,6 +7,7 @@ use Rattle.node_model.specs.Tree.{Datum, Fields}
 use Rattle.node_model.specs.Refusals.{time_ahead}
 use Rattle.node_model.specs.Answers.{find_answer, refusal_answer}
 use Rattle.node_model.specs.Tables.{Table, first_shard}
+use Rattle.node_model.specs.Writes.{WriteKind}
 use Rattle.node_model.specs.History.{IsIn}
 use Rattle.node_model.specs.Exchanges.{RequestId}
 use Rattle.node_model.specs.Outcomes.{Done, answer_of}
@@ -24,7 +25,7 @@ use Rattle.node_laws.proofs.OpenRequests.{IsOpenWith}
 use Rattle.node_laws.proofs.NextRequests.{NextIs, left_by, sent_by, told_by, each_next, parted_next}
 use Rattle.node_laws.proofs.KnownTables.{all_adopted}
 use Rattle.node_laws.proofs.NotedOutcomes.{all_noted, none_ends}
-use Rattle.node_laws.proofs.AnswerTimes.{refusal_below, find_below, insert_below}
+use Rattle.node_laws.proofs.AnswerTimes.{refusal_below, find_below, write_below}
 use Rattle.node_laws.proofs.RouterAsks.{IsSaid}
 use Rattle.node_laws.proofs.Neighbours.{NeighboursFit}
 use Rattle.node_laws.proofs.RouterAnswers.{as_answered, answer_fits, found_right, found_settled, ShownTo, shown_to, ahead_right, ahead_settled, NotedFits, noted_fits, wrote_right, wrote_settled}
@@ -129,48 +130,48 @@ module _ (w : World) (at : ℕ) (kept : List Kept) (r : Router) (good : Good w)
   -- OUTCOMES
 
   -- what is noted of an open write
-  noted_in : (v : View) → Behind v → (id : RequestId) (dones : List Done) (q : Open) (ordered : Bool) (statements : List Statement) (answers : List Done)
+  noted_in : (v : View) → Behind v → (id : RequestId) (dones : List Done) (q : Open) (kind : WriteKind) (ordered : Bool) (statements : List Statement) (answers : List Done)
       → m.body ≡ write_done id dones
-      → id ≡ id_of r q.count → q.work ≡ writing ordered statements answers → (o : IsOpenOf v w.asked w.answered r q) → NeighboursFit v w.asked
-      → NotedFits v o.request q.namespace ordered statements (noted answers dones) × AreSeen (heard r m) (writing ordered statements (noted answers dones))
-  noted_in v behind id dones q ordered statements answers says own work o n =
+      → id ≡ id_of r q.count → q.work ≡ writing kind ordered statements answers → (o : IsOpenOf v w.asked w.answered r q) → NeighboursFit v w.asked
+      → NotedFits v o.request q.namespace kind ordered statements (noted answers dones) × AreSeen (heard r m) (writing kind ordered statements (noted answers dones))
+  noted_in v behind id dones q kind ordered statements answers says own work o n =
       let done : (m.sender ≡ first_shard) × AllByRecursion (IsDoneBy v m.sender m.time id) dones = body_in v behind (write_done id dones) says in
-      let seen : AreSeen (heard r m) (writing ordered statements answers) = subst (λ x. AreSeen (heard r m) x) work
+      let seen : AreSeen (heard r m) (writing kind ordered statements answers) = subst (λ x. AreSeen (heard r m) x) work
       (seen_later r.time (heard r m) q.work later o.seen) in (
-        noted_fits v w.asked o.request m.sender m.time id q.namespace ordered statements answers dones n o.taken (o.own ∙ sym own)
+        noted_fits v w.asked o.request m.sender m.time id q.namespace kind ordered statements answers dones n o.taken (o.own ∙ sym own)
             (subst (λ x. WorkFits v o.request q.namespace x) work o.work) done.0 done.1,
         all_noted (λ (d : Done). d.time ≤ heard r m) answers dones seen
             (all_weaken (IsDoneBy v m.sender m.time id) (λ (d : Done). d.time ≤ heard r m) dones
             (λ d b. done_past v m.sender m.time (heard r m) id d (omega arith) b) done.1),
       )
 
-  pub note_owes : (id : RequestId) (dones : List Done) (q : Open) (ordered : Bool) (statements : List Statement) (answers : List Done)
+  pub note_owes : (id : RequestId) (dones : List Done) (q : Open) (kind : WriteKind) (ordered : Bool) (statements : List Statement) (answers : List Done)
       → m.body ≡ write_done id dones
-      → IsOpenWith r id q → q.work ≡ writing ordered statements answers → is_answered ordered statements (noted answers dones) ≡ false
+      → IsOpenWith r id q → q.work ≡ writing kind ordered statements answers → is_answered ordered statements (noted answers dones) ≡ false
       → Owes w at (record { state = router_state r; kept = kept })
-      (tells (asks_for r (heard r m) q.count q.namespace (writing ordered statements (noted answers dones))) [])
+      (tells (asks_for r (heard r m) q.count q.namespace (writing kind ordered statements (noted answers dones))) [])
       (router_state (goes_to r (heard r m) r.moment r.tables
-      (replaced (going_on r (heard r m) q (writing ordered statements (noted answers dones))) r.requests)))
-  note_owes id dones q ordered statements answers says found work open_yet =
-      goes_on_owes w at kept r good h q (writing ordered statements (noted answers dones)) (heard r m) found.stands later met_time refl
+      (replaced (going_on r (heard r m) q (writing kind ordered statements (noted answers dones))) r.requests)))
+  note_owes id dones q kind ordered statements answers says found work open_yet =
+      goes_on_owes w at kept r good h q (writing kind ordered statements (noted answers dones)) (heard r m) found.stands later met_time refl
       (λ v behind o n.
-      let f = noted_in v behind id dones q ordered statements answers says found.own work o n in
-      ((f.0.insert, f.0.asks, f.0.name, f.0.order, f.0.all, (f.0.more, f.0.stands), none_ends ordered statements (noted answers dones) open_yet), f.1))
+      let f = noted_in v behind id dones q kind ordered statements answers says found.own work o n in
+      ((f.0.write, f.0.asks, f.0.is, f.0.name, f.0.order, f.0.all, (f.0.more, f.0.stands), none_ends ordered statements (noted answers dones) open_yet), f.1))
 
-  pub wrote_owes : (id : RequestId) (dones : List Done) (q : Open) (ordered : Bool) (statements : List Statement) (answers : List Done)
+  pub wrote_owes : (id : RequestId) (dones : List Done) (q : Open) (kind : WriteKind) (ordered : Bool) (statements : List Statement) (answers : List Done)
       → m.body ≡ write_done id dones
-      → IsOpenWith r id q → q.work ≡ writing ordered statements answers → is_answered ordered statements (noted answers dones) ≡ true
-      → Owes w at (record { state = router_state r; kept = kept }) (tells [] (reply_to r (heard r m) q (answer_of (noted answers dones)) ∷ []))
+      → IsOpenWith r id q → q.work ≡ writing kind ordered statements answers → is_answered ordered statements (noted answers dones) ≡ true
+      → Owes w at (record { state = router_state r; kept = kept }) (tells [] (reply_to r (heard r m) q (answer_of kind (noted answers dones)) ∷ []))
       (router_state (goes_to r (heard r m) r.moment r.tables (without q.count r.requests)))
-  wrote_owes id dones q ordered statements answers says found work whole =
-      told_owes w at kept r good h q (answer_of (noted answers dones)) (heard r m) found.stands later met_time
+  wrote_owes id dones q kind ordered statements answers says found work whole =
+      told_owes w at kept r good h q (answer_of kind (noted answers dones)) (heard r m) found.stands later met_time
       (λ v behind o n.
-      let f = noted_in v behind id dones q ordered statements answers says found.own work o n in (
-        answer_fits v w.asked w.answered r (heard r m) w.now q (answer_of (noted answers dones)) o later (came_by w at kept r good h o.request o.taken)
-            (wrote_right v o.request (as_answered w.now (reply_to r (heard r m) q (answer_of (noted answers dones)))) q.namespace ordered statements
+      let f = noted_in v behind id dones q kind ordered statements answers says found.own work o n in (
+        answer_fits v w.asked w.answered r (heard r m) w.now q (answer_of kind (noted answers dones)) o later (came_by w at kept r good h o.request o.taken)
+            (wrote_right v o.request (as_answered w.now (reply_to r (heard r m) q (answer_of kind (noted answers dones)))) q.namespace kind ordered statements
             (noted answers dones) f.0 whole refl)
-            (wrote_settled v o.request (as_answered w.now (reply_to r (heard r m) q (answer_of (noted answers dones)))) f.0.insert f.0.asks),
-        insert_below (heard r m) (noted answers dones) f.1,
+            (wrote_settled v o.request (as_answered w.now (reply_to r (heard r m) q (answer_of kind (noted answers dones)))) f.0.write f.0.asks),
+        write_below (heard r m) kind (noted answers dones) f.1,
       ))
 
   -- DOCUMENTS

@@ -5,7 +5,7 @@ use Rattle.std.specs.List.{slice_get}
 use Rattle.history_model.proofs.Lists.{in_back, in_first}
 use Rattle.node_model.specs.Requests.{Request}
 use Rattle.node_model.specs.Refusals.{Refusal}
-use Rattle.node_model.specs.Command.{Command, hello_command, legacy_command, ping_command, end_sessions_command, insert_command, find_command, command_of}
+use Rattle.node_model.specs.Command.{Command, hello_command, legacy_command, ping_command, end_sessions_command, write_command, find_command, command_of}
 use Rattle.node_model.specs.Answers.{Answer, answer_document}
 use Rattle.node_model.specs.History.{IsIn}
 use Rattle.node_model.specs.Exchanges.{Asked}
@@ -46,8 +46,8 @@ planned v r a namespace work (Ok hello_command) asks time plan = absurd (no_plan
 planned v r a namespace work (Ok (legacy_command legacy)) asks time plan = absurd (no_plan _ namespace work plan)
 planned v r a namespace work (Ok ping_command) asks time plan = absurd (no_plan _ namespace work plan)
 planned v r a namespace work (Ok end_sessions_command) asks time plan = absurd (no_plan _ namespace work plan)
-planned v r a namespace work (Ok (insert_command insert)) asks time plan =
-    subst (λ p. IsWorkOf v a p) plan ((insert, asks, refl, refl, refl, (told_by a.id (entries_in v first_shard), refl), tt), tt)
+planned v r a namespace work (Ok (write_command write)) asks time plan =
+    subst (λ p. IsWorkOf v a p) plan ((write, asks, refl, refl, refl, refl, (told_by a.id (entries_in v first_shard), refl), tt), tt)
 planned v r a namespace work (Ok (find_command find)) asks time plan =
     subst (λ p. IsWorkOf v a p) plan (
       (
@@ -162,10 +162,10 @@ router_owes w at kept _ _ _ _ good here h comes (router_reach r m id q time half
     reach_owes w at kept r good h m comes.0 comes.1 q time half (open_of_found r id q found).stands work reached
 router_owes w at kept _ _ _ _ good here h comes (router_ahead r m id q time half says found work wait ahead) =
     ahead_owes w at kept r good h m comes.0 comes.1 q time half (open_of_found r id q found).stands work ahead
-router_owes w at kept _ _ _ _ good here h comes (router_note r m id dones q ordered statements answers says found work news open_yet) =
-    note_owes w at kept r good h m comes.0 comes.1 id dones q ordered statements answers says (open_of_found r id q found) work open_yet
-router_owes w at kept _ _ _ _ good here h comes (router_wrote r m id dones q ordered statements answers says found work news whole) =
-    wrote_owes w at kept r good h m comes.0 comes.1 id dones q ordered statements answers says (open_of_found r id q found) work whole
+router_owes w at kept _ _ _ _ good here h comes (router_note r m id dones q kind ordered statements answers says found work news open_yet) =
+    note_owes w at kept r good h m comes.0 comes.1 id dones q kind ordered statements answers says (open_of_found r id q found) work open_yet
+router_owes w at kept _ _ _ _ good here h comes (router_wrote r m id dones q kind ordered statements answers says found work news whole) =
+    wrote_owes w at kept r good h m comes.0 comes.1 id dones q kind ordered statements answers says (open_of_found r id q found) work whole
 router_owes w at kept _ _ _ _ good here h comes (router_read r m id rows q time half says found work) =
     read_owes w at kept r good h m comes.0 comes.1 id rows q time half says (open_of_found r id q found) work
 router_owes w at kept _ _ _ _ good here h comes (router_late r m late) = stays_owes w at kept r good h (heard r m) (omega arith)

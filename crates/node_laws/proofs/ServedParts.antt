@@ -4,8 +4,7 @@ use Rattle.std.proofs.Common.{Bool}
 use Rattle.std.specs.Prelude.{Some, None, true, false, length, drop, if◌then◌else◌}
 use Rattle.std.specs.List.{AllByRecursion}
 use Rattle.history_model.proofs.Lists.{all_weaken, all_append, all_at, in_cons, in_none}
-use Rattle.node_model.specs.Tree.{Fields}
-use Rattle.node_model.specs.History.{StatementNumber, insert_operation, Entry, IsIn}
+use Rattle.node_model.specs.History.{StatementNumber, Operation, Entry, IsIn}
 use Rattle.node_model.specs.Exchanges.{RequestId, number_for, is_session_of, entries_by}
 use Rattle.node_model.specs.Outcomes.{Done, done_of}
 use Rattle.node_model.specs.Right.{IsStatement, ends, AreStatements}
@@ -25,54 +24,54 @@ AreBelow index entries = AllByRecursion (λ (e : Entry). e.number.index < index)
 abbrev pub GoOn : Bool → List Entry → Type 0
 GoOn ordered entries = AllByRecursion (λ (e : Entry). ends ordered (done_of e) ≡ false) entries
 
-index_of : (id : RequestId) (namespace : List ℕ) (index : ℕ) (document : Fields) (e : Entry) → IsStatement id namespace index document e
+index_of : (id : RequestId) (namespace : List ℕ) (index : ℕ) (operation : Operation) (e : Entry) → IsStatement id namespace index operation e
     → e.number.index ≡ index
-index_of id namespace index document e s = ap (λ (n : StatementNumber). n.index) s.number
+index_of id namespace index operation e s = ap (λ (n : StatementNumber). n.index) s.number
 
 -- the entries in front of others have the first indices
-pub front_below : (id : RequestId) (namespace : List ℕ) (ordered : Bool) (index : ℕ) (documents : List Fields) (front back : List Entry)
-    → AreStatements id namespace ordered index documents (front ++ back) → AreBelow (index + length front) front
-front_below id namespace ordered index documents [] back all = tt
+pub front_below : (id : RequestId) (namespace : List ℕ) (ordered : Bool) (index : ℕ) (operations : List Operation) (front back : List Entry)
+    → AreStatements id namespace ordered index operations (front ++ back) → AreBelow (index + length front) front
+front_below id namespace ordered index operations [] back all = tt
 front_below id namespace ordered index [] (e ∷ front) back all = absurd all
-front_below id namespace ordered index (d ∷ documents) (e ∷ front) back all =
+front_below id namespace ordered index (d ∷ operations) (e ∷ front) back all =
     let i : e.number.index ≡ index = index_of id namespace index d e all.0 in
     let n : index + 1 + length front ≡ index + length (e ∷ front) = omega arith in
-    ((omega arith), subst (λ k. AreBelow k front) n (front_below id namespace ordered (index + 1) documents front back all.2))
+    ((omega arith), subst (λ k. AreBelow k front) n (front_below id namespace ordered (index + 1) operations front back all.2))
 
 -- the entries from an index on are not below it
-from_index : (id : RequestId) (namespace : List ℕ) (ordered : Bool) (index least : ℕ) (documents : List Fields) (entries : List Entry) → least ≤ index
-    → AreStatements id namespace ordered index documents entries → AllByRecursion (λ (e : Entry). least ≤ e.number.index) entries
-from_index id namespace ordered index least documents [] le all = tt
+from_index : (id : RequestId) (namespace : List ℕ) (ordered : Bool) (index least : ℕ) (operations : List Operation) (entries : List Entry) → least ≤ index
+    → AreStatements id namespace ordered index operations entries → AllByRecursion (λ (e : Entry). least ≤ e.number.index) entries
+from_index id namespace ordered index least operations [] le all = tt
 from_index id namespace ordered index least [] (e ∷ entries) le all = absurd all
-from_index id namespace ordered index least (d ∷ documents) (e ∷ entries) le all =
+from_index id namespace ordered index least (d ∷ operations) (e ∷ entries) le all =
     let i : e.number.index ≡ index = index_of id namespace index d e all.0 in
-    ((omega arith), from_index id namespace ordered (index + 1) least documents entries (omega arith) all.2)
+    ((omega arith), from_index id namespace ordered (index + 1) least operations entries (omega arith) all.2)
 
 -- the statements behind a front are those from its length on
-pub behind_front : (id : RequestId) (namespace : List ℕ) (ordered : Bool) (index : ℕ) (documents : List Fields) (front back : List Entry)
-    → AreStatements id namespace ordered index documents (front ++ back)
-    → AreStatements id namespace ordered (index + length front) (drop (length front) documents) back
-behind_front id namespace ordered index documents [] back all = subst (λ k. AreStatements id namespace ordered k documents back) (omega arith) all
+pub behind_front : (id : RequestId) (namespace : List ℕ) (ordered : Bool) (index : ℕ) (operations : List Operation) (front back : List Entry)
+    → AreStatements id namespace ordered index operations (front ++ back)
+    → AreStatements id namespace ordered (index + length front) (drop (length front) operations) back
+behind_front id namespace ordered index operations [] back all = subst (λ k. AreStatements id namespace ordered k operations back) (omega arith) all
 behind_front id namespace ordered index [] (e ∷ front) back all = absurd all
-behind_front id namespace ordered index (d ∷ documents) (e ∷ front) back all =
+behind_front id namespace ordered index (d ∷ operations) (e ∷ front) back all =
     let n : index + 1 + length front ≡ index + length (e ∷ front) = omega arith in
-    subst (λ k. AreStatements id namespace ordered k (drop (length front) documents) back) n
-    (behind_front id namespace ordered (index + 1) documents front back all.2)
+    subst (λ k. AreStatements id namespace ordered k (drop (length front) operations) back) n
+    (behind_front id namespace ordered (index + 1) operations front back all.2)
 
 -- others may stand behind a front that goes on
-pub other_back : (id : RequestId) (namespace : List ℕ) (ordered : Bool) (index : ℕ) (documents : List Fields) (front back other : List Entry)
-    → GoOn ordered front → AreStatements id namespace ordered index documents (front ++ back)
-    → AreStatements id namespace ordered (index + length front) (drop (length front) documents) other
-    → AreStatements id namespace ordered index documents (front ++ other)
-other_back id namespace ordered index documents [] back other goes all new =
-    subst (λ k. AreStatements id namespace ordered k documents other) (omega arith) new
+pub other_back : (id : RequestId) (namespace : List ℕ) (ordered : Bool) (index : ℕ) (operations : List Operation) (front back other : List Entry)
+    → GoOn ordered front → AreStatements id namespace ordered index operations (front ++ back)
+    → AreStatements id namespace ordered (index + length front) (drop (length front) operations) other
+    → AreStatements id namespace ordered index operations (front ++ other)
+other_back id namespace ordered index operations [] back other goes all new =
+    subst (λ k. AreStatements id namespace ordered k operations other) (omega arith) new
 other_back id namespace ordered index [] (e ∷ front) back other goes all new = absurd all
-other_back id namespace ordered index (d ∷ documents) (e ∷ front) back other goes all new =
+other_back id namespace ordered index (d ∷ operations) (e ∷ front) back other goes all new =
     let n : index + length (e ∷ front) ≡ index + 1 + length front = omega arith in (
       all.0,
       (λ h. absurd (true_false (sym h ∙ goes.0))),
-      other_back id namespace ordered (index + 1) documents front back other goes.1 all.2
-          (subst (λ k. AreStatements id namespace ordered k (drop (length front) documents) other) n new),
+      other_back id namespace ordered (index + 1) operations front back other goes.1 all.2
+          (subst (λ k. AreStatements id namespace ordered k (drop (length front) operations) other) n new),
     )
   where
     true_false : true ≡ false → ⊥
@@ -81,22 +80,22 @@ other_back id namespace ordered index (d ∷ documents) (e ∷ front) back other
 -- THE NEXT STATEMENT
 
 -- what stands of a request: these entries in front of an index, and behind it these, of the statements from there on
-pub record Stands (id : RequestId) (namespace : List ℕ) (ordered : Bool) (entries : List Entry) (index : ℕ) (documents : List Fields)
+pub record Stands (id : RequestId) (namespace : List ℕ) (ordered : Bool) (entries : List Entry) (index : ℕ) (operations : List Operation)
     (front back : List Entry) : Type 0 where
   pub split : entries_by id entries ≡ front ++ back
   pub below : AreBelow index front
-  pub from : AreStatements id namespace ordered index documents back
+  pub from : AreStatements id namespace ordered index operations back
 
 -- the entry of the next statement, where it was seen, is the first behind the front
-seen_first : (id : RequestId) (namespace : List ℕ) (ordered : Bool) (entries : List Entry) (index : ℕ) (documents : List Fields) (front back : List Entry)
+seen_first : (id : RequestId) (namespace : List ℕ) (ordered : Bool) (entries : List Entry) (index : ℕ) (operations : List Operation) (front back : List Entry)
     (e : Entry)
-    → Stands id namespace ordered entries index documents front back → seen_before (number_for id index) entries ≡ Some e → (more : List Entry)
+    → Stands id namespace ordered entries index operations front back → seen_before (number_for id index) entries ≡ Some e → (more : List Entry)
     × (back ≡ e ∷ more)
-seen_first id namespace ordered entries index documents front back e s seen =
+seen_first id namespace ordered entries index operations front back e s seen =
     let f = seen_found (number_for id index) entries e seen in
     let own : is_session_of id e.number.session ≡ true = ap (λ (n : StatementNumber). is_session_of id n.session) f.numbered ∙ own_session id in
     let at : e.number.index ≡ index = ap (λ (n : StatementNumber). n.index) f.numbered in
-    by_back front back s.below documents s.from at (subst (λ l. IsIn e l) s.split (entry_by id e entries f.stands own))
+    by_back front back s.below operations s.from at (subst (λ l. IsIn e l) s.split (entry_by id e entries f.stands own))
   where
     in_back_part : (front back : List Entry) → AreBelow index front → e.number.index ≡ index → IsIn e (front ++ back) → IsIn e back
     in_back_part [] back below at i = i
@@ -107,144 +106,144 @@ seen_first id namespace ordered entries index documents front back e s seen =
             omega arith)
         by_first (inr j) later = later j
 
-    by_back : (front back : List Entry) → AreBelow index front → (documents : List Fields) → AreStatements id namespace ordered index documents back
+    by_back : (front back : List Entry) → AreBelow index front → (operations : List Operation) → AreStatements id namespace ordered index operations back
         → e.number.index ≡ index → IsIn e (front ++ back) → (more : List Entry) × (back ≡ e ∷ more)
-    by_back front [] below documents all at i = absurd (in_none e (in_back_part front [] below at i))
+    by_back front [] below operations all at i = absurd (in_none e (in_back_part front [] below at i))
     by_back front (d ∷ back) below [] all at i = absurd all
-    by_back front (d ∷ back) below (document ∷ documents) all at i = by_first (in_cons e d back (in_back_part front (d ∷ back) below at i))
+    by_back front (d ∷ back) below (operation ∷ operations) all at i = by_first (in_cons e d back (in_back_part front (d ∷ back) below at i))
       where
         by_first : (e ≡ d) ⊎ IsIn e back → (more : List Entry) × (d ∷ back ≡ e ∷ more)
         by_first (inl same) = (back, ap (λ c. c ∷ back) (sym same))
         by_first (inr j) = absurd (let h : index + 1 ≤ e.number.index =
             all_at (λ (c : Entry). index + 1 ≤ c.number.index) e back
-            (from_index id namespace ordered (index + 1) (index + 1) documents back (omega arith) all.2) j in omega arith)
+            (from_index id namespace ordered (index + 1) (index + 1) operations back (omega arith) all.2) j in omega arith)
 
 -- where it was not seen, nothing stands behind the front
-unseen_none : (id : RequestId) (namespace : List ℕ) (ordered : Bool) (entries : List Entry) (index : ℕ) (documents : List Fields) (front back : List Entry)
-    → Stands id namespace ordered entries index documents front back → seen_before (number_for id index) entries ≡ None → back ≡ []
-unseen_none id namespace ordered entries index documents front back s new =
-    by_back documents back s.from (all_behind (λ (d : Entry). d.number ≢ number_for id index) front back
+unseen_none : (id : RequestId) (namespace : List ℕ) (ordered : Bool) (entries : List Entry) (index : ℕ) (operations : List Operation) (front back : List Entry)
+    → Stands id namespace ordered entries index operations front back → seen_before (number_for id index) entries ≡ None → back ≡ []
+unseen_none id namespace ordered entries index operations front back s new =
+    by_back operations back s.from (all_behind (λ (d : Entry). d.number ≢ number_for id index) front back
     (subst (λ l. AllByRecursion (λ (d : Entry). d.number ≢ number_for id index) l) s.split
     (all_by (λ (d : Entry). d.number ≢ number_for id index) id entries (unseen_new (number_for id index) entries new))))
   where
-    by_back : (documents : List Fields) (back : List Entry) → AreStatements id namespace ordered index documents back
+    by_back : (operations : List Operation) (back : List Entry) → AreStatements id namespace ordered index operations back
         → AllByRecursion (λ (d : Entry). d.number ≢ number_for id index) back → back ≡ []
-    by_back documents [] all others = refl
+    by_back operations [] all others = refl
     by_back [] (d ∷ back) all others = absurd all
-    by_back (document ∷ documents) (d ∷ back) all others = absurd (others.0 all.0.number)
+    by_back (operation ∷ operations) (d ∷ back) all others = absurd (others.0 all.0.number)
 
 -- with the entry of this index behind it the front is below the next one
-below_next : (id : RequestId) (namespace : List ℕ) (index : ℕ) (document : Fields) (front : List Entry) (e : Entry) → AreBelow index front
-    → IsStatement id namespace index document e → AreBelow (index + 1) (front ++ e ∷ [])
-below_next id namespace index document front e below is =
-    let i : e.number.index ≡ index = index_of id namespace index document e is in
+below_next : (id : RequestId) (namespace : List ℕ) (index : ℕ) (operation : Operation) (front : List Entry) (e : Entry) → AreBelow index front
+    → IsStatement id namespace index operation e → AreBelow (index + 1) (front ++ e ∷ [])
+below_next id namespace index operation front e below is =
+    let i : e.number.index ≡ index = index_of id namespace index operation e is in
     all_append (λ (d : Entry). d.number.index < index + 1) front (e ∷ [])
     (all_weaken (λ (d : Entry). d.number.index < index) (λ (d : Entry). d.number.index < index + 1) front (λ d h. omega arith) below)
     ((omega arith), tt)
 
 -- where the next statement was seen, its entry counts to the front
-next_again : (id : RequestId) (namespace : List ℕ) (ordered : Bool) (entries : List Entry) (index : ℕ) (document : Fields) (documents : List Fields)
+next_again : (id : RequestId) (namespace : List ℕ) (ordered : Bool) (entries : List Entry) (index : ℕ) (operation : Operation) (operations : List Operation)
     (front back more made : List Entry) (e : Entry)
-    → back ≡ e ∷ more → ends ordered (done_of e) ≡ false → Stands id namespace ordered entries index (document ∷ documents) front back
-    → (Stands id namespace ordered entries (index + 1) documents (front ++ e ∷ []) more
-    → AreStatements id namespace ordered (index + 1) documents (more ++ made))
-    → AreStatements id namespace ordered index (document ∷ documents) (back ++ made)
-next_again id namespace ordered entries index document documents front back more made e same on s later =
-    let from : AreStatements id namespace ordered index (document ∷ documents) (e ∷ more) =
-    subst (λ l. AreStatements id namespace ordered index (document ∷ documents) l) same s.from in
-    let behind : AreStatements id namespace ordered (index + 1) documents (more ++ made) = later (record {
+    → back ≡ e ∷ more → ends ordered (done_of e) ≡ false → Stands id namespace ordered entries index (operation ∷ operations) front back
+    → (Stands id namespace ordered entries (index + 1) operations (front ++ e ∷ []) more
+    → AreStatements id namespace ordered (index + 1) operations (more ++ made))
+    → AreStatements id namespace ordered index (operation ∷ operations) (back ++ made)
+next_again id namespace ordered entries index operation operations front back more made e same on s later =
+    let from : AreStatements id namespace ordered index (operation ∷ operations) (e ∷ more) =
+    subst (λ l. AreStatements id namespace ordered index (operation ∷ operations) l) same s.from in
+    let behind : AreStatements id namespace ordered (index + 1) operations (more ++ made) = later (record {
       split = s.split ∙ ap (λ l. front ++ l) same ∙ sym (append_assoc front (e ∷ []) more);
-      below = below_next id namespace index document front e s.below from.0;
+      below = below_next id namespace index operation front e s.below from.0;
       from = from.2;
     }) in
-    subst (λ l. AreStatements id namespace ordered index (document ∷ documents) (l ++ made)) (sym same)
+    subst (λ l. AreStatements id namespace ordered index (operation ∷ operations) (l ++ made)) (sym same)
     (from.0, (λ h. absurd (true_false (sym h ∙ on))), behind)
   where
     true_false : true ≡ false → ⊥
     true_false e = cc
 
 -- the entry of one of a request's own statements is one of the request's
-own_first : (id : RequestId) (namespace : List ℕ) (index : ℕ) (document : Fields) (e : Entry) (entries : List Entry)
-    → IsStatement id namespace index document e → entries_by id (e ∷ entries) ≡ e ∷ entries_by id entries
-own_first id namespace index document e entries is =
+own_first : (id : RequestId) (namespace : List ℕ) (index : ℕ) (operation : Operation) (e : Entry) (entries : List Entry)
+    → IsStatement id namespace index operation e → entries_by id (e ∷ entries) ≡ e ∷ entries_by id entries
+own_first id namespace index operation e entries is =
     ap (λ t. if t then e ∷ entries_by id entries else entries_by id entries)
     (ap (λ (n : StatementNumber). is_session_of id n.session) is.number ∙ own_session id)
 
 -- where it is new, its entry stands alone behind the front
-next_new : (id : RequestId) (namespace : List ℕ) (ordered : Bool) (entries : List Entry) (index : ℕ) (document : Fields) (documents : List Fields)
+next_new : (id : RequestId) (namespace : List ℕ) (ordered : Bool) (entries : List Entry) (index : ℕ) (operation : Operation) (operations : List Operation)
     (front made : List Entry) (e : Entry)
-    → IsStatement id namespace index document e → ends ordered (done_of e) ≡ false → Stands id namespace ordered entries index (document ∷ documents) front []
-    → (Stands id namespace ordered (entries ++ e ∷ []) (index + 1) documents (front ++ e ∷ []) []
-    → AreStatements id namespace ordered (index + 1) documents (entries_by id made))
-    → AreStatements id namespace ordered index (document ∷ documents) (entries_by id (e ∷ made))
-next_new id namespace ordered entries index document documents front made e is on s later =
-    let behind : AreStatements id namespace ordered (index + 1) documents (entries_by id made) = later (record {
+    → IsStatement id namespace index operation e → ends ordered (done_of e) ≡ false → Stands id namespace ordered entries index (operation ∷ operations) front []
+    → (Stands id namespace ordered (entries ++ e ∷ []) (index + 1) operations (front ++ e ∷ []) []
+    → AreStatements id namespace ordered (index + 1) operations (entries_by id made))
+    → AreStatements id namespace ordered index (operation ∷ operations) (entries_by id (e ∷ made))
+next_new id namespace ordered entries index operation operations front made e is on s later =
+    let behind : AreStatements id namespace ordered (index + 1) operations (entries_by id made) = later (record {
       split = entries_by_longer id entries (e ∷ []) ∙ ap (λ l. l ++ entries_by id (e ∷ [])) (s.split ∙ append-nil front)
-          ∙ ap (λ l. front ++ l) (own_first id namespace index document e [] is) ∙ sym (append-nil (front ++ e ∷ []));
-      below = below_next id namespace index document front e s.below is;
+          ∙ ap (λ l. front ++ l) (own_first id namespace index operation e [] is) ∙ sym (append-nil (front ++ e ∷ []));
+      below = below_next id namespace index operation front e s.below is;
       from = tt;
     }) in
-    subst (λ l. AreStatements id namespace ordered index (document ∷ documents) l) (sym (own_first id namespace index document e made is))
+    subst (λ l. AreStatements id namespace ordered index (operation ∷ operations) l) (sym (own_first id namespace index operation e made is))
     (is, (λ h. absurd (true_false (sym h ∙ on))), behind)
   where
     true_false : true ≡ false → ⊥
     true_false e = cc
 
 -- the next statement, and those behind it
-pub record Next (id : RequestId) (index : ℕ) (document : Fields) (documents : List Fields) (s : Statement) (others : List Statement) : Type 0 where
+pub record Next (id : RequestId) (index : ℕ) (operation : Operation) (operations : List Operation) (s : Statement) (others : List Statement) : Type 0 where
   pub number : s.number ≡ number_for id index
-  pub operation : s.operation ≡ insert_operation document
-  pub others_are : statements_from id (index + 1) documents ≡ others
+  pub does : s.operation ≡ operation
+  pub others_are : statements_from id (index + 1) operations ≡ others
 
-next_is : (id : RequestId) (index : ℕ) (document : Fields) (documents : List Fields) (s : Statement) (others : List Statement)
-    → statements_from id index (document ∷ documents) ≡ s ∷ others → Next id index document documents s others
-next_is id index document documents s others e =
-    let first : record { number = number_for id index; operation = insert_operation document } ≡ s = cc in
-    record { number = ap (λ (x : Statement). x.number) (sym first); operation = ap (λ (x : Statement). x.operation) (sym first); others_are = cc }
+next_is : (id : RequestId) (index : ℕ) (operation : Operation) (operations : List Operation) (s : Statement) (others : List Statement)
+    → statements_from id index (operation ∷ operations) ≡ s ∷ others → Next id index operation operations s others
+next_is id index operation operations s others e =
+    let first : record { number = number_for id index; operation = operation } ≡ s = cc in
+    record { number = ap (λ (x : Statement). x.number) (sym first); does = ap (λ (x : Statement). x.operation) (sym first); others_are = cc }
 
-entry_is : (id : RequestId) (index : ℕ) (document : Fields) (documents : List Fields) (s : Statement) (others : List Statement) (entries : List Entry)
-    (time shard : ℕ) (namespace : List ℕ) → Next id index document documents s others
-    → IsStatement id namespace index document (entry_for entries time shard namespace s)
-entry_is id index document documents s others entries time shard namespace n = record { number = n.number; name = refl; operation = n.operation }
+entry_is : (id : RequestId) (index : ℕ) (operation : Operation) (operations : List Operation) (s : Statement) (others : List Statement) (entries : List Entry)
+    (time shard : ℕ) (namespace : List ℕ) → Next id index operation operations s others
+    → IsStatement id namespace index operation (entry_for entries time shard namespace s)
+entry_is id index operation operations s others entries time shard namespace n = record { number = n.number; name = refl; does = n.does }
 
 pub serves_stands : (id : RequestId) (shard : ℕ) (namespace : List ℕ) (ordered : Bool) (entries : List Entry) (time : ℕ) (statements : List Statement)
     (dones : List Done) (made : List Entry) (last : ℕ) → Serves shard namespace ordered entries time statements dones made last
-    → (index : ℕ) (documents : List Fields) (later : List Statement) (front back : List Entry) → statements_from id index documents ≡ statements ++ later
-    → Stands id namespace ordered entries index documents front back
-    → AreStatements id namespace ordered index documents (back ++ entries_by id made)
-serves_stands id shard namespace ordered _ _ _ _ _ _ (serves_no_more entries time rest) index documents later front back next s =
-    subst (λ l. AreStatements id namespace ordered index documents l) (sym (append-nil back)) s.from
+    → (index : ℕ) (operations : List Operation) (later : List Statement) (front back : List Entry) → statements_from id index operations ≡ statements ++ later
+    → Stands id namespace ordered entries index operations front back
+    → AreStatements id namespace ordered index operations (back ++ entries_by id made)
+serves_stands id shard namespace ordered _ _ _ _ _ _ (serves_no_more entries time rest) index operations later front back next s =
+    subst (λ l. AreStatements id namespace ordered index operations l) (sym (append-nil back)) s.from
 serves_stands id shard namespace ordered _ _ _ _ _ _ (serves_again entries time st rest e dones made last seen on more) index [] later front back next s =
     absurd (cc)
 serves_stands id shard namespace ordered _ _ _ _ _ _ (serves_again entries time st rest e dones made last seen on more) index
-    (document ∷ documents) later front back next s =
-    let n = next_is id index document documents st (rest ++ later) next in
-    let f = seen_first id namespace ordered entries index (document ∷ documents) front back e s (subst (λ k. seen_before k entries ≡ Some e) n.number seen) in
-    next_again id namespace ordered entries index document documents front back f.0 (entries_by id made) e f.1 on s
-    (λ t. serves_stands id shard namespace ordered entries time rest dones made last more (index + 1) documents later (front ++ e ∷ []) f.0 n.others_are t)
+    (operation ∷ operations) later front back next s =
+    let n = next_is id index operation operations st (rest ++ later) next in
+    let f = seen_first id namespace ordered entries index (operation ∷ operations) front back e s (subst (λ k. seen_before k entries ≡ Some e) n.number seen) in
+    next_again id namespace ordered entries index operation operations front back f.0 (entries_by id made) e f.1 on s
+    (λ t. serves_stands id shard namespace ordered entries time rest dones made last more (index + 1) operations later (front ++ e ∷ []) f.0 n.others_are t)
 serves_stands id shard namespace ordered _ _ _ _ _ _ (serves_new entries time st rest dones made last new on more) index [] later front back next s =
     absurd (cc)
 serves_stands id shard namespace ordered _ _ _ _ _ _ (serves_new entries time st rest dones made last new on more) index
-    (document ∷ documents) later front back next s =
-    let n = next_is id index document documents st (rest ++ later) next in
-    let none = unseen_none id namespace ordered entries index (document ∷ documents) front back s (subst (λ k. seen_before k entries ≡ None) n.number new) in
+    (operation ∷ operations) later front back next s =
+    let n = next_is id index operation operations st (rest ++ later) next in
+    let none = unseen_none id namespace ordered entries index (operation ∷ operations) front back s (subst (λ k. seen_before k entries ≡ None) n.number new) in
     let e : Entry = entry_for entries (time + 1) shard namespace st in
-    subst (λ l. AreStatements id namespace ordered index (document ∷ documents)
+    subst (λ l. AreStatements id namespace ordered index (operation ∷ operations)
     (l ++ entries_by id (entry_for entries (time + 1) shard namespace st ∷ made))) (sym none)
-    (next_new id namespace ordered entries index document documents front made (entry_for entries (time + 1) shard namespace st)
-    (entry_is id index document documents st (rest ++ later) entries (time + 1) shard namespace n) on
-    (subst (λ l. Stands id namespace ordered entries index (document ∷ documents) front l) none s)
+    (next_new id namespace ordered entries index operation operations front made (entry_for entries (time + 1) shard namespace st)
+    (entry_is id index operation operations st (rest ++ later) entries (time + 1) shard namespace n) on
+    (subst (λ l. Stands id namespace ordered entries index (operation ∷ operations) front l) none s)
     (λ t. serves_stands id shard namespace ordered (entries ++ entry_for entries (time + 1) shard namespace st ∷ []) (time + 1) rest dones made last more
-    (index + 1) documents later (front ++ entry_for entries (time + 1) shard namespace st ∷ []) [] n.others_are t))
-serves_stands id shard namespace ordered _ _ _ _ _ _ (ends_again entries time st rest e seen over) index documents later front back next s =
-    subst (λ l. AreStatements id namespace ordered index documents l) (sym (append-nil back)) s.from
+    (index + 1) operations later (front ++ entry_for entries (time + 1) shard namespace st ∷ []) [] n.others_are t))
+serves_stands id shard namespace ordered _ _ _ _ _ _ (ends_again entries time st rest e seen over) index operations later front back next s =
+    subst (λ l. AreStatements id namespace ordered index operations l) (sym (append-nil back)) s.from
 serves_stands id shard namespace ordered _ _ _ _ _ _ (ends_new entries time st rest new over) index [] later front back next s = absurd (cc)
-serves_stands id shard namespace ordered _ _ _ _ _ _ (ends_new entries time st rest new over) index (document ∷ documents) later front back next s =
-    let n = next_is id index document documents st (rest ++ later) next in
-    let none = unseen_none id namespace ordered entries index (document ∷ documents) front back s (subst (λ k. seen_before k entries ≡ None) n.number new) in
-    let is : IsStatement id namespace index document (entry_for entries (time + 1) shard namespace st) =
-    entry_is id index document documents st (rest ++ later) entries (time + 1) shard namespace n in
-    subst (λ l. AreStatements id namespace ordered index (document ∷ documents)
+serves_stands id shard namespace ordered _ _ _ _ _ _ (ends_new entries time st rest new over) index (operation ∷ operations) later front back next s =
+    let n = next_is id index operation operations st (rest ++ later) next in
+    let none = unseen_none id namespace ordered entries index (operation ∷ operations) front back s (subst (λ k. seen_before k entries ≡ None) n.number new) in
+    let is : IsStatement id namespace index operation (entry_for entries (time + 1) shard namespace st) =
+    entry_is id index operation operations st (rest ++ later) entries (time + 1) shard namespace n in
+    subst (λ l. AreStatements id namespace ordered index (operation ∷ operations)
     (l ++ entries_by id (entry_for entries (time + 1) shard namespace st ∷ []))) (sym none)
-    (subst (λ l. AreStatements id namespace ordered index (document ∷ documents) l)
-    (sym (own_first id namespace index document (entry_for entries (time + 1) shard namespace st) [] is)) (is, (λ h. refl), tt))
+    (subst (λ l. AreStatements id namespace ordered index (operation ∷ operations) l)
+    (sym (own_first id namespace index operation (entry_for entries (time + 1) shard namespace st) [] is)) (is, (λ h. refl), tt))

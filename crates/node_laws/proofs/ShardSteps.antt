@@ -134,7 +134,7 @@ pub ask_retried : (v : View) (asked : List Asked) (sender other receiver early l
     → BodyFits v asked sender receiver early b → BodyFits v asked other receiver late b
 ask_retried v asked sender other receiver early late (write_ask id turn ordered namespace statements sent) a is le f = record {
   request = f.request;
-  insert = f.insert;
+  write = f.write;
   front = f.front;
   standing = f.standing;
   back = f.back;

@@ -3,9 +3,8 @@ use Rattle.std.proofs.Common.{◌≡◌, ◌⊎◌, inl, inr, ℕ, ◌<◌, ◌�
 use Rattle.std.specs.Prelude.{Some, true, map}
 use Rattle.std.specs.List.{AllByRecursion, slice_get}
 use Rattle.history_model.proofs.Lists.{all_weaken, all_both, all_append, all_at, in_back}
-use Rattle.node_model.specs.Tree.{Fields}
 use Rattle.node_model.specs.Tables.{first_shard}
-use Rattle.node_model.specs.History.{Entry, IsIn, Legal}
+use Rattle.node_model.specs.History.{Operation, Entry, IsIn, Legal}
 use Rattle.node_model.specs.Exchanges.{RequestId, is_session_of, entries_by}
 use Rattle.node_model.specs.Outcomes.{Done}
 use Rattle.node_model.specs.Right.{AreStatements, told_by}
@@ -63,12 +62,12 @@ shard_entries : (w : World) (at : ℕ) (kept : List Kept) (s : Shard) → Stood 
 shard_entries w at kept s is = ap (λ n. entries_kept (journal_at w.nodes n)) (sym is.fits.place)
     ∙ ap (λ k. entries_kept k) (journal_got w.nodes at (held_shard s kept) is.here) ∙ sym is.fits.entries
 
-part_moved : (a b : RequestId) (from into : List ℕ) (x y : Bool) (documents : List Fields) (entries : List Entry) → a ≡ b → from ≡ into → x ≡ y
-    → AreStatements a from x 0 documents (entries_by a entries) → AreStatements b into y 0 documents (entries_by b entries)
-part_moved a b from into x y documents entries id name order part =
-    subst (λ n. AreStatements n into y 0 documents (entries_by n entries)) id
-    (subst (λ n. AreStatements a n y 0 documents (entries_by a entries)) name
-    (subst (λ o. AreStatements a from o 0 documents (entries_by a entries)) order part))
+part_moved : (a b : RequestId) (from into : List ℕ) (x y : Bool) (operations : List Operation) (entries : List Entry) → a ≡ b → from ≡ into → x ≡ y
+    → AreStatements a from x 0 operations (entries_by a entries) → AreStatements b into y 0 operations (entries_by b entries)
+part_moved a b from into x y operations entries id name order part =
+    subst (λ n. AreStatements n into y 0 operations (entries_by n entries)) id
+    (subst (λ n. AreStatements a n y 0 operations (entries_by a entries)) name
+    (subst (λ o. AreStatements a from o 0 operations (entries_by a entries)) order part))
 
 -- the last time is one that was met: that of the message, or of the last entry
 last_met : (w : World) (at : ℕ) (v : View) (time last : ℕ) (made entries : List Entry) → first_shard ≡ at → entries_in v at ≡ entries ++ made
@@ -91,11 +90,11 @@ served w at kept s receiver time id ordered namespace statements dones made last
     serves_entries (λ (x : Statement). is_session_of id x.number.session ≡ true) s.me namespace ordered s.entries now statements dones made last serves own in
     let owned : AllByRecursion (IsEntryOf s.me namespace (IsOwned u time namespace receiver)) made =
     serves_entries (IsOwned u time namespace receiver) s.me namespace ordered s.entries now statements dones made last serves ask.owned in
-    let before : AreStatements id namespace ordered 0 ask.insert.documents (entries_by id s.entries) =
-    part_moved ask.request.id id ask.insert.namespace namespace ask.insert.ordered ordered ask.insert.documents s.entries ask.own (sym ask.name)
-    (sym ask.order) (all_at (StandsInPart s.entries) ask.request w.asked is.fits.parts ask.taken ask.insert ask.asks) in
-    let part : AreStatements id namespace ordered 0 ask.insert.documents (entries_by id (s.entries ++ made)) =
-    request_part id s.me namespace ordered ask.insert.documents s.entries now statements dones made last serves ask.front ask.standing ask.back
+    let before : AreStatements id namespace ordered 0 ask.write.operations (entries_by id s.entries) =
+    part_moved ask.request.id id ask.write.namespace namespace ask.write.ordered ordered ask.write.operations s.entries ask.own (sym ask.name)
+    (sym ask.order) (all_at (StandsInPart s.entries) ask.request w.asked is.fits.parts ask.taken ask.write ask.asks) in
+    let part : AreStatements id namespace ordered 0 ask.write.operations (entries_by id (s.entries ++ made)) =
+    request_part id s.me namespace ordered ask.write.operations s.entries now statements dones made last serves ask.front ask.standing ask.back
     (ap (λ l. told_by id l) (sym (shard_entries w at kept s is)) ∙ ask.stands) ask.goes_on ask.next before in
     record {
       rises = rises;
@@ -106,17 +105,17 @@ served w at kept s receiver time id ordered namespace statements dones made last
           (λ e h above. record {
             request = ask.request;
             taken = ask.taken;
-            into = record { insert = ask.insert; asks = ask.asks; name = sym ask.name ∙ sym h.1 };
+            writes = record { write = ask.write; asks = ask.asks; name = sym ask.name ∙ sym h.1 };
             own = ap (λ n. is_session_of n e.number.session) ask.own ∙ h.2;
             later = let f = ask.fresh in omega arith;
           }) mine rises.above;
       placed = all_both (IsEntryOf s.me namespace (IsOwned u time namespace receiver)) (λ (e : Entry). now < e.time) (IsPlaced (creations_in u)) made
           (λ e h above. owned_placed u time namespace receiver e (h.0 ∙ first, h.1, h.2) (omega arith)) owned rises.above;
-      parts = parts_longer w.asked s.entries made ask.request ask.insert is.good.one ask.taken ask.asks
+      parts = parts_longer w.asked s.entries made ask.request ask.write is.good.one ask.taken ask.asks
           (all_weaken (IsEntryOf s.me namespace (λ (x : Statement). is_session_of id x.number.session ≡ true))
           (λ (e : Entry). is_session_of ask.request.id e.number.session ≡ true) made
           (λ e h. ap (λ n. is_session_of n e.number.session) ask.own ∙ h.2) mine)
-          (part_moved id ask.request.id namespace ask.insert.namespace ordered ask.insert.ordered ask.insert.documents (s.entries ++ made)
+          (part_moved id ask.request.id namespace ask.write.namespace ordered ask.write.ordered ask.write.operations (s.entries ++ made)
           (sym ask.own) ask.name ask.order part) is.fits.parts;
       told = serves_told id s.me namespace ordered s.entries now statements dones made last serves own up_to;
     }

@@ -15,7 +15,8 @@ pub use Rattle.reply_model.specs.Command
 pub use Rattle.reply_model.specs.Errors
 pub use Rattle.reply_model.specs.Find
 pub use Rattle.reply_model.specs.History
-pub use Rattle.reply_model.specs.Insert
+pub use Rattle.reply_model.specs.Statements
+pub use Rattle.reply_model.specs.Writes
 pub use Rattle.reply_model.specs.Keys
 pub use Rattle.reply_model.specs.OneHistory
 pub use Rattle.reply_model.specs.Outcomes

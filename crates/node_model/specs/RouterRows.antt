@@ -6,11 +6,11 @@ use Rattle.reply_model.specs.Tree.{Datum, Fields}
 use Rattle.reply_model.specs.Requests.{Request}
 use Rattle.reply_model.specs.Times.{time_of_moment}
 use Rattle.reply_model.specs.Refusals.{Refusal, time_ahead}
-use Rattle.reply_model.specs.Insert.{Insert}
+use Rattle.reply_model.specs.Writes.{WriteKind}
 use Rattle.reply_model.specs.Find.{Find}
-use Rattle.reply_model.specs.Command.{Command, hello_command, legacy_command, ping_command, end_sessions_command, insert_command, find_command, command_of}
+use Rattle.reply_model.specs.Command.{Command, hello_command, legacy_command, ping_command, end_sessions_command, write_command, find_command, command_of}
 use Rattle.reply_model.specs.Answers.{Answer, hello_answer, legacy_answer, done_answer, find_answer, refusal_answer, answer_document}
-use Rattle.reply_model.specs.History.{Operation, insert_operation, key_written}
+use Rattle.reply_model.specs.History.{Operation, key_written}
 use Rattle.reply_model.specs.Tables.{Table, first_shard, table_of, with_table, owner_now, owner_at}
 use Rattle.reply_model.specs.Verdicts.{sent_by}
 use Rattle.reply_model.specs.Versions.{Version}
@@ -31,10 +31,10 @@ id_of r count = record { router = r.me; life = r.life; count = count }
 
 -- WHAT A REQUEST HAS TO DO
 
--- the statements of an insert, numbered from this index on
-abbrev pub statements_from : RequestId → ℕ → List Fields → List Statement
+-- the statements of a write, numbered from this index on
+abbrev pub statements_from : RequestId → ℕ → List Operation → List Statement
 statements_from id index [] = []
-statements_from id index (document ∷ documents) = record { number = number_for id index; operation = insert_operation document } ∷ statements_from id (index + 1) documents
+statements_from id index (operation ∷ operations) = record { number = number_for id index; operation = operation } ∷ statements_from id (index + 1) operations
 
 -- a command is answered at once, or there is work to do on a collection first
 pub data Plan : Type 0 where
@@ -51,7 +51,7 @@ plan_of r id (Ok hello_command) = at_once (hello_answer r.moment)
 plan_of r id (Ok (legacy_command legacy)) = at_once (legacy_answer r.moment legacy.shows_hello_ok)
 plan_of r id (Ok ping_command) = at_once done_answer
 plan_of r id (Ok end_sessions_command) = at_once done_answer
-plan_of r id (Ok (insert_command insert)) = needs insert.namespace (writing insert.ordered (statements_from id 0 insert.documents) [])
+plan_of r id (Ok (write_command write)) = needs write.namespace (writing write.kind write.ordered (statements_from id 0 write.operations) [])
 plan_of r id (Ok (find_command find)) = plan_find r find
 
 -- WHAT IT ASKS FOR
@@ -94,17 +94,17 @@ asks_to_read r time id namespace t at half = elim (owner_of_half t at half) [
 
 -- what a request asks the shards for, by a table
 abbrev pub asks_shards : Router → ℕ → (count : ℕ) → (namespace : List ℕ) → Table → Work → List Letter
-asks_shards r time count namespace t (writing ordered statements answers) = asks_to_write r time (id_of r count) namespace t ordered (unanswered statements answers)
+asks_shards r time count namespace t (writing kind ordered statements answers) = asks_to_write r time (id_of r count) namespace t ordered (unanswered statements answers)
 asks_shards r time count namespace t (reading at half) = asks_to_read r time (id_of r count) namespace t at half
 
 -- what it asks the catalogue for: a write begins its collection
 abbrev pub asks_table : Router → ℕ → (namespace : List ℕ) → Work → Letter
-asks_table r time namespace (writing ordered statements answers) = says r 0 time (table_ask namespace true no_time)
+asks_table r time namespace (writing kind ordered statements answers) = says r 0 time (table_ask namespace true no_time)
 asks_table r time namespace (reading at half) = says r 0 time (table_ask namespace false (at_time at))
 
 -- a table is enough where it says who owned what is read at its time
 abbrev pub is_enough : Table → Work → Bool
-is_enough t (writing ordered statements answers) = true
+is_enough t (writing kind ordered statements answers) = true
 is_enough t (reading at half) = elim (owner_of_half t at half) [ None ↦ false | Some shard ↦ true ]
 
 abbrev pub enough_of : Option Table → Work → Option Table
@@ -121,7 +121,7 @@ asks_times r time id = says r first_shard time (time_ask id) ∷ []
 
 -- it reads at a time that is not reached
 abbrev pub is_ahead : ℕ → Work → Bool
-is_ahead time (writing ordered statements answers) = false
+is_ahead time (writing kind ordered statements answers) = false
 is_ahead time (reading at half) = nat_lt time at
 
 -- by the table that it can go on with, if that is there
@@ -196,7 +196,7 @@ is_for_table for_shards = false
 -- without a table that is enough
 abbrev pub next_without : Router → ℕ → At → Open → Next
 next_without r time told q = elim q.work [
-  | writing ordered statements answers ↦ stays q []
+  | writing kind ordered statements answers ↦ stays q []
   | reading at half ↦ if is_for told at then is_told (reply_to r time q (empty_answer q at)) else stays q []
 ]
 
@@ -256,17 +256,17 @@ open_of r id = if same_request id (id_of r id.count) then open_with id.count r.r
 -- outcomes are news to an open write where they answer more of its statements
 abbrev pub AreNoNews : Option Open → List Done → Type 0
 AreNoNews None dones = Unit {0}
-AreNoNews (Some q) dones = elim q.work [ writing ordered statements answers ↦ noted answers dones ≡ answers | reading at half ↦ Unit {0} ]
+AreNoNews (Some q) dones = elim q.work [ writing kind ordered statements answers ↦ noted answers dones ≡ answers | reading at half ↦ Unit {0} ]
 
 -- rows are news to an open read, of the turn that it is in
 abbrev pub IsNoRead : Option Open → (turn : ℕ) → Type 0
 IsNoRead None turn = Unit {0}
-IsNoRead (Some q) turn = elim q.work [ writing ordered statements answers ↦ Unit {0} | reading at half ↦ turn ≢ 1 ]
+IsNoRead (Some q) turn = elim q.work [ writing kind ordered statements answers ↦ Unit {0} | reading at half ↦ turn ≢ 1 ]
 
 -- a time is news to a read that waits for it
 abbrev pub IsNotAwaited : Option Open → Type 0
 IsNotAwaited None = Unit {0}
-IsNotAwaited (Some q) = elim q.work [ writing ordered statements answers ↦ Unit {0} | reading at half ↦ q.wait ≢ for_time ]
+IsNotAwaited (Some q) = elim q.work [ writing kind ordered statements answers ↦ Unit {0} | reading at half ↦ q.wait ≢ for_time ]
 
 -- a message comes too late for what it tells
 abbrev pub IsLate : Router → Body → Type 0
@@ -324,16 +324,16 @@ pub data RouterRow : Router → Input → Effect → Router → Type 0 where
       → RouterRow r (letter_input m) (answers_now (reply_to r (heard r m) q (refusal_answer (time_ahead (heard r m)))))
       (knows r (heard r m) r.tables (without q.count r.requests))
   -- some statements are answered, and the next are asked for
-  router_note : (r : Router) (m : Letter) (id : RequestId) (dones : List Done) (q : Open) (ordered : Bool) (statements : List Statement) (answers : List Done) → m.body ≡ write_done id dones
-      → open_of r id ≡ Some q → q.work ≡ writing ordered statements answers
+  router_note : (r : Router) (m : Letter) (id : RequestId) (dones : List Done) (q : Open) (kind : WriteKind) (ordered : Bool) (statements : List Statement) (answers : List Done) → m.body ≡ write_done id dones
+      → open_of r id ≡ Some q → q.work ≡ writing kind ordered statements answers
       → noted answers dones ≢ answers → is_answered ordered statements (noted answers dones) ≡ false
-      → RouterRow r (letter_input m) (sends (asks_for r (heard r m) q.count q.namespace (writing ordered statements (noted answers dones))))
-      (knows r (heard r m) r.tables (replaced (going_on r (heard r m) q (writing ordered statements (noted answers dones))) r.requests))
+      → RouterRow r (letter_input m) (sends (asks_for r (heard r m) q.count q.namespace (writing kind ordered statements (noted answers dones))))
+      (knows r (heard r m) r.tables (replaced (going_on r (heard r m) q (writing kind ordered statements (noted answers dones))) r.requests))
   -- all statements are answered
-  router_wrote : (r : Router) (m : Letter) (id : RequestId) (dones : List Done) (q : Open) (ordered : Bool) (statements : List Statement) (answers : List Done) → m.body ≡ write_done id dones
-      → open_of r id ≡ Some q → q.work ≡ writing ordered statements answers
+  router_wrote : (r : Router) (m : Letter) (id : RequestId) (dones : List Done) (q : Open) (kind : WriteKind) (ordered : Bool) (statements : List Statement) (answers : List Done) → m.body ≡ write_done id dones
+      → open_of r id ≡ Some q → q.work ≡ writing kind ordered statements answers
       → noted answers dones ≢ answers → is_answered ordered statements (noted answers dones) ≡ true
-      → RouterRow r (letter_input m) (answers_now (reply_to r (heard r m) q (answer_of (noted answers dones)))) (knows r (heard r m) r.tables (without q.count r.requests))
+      → RouterRow r (letter_input m) (answers_now (reply_to r (heard r m) q (answer_of kind (noted answers dones)))) (knows r (heard r m) r.tables (without q.count r.requests))
   -- a read has its documents
   router_read : (r : Router) (m : Letter) (id : RequestId) (rows : List Fields) (q : Open) (at : ℕ) (half : Half) → m.body ≡ read_rows id 1 rows
       → open_of r id ≡ Some q → q.work ≡ reading at half

@@ -4,6 +4,7 @@ use Rattle.reply_model.specs.Requests.{Request}
 use Rattle.reply_model.specs.History.{Entry}
 use Rattle.reply_model.specs.Tables.{Table}
 use Rattle.reply_model.specs.Outcomes.{Done}
+use Rattle.reply_model.specs.Writes.{WriteKind}
 use Rattle.node_model.specs.Letters.{Letter, Statement, Half}
 
 pub record Catalogue : Type 0 where
@@ -21,8 +22,8 @@ pub record Shard : Type 0 where
 
 -- what a request has to do before it is told
 pub data Work : Type 0 where
-  -- its statements, and what the first of them were told
-  writing : (ordered : Bool) → (statements : List Statement) → (answers : List Done) → Work
+  -- the statements of a write of this kind, and what the first of them were told
+  writing : WriteKind → (ordered : Bool) → (statements : List Statement) → (answers : List Done) → Work
   reading : (at : ℕ) → Half → Work
 
 -- what an open request waits for: the time that it reads at, its table, or the shards

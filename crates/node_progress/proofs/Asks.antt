@@ -3,21 +3,21 @@ use Rattle.std.proofs.Common.{◌≡◌, ℕ, zero, suc, ◌+◌, List, [], ◌�
 use Rattle.std.specs.Prelude.{Option, Some, None, true, false, if◌then◌else◌}
 use Rattle.std.specs.List.{AllByRecursion}
 use Rattle.std.proofs.lemmas.Bool.Decides.{Decides-eqb}
-use Rattle.node_model.specs.Tree.{Datum, Fields}
+use Rattle.node_model.specs.Tree.{Datum}
 use Rattle.node_model.specs.Keys.{is_key}
 use Rattle.node_model.specs.Catalogue.{Creation}
 use Rattle.node_model.specs.Tables.{Table, first_table, first_shard, table_of, owner_now, owner_at}
 use Rattle.node_model.specs.Verdicts.{sent_by}
-use Rattle.node_model.specs.History.{insert_operation, key_written}
+use Rattle.node_model.specs.History.{Operation, key_written}
 use Rattle.node_model.specs.Exchanges.{RequestId, number_for}
 use Rattle.node_model.specs.Outcomes.{Done}
 use Rattle.node_model.specs.Right.{ends}
 use Rattle.node_model.specs.Letters.{no_time, at_time, Statement, Half, key_half, write_ask, read_ask, time_ask, Letter}
 use Rattle.node_model.specs.States.{Router, Work, writing, reading, for_time, for_table, Open}
 use Rattle.node_model.specs.RouterRows.{id_of, statements_from, owner_of_statement, is_on, run_to, says, asks_to_write, owner_of_half, asks_to_read, asks_shards, asks_table, is_enough, enough_of, table_for, asks_times, is_ahead, wait_by, asks_by, wait_of, asks_for, is_answered}
-use Rattle.node_model.proofs.LegalHistories.{insert_writes}
 use Rattle.chunk_model.proofs.FirstTables.{every_key, only_at}
-use Rattle.command_model.proofs.Passed.{HasKey}
+use Rattle.command_model.proofs.Judged.{HasKey}
+use Rattle.node_progress.proofs.WrittenKeys.{written_key}
 use Rattle.node_progress.proofs.Leads.{AskFits, IsReading, HasNext, IsGoing, IsNext, Leads}
 
 -- one message, which has this property
@@ -76,7 +76,7 @@ module _ (r u : Router) (time : ℕ) (q : Open) (me : u.me ≡ r.me) (own : id_o
   shards_lead t there first going enough = by_work q.work refl going enough
     where
       by_work : (work : Work) → q.work ≡ work → IsGoing work → is_enough t work ≡ true → Sends (asks_shards r time q.count q.namespace t work) (Leads u q [])
-      by_work (writing ordered statements answers) same going enough = record {
+      by_work (writing kind ordered statements answers) same going enough = record {
         letter = says r first_shard time
             (write_ask (id_of r q.count) 1 ordered q.namespace (going.first ∷ run_to t first_shard going.more) (sent_by t first_shard));
         is =
@@ -101,14 +101,14 @@ module _ (r u : Router) (time : ℕ) (q : Open) (me : u.me ≡ r.me) (own : id_o
   -- THE CATALOGUE
 
   table_leads : q.wait ≡ for_table → (work : Work) → q.work ≡ work → Leads u q [] (asks_table r time q.namespace work)
-  table_leads waits (writing ordered statements answers) same = (refl, sym me, refl, waits, subst (λ w. AskFits true no_time w) (sym same) refl)
+  table_leads waits (writing kind ordered statements answers) same = (refl, sym me, refl, waits, subst (λ w. AskFits true no_time w) (sym same) refl)
   table_leads waits (reading at half) same =
       (refl, sym me, refl, waits, subst (λ w. AskFits false (at_time at) w) (sym same) (refl, (Decides-eqb at at).1 refl))
 
   -- WHAT COMES FIRST
 
   ahead_reads : (work : Work) → is_ahead time work ≡ true → IsReading work
-  ahead_reads (writing ordered statements answers) is = absurd (cc is)
+  ahead_reads (writing kind ordered statements answers) is = absurd (cc is)
   ahead_reads (reading at half) is = tt
 
   pub asks_lead : u.tables ≡ r.tables → ((t : Table) → table_of q.namespace r.tables ≡ Some t → IsFirst t) → IsGoing q.work
@@ -141,26 +141,26 @@ module _ (r u : Router) (time : ℕ) (q : Open) (me : u.me ≡ r.me) (own : id_o
           record { letter = says r first_shard time (time_ask (id_of r q.count)); is = refl; leads = (refl, sym own, waits, ahead_reads q.work is) }
       by_ahead false is waits = by_table (table_for r.tables q.namespace q.work) refl waits
 
--- WHAT IS NEXT OF AN INSERT
+-- WHAT IS NEXT OF A WRITE
 
--- the statements are those of documents with keys
+-- the statements are those of operations with keys
 pub record AreStated (statements : List Statement) : Type 0 where
   pub id : RequestId
-  pub documents : List Fields
-  pub are : statements ≡ statements_from id 0 documents
-  pub keys : AllByRecursion HasKey documents
+  pub operations : List Operation
+  pub are : statements ≡ statements_from id 0 operations
+  pub keys : AllByRecursion HasKey operations
 
-next_from : (id : RequestId) (index count : ℕ) (documents : List Fields) (first : Statement) (more : List Statement) → AllByRecursion HasKey documents
-    → drop count (statements_from id index documents) ≡ first ∷ more
+next_from : (id : RequestId) (index count : ℕ) (operations : List Operation) (first : Statement) (more : List Statement) → AllByRecursion HasKey operations
+    → drop count (statements_from id index operations) ≡ first ∷ more
     → (first.number.index ≡ index + count) × (key : Datum) × (key_written first.operation ≡ Some key) × (is_key key ≡ true)
 next_from id index zero [] first more keys left = absurd (cc left)
 next_from id index (suc n) [] first more keys left = absurd (cc left)
-next_from id index zero (document ∷ documents) first more keys left =
-    let same : record { number = number_for id index; operation = insert_operation document } ≡ first = cc left in
+next_from id index zero (operation ∷ operations) first more keys left =
+    let same : record { number = number_for id index; operation = operation } ≡ first = cc left in
     let at_index : first.number.index ≡ index = ap (λ (s : Statement). s.number.index) (sym same) in
-    (omega (arith, at_index), keys.0.key, ap (λ (s : Statement). key_written s.operation) (sym same) ∙ insert_writes document keys.0.key keys.0.found keys.0.is, keys.0.is)
-next_from id index (suc n) (document ∷ documents) first more keys left =
-    let rest = next_from id (index + 1) n documents first more keys.1 left in
+    (omega (arith, at_index), keys.0.0, ap (λ (s : Statement). key_written s.operation) (sym same) ∙ keys.0.1, written_key operation keys.0.0 keys.0.1)
+next_from id index (suc n) (operation ∷ operations) first more keys left =
+    let rest = next_from id (index + 1) n operations first more keys.1 left in
     let at_index : first.number.index ≡ index + 1 + n = rest.0 in
     (omega (arith, at_index), rest.1, rest.2, rest.3)
 
@@ -181,6 +181,6 @@ pub going_of : (ordered : Bool) (statements : List Statement) (answers : List Do
     → HasNext statements (length answers)
 going_of ordered statements answers stated open_still =
     let left = some_left ordered statements answers open_still in
-    let next = next_from stated.id 0 (length answers) stated.documents left.0 left.1 stated.keys
+    let next = next_from stated.id 0 (length answers) stated.operations left.0 left.1 stated.keys
     (ap (λ l. drop (length answers) l) (sym stated.are) ∙ left.2) in
     record { first = left.0; more = left.1; left = left.2; numbered = (let n = next.0 in omega (arith, n)); key = next.1; written = next.2; is = next.3 }

@@ -13,15 +13,15 @@ abbrev pub IsKnownThere : Router → Open → Catalogue → Type 0
 IsKnownThere r q c = (t : Table) → table_of q.namespace r.tables ≡ Some t → table_of q.namespace c.tables ≡ None → ⊥
 
 begun_fits : (namespace : List ℕ) (at : At) (t : Table) (work : Work) → t.namespace ≡ namespace → AskFits true at work → ToldFits namespace at (Some t) work
-begun_fits namespace at t (writing ordered statements answers) name fits = record { table = t; is = refl; name = name }
+begun_fits namespace at t (writing kind ordered statements answers) name fits = record { table = t; is = refl; name = name }
 begun_fits namespace at t (reading time half) name fits = fits.1
 
 told_fits : (namespace : List ℕ) (create : Bool) (at : At) (o : Option Table) (tables : List Table) (work : Work) → table_of namespace tables ≡ o
     → (create ≡ false) ⊎ IsSome o → AskFits create at work → ToldFits namespace at o work
-told_fits namespace create at (Some t) tables (writing ordered statements answers) is there fits =
+told_fits namespace create at (Some t) tables (writing kind ordered statements answers) is there fits =
     record { table = t; is = refl; name = (table_found namespace tables t is).name }
-told_fits namespace create at None tables (writing ordered statements answers) is (inl not_begun) fits = absurd (cc (not_begun, fits))
-told_fits namespace create at None tables (writing ordered statements answers) is (inr some) fits = absurd (cc some)
+told_fits namespace create at None tables (writing kind ordered statements answers) is (inl not_begun) fits = absurd (cc (not_begun, fits))
+told_fits namespace create at None tables (writing kind ordered statements answers) is (inr some) fits = absurd (cc some)
 told_fits namespace create at o tables (reading time half) is there fits = fits.1
 
 told_there : (namespace : List ℕ) (o : Option Table) (tables : List Table) → table_of namespace tables ≡ o → (o ≡ None → ⊥) → HasTable namespace o

@@ -14,7 +14,7 @@ use Rattle.node_model.specs.RouterRows.{id_of, is_for}
 -- WORK
 
 abbrev pub IsReading : Work → Type 0
-IsReading (writing ordered statements answers) = ⊥
+IsReading (writing kind ordered statements answers) = ⊥
 IsReading (reading at half) = Unit {0}
 
 -- of these statements so many are answered: there is a next one, which has that index and a key
@@ -28,12 +28,12 @@ pub record HasNext (statements : List Statement) (count : ℕ) : Type 0 where
   pub is : is_key key ≡ true
 
 abbrev pub IsGoing : Work → Type 0
-IsGoing (writing ordered statements answers) = HasNext statements (length answers)
+IsGoing (writing kind ordered statements answers) = HasNext statements (length answers)
 IsGoing (reading at half) = Unit {0}
 
 -- the next answer is that with this index
 abbrev pub IsNext : Work → ℕ → Type 0
-IsNext (writing ordered statements answers) index = index ≡ length answers
+IsNext (writing kind ordered statements answers) index = index ≡ length answers
 IsNext (reading at half) index = ⊥
 
 -- ASKS
@@ -62,7 +62,7 @@ IsAskOf r q (time_told id) = ⊥
 
 -- a table is asked for as the work wants it
 abbrev pub AskFits : (create : Bool) → At → Work → Type 0
-AskFits create at (writing ordered statements answers) = create ≡ true
+AskFits create at (writing kind ordered statements answers) = create ≡ true
 AskFits create at (reading time half) = (create ≡ false) × (is_for at time ≡ true)
 
 -- the table of the collection is told
@@ -73,7 +73,7 @@ pub record HasTable (namespace : List ℕ) (told : Option Table) : Type 0 where
 
 -- a table is told as the work wants it
 abbrev pub ToldFits : (namespace : List ℕ) → At → Option Table → Work → Type 0
-ToldFits namespace at table (writing ordered statements answers) = HasTable namespace table
+ToldFits namespace at table (writing kind ordered statements answers) = HasTable namespace table
 ToldFits namespace at table (reading time half) = is_for at time ≡ true
 
 abbrev pub LeadsBody : Router → Open → (to from : ℕ) → Body → Type 0

@@ -1,3 +1,4 @@
+pub mod WrittenKeys
 pub mod Leads
 pub mod Receivers
 pub mod CatalogueLeads

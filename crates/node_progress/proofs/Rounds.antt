@@ -4,12 +4,12 @@ use Rattle.std.specs.Prelude.{Ok}
 use Rattle.std.specs.List.{AllByRecursion}
 use Rattle.std.proofs.lemmas.Option.{slice_get_within}
 use Rattle.history_model.proofs.Lists.{all_at, in_first, in_later, in_cons, in_none, in_prefix}
-use Rattle.node_model.specs.Insert.{Insert}
-use Rattle.node_model.specs.Command.{insert_command, command_of}
+use Rattle.node_model.specs.Writes.{WriteCommand}
+use Rattle.node_model.specs.Command.{write_command, command_of}
 use Rattle.node_model.specs.Tables.{first_shard}
 use Rattle.node_model.specs.History.{Entry, IsIn}
 use Rattle.node_model.specs.Exchanges.{RequestId, Asked, Answered}
-use Rattle.node_model.specs.Right.{IsWhole, IsRight, right_insert, right_find, right_ahead, right_hello, right_legacy, right_ping, right_end_sessions, right_refusal}
+use Rattle.node_model.specs.Right.{IsWhole, IsRight, right_write, right_find, right_ahead, right_hello, right_legacy, right_ping, right_end_sessions, right_refusal}
 use Rattle.node_model.specs.OneHistory.{IsRightOf, ids_told}
 use Rattle.node_model.specs.Journal.{entries_kept}
 use Rattle.node_model.specs.World.{World, asked_by, answered_by, Moves, Event, client_event, deliver_event, Happens, comes, delivers, passes, begins as was_opened, Run, stands, goes, start, journal_at}
@@ -77,27 +77,27 @@ told_in id (t ∷ answered) there = by_place (in_cons id t.id (ids_told answered
     by_place (inl same) later = (t, in_first t answered, sym same)
     by_place (inr there) later = let x = later there in (x.0, in_later x.0 t answered x.1, x.2)
 
-right_whole : (history : List Entry) (a : Asked) (t : Answered) (insert : Insert) → command_of a.request ≡ Ok (insert_command insert) → IsRight history a t
-    → IsWhole history a.id insert
-right_whole history a t insert is (right_insert other asks whole told) = let same : other ≡ insert =
+right_whole : (history : List Entry) (a : Asked) (t : Answered) (write : WriteCommand) → command_of a.request ≡ Ok (write_command write) → IsRight history a t
+    → IsWhole history a.id write
+right_whole history a t write is (right_write other asks whole told) = let same : other ≡ write =
     cc (asks, is) in subst (λ x. IsWhole history a.id x) same whole
-right_whole history a t insert is (right_find find asks early told) = absurd (cc (asks, is))
-right_whole history a t insert is (right_ahead find named asks at early told) = absurd (cc (asks, is))
-right_whole history a t insert is (right_hello asks told) = absurd (cc (asks, is))
-right_whole history a t insert is (right_legacy legacy asks told) = absurd (cc (asks, is))
-right_whole history a t insert is (right_ping asks told) = absurd (cc (asks, is))
-right_whole history a t insert is (right_end_sessions asks told) = absurd (cc (asks, is))
-right_whole history a t insert is (right_refusal refusal asks told) = absurd (cc (asks, is))
+right_whole history a t write is (right_find find asks early told) = absurd (cc (asks, is))
+right_whole history a t write is (right_ahead find named asks at early told) = absurd (cc (asks, is))
+right_whole history a t write is (right_hello asks told) = absurd (cc (asks, is))
+right_whole history a t write is (right_legacy legacy asks told) = absurd (cc (asks, is))
+right_whole history a t write is (right_ping asks told) = absurd (cc (asks, is))
+right_whole history a t write is (right_end_sessions asks told) = absurd (cc (asks, is))
+right_whole history a t write is (right_refusal refusal asks told) = absurd (cc (asks, is))
 
--- an insert that was answered was served whole
+-- a write that was answered was served whole
 answered_served : (w : World) → StaysTrue w → (a : Asked) → IsIn a w.asked → IsAnswered w.answered a
     → IsServed (entries_kept (journal_at w.nodes first_shard)) a
-answered_served w good a taken done insert asks =
+answered_served w good a taken done write asks =
     let one = makes_one_history w good in
     let told = told_in a.id w.answered done in
     let right = all_at (IsRightOf (entries_kept (journal_at w.nodes first_shard)) w.asked) told.0 w.answered one.right told.1 in
     let same : right.request ≡ a = one_asked right.request a w.asked one.one right.taken taken (right.own ∙ told.2) in
-    right_whole (entries_kept (journal_at w.nodes first_shard)) a told.0 insert asks
+    right_whole (entries_kept (journal_at w.nodes first_shard)) a told.0 write asks
     (subst (λ x. IsRight (entries_kept (journal_at w.nodes first_shard)) x told.0) same right.right)
 
 pub piped_requests_are_answered : (routers : ℕ) (rounds : List Round) (events : List Event) (w : World) (next : ℕ) → Pipes routers rounds events w next

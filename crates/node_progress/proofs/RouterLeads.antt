@@ -7,6 +7,7 @@ use Rattle.std.proofs.lemmas.Bool.Decides.{Decides-eqb}
 use Rattle.std.proofs.lemmas.Slice.Eq.{bytes_eq-Decides}
 use Rattle.history_model.proofs.Lists.{all_at, in_cons, in_none}
 use Rattle.node_model.specs.Tables.{Table, table_of}
+use Rattle.node_model.specs.Writes.{WriteKind}
 use Rattle.node_model.specs.History.{IsIn}
 use Rattle.node_model.specs.Exchanges.{RequestId}
 use Rattle.node_model.specs.Outcomes.{Done}
@@ -23,7 +24,7 @@ use Rattle.node_progress.proofs.Asks.{Sends, IsFirst, shards_lead, asks_lead, Ar
 -- THE OPEN REQUEST
 
 abbrev pub IsStated : Work → Type 0
-IsStated (writing ordered statements answers) = AreStated statements
+IsStated (writing kind ordered statements answers) = AreStated statements
 IsStated (reading at half) = Unit {0}
 
 -- a router has this open request and no other
@@ -87,14 +88,14 @@ record Learns (r u : Router) (q : Open) (at : At) (table : Option Table) : Type 
 without_table : (r : Router) (q : Open) (at : At) (table : Option Table) (time : ℕ) (u : Router) (work : Work) → q.work ≡ work
     → ToldFits q.namespace at table work → table_for (adopted table r.tables) q.namespace work ≡ None
     → Becomes r q u (elim work as (λ (w : Work). Next) [
-      | writing ordered statements answers ↦ stays q []
+      | writing kind ordered statements answers ↦ stays q []
       | reading told half ↦ if is_for at told then is_told (reply_to r time q (empty_answer q told)) else stays q []
     ])
-without_table r q at table time u (writing ordered statements answers) same fits none =
+without_table r q at table time u (writing kind ordered statements answers) same fits none =
     let there = table_there q.namespace fits.table r.tables fits.name in
-    let some : table_for (adopted table r.tables) q.namespace (writing ordered statements answers) ≡ Some there.0 =
-    ap (λ o. table_for (adopted o r.tables) q.namespace (writing ordered statements answers)) fits.is
-    ∙ ap (λ o. enough_of o (writing ordered statements answers)) there.1 in
+    let some : table_for (adopted table r.tables) q.namespace (writing kind ordered statements answers) ≡ Some there.0 =
+    ap (λ o. table_for (adopted o r.tables) q.namespace (writing kind ordered statements answers)) fits.is
+    ∙ ap (λ o. enough_of o (writing kind ordered statements answers)) there.1 in
     absurd (cc (some, none))
 without_table r q at table time u (reading told half) same fits none =
     subst (λ (b : Bool). Becomes r q u (if b then is_told (reply_to r time q (empty_answer q told)) else stays q [])) (sym fits) refl
@@ -192,24 +193,24 @@ news_come : (q : Open) (d : Done) (dones : List Done) → IsNext q.work d.index 
 news_come q d dones next late = by_work q.work next late
   where
     by_work : (work : Work) → IsNext work d.index
-        → (elim work as (λ (w : Work). Type 0) [ writing ordered statements answers ↦ noted answers (d ∷ dones) ≡ answers | reading at half ↦ Unit {0} ]) → ⊥
-    by_work (writing ordered statements answers) next late = noted_more answers dones d next late
+        → (elim work as (λ (w : Work). Type 0) [ writing kind ordered statements answers ↦ noted answers (d ∷ dones) ≡ answers | reading at half ↦ Unit {0} ]) → ⊥
+    by_work (writing kind ordered statements answers) next late = noted_more answers dones d next late
     by_work (reading at half) next late = next
 
 rows_come : (q : Open) (turn : ℕ) → IsReading q.work → turn ≡ 1 → IsNoRead (Some q) turn → ⊥
 rows_come q turn reads is late = by_work q.work reads late
   where
     by_work : (work : Work) → IsReading work
-        → (elim work as (λ (w : Work). Type 0) [ writing ordered statements answers ↦ Unit {0} | reading at half ↦ turn ≢ 1 ]) → ⊥
-    by_work (writing ordered statements answers) reads late = reads
+        → (elim work as (λ (w : Work). Type 0) [ writing kind ordered statements answers ↦ Unit {0} | reading at half ↦ turn ≢ 1 ]) → ⊥
+    by_work (writing kind ordered statements answers) reads late = reads
     by_work (reading at half) reads late = late is
 
 time_comes : (q : Open) → IsReading q.work → q.wait ≡ for_time → IsNotAwaited (Some q) → ⊥
 time_comes q reads waits late = by_work q.work reads late
   where
     by_work : (work : Work) → IsReading work
-        → (elim work as (λ (w : Work). Type 0) [ writing ordered statements answers ↦ Unit {0} | reading at half ↦ q.wait ≢ for_time ]) → ⊥
-    by_work (writing ordered statements answers) reads late = reads
+        → (elim work as (λ (w : Work). Type 0) [ writing kind ordered statements answers ↦ Unit {0} | reading at half ↦ q.wait ≢ for_time ]) → ⊥
+    by_work (writing kind ordered statements answers) reads late = reads
     by_work (reading at half) reads late = late waits
 
 not_late : (r : Router) (q : Open) (to from : ℕ) (b : Body) → r.requests ≡ q ∷ [] → IsLate r b → LeadsBody r q to from b → ⊥
@@ -241,9 +242,9 @@ not_skipped r q to from (stale id turn met) place not_zero not_one none leads = 
 
 -- A ROW
 
-stated_of : (q : Open) (ordered : Bool) (statements : List Statement) (answers : List Done) → q.work ≡ writing ordered statements answers → IsStated q.work
+stated_of : (q : Open) (kind : WriteKind) (ordered : Bool) (statements : List Statement) (answers : List Done) → q.work ≡ writing kind ordered statements answers → IsStated q.work
     → AreStated statements
-stated_of q ordered statements answers is stated = subst (λ w. IsStated w) is stated
+stated_of q kind ordered statements answers is stated = subst (λ w. IsStated w) is stated
 
 router_goes : (r : Router) (q : Open) (m : Letter) (f : Effect) (t : Router) → m.receiver ≡ r.me → r.me ≢ 0 → r.me ≢ 1 → HasOne r q
     → ((namespace : List ℕ) (create : Bool) (at : At) (t : Table) → m.body ≡ table_told namespace create at (Some t) → IsFirst t)
@@ -256,11 +257,11 @@ router_goes _ q _ _ _ place not_zero not_one one first leads (router_reach r m i
     going_goes r q p (heard r m) p.work one same (subst (λ (x : Open). IsGoing x.work) (sym same) one.going)
 router_goes _ q _ _ _ place not_zero not_one one first leads (router_ahead r m id p at half says found work waits ahead) =
     over_goes r q p (heard r m) _ one (open_is r q p id one.only found) refl
-router_goes _ q _ _ _ place not_zero not_one one first leads (router_note r m id dones p ordered statements answers says found work news more) =
+router_goes _ q _ _ _ place not_zero not_one one first leads (router_note r m id dones p kind ordered statements answers says found work news more) =
     let same = open_is r q p id one.only found in
-    going_goes r q p (heard r m) (writing ordered statements (noted answers dones)) one same
-    (going_of ordered statements (noted answers dones) (stated_of q ordered statements answers (ap (λ (x : Open). x.work) (sym same) ∙ work) one.stated) more)
-router_goes _ q _ _ _ place not_zero not_one one first leads (router_wrote r m id dones p ordered statements answers says found work news all) =
+    going_goes r q p (heard r m) (writing kind ordered statements (noted answers dones)) one same
+    (going_of ordered statements (noted answers dones) (stated_of q kind ordered statements answers (ap (λ (x : Open). x.work) (sym same) ∙ work) one.stated) more)
+router_goes _ q _ _ _ place not_zero not_one one first leads (router_wrote r m id dones p kind ordered statements answers says found work news all) =
     over_goes r q p (heard r m) _ one (open_is r q p id one.only found) refl
 router_goes _ q _ _ _ place not_zero not_one one first leads (router_read r m id rows p at half says found work) =
     over_goes r q p (heard r m) _ one (open_is r q p id one.only found) refl

@@ -15,7 +15,7 @@ use Rattle.node_model.specs.States.{Catalogue, Shard, Router, Work, writing, rea
 use Rattle.node_model.specs.RouterRows.{id_of, RouterRow}
 use Rattle.node_model.specs.Steps.{Step, catalogue_step, shard_step, router_step, begin_step, other_step, number_of}
 use Rattle.node_model.specs.World.{Held, World, asked_by, answered_by, after, is_given, tick, Moves, journal_at, Happens, delivers, deliver_event}
-use Rattle.command_model.proofs.Taken.{documents_with_keys}
+use Rattle.command_model.proofs.Taken.{operations_with_keys}
 use Rattle.node_model.proofs.Journals.{journal_got}
 use Rattle.node_laws.proofs.Views.{View, view_of, creations_in}
 use Rattle.node_laws.proofs.Places.{EachAt, each_get, each_set}
@@ -192,8 +192,8 @@ shard_agrees w next p kept x good s here t u there own =
     l.2 ∙ (ap (λ c. first_table c) (one_creation l.0 k.0 (creations_in (view_of w.nodes)) names l.1 k.1 (l.3 ∙ sym k.3)) ∙ sym k.2)
 
 stated_work : (v : View) (a : Asked) (namespace : List ℕ) (work : Work) → WorkFits v a namespace work → IsStated work
-stated_work v a namespace (writing ordered statements answers) fits =
-    record { id = a.id; documents = fits.0.documents; are = fits.4; keys = documents_with_keys a.request fits.0 fits.1 }
+stated_work v a namespace (writing kind ordered statements answers) fits =
+    record { id = a.id; operations = fits.0.operations; are = fits.5; keys = operations_with_keys a.request fits.0 fits.1 }
 stated_work v a namespace (reading at half) fits = tt
 
 has_one : (w : World) (next : ℕ) → Good w → (s : Waits w next) → HasOne s.router s.request

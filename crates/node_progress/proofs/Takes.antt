@@ -5,9 +5,9 @@ use Rattle.std.specs.List.{AllByRecursion, slice_get}
 use Rattle.history_model.proofs.Lists.{all_weaken, all_append, in_first, in_back}
 use Rattle.node_model.specs.Requests.{Request}
 use Rattle.node_model.specs.Refusals.{Refusal}
-use Rattle.node_model.specs.Command.{Command, hello_command, legacy_command, ping_command, end_sessions_command, insert_command, find_command, command_of}
-use Rattle.node_model.specs.Tree.{Fields}
-use Rattle.node_model.specs.History.{IsIn}
+use Rattle.node_model.specs.Command.{Command, hello_command, legacy_command, ping_command, end_sessions_command, write_command, find_command, command_of}
+use Rattle.node_model.specs.Writes.{WriteKind}
+use Rattle.node_model.specs.History.{Operation, IsIn}
 use Rattle.node_model.specs.Exchanges.{RequestId, Asked, Answered}
 use Rattle.node_model.specs.OneHistory.{ids_told}
 use Rattle.node_model.specs.Journal.{Kept, kept_life}
@@ -16,8 +16,8 @@ use Rattle.node_model.specs.States.{Router, Work, writing, Open, NodeState, cata
 use Rattle.node_model.specs.RouterRows.{needs, plan_of, statements_from, opened_request, taken_now, takes, id_of, begins as in_life, RouterRow, router_plain, router_take}
 use Rattle.node_model.specs.Steps.{Step, catalogue_step, shard_step, router_step, begin_step}
 use Rattle.node_model.specs.World.{Held, World, asked_by, answered_by, after, is_given, tick, IsRouter, Happens, comes, client_event}
-use Rattle.command_model.proofs.Taken.{some_documents, documents_with_keys}
-use Rattle.command_model.proofs.Passed.{HasKey}
+use Rattle.command_model.proofs.Taken.{some_operations, operations_with_keys}
+use Rattle.command_model.proofs.Judged.{HasKey}
 use Rattle.node_laws.proofs.Views.{view_of}
 use Rattle.node_laws.proofs.Places.{EachAt, each_set}
 use Rattle.node_laws.proofs.Facts.{RouterFits, Good}
@@ -36,11 +36,11 @@ use Rattle.node_progress.proofs.Stages.{IsElse, Waits, Stage, get_behind, first_
 same_plan : {n m : List ℕ} {a b : Work} → needs n a ≡ needs m b → a ≡ b
 same_plan e = cc e
 
-insert_goes : (id : RequestId) (ordered : Bool) (documents : List Fields) → documents ≢ [] → AllByRecursion HasKey documents
-    → IsGoing (writing ordered (statements_from id 0 documents) [])
-insert_goes id ordered [] some keys = absurd (some refl)
-insert_goes id ordered (document ∷ documents) some keys =
-    going_of ordered (statements_from id 0 (document ∷ documents)) [] (record { id = id; documents = document ∷ documents; are = refl; keys = keys }) refl
+write_goes : (id : RequestId) (kind : WriteKind) (ordered : Bool) (operations : List Operation) → operations ≢ [] → AllByRecursion HasKey operations
+    → IsGoing (writing kind ordered (statements_from id 0 operations) [])
+write_goes id kind ordered [] some keys = absurd (some refl)
+write_goes id kind ordered (operation ∷ operations) some keys =
+    going_of ordered (statements_from id 0 (operation ∷ operations)) [] (record { id = id; operations = operation ∷ operations; are = refl; keys = keys }) refl
 
 -- a request with work to do has a first thing to do
 plan_goes : (r : Router) (id : RequestId) (request : Request) (namespace : List ℕ) (work : Work) (o : Result Command Refusal) → command_of request ≡ o
@@ -50,9 +50,9 @@ plan_goes r id request namespace work (Ok hello_command) is plan = absurd (cc pl
 plan_goes r id request namespace work (Ok (legacy_command legacy)) is plan = absurd (cc plan)
 plan_goes r id request namespace work (Ok ping_command) is plan = absurd (cc plan)
 plan_goes r id request namespace work (Ok end_sessions_command) is plan = absurd (cc plan)
-plan_goes r id request namespace work (Ok (insert_command insert)) is plan =
+plan_goes r id request namespace work (Ok (write_command write)) is plan =
     subst (λ w. IsGoing w) (same_plan plan)
-    (insert_goes id insert.ordered insert.documents (some_documents request insert is) (documents_with_keys request insert is))
+    (write_goes id write.kind write.ordered write.operations (some_operations request write is) (operations_with_keys request write is))
 plan_goes r id request namespace work (Ok (find_command find)) is plan = subst (λ w. IsGoing w) (same_plan plan) tt
 
 -- THE ROWS

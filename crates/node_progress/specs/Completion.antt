@@ -1,8 +1,8 @@
 -- What it means that whatever was asked is answered.
 use Rattle.std.specs.Prelude.{◌≡◌, List, [], Ok}
 use Rattle.std.specs.List.{AllByRecursion}
-use Rattle.node_model.specs.Insert.{Insert}
-use Rattle.node_model.specs.Command.{insert_command, command_of}
+use Rattle.node_model.specs.Writes.{WriteCommand}
+use Rattle.node_model.specs.Command.{write_command, command_of}
 use Rattle.node_model.specs.Tables.{first_shard}
 use Rattle.node_model.specs.History.{Entry, IsIn}
 use Rattle.node_model.specs.Exchanges.{Asked, Answered}
@@ -22,11 +22,11 @@ IsQuiet (router_state r) = r.requests ≡ []
 abbrev pub IsAnswered : List Answered → Asked → Type 0
 IsAnswered answered a = IsIn a.id (ids_told answered)
 
--- of an insert all statements stand, up to the error that ends an ordered one, also where no reply is put
+-- of a write all statements stand, up to the error that ends an ordered one, also where no reply is put
 abbrev pub IsServed : List Entry → Asked → Type 0
-IsServed history a = (insert : Insert) → command_of a.request ≡ Ok (insert_command insert) → IsWhole history a.id insert
+IsServed history a = (write : WriteCommand) → command_of a.request ≡ Ok (write_command write) → IsWhole history a.id write
 
--- Every request that was taken is answered, every insert among them stands whole, and nothing is under way.
+-- Every request that was taken is answered, every write among them stands whole, and nothing is under way.
 pub record AreAnswered (w : World) : Type 0 where
   pub answered : AllByRecursion (IsAnswered w.answered) w.asked
   pub served : AllByRecursion (IsServed (entries_kept (journal_at w.nodes first_shard))) w.asked

@@ -15,11 +15,11 @@ module _ (r : Router) (time count : ℕ) (namespace : List ℕ) where
   writes_alike id t ordered (s ∷ statements) = refl
 
   pub shards_alike : (t : Table) (work : Work) → asks_shards (asking r.me r.life) time count namespace t work ≡ asks_shards r time count namespace t work
-  shards_alike t (writing ordered statements answers) = writes_alike (id_of r count) t ordered (unanswered statements answers)
+  shards_alike t (writing kind ordered statements answers) = writes_alike (id_of r count) t ordered (unanswered statements answers)
   shards_alike t (reading at half) = refl
 
   pub table_alike : (work : Work) → asks_table (asking r.me r.life) time namespace work ≡ asks_table r time namespace work
-  table_alike (writing ordered statements answers) = refl
+  table_alike (writing kind ordered statements answers) = refl
   table_alike (reading at half) = refl
 
   pub asked_alike : (work : Work) (table : Option Table) → asks_by (asking r.me r.life) time count namespace work table ≡ asks_by r time count namespace work table

@@ -3,13 +3,19 @@ use Rattle.std.proofs.lemmas.List.{append_assoc}
 use Rattle.std.proofs.Common.{◌≡◌, refl, ap, sym, ◌∙◌, ℕ, suc, ◌-◌, List, [], ◌∷◌, ◌++◌, take, drop, map, length, get_or, Bool, true, false, if◌then◌else◌, ◌+◌, ◌<◌, add-one, drop-cons, arith}
 use Rattle.std.proofs.Math.Dec.{eqb-suc-zero}
 use Rattle.std.proofs.lemmas.List.{drop-map, length-map, take_rest}
+use Rattle.std.specs.Arc.{arc_value}
 use Rattle.std.specs.Prelude.{Option, Some, None}
+use Rattle.bson_model.specs.Spelling.{written_value}
 use Rattle.command_answers.specs.declared.answer.WriteError.{WriteError}
+use Rattle.command_answers.specs.declared.answer.Upserted.{Upserted}
 use Rattle.command_answers.specs.Errors.{errors_meant, error_meant}
+use Rattle.command_answers.specs.Upserts.{upserted_meant, key_meant}
+use Rattle.command_model.specs.CommandSizes.{keys_length}
 use Rattle.node_model.specs.Exchanges.{RequestId}
 use Rattle.node_model.specs.Errors.{ErrorCode}
-use Rattle.node_model.specs.Insert as inserts
-use Rattle.node_model.specs.Outcomes.{Done, errors_of}
+use Rattle.node_model.specs.Tree.{Datum}
+use Rattle.node_model.specs.Writes as writes
+use Rattle.node_model.specs.Outcomes.{Done, errors_of, upserted_by}
 use Rattle.node_model.specs.Refusals.{without_evidence}
 use Rattle.node_model.specs.Right.{ends}
 use Rattle.node_model.specs.RouterRows.{is_answered, unanswered}
@@ -39,21 +45,39 @@ left_over id statements answers =
     ∙ sym (drop-map (λ s. statement_meant id s) (length answers) statements)
     ∙ ap (λ n. drop n (map (λ s. statement_meant id s) statements)) (sym (length-map answers done_meant))
 
-errors_both : (d : Done) (rest : List Done) → errors_of (d ∷ rest) ≡ errors_of (d ∷ []) ++ errors_of rest
+pub keys_pushed : (keys : List Upserted) (u : Upserted) → upserted_meant (keys ++ u ∷ []) ≡ upserted_meant keys ++ key_meant u ∷ []
+keys_pushed [] u = refl
+keys_pushed (k ∷ keys) u = ap (λ l. key_meant k ∷ l) (keys_pushed keys u)
+
+pub errors_both : (d : Done) (rest : List Done) → errors_of (d ∷ rest) ≡ errors_of (d ∷ []) ++ errors_of rest
 errors_both d rest = by_error d.outcome.error where
-  by_error : (error : Option ErrorCode) → (elim error as (λ (o : Option ErrorCode). List inserts.WriteError) [ None ↦ errors_of rest | Some e ↦ record { index = d.index; refusal = without_evidence e } ∷ errors_of rest ])
-      ≡ (elim error as (λ (o : Option ErrorCode). List inserts.WriteError) [ None ↦ [] | Some e ↦ record { index = d.index; refusal = without_evidence e } ∷ [] ]) ++ errors_of rest
+  by_error : (error : Option ErrorCode) → (elim error as (λ (o : Option ErrorCode). List writes.WriteError) [ None ↦ errors_of rest | Some e ↦ record { index = d.index; refusal = without_evidence e } ∷ errors_of rest ])
+      ≡ (elim error as (λ (o : Option ErrorCode). List writes.WriteError) [ None ↦ [] | Some e ↦ record { index = d.index; refusal = without_evidence e } ∷ [] ]) ++ errors_of rest
   by_error None = refl
   by_error (Some e) = refl
 
--- one more statement is told
-pub errors_go : (dones : List program.Done) (i : ℕ) (d : program.Done) (errors new : List WriteError) (whole : List inserts.WriteError) → i < length dones → d ≡ get_or dones i d
-    → errors_meant new ≡ errors_meant errors ++ errors_of (done_meant d ∷ []) → errors_meant errors ++ errors_of (map done_meant (drop i dones)) ≡ whole
-    → errors_meant new ++ errors_of (map done_meant (drop (i + 1) dones)) ≡ whole
-errors_go dones i d errors new whole inside here more inv =
+pub keys_both : (d : Done) (rest : List Done) → upserted_by (d ∷ rest) ≡ upserted_by (d ∷ []) ++ upserted_by rest
+keys_both d rest = by_key d.outcome.upserted where
+  by_key : (upserted : Option Datum) → (elim upserted as (λ (o : Option Datum). List writes.Upserted) [ None ↦ upserted_by rest | Some k ↦ record { index = d.index; key = k } ∷ upserted_by rest ])
+      ≡ (elim upserted as (λ (o : Option Datum). List writes.Upserted) [ None ↦ [] | Some k ↦ record { index = d.index; key = k } ∷ [] ]) ++ upserted_by rest
+  by_key None = refl
+  by_key (Some k) = refl
+
+-- one more statement is told, of a list that each adds its own to
+pub goes_on : {X : Type 0} (of : List Done → List X) → ((d : Done) (rest : List Done) → of (d ∷ rest) ≡ of (d ∷ []) ++ of rest)
+    → (dones : List program.Done) (i : ℕ) (d : program.Done) (told new whole : List X) → i < length dones → d ≡ get_or dones i d
+    → new ≡ told ++ of (done_meant d ∷ []) → told ++ of (map done_meant (drop i dones)) ≡ whole → new ++ of (map done_meant (drop (i + 1) dones)) ≡ whole
+goes_on {X} of both dones i d told new whole inside here more inv =
     let cut : drop i dones ≡ d ∷ drop (i + 1) dones = rw add-one (drop-cons dones i d inside ∙ ap (λ (first : program.Done). first ∷ drop (suc i) dones) (sym here)) in
-    ap (λ (l : List inserts.WriteError). l ++ errors_of (map done_meant (drop (i + 1) dones))) more
-    ∙ append_assoc (errors_meant errors) (errors_of (done_meant d ∷ [])) (errors_of (map done_meant (drop (i + 1) dones)))
-    ∙ ap (λ (l : List inserts.WriteError). errors_meant errors ++ l) (sym (errors_both (done_meant d) (map done_meant (drop (i + 1) dones))))
-    ∙ ap (λ (l : List program.Done). errors_meant errors ++ errors_of (map done_meant l)) (sym cut)
+    ap (λ (l : List X). l ++ of (map done_meant (drop (i + 1) dones))) more
+    ∙ append_assoc told (of (done_meant d ∷ [])) (of (map done_meant (drop (i + 1) dones)))
+    ∙ ap (λ (l : List X). told ++ l) (sym (both (done_meant d) (map done_meant (drop (i + 1) dones))))
+    ∙ ap (λ (l : List program.Done). told ++ of (map done_meant l)) (sym cut)
     ∙ inv
+
+-- the length of the keys from one on
+pub length_on : (keys : List Upserted) (i : ℕ) (u : Upserted) → i < length keys → u ≡ get_or keys i u
+    → keys_length (upserted_meant (drop i keys)) ≡ length (written_value (arc_value u.key)) + keys_length (upserted_meant (drop (i + 1) keys))
+length_on keys i u inside here =
+    let cut : drop i keys ≡ u ∷ drop (i + 1) keys = rw add-one (drop-cons keys i u inside ∙ ap (λ (first : Upserted). first ∷ drop (suc i) keys) (sym here)) in
+    ap (λ (l : List Upserted). keys_length (upserted_meant l)) cut

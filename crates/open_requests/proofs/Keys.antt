@@ -1,16 +1,26 @@
 -- The shard that has the key that a statement writes.
-use Rattle.std.proofs.Common.{◌≡◌, refl, ap, ◌∙◌, ℕ}
+use Rattle.std.proofs.Common.{◌≡◌, refl, ap, sym, ◌∙◌, ℕ, true}
 use Rattle.std.specs.Prelude.{Option, Some, None, Ok}
 use Rattle.history_model.proofs.LegalHistories.{insert_key}
+use Rattle.command_model.proofs.Judged.{key_of_write}
+use Rattle.command_model.specs.CommandSizes.{IsKeepable}
+use Rattle.command_model.specs.Statements.{key_asked_by}
 use Rattle.node_model.specs.Tree.{Datum, Fields}
-use Rattle.node_model.specs.History.{insert_operation}
+use Rattle.node_model.specs.History.{Operation, insert_operation, key_read, key_written}
 use Rattle.node_model.specs.Tables.{Table, owner_now}
 use Rattle.node_model.specs.Exchanges.{RequestId, number_for}
-use Rattle.node_model.specs.Letters.{Statement}
 use Rattle.node_model.specs.RouterRows.{owner_of_statement}
-use Rattle.value_compare.specs.Keys.{valid_key}
+use Rattle.value_compare.specs.Keys.{is_key, valid_key}
 
-pub owner_by_key : (t : Table) (id : RequestId) (index : ℕ) (document : Fields) (key : Datum) (shard : ℕ) → valid_key document ≡ Ok key → owner_now t key ≡ Some shard
-    → owner_of_statement t (record { number = number_for id index; operation = insert_operation document }) ≡ Some shard
-owner_by_key t id index document key shard valid owned =
-    ap (λ (written : Option Datum). elim written as (λ (o : Option Datum). Option ℕ) [ None ↦ None | Some k ↦ owner_now t k ]) (insert_key document key valid) ∙ owned
+pub key_by_document : (document : Fields) (key : Datum) → valid_key document ≡ Ok key → key_written (insert_operation document) ≡ Some key
+key_by_document document key valid = insert_key document key valid
+
+-- an operation that may be kept writes the key that it asks for
+pub key_by_words : (operation : Operation) (key : Datum) → IsKeepable operation → key_asked_by operation ≡ Some key → is_key key ≡ true → key_written operation ≡ Some key
+key_by_words operation key keepable asked is =
+    ap key_read keepable.reads ∙ key_of_write operation keepable.write key keepable.reads asked is
+
+pub owner_by_key : (t : Table) (id : RequestId) (index : ℕ) (operation : Operation) (key : Datum) (shard : ℕ) → key_written operation ≡ Some key → owner_now t key ≡ Some shard
+    → owner_of_statement t (record { number = number_for id index; operation = operation }) ≡ Some shard
+owner_by_key t id index operation key shard written owned =
+    ap (λ (k : Option Datum). elim k as (λ (o : Option Datum). Option ℕ) [ None ↦ None | Some x ↦ owner_now t x ]) written ∙ owned

@@ -3,6 +3,7 @@ use Rattle.std.specs.Prelude.{ℕ, List, map}
 use Rattle.node_model.specs.Exchanges as asked
 use Rattle.node_model.specs.States as states
 use Rattle.node_model.specs.States.{writing, reading, for_time, for_table, for_shards}
+use Rattle.command_answers.specs.Kinds.{kind_meant}
 use Rattle.protocol_model.specs.Bodies.{half_meant}
 use Rattle.protocol_model.specs.Heads.{head_request}
 use Rattle.protocol_model.specs.Statements.{done_meant, statement_meant}
@@ -14,7 +15,7 @@ use Rattle.open_requests.specs.declared.work.OpenRequest.{OpenRequest}
 
 -- the work of the request with this id
 abbrev pub work_meant : asked.RequestId → Work → states.Work
-work_meant id (Writing ordered statements answers) = writing ordered (map (λ s. statement_meant id s) statements.items) (map done_meant answers.items)
+work_meant id (Writing kind ordered statements answers) = writing (kind_meant kind) ordered (map (λ s. statement_meant id s) statements.items) (map done_meant answers.items)
 work_meant id (Reading at half) = reading at.0 (half_meant half)
 
 abbrev pub wait_meant : Wait → states.Wait

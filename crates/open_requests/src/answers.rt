@@ -1,18 +1,19 @@
 //! What writes are told.
 
-ghost use Rattle.std.specs.Prelude.{◌≡◌, ◌++◌, ◌∷◌, [], IfOk, OnOk, map};
+ghost use Rattle.std.specs.Prelude.{◌≡◌, ◌+◌, IfOk, map};
 ghost use Rattle.node_model.specs.Exchanges as asked;
 ghost use Rattle.node_model.specs.Outcomes as outcomes;
 ghost use Rattle.node_model.specs.Right as right;
 ghost use Rattle.node_model.specs.RouterRows as rows;
 ghost use Rattle.command_answers.specs.AnswerMeanings.{answer_meant};
-ghost use Rattle.command_answers.specs.Errors.{errors_meant};
+ghost use Rattle.command_answers.specs.Kinds.{kind_meant};
 ghost use Rattle.protocol_model.specs.Statements.{done_meant, statement_meant};
 ghost use Rattle.open_requests.specs.Counts as counts;
 
+use crate::told::{errors_of, upserted_by};
 use bson_values::Memory;
 use cluster_base::Time;
-use command_answers::{Answer, Evidence, Refusal, StatementIndex, WriteError};
+use command_answers::{Answer, WriteKind};
 use protocol_model::{Done, DoneList, Statement};
 use std::alloc::Global;
 
@@ -69,16 +70,34 @@ pub fn is_answered(ordered: bool, statements: &[Statement], answers: &[Done]) ->
     are_all(ordered, statements.len(), answers)
 }
 
-/// How many documents were put in. Fails where that is above 32 bits, which no command reaches.
+/// The sum of two counts. Fails where that is above 32 bits, which no command reaches.
+fn plus(sum: u32, more: u32) -> Result<u32, Memory>
+    ensures { IfOk result (λ whole. whole ≡ sum + more) }
+{
+    match sum.checked_add(more) {
+        Some(whole) => Ok(whole),
+        None => Err(Memory),
+    }
+}
+
+/// How many documents were put in, met or taken out. Fails where that is above 32 bits, which no command reaches.
 fn sum_of(dones: &[Done]) -> Result<u32, Memory>
     ensures { IfOk result (λ sum. sum ≡ outcomes.sum_of (map done_meant dones.now)) }
 {
     let mut sum: u32 = 0;
     for done in dones {
-        let Some(more) = sum.checked_add(done.outcome.count) else {
-            return Err(Memory);
-        };
-        sum = more;
+        sum = plus(sum, done.outcome.count)?;
+    }
+    Ok(sum)
+}
+
+/// How many documents were changed. Fails where that is above 32 bits, which no command reaches.
+fn modified_by(dones: &[Done]) -> Result<u32, Memory>
+    ensures { IfOk result (λ sum. sum ≡ outcomes.modified_by (map done_meant dones.now)) }
+{
+    let mut sum: u32 = 0;
+    for done in dones {
+        sum = plus(sum, done.outcome.modified)?;
     }
     Ok(sum)
 }
@@ -94,45 +113,20 @@ fn time_of(dones: &[Done]) -> Time
     time
 }
 
-/// Puts the error that a statement is told, if it is told one, behind the others. Fails for want of memory, and where its index is
-/// none that a command can have.
-#[tactic(auto, using(crate::proofs::Counted::errors_pushed))]
-fn add_error(errors: &mut Vec<WriteError>, done: &Done) -> Result<(), Memory>
-    ensures { OnOk result (errors_meant errors.new.items ≡ errors_meant errors.old.items ++ outcomes.errors_of (done_meant done.now ∷ [])) }
-{
-    let Some(code) = done.outcome.error else {
-        return Ok(());
-    };
-    let Some(index) = StatementIndex::of(done.index) else {
-        return Err(Memory);
-    };
-    let refusal = Refusal {
-        code,
-        evidence: Evidence::Nothing,
-    };
-    errors.push(WriteError { index, refusal })?;
-    Ok(())
-}
-
-/// The errors, in order. Fails for want of memory, and where an index is none that a command can have.
-fn errors_of(alloc: Global, dones: &[Done]) -> Result<Vec<WriteError>, Memory>
-    ensures { IfOk result (λ errors. errors_meant errors.items ≡ outcomes.errors_of (map done_meant dones.now)) }
-{
-    let mut errors = Vec::new(alloc);
-    for done in dones {
-        add_error(&mut errors, done)?;
-    }
-    Ok(errors)
-}
-
-/// What the statements are told together. Fails for want of memory, and where they are more than a command can have.
-pub fn answer_of(alloc: Global, dones: &[Done]) -> Result<Answer, Memory>
-    ensures { IfOk result (λ answer. answer_meant answer ≡ outcomes.answer_of (map done_meant dones.now)) }
+/// What the statements of a write of this kind are told together. Fails for want of memory, and where they are more than a command can
+/// have, or their keys longer than can be told.
+pub fn answer_of(alloc: Global, kind: WriteKind, dones: &[Done]) -> Result<Answer, Memory>
+    ensures { IfOk result (λ answer. answer_meant answer ≡ outcomes.answer_of (kind_meant kind) (map done_meant dones.now)) }
 {
     let count = sum_of(dones)?;
+    let modified = modified_by(dones)?;
+    let upserted = upserted_by(alloc, dones)?;
     let errors = errors_of(alloc, dones)?;
-    Ok(Answer::Insert {
+    Ok(Answer::Write {
+        kind,
         count,
+        modified,
+        upserted,
         errors,
         time: time_of(dones),
     })

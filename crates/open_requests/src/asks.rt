@@ -5,6 +5,7 @@ ghost use Rattle.std.specs.Option.{option_map};
 ghost use Rattle.node_model.specs.Exchanges as asked;
 ghost use Rattle.node_model.specs.RouterRows as rows;
 ghost use Rattle.node_model.specs.States as states;
+ghost use Rattle.node_model.specs.Writes as writes;
 ghost use Rattle.protocol_model.specs.Bodies.{half_meant};
 ghost use Rattle.protocol_model.specs.Statements.{done_meant, statement_meant};
 ghost use Rattle.open_requests.specs.Askers.{asker_meant, letters_of};
@@ -143,6 +144,7 @@ impl Asker {
     {
         match work {
             Work::Writing {
+                kind: _,
                 ordered,
                 statements,
                 answers,
@@ -184,8 +186,8 @@ impl Asker {
         statements: &[Statement],
         answers: &[Done],
     ) -> Result<Option<Message>, Memory>
-        ensures { IfOk result (λ m. letters_of m ≡ rows.asks_by (asker_meant self) time.0 count namespace.now
-            (states.writing ordered (map (λ s. statement_meant (rows.id_of (asker_meant self) count) s) statements.now) (map done_meant answers.now))
+        ensures { (kind : writes.WriteKind) → IfOk result (λ m. letters_of m ≡ rows.asks_by (asker_meant self) time.0 count namespace.now
+            (states.writing kind ordered (map (λ s. statement_meant (rows.id_of (asker_meant self) count) s) statements.now) (map done_meant answers.now))
             (option_map (λ t. t.now) table.entry)) }
     {
         match table {

@@ -7,6 +7,7 @@ mod asks;
 mod list;
 mod owners;
 mod tables;
+mod told;
 mod work;
 
 pub use answers::{answer_of, is_answered, note};

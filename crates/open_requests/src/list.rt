@@ -29,6 +29,7 @@ impl OpenList {
     ghost use Rattle.node_model.specs.RouterRows as rows;
     ghost use Rattle.node_model.specs.States as states;
     ghost use Rattle.node_model.specs.Tables as tables;
+    ghost use Rattle.node_model.specs.Writes as writes;
     ghost use Rattle.protocol_model.specs.Bodies.{at_meant};
     ghost use Rattle.protocol_model.specs.Statements.{done_meant};
     ghost use Rattle.open_requests.specs.Lists.{has_room, opens_of, taken_of};
@@ -145,9 +146,10 @@ impl OpenList {
     /// The write with this count has these answers now, and waits for this.
     pub fn set_answers(&mut self, count: u64, wait: Wait, answers: DoneList)
         ensures taken { taken_of self.new ≡ taken_of self.old }
-        ensures opens { (router life : ℕ) (q : states.Open) (ordered : Bool) (statements : List letters.Statement) (before : List outcomes.Done) →
-            states.open_with count (opens_of router life self.old) ≡ Some q → q.work ≡ states.writing ordered statements before →
-            opens_of router life self.new ≡ states.replaced (rows.with_work q (wait_meant wait) (states.writing ordered statements (map done_meant answers.items))) (opens_of router life self.old) }
+        ensures opens { (router life : ℕ) (q : states.Open) (kind : writes.WriteKind) (ordered : Bool) (statements : List letters.Statement) (before : List outcomes.Done) →
+            states.open_with count (opens_of router life self.old) ≡ Some q → q.work ≡ states.writing kind ordered statements before →
+            opens_of router life self.new
+            ≡ states.replaced (rows.with_work q (wait_meant wait) (states.writing kind ordered statements (map done_meant answers.items))) (opens_of router life self.old) }
     {
         let place = self.place(count);
         if place < self.requests.len() {

@@ -2,17 +2,64 @@
 
 ghost use Rattle.std.specs.Prelude.{◌≡◌, Some, IfOk};
 ghost use Rattle.std.specs.Option.{option_map, is_some};
+ghost use Rattle.bson_values.specs.View.{datum_of};
+ghost use Rattle.command_model.specs.Statements.{key_asked_by};
 ghost use Rattle.node_model.specs.Exchanges as asked;
+ghost use Rattle.node_model.specs.History.{key_written};
 ghost use Rattle.node_model.specs.RouterRows as rows;
 ghost use Rattle.protocol_model.specs.Bodies.{half_meant};
+ghost use Rattle.protocol_model.specs.Statements as protocol;
 ghost use Rattle.protocol_model.specs.Statements.{statement_meant};
+ghost use Rattle.shard_records.specs.Meanings.{operation_meant};
 
-use bson_values::Memory;
+use bson_values::{Memory, Value};
 use chunk_table::Table;
 use cluster_base::{NodeId, Time};
-use protocol_model::{Half, Operation, Statement};
+use match_expr::key_asked_in;
+use protocol_model::{Half, NewChange, Operation, Statement};
 use std::alloc::Global;
-use value_compare::key_of;
+use value_compare::{Key, OpWords, key_of};
+
+/// What words ask the key of their document to be; none where they ask for no key.
+fn key_asked(words: &OpWords) -> Option<&Value>
+    ensures { option_map (λ v. datum_of v.now) result ≡ key_asked_by (operation_meant words.now) }
+{
+    match words {
+        OpWords::Insert(document) => document.get("_id"),
+        OpWords::Update { filter, .. } => key_asked_in(filter),
+        OpWords::Delete { filter } => key_asked_in(filter),
+    }
+}
+
+/// The key that a change writes. Fails for want of memory.
+#[tactic(auto, using(crate::proofs::Keys::key_by_words))]
+fn key_changed(change: &NewChange) -> Result<Key, Memory>
+    ensures { IfOk result (λ key. key_written change.now ≡ Some key) }
+{
+    let Some(value) = key_asked(change.words()) else {
+        // A change that may be kept has a key.
+        return Err(Memory);
+    };
+    match Key::of(value.copy()?) {
+        Ok(key) => Ok(key),
+        Err(_) => Err(Memory),
+    }
+}
+
+/// The key that an operation writes. Fails for want of memory.
+#[tactic(auto, using(crate::proofs::Keys::key_by_document))]
+fn key_of_operation(alloc: Global, operation: &Operation) -> Result<Key, Memory>
+    ensures { IfOk result (λ key. key_written (protocol.operation_meant operation.now) ≡ Some key) }
+{
+    match operation {
+        Operation::Insert(document) => match key_of(alloc, document.document()) {
+            Ok(key) => Ok(key),
+            // A document that may be kept has a key.
+            Err(_) => Err(Memory),
+        },
+        Operation::Change(change) => key_changed(change),
+    }
+}
 
 /// The shard that has the key that a statement writes. Fails for want of memory.
 #[tactic(auto, using(crate::proofs::Keys::owner_by_key))]
@@ -23,13 +70,8 @@ pub(crate) fn owner_of_statement(
 ) -> Result<NodeId, Memory>
     ensures { (id : asked.RequestId) → IfOk result (λ shard. rows.owner_of_statement table.now (statement_meant id statement.now) ≡ Some shard.0) }
 {
-    match &statement.operation {
-        Operation::Insert(document) => match key_of(alloc, document.document()) {
-            Ok(key) => Ok(table.owner_now(&key)),
-            // A document that may be kept has a key.
-            Err(_) => Err(Memory),
-        },
-    }
+    let key = key_of_operation(alloc, &statement.operation)?;
+    Ok(table.owner_now(&key))
 }
 
 /// The shard that had what a half is of at a time, if one had it.

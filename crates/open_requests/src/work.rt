@@ -1,13 +1,15 @@
 //! Open requests.
 
 use cluster_base::{Namespace, Time};
+use command_answers::WriteKind;
 use protocol_model::{DoneList, Half, Head, StatementList};
 
 /// What a request has to do before it is told.
 #[derive(Drop)]
 pub enum Work {
-    /// Its statements, and what the first of them were told.
+    /// Its statements, of this kind, and what the first of them were told.
     Writing {
+        kind: WriteKind,
         ordered: bool,
         statements: StatementList,
         answers: DoneList,
@@ -53,15 +55,17 @@ impl OpenRequest {
     ghost use Rattle.node_model.specs.Outcomes as outcomes;
     ghost use Rattle.node_model.specs.RouterRows as rows;
     ghost use Rattle.node_model.specs.States as states;
+    ghost use Rattle.node_model.specs.Writes as writes;
     ghost use Rattle.protocol_model.specs.Statements.{done_meant};
     ghost use Rattle.open_requests.specs.Works.{open_meant, wait_meant};
 
     // A write has these answers now, and waits for this.
     pub(crate) fn answer(&mut self, wait: Wait, answers: DoneList)
         ensures count { self.new.count ≡ self.old.count }
-        ensures work { (router life : ℕ) (ordered : Bool) (statements : List letters.Statement) (before : List outcomes.Done) →
-            (open_meant router life self.old).work ≡ states.writing ordered statements before →
-            open_meant router life self.new ≡ rows.with_work (open_meant router life self.old) (wait_meant wait) (states.writing ordered statements (map done_meant answers.items)) }
+        ensures work { (router life : ℕ) (kind : writes.WriteKind) (ordered : Bool) (statements : List letters.Statement) (before : List outcomes.Done) →
+            (open_meant router life self.old).work ≡ states.writing kind ordered statements before →
+            open_meant router life self.new
+            ≡ rows.with_work (open_meant router life self.old) (wait_meant wait) (states.writing kind ordered statements (map done_meant answers.items)) }
     {
         self.wait = wait;
         match &mut self.work {

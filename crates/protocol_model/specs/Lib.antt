@@ -1,3 +1,4 @@
+pub mod Code
 pub mod Statements
 pub mod Bodies
 pub mod Messages

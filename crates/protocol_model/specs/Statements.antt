@@ -8,13 +8,14 @@ use Rattle.node_traits.specs.History.{insert_operation}
 use Rattle.node_traits.specs.Letters as letters
 use Rattle.node_traits.specs.Outcomes as outcomes
 use Rattle.protocol_model.specs.declared.statement.Operation.{Operation}
-use Rattle.protocol_model.specs.declared.statement.Operation.TheVariants.{Insert}
+use Rattle.protocol_model.specs.declared.statement.Operation.TheVariants.{Insert, Change}
 use Rattle.protocol_model.specs.declared.statement.Statement.{Statement}
 use Rattle.protocol_model.specs.declared.statement.Outcome.{Outcome}
 use Rattle.protocol_model.specs.declared.statement.Done.{Done}
 
 abbrev pub operation_meant : Operation → history.Operation
 operation_meant (Insert document) = insert_operation document
+operation_meant (Change operation) = operation
 
 -- a statement of the request with this number
 abbrev pub statement_meant : RequestId → Statement → letters.Statement

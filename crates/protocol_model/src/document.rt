@@ -3,6 +3,7 @@
 ghost use Rattle.std.specs.Prelude.{◌≡◌, IfOk};
 ghost use Rattle.std.specs.Arc.{arc_value};
 ghost use Rattle.command_model.specs.CommandSizes.{IsKeepable};
+ghost use Rattle.node_traits.specs.History.{insert_operation};
 
 use bson_values::{Document, Memory};
 use std::alloc::Global;
@@ -26,16 +27,17 @@ impl Model for NewDocument {
 
     ghost use Rattle.std.specs.Arc.{arc_value};
     ghost use Rattle.command_model.specs.CommandSizes.{IsKeepable};
+    ghost use Rattle.node_traits.specs.History.{insert_operation};
 
     ghost view = { λ d. arc_value d.document };
 
-    ghost invariant = { λ d. IsKeepable (arc_value d.document) };
+    ghost invariant = { λ d. IsKeepable (insert_operation (arc_value d.document)) };
 }
 
 impl NewDocument {
     /// The document, to be shared. Fails for want of memory.
     pub fn of(alloc: Global, document: Document) -> Result<NewDocument, Memory>
-        requires { IsKeepable document }
+        requires { IsKeepable (insert_operation document) }
         ensures { IfOk result (λ new. new ≡ document) }
     {
         let document = Arc::new(alloc, document)?;
@@ -45,7 +47,7 @@ impl NewDocument {
     /// The document that it is, which may be kept.
     pub fn document(&self) -> &Arc<Document, Global>
         ensures same { arc_value result.now ≡ self.now }
-        ensures keepable { IsKeepable self.now }
+        ensures keepable { IsKeepable (insert_operation self.now) }
     {
         &self.document
     }

@@ -2,6 +2,7 @@
 #![tactic(auto)]
 
 mod body;
+mod change;
 mod document;
 mod head;
 mod input;
@@ -14,6 +15,7 @@ mod tables;
 mod writes;
 
 pub use body::{Body, Stale};
+pub use change::NewChange;
 pub use document::NewDocument;
 pub use head::Head;
 pub use input::Input;

@@ -1,9 +1,10 @@
-//! Statements of writes, and what they are told (MongoDB manual, "insert").
+//! Statements of writes, and what they are told (MongoDB manual, "insert", "update", "delete").
 
 ghost use Rattle.std.specs.Prelude.{◌≡◌, IfOk};
 ghost use Rattle.node_traits.specs.Exchanges.{RequestId};
-ghost use Rattle.protocol_model.specs.Statements.{done_meant, statement_meant};
+ghost use Rattle.protocol_model.specs.Statements.{done_meant, operation_meant, statement_meant};
 
+use crate::change::NewChange;
 use crate::document::NewDocument;
 use bson_values::Memory;
 use cluster_base::{Code, Time};
@@ -16,6 +17,20 @@ use value_compare::Key;
 pub enum Operation {
     /// Puts a document in.
     Insert(NewDocument),
+    /// Changes a document, puts one in where none is met, or takes one out.
+    Change(NewChange),
+}
+
+impl Operation {
+    /// The same once more, which shares its documents. Fails for want of memory.
+    pub fn copy(&self) -> Result<Operation, Memory>
+        ensures { IfOk result (λ operation. operation_meant operation ≡ operation_meant self.now) }
+    {
+        match self {
+            Operation::Insert(document) => Ok(Operation::Insert(document.copy()?)),
+            Operation::Change(change) => Ok(Operation::Change(change.copy()?)),
+        }
+    }
 }
 
 /// A statement, with its index in its command. Its number is that of its request and this index: so far no client numbers statements.
@@ -26,13 +41,11 @@ pub struct Statement {
 }
 
 impl Statement {
-    /// The same statement once more, which shares its document. Fails for want of memory.
+    /// The same statement once more, which shares its documents. Fails for want of memory.
     pub fn copy(&self) -> Result<Statement, Memory>
         ensures { (id : RequestId) → IfOk result (λ statement. statement_meant id statement ≡ statement_meant id self.now) }
     {
-        let operation = match &self.operation {
-            Operation::Insert(document) => Operation::Insert(document.copy()?),
-        };
+        let operation = self.operation.copy()?;
         Ok(Statement {
             index: self.index,
             operation,

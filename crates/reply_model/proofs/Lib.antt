@@ -1,4 +1,4 @@
-pub mod StayingDocuments
+pub mod FoundDocuments
 pub mod Requests
 pub mod RightAnswers
 pub mod Freshness

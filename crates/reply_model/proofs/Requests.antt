@@ -3,8 +3,7 @@ use Rattle.std.proofs.Common.{◌≡◌, ◌⊎◌, inl, inr, ℕ, ◌+◌, List
 use Rattle.std.specs.Prelude.{true, false, ◌==◌, ◌&&◌, map, if◌then◌else◌}
 use Rattle.std.specs.List.{AllByRecursion}
 use Rattle.std.proofs.lemmas.Bool.{eqb-true}
-use Rattle.command_model.specs.Tree.{Fields}
-use Rattle.history_model.specs.History.{Session, client_session, router_session, StatementNumber, Entry, IsIn}
+use Rattle.history_model.specs.History.{Session, client_session, router_session, StatementNumber, Operation, Entry, IsIn}
 use Rattle.history_model.proofs.Lists.{in_cons, in_first, in_later, in_none}
 use Rattle.reply_model.specs.Exchanges.{RequestId, same_request, Asked, Answered, number_for, is_session_of, entries_by}
 use Rattle.reply_model.specs.Right.{IsStatement, AreStatements}
@@ -104,35 +103,35 @@ in_by id (d ∷ history) e i own = by_test (is_session_of id d.number.session) r
     by_test false t (inl same) later = absurd (let both : true ≡ false = sym own ∙ ap (λ (x : Entry). is_session_of id x.number.session) same ∙ t in cc)
     by_test false t (inr j) later = later j
 
--- what stands of an insert is of its statements
-pub record IsAmong (id : RequestId) (namespace : List ℕ) (index : ℕ) (documents : List Fields) (e : Entry) : Type 0 where
-  pub prefix : List Fields
-  pub document : Fields
-  pub back : List Fields
-  pub both : documents ≡ prefix ++ document ∷ back
-  pub statement : IsStatement id namespace (index + length prefix) document e
+-- what stands of a write is of its statements
+pub record IsAmong (id : RequestId) (namespace : List ℕ) (index : ℕ) (operations : List Operation) (e : Entry) : Type 0 where
+  pub prefix : List Operation
+  pub operation : Operation
+  pub back : List Operation
+  pub both : operations ≡ prefix ++ operation ∷ back
+  pub statement : IsStatement id namespace (index + length prefix) operation e
 
-pub among : (id : RequestId) (namespace : List ℕ) (ordered : Bool) (index : ℕ) (documents : List Fields) (entries : List Entry) (e : Entry)
-    → AreStatements id namespace ordered index documents entries → IsIn e entries → IsAmong id namespace index documents e
-among id namespace ordered index documents [] e are i = absurd (in_none e i)
+pub among : (id : RequestId) (namespace : List ℕ) (ordered : Bool) (index : ℕ) (operations : List Operation) (entries : List Entry) (e : Entry)
+    → AreStatements id namespace ordered index operations entries → IsIn e entries → IsAmong id namespace index operations e
+among id namespace ordered index operations [] e are i = absurd (in_none e i)
 among id namespace ordered index [] (d ∷ entries) e are i = absurd are
-among id namespace ordered index (document ∷ documents) (d ∷ entries) e are i = by_place (in_cons e d entries i) (λ j. among id namespace ordered (index + 1) documents entries e are.2 j)
+among id namespace ordered index (operation ∷ operations) (d ∷ entries) e are i = by_place (in_cons e d entries i) (λ j. among id namespace ordered (index + 1) operations entries e are.2 j)
   where
-    by_place : (e ≡ d) ⊎ IsIn e entries → (IsIn e entries → IsAmong id namespace (index + 1) documents e) → IsAmong id namespace index (document ∷ documents) e
+    by_place : (e ≡ d) ⊎ IsIn e entries → (IsIn e entries → IsAmong id namespace (index + 1) operations e) → IsAmong id namespace index (operation ∷ operations) e
     by_place (inl same) later = record {
       prefix = [];
-      document = document;
-      back = documents;
+      operation = operation;
+      back = operations;
       both = refl;
-      statement = let first : index + 0 ≡ index = omega arith in subst (λ n. IsStatement id namespace n document e) (sym first) (subst (λ (x : Entry). IsStatement id namespace index document x) (sym same) are.0);
+      statement = let first : index + 0 ≡ index = omega arith in subst (λ n. IsStatement id namespace n operation e) (sym first) (subst (λ (x : Entry). IsStatement id namespace index operation x) (sym same) are.0);
     }
     by_place (inr j) later =
         let l = later j in
-        let next : index + 1 + length l.prefix ≡ index + length (document ∷ l.prefix) = omega arith in
+        let next : index + 1 + length l.prefix ≡ index + length (operation ∷ l.prefix) = omega arith in
         record {
-          prefix = document ∷ l.prefix;
-          document = l.document;
+          prefix = operation ∷ l.prefix;
+          operation = l.operation;
           back = l.back;
-          both = ap (λ ds. document ∷ ds) l.both;
-          statement = subst (λ n. IsStatement id namespace n l.document e) next l.statement;
+          both = ap (λ os. operation ∷ os) l.both;
+          statement = subst (λ n. IsStatement id namespace n l.operation e) next l.statement;
         }

@@ -1,9 +1,8 @@
 -- How requests, answers and entries stand to each other.
 use Rattle.std.specs.Prelude.{◌≡◌, ◌<◌, List, ◌∷◌, ◌++◌, length, Ok}
-use Rattle.command_model.specs.Tree.{Fields}
-use Rattle.command_model.specs.Insert.{Insert}
-use Rattle.command_model.specs.Command.{insert_command, command_of}
-use Rattle.history_model.specs.History.{Entry, IsIn}
+use Rattle.command_model.specs.Writes.{WriteCommand}
+use Rattle.command_model.specs.Command.{write_command, command_of}
+use Rattle.history_model.specs.History.{Operation, Entry, IsIn}
 use Rattle.reply_model.specs.Exchanges.{Asked, Answered}
 use Rattle.reply_model.specs.Right.{IsStatement}
 
@@ -29,10 +28,10 @@ pub record WasTakenBefore (asked : List Asked) (a b : Asked) : Type 0 where
 
 -- the entry is that of one of the request's statements
 pub record IsEntryOf (a : Asked) (e : Entry) : Type 0 where
-  pub insert : Insert
-  pub prefix : List Fields
-  pub document : Fields
-  pub back : List Fields
-  pub asks : command_of a.request ≡ Ok (insert_command insert)
-  pub both : insert.documents ≡ prefix ++ document ∷ back
-  pub statement : IsStatement a.id insert.namespace (length prefix) document e
+  pub write : WriteCommand
+  pub prefix : List Operation
+  pub operation : Operation
+  pub back : List Operation
+  pub asks : command_of a.request ≡ Ok (write_command write)
+  pub both : write.operations ≡ prefix ++ operation ∷ back
+  pub statement : IsStatement a.id write.namespace (length prefix) operation e

@@ -14,7 +14,8 @@ pub use Rattle.command_model.specs.Errors
 pub use Rattle.command_model.specs.Find
 pub use Rattle.command_model.specs.Handshake
 pub use Rattle.history_model.specs.History
-pub use Rattle.command_model.specs.Insert
+pub use Rattle.command_model.specs.Statements
+pub use Rattle.command_model.specs.Writes
 pub use Rattle.history_model.specs.Notes
 pub use Rattle.command_model.specs.Refusals
 pub use Rattle.command_model.specs.Replies

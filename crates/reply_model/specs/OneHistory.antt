@@ -4,25 +4,25 @@ use Rattle.std.specs.List.{AllByRecursion}
 use Rattle.command_model.specs.Tree.{Datum}
 use Rattle.command_model.specs.Times.{time_of_moment}
 use Rattle.command_model.specs.ReplyParts.{operation_time}
-use Rattle.command_model.specs.Insert.{Insert}
-use Rattle.command_model.specs.Command.{insert_command, command_of}
+use Rattle.command_model.specs.Writes.{WriteCommand}
+use Rattle.command_model.specs.Command.{write_command, command_of}
 use Rattle.chunk_model.specs.Catalogue.{Creation}
 use Rattle.chunk_model.specs.Tables.{first_table, owner_at}
 use Rattle.history_model.specs.History.{Entry, Legal, IsIn, key_written}
 use Rattle.reply_model.specs.Exchanges.{RequestId, Asked, Answered, is_session_of}
 use Rattle.reply_model.specs.Right.{IsPart, IsRight}
 
--- the request is an insert into the namespace
-pub record IsInsertInto (namespace : List ℕ) (a : Asked) : Type 0 where
-  pub insert : Insert
-  pub asks : command_of a.request ≡ Ok (insert_command insert)
-  pub name : insert.namespace ≡ namespace
+-- the request is a write in the namespace
+pub record IsWriteIn (namespace : List ℕ) (a : Asked) : Type 0 where
+  pub write : WriteCommand
+  pub asks : command_of a.request ≡ Ok (write_command write)
+  pub name : write.namespace ≡ namespace
 
 -- the entry is one of a request that a router took, and later than what the router knew then
 pub record WasSent (asked : List Asked) (e : Entry) : Type 0 where
   pub request : Asked
   pub taken : IsIn request asked
-  pub into : IsInsertInto e.namespace request
+  pub writes : IsWriteIn e.namespace request
   pub own : is_session_of request.id e.number.session ≡ true
   pub later : request.time < e.time
 
@@ -30,12 +30,12 @@ pub record WasSent (asked : List Asked) (e : Entry) : Type 0 where
 pub record WasWanted (asked : List Asked) (c : Creation) : Type 0 where
   pub request : Asked
   pub taken : IsIn request asked
-  pub into : IsInsertInto c.namespace request
+  pub writes : IsWriteIn c.namespace request
   pub later : request.time < c.at
 
--- of an insert a prefix of the statements stands by now
+-- of a write a prefix of the statements stands by now
 abbrev pub StandsInPart : List Entry → Asked → Type 0
-StandsInPart history a = (insert : Insert) → command_of a.request ≡ Ok (insert_command insert) → IsPart history a.id insert
+StandsInPart history a = (write : WriteCommand) → command_of a.request ≡ Ok (write_command write) → IsPart history a.id write
 
 -- what was told is a right answer to a request that was taken, on its link and with its number, and not before
 pub record IsRightOf (history : List Entry) (asked : List Asked) (t : Answered) : Type 0 where
@@ -117,7 +117,7 @@ pub record IsPlaced (creations : List Creation) (e : Entry) : Type 0 where
 
 -- Whatever clients send: the entries are one legal history of an unsharded collection with each statement at most once; each is
 -- of a request that a router took, stands where it belongs and is later than what its router knew; each collection was wanted by
--- an insert; of each insert a prefix of the statements stands; each request is told once at most, and rightly; and what its router
+-- a write; of each write a prefix of the statements stands; each request is told once at most, and rightly; and what its router
 -- knew then is not before what it had told and taken.
 pub record OneHistory (given : List Given) (creations : List Creation) (history : List Entry) (asked : List Asked) (answered : List Answered) : Type 0 where
   pub legal : Legal history

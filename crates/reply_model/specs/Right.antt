@@ -2,12 +2,12 @@
 use Rattle.std.specs.Prelude.{◌≡◌, ℕ, ◌+◌, ◌<◌, ◌≤◌, List, [], ◌∷◌, map, Option, Some, None, Ok, Err, Bool, true, false, ◌&&◌}
 use Rattle.command_model.specs.Tree.{Fields}
 use Rattle.command_model.specs.Refusals.{Refusal, time_ahead}
-use Rattle.command_model.specs.Insert.{Insert}
+use Rattle.command_model.specs.Writes.{WriteCommand}
 use Rattle.command_model.specs.Find.{Find}
 use Rattle.command_model.specs.Handshake.{Legacy}
-use Rattle.command_model.specs.Command.{hello_command, legacy_command, ping_command, end_sessions_command, insert_command, find_command, command_of}
+use Rattle.command_model.specs.Command.{hello_command, legacy_command, ping_command, end_sessions_command, write_command, find_command, command_of}
 use Rattle.command_model.specs.Answers.{hello_answer, legacy_answer, done_answer, find_answer, refusal_answer, answer_document}
-use Rattle.history_model.specs.History.{insert_operation, Entry, document_at}
+use Rattle.history_model.specs.History.{Operation, Entry, document_at}
 use Rattle.reply_model.specs.Exchanges.{RequestId, Asked, Answered, number_for, entries_by}
 use Rattle.reply_model.specs.Outcomes.{Done, done_of, fails, answer_of}
 
@@ -17,41 +17,41 @@ found None = []
 found (Some document) = document ∷ []
 
 -- the entry is that of this statement of the request: in its namespace, in the words of the client
-pub record IsStatement (id : RequestId) (namespace : List ℕ) (index : ℕ) (document : Fields) (e : Entry) : Type 0 where
+pub record IsStatement (id : RequestId) (namespace : List ℕ) (index : ℕ) (operation : Operation) (e : Entry) : Type 0 where
   pub number : e.number ≡ number_for id index
   pub name : e.namespace ≡ namespace
-  pub operation : e.operation ≡ insert_operation document
+  pub does : e.operation ≡ operation
 
 -- the statement ends its command: it is told an error, and the command is ordered
 abbrev pub ends : Bool → Done → Bool
 ends ordered d = ordered && fails d
 
 -- these entries are those of the statements from this index on, in their order; the first error ends an ordered command
-abbrev pub AreStatements : RequestId → List ℕ → (ordered : Bool) → ℕ → List Fields → List Entry → Type 0
-AreStatements id namespace ordered index documents [] = Unit {0}
+abbrev pub AreStatements : RequestId → List ℕ → (ordered : Bool) → ℕ → List Operation → List Entry → Type 0
+AreStatements id namespace ordered index operations [] = Unit {0}
 AreStatements id namespace ordered index [] (e ∷ entries) = ⊥
-AreStatements id namespace ordered index (document ∷ documents) (e ∷ entries) =
-    IsStatement id namespace index document e × (ends ordered (done_of e) ≡ true → entries ≡ [])
-    × AreStatements id namespace ordered (index + 1) documents entries
+AreStatements id namespace ordered index (operation ∷ operations) (e ∷ entries) =
+    IsStatement id namespace index operation e × (ends ordered (done_of e) ≡ true → entries ≡ [])
+    × AreStatements id namespace ordered (index + 1) operations entries
 
 -- these outcomes are those of all statements, or of those up to the error that ends an ordered command
-abbrev pub AreAll : (ordered : Bool) → List Fields → List Done → Type 0
+abbrev pub AreAll : (ordered : Bool) → List Operation → List Done → Type 0
 AreAll ordered [] dones = dones ≡ []
-AreAll ordered (document ∷ documents) [] = ⊥
-AreAll ordered (document ∷ documents) (d ∷ dones) = elim (ends ordered d) [ true ↦ dones ≡ [] | false ↦ AreAll ordered documents dones ]
+AreAll ordered (operation ∷ operations) [] = ⊥
+AreAll ordered (operation ∷ operations) (d ∷ dones) = elim (ends ordered d) [ true ↦ dones ≡ [] | false ↦ AreAll ordered operations dones ]
 
--- What stands of an insert: the entries of a prefix of its statements, in order.
-abbrev pub IsPart : List Entry → RequestId → Insert → Type 0
-IsPart history id insert = AreStatements id insert.namespace insert.ordered 0 insert.documents (entries_by id history)
+-- What stands of a write: the entries of a prefix of its statements, in order.
+abbrev pub IsPart : List Entry → RequestId → WriteCommand → Type 0
+IsPart history id write = AreStatements id write.namespace write.ordered 0 write.operations (entries_by id history)
 
 -- what its statements are told
 abbrev pub told_by : RequestId → List Entry → List Done
 told_by id history = map done_of (entries_by id history)
 
--- An insert is served whole: the entries of all its statements stand, up to the error that ends an ordered one, and none else.
-pub record IsWhole (history : List Entry) (id : RequestId) (insert : Insert) : Type 0 where
-  pub part : IsPart history id insert
-  pub all : AreAll insert.ordered insert.documents (told_by id history)
+-- A write is served whole: the entries of all its statements stand, up to the error that ends an ordered one, and none else.
+pub record IsWhole (history : List Entry) (id : RequestId) (write : WriteCommand) : Type 0 where
+  pub part : IsPart history id write
+  pub all : AreAll write.ordered write.operations (told_by id history)
 
 -- the time that a find is of: the one that it names, or else the time of the router that took it
 abbrev pub time_read : Asked → Find → ℕ
@@ -61,7 +61,7 @@ time_read a find = elim find.at [ None ↦ a.time | Some named ↦ named ]
 -- time, which its router's time has reached; or the router's time, where the time that it names is ahead of that; or what is told
 -- without a look at documents; or its refusal.
 pub data IsRight (history : List Entry) (a : Asked) (t : Answered) : Type 0 where
-  right_insert : (insert : Insert) → command_of a.request ≡ Ok (insert_command insert) → IsWhole history a.id insert → t.document ≡ answer_document (answer_of (told_by a.id history)) → IsRight history a t
+  right_write : (write : WriteCommand) → command_of a.request ≡ Ok (write_command write) → IsWhole history a.id write → t.document ≡ answer_document (answer_of write.kind (told_by a.id history)) → IsRight history a t
   right_find : (find : Find) → command_of a.request ≡ Ok (find_command find) → time_read a find ≤ t.time → t.document ≡ answer_document (find_answer find.namespace (found (document_at history find.namespace (Some find.key) (time_read a find))) (time_read a find)) → IsRight history a t
   right_ahead : (find : Find) (named : ℕ) → command_of a.request ≡ Ok (find_command find) → find.at ≡ Some named → t.time < named → t.document ≡ answer_document (refusal_answer (time_ahead t.time)) → IsRight history a t
   right_hello : command_of a.request ≡ Ok hello_command → t.document ≡ answer_document (hello_answer a.moment) → IsRight history a t

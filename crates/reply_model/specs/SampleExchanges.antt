@@ -1,12 +1,14 @@
 -- Requests of two routers, answers and entries to try the definitions on.
-use Rattle.std.specs.Prelude.{ℕ, List, [], ◌∷◌, codes, Option, None, Bool, true, false, pos}
-use Rattle.command_model.specs.Tree.{Datum, Fields}
+use Rattle.std.specs.Prelude.{ℕ, List, [], ◌∷◌, codes, Option, Some, None, Bool, true, false, pos}
+use Rattle.command_model.specs.Tree.{Datum, string_value, document_value, array_value, boolean_value, int32_value, timestamp_value, Fields, no_fields, field}
 use Rattle.command_model.specs.Requests.{Request}
+use Rattle.command_model.specs.AnswerParts.{document_items}
 use Rattle.command_model.specs.Times.{timestamp}
-use Rattle.command_model.specs.Errors.{object_too_large, duplicate_key}
+use Rattle.command_model.specs.Errors.{immutable_field, object_too_large, duplicate_key}
+use Rattle.command_model.specs.SampleCommands.{change_one, delete_with, number_one, set_one, taken_out, update_with}
 use Rattle.command_model.specs.SampleReplies.{done_reply, duplicate_reply}
 use Rattle.command_model.specs.SampleRequests.{deep, find_body, five, greeting, insert_body, long_five, request, shown, six, three, with_id}
-use Rattle.history_model.specs.History.{router_session, insert_operation, Outcome, done, fails_with, Entry}
+use Rattle.history_model.specs.History.{router_session, insert_operation, update_operation, delete_operation, Outcome, done, fails_with, Entry}
 use Rattle.reply_model.specs.Exchanges.{RequestId, Asked, Answered}
 use Rattle.reply_model.specs.OneHistory.{Given}
 
@@ -117,3 +119,98 @@ deep_entry = record (entry_at 2 2 1 0 five (fails_with object_too_large)) { oper
 -- the old handshake
 abbrev pub greeted : Asked
 greeted = asks 2 1 2 0 greeting
+
+-- behind the first insert an update by {$set: {x: 1}} at router 2
+abbrev pub changing : Asked
+changing = asks 2 2 4 2 (request 2 false (update_with (set_one (with_id five) no_fields)))
+
+abbrev pub changing_entry : Entry
+changing_entry = record (entry_at 3 2 2 0 five (record done { modified = 1 })) { operation = update_operation (with_id five) change_one false }
+
+-- {_id: 5, x: 1}, which it leaves
+abbrev pub changed_five : Fields
+changed_five = field (codes "_id") five (field (codes "x") number_one no_fields)
+
+-- {n: .., nModified: .., ok: 1, operationTime: Timestamp(1000, 3)}
+abbrev pub changed_reply : (count modified : ℕ) → Fields
+changed_reply count modified =
+    field (codes "n") (int32_value (pos count))
+    (field (codes "nModified") (int32_value (pos modified))
+    (field (codes "ok") number_one
+    (field (codes "operationTime") (timestamp_value (timestamp 1000 3)) no_fields)))
+
+-- and then a delete of {_id: 5L}
+abbrev pub deleting : Asked
+deleting = asks 2 3 6 3 (request 3 false (delete_with (taken_out (with_id long_five) number_one)))
+
+abbrev pub deleting_entry : Entry
+deleting_entry = record (entry_at 4 2 3 0 five done) { operation = delete_operation (with_id long_five) }
+
+-- {n: .., ok: 1, operationTime: Timestamp(1000, ..)}
+abbrev pub deleted_reply : (count counter : ℕ) → Fields
+deleted_reply count counter =
+    field (codes "n") (int32_value (pos count))
+    (field (codes "ok") number_one
+    (field (codes "operationTime") (timestamp_value (timestamp 1000 counter)) no_fields))
+
+abbrev pub three_writes : List Entry
+three_writes = first_entry ∷ changing_entry ∷ deleting_entry ∷ []
+
+-- behind these a find at router 2, which knows Timestamp(1000, 5)
+abbrev pub finding_later : Option ℕ → Asked
+finding_later at = asks 2 4 8 5 (request 4 false (find_body five at))
+
+-- it is told documents of Timestamp(1000, ..)
+abbrev pub is_shown_later : Option ℕ → List Fields → (counter : ℕ) → Answered
+is_shown_later at documents counter = tells (finding_later at) 9 5 (shown documents counter)
+
+-- behind the first insert, three updates at once, without order, at router 2: of {_id: 5} by {$set: {}}; of {_id: 6} by the same, with upsert;
+-- of {_id: 5} by {$set: {_id: 6}}
+abbrev pub set_nothing : Fields
+set_nothing = field (codes "$set") (document_value no_fields) no_fields
+
+abbrev pub set_key : Fields
+set_key = field (codes "$set") (document_value (with_id six)) no_fields
+
+abbrev pub updating : Datum → Fields → Fields → Fields
+updating key change others = field (codes "q") (document_value (with_id key)) (field (codes "u") (document_value change) others)
+
+abbrev pub upserting : Asked
+upserting = asks 2 2 4 2 (request 2 false
+    (field (codes "update") (string_value (codes "c"))
+    (field (codes "updates") (array_value (document_items (updating five set_nothing no_fields ∷ updating six set_nothing (field (codes "upsert") (boolean_value true) no_fields) ∷ updating five set_key no_fields ∷ [])))
+    (field (codes "ordered") (boolean_value false)
+    (field (codes "$db") (string_value (codes "d")) no_fields)))))
+
+abbrev pub upserting_entries : List Entry
+upserting_entries =
+    first_entry
+    ∷ record (entry_at 3 2 2 0 five done) { operation = update_operation (with_id five) set_nothing false }
+    ∷ record (entry_at 4 2 2 1 six (record done { upserted = Some six })) { operation = update_operation (with_id six) set_nothing true }
+    ∷ record (entry_at 5 2 2 2 five (fails_with immutable_field)) { operation = update_operation (with_id five) set_key false }
+    ∷ []
+
+-- {n: .., nModified: .., upserted: [{index: .., _id: 6}], writeErrors: [{index: 2, code: 66, errmsg: "ImmutableField"}], ok: 1,
+-- operationTime: Timestamp(1000, 5)}
+abbrev pub upserting_reply : (count modified index : ℕ) → Fields
+upserting_reply count modified index =
+    field (codes "n") (int32_value (pos count))
+    (field (codes "nModified") (int32_value (pos modified))
+    (field (codes "upserted") (array_value (document_items (field (codes "index") (int32_value (pos index)) (field (codes "_id") six no_fields) ∷ [])))
+    (field (codes "writeErrors") (array_value (document_items (field (codes "index") (int32_value (pos 2)) (field (codes "code") (int32_value (pos 66)) (field (codes "errmsg") (string_value (codes "ImmutableField")) no_fields)) ∷ [])))
+    (field (codes "ok") number_one
+    (field (codes "operationTime") (timestamp_value (timestamp 1000 5)) no_fields)))))
+
+-- a delete of {_id: 6}, which is not there
+abbrev pub unmet_delete : Asked
+unmet_delete = asks 2 2 4 2 (request 2 false (delete_with (taken_out (with_id six) number_one)))
+
+abbrev pub unmet_entries : List Entry
+unmet_entries = first_entry ∷ record (entry_at 3 2 2 0 six (record done { count = 0 })) { operation = delete_operation (with_id six) } ∷ []
+
+-- a find of 5 at router 2 that knows of Timestamp(1000, ..), and is told at another
+abbrev pub finding_at : (counter : ℕ) → Asked
+finding_at counter = asks 2 4 8 counter (request 4 false (find_body five None))
+
+abbrev pub is_shown_at : (taken told : ℕ) → List Fields → (counter : ℕ) → Answered
+is_shown_at taken told documents counter = tells (finding_at taken) 9 told (shown documents counter)

@@ -1,9 +1,9 @@
 //! The definitions on requests, answers and entries that one can check by hand.
 
-ghost use Rattle.std.specs.Prelude.{◌≡◌, ◌∷◌, ℕ, [], codes, Some, None, Ok, true, false, pos};
+ghost use Rattle.std.specs.Prelude.{◌≡◌, ◌∷◌, ℕ, [], codes, map, Some, None, Ok, true, false, pos};
 ghost use Rattle.chunk_model.specs.SampleCollections.{creation};
 ghost use Rattle.command_model.specs.Answers.{answer_document, legacy_answer, refusal_answer};
-ghost use Rattle.command_model.specs.Command.{insert_command, find_command, command_of};
+ghost use Rattle.command_model.specs.Command.{find_command, write_command, command_of};
 ghost use Rattle.command_model.specs.Errors.{duplicate_key};
 ghost use Rattle.command_model.specs.Faults.{Fault};
 ghost use Rattle.command_model.specs.Refusals.{Refusal, no_document_at};
@@ -12,17 +12,21 @@ ghost use Rattle.command_model.specs.Requests.{msg_form};
 ghost use Rattle.command_model.specs.SampleReplies.{ahead_reply, done_reply, duplicate_reply};
 ghost use Rattle.command_model.specs.SampleRequests.{deep, faulty, five, long_five, second_fails, shown, six, three, too_large_reply, with_id};
 ghost use Rattle.command_model.specs.Times.{timestamp};
-ghost use Rattle.history_model.specs.History.{Legal, done, fails_with};
+ghost use Rattle.command_model.specs.SampleCommands.{change_one};
+ghost use Rattle.command_model.specs.Writes.{delete_kind, insert_kind, update_kind};
+ghost use Rattle.history_model.specs.History.{Legal, delete_operation, done, fails_with, insert_operation, update_operation};
 ghost use Rattle.reply_model.specs.Exchanges.{reply_put};
 ghost use Rattle.reply_model.specs.Earlier.{IsEntryOf};
 ghost use Rattle.reply_model.specs.OneHistory.{AreDifferent, IsFresh, IsInOrder, IsKnown, IsPlaced, IsRightOf, OneHistory, WasSent, WasWanted, ids_asked, ids_told};
 ghost use Rattle.reply_model.specs.Right.{IsPart, IsRight, IsWhole};
-ghost use Rattle.reply_model.specs.SampleExchanges.{all_asked, all_told, both_entries, deep_asked, deep_entry, entry_at, finding, first, first_entry, first_told, greeted, id_at, is_shown, moments, second, second_entry, second_told, tells, third, third_told, three_asked, three_entries, two_entries};
+ghost use Rattle.reply_model.specs.SampleExchanges.{all_asked, all_told, both_entries, changed_five, changed_reply, changing, changing_entry, deep_asked, deep_entry, deleted_reply, deleting, entry_at, finding, finding_later, first, first_entry, first_told, greeted, id_at, is_shown, is_shown_later, moments, second, second_entry, second_told, tells, third, third_told, three_asked, three_entries, three_writes, two_entries, finding_at, is_shown_at, unmet_delete, unmet_entries, upserting, upserting_entries, upserting_reply};
 
 /// What the requests ask for.
 pub fn asked()
-    ensures insert { command_of first.request ≡ Ok (insert_command (record { namespace = codes "d.c"; documents = with_id five ∷ []; ordered = true })) }
-    ensures three { command_of (three_asked true false).request ≡ Ok (insert_command (record { namespace = codes "d.c"; documents = three; ordered = false })) }
+    ensures insert { command_of first.request ≡ Ok (write_command (record { kind = insert_kind; namespace = codes "d.c"; operations = insert_operation (with_id five) ∷ []; ordered = true })) }
+    ensures three { command_of (three_asked true false).request ≡ Ok (write_command (record { kind = insert_kind; namespace = codes "d.c"; operations = map insert_operation three; ordered = false })) }
+    ensures update { command_of changing.request ≡ Ok (write_command (record { kind = update_kind; namespace = codes "d.c"; operations = update_operation (with_id five) change_one false ∷ []; ordered = true })) }
+    ensures delete { command_of deleting.request ≡ Ok (write_command (record { kind = delete_kind; namespace = codes "d.c"; operations = delete_operation (with_id long_five) ∷ []; ordered = true })) }
     ensures find { command_of third.request ≡ Ok (find_command (record { namespace = codes "d.c"; key = long_five; at = None })) }
 {}
 
@@ -48,8 +52,8 @@ pub fn many_statements()
     ensures silent { IsRight two_entries (three_asked true true) (tells (three_asked true true) 3 3 (second_fails 1 3)) }
     ensures nothing_put { reply_put (pos 1) (three_asked true true).request (second_fails 1 3) ≡ [] }
     ensures put { reply_put (pos 1) (three_asked false true).request (second_fails 1 3) ≡ reply_bytes msg_form (pos 1) (pos 1) (second_fails 1 3) }
-    ensures one_more { IsWhole three_entries (id_at 2 1) (record { namespace = codes "d.c"; documents = three; ordered = true }) → ⊥ }
-    ensures one_less { IsWhole two_entries (id_at 2 1) (record { namespace = codes "d.c"; documents = three; ordered = false }) → ⊥ }
+    ensures one_more { IsWhole three_entries (id_at 2 1) (record { kind = insert_kind; namespace = codes "d.c"; operations = map insert_operation three; ordered = true }) → ⊥ }
+    ensures one_less { IsWhole two_entries (id_at 2 1) (record { kind = insert_kind; namespace = codes "d.c"; operations = map insert_operation three; ordered = false }) → ⊥ }
     ensures silent_lost { IsRight [] (three_asked true true) (tells (three_asked true true) 3 3 (second_fails 1 3)) → ⊥ }
 {}
 
@@ -72,11 +76,11 @@ pub fn without_documents()
 /// Of an insert that is under way a prefix of its entries may stand, also none, but no entry behind one that is missing, and none behind
 /// the error that ends it. It is not answered by then.
 pub fn under_way()
-    ensures nothing { IsPart [] (id_at 2 1) (record { namespace = codes "d.c"; documents = three; ordered = true }) }
-    ensures begun { IsPart (first_entry ∷ []) (id_at 2 1) (record { namespace = codes "d.c"; documents = three; ordered = true }) }
-    ensures ended { IsPart two_entries (id_at 2 1) (record { namespace = codes "d.c"; documents = three; ordered = true }) }
-    ensures first_missing { IsPart (entry_at 2 2 1 1 long_five done ∷ []) (id_at 2 1) (record { namespace = codes "d.c"; documents = three; ordered = true }) → ⊥ }
-    ensures behind_error { IsPart three_entries (id_at 2 1) (record { namespace = codes "d.c"; documents = three; ordered = true }) → ⊥ }
+    ensures nothing { IsPart [] (id_at 2 1) (record { kind = insert_kind; namespace = codes "d.c"; operations = map insert_operation three; ordered = true }) }
+    ensures begun { IsPart (first_entry ∷ []) (id_at 2 1) (record { kind = insert_kind; namespace = codes "d.c"; operations = map insert_operation three; ordered = true }) }
+    ensures ended { IsPart two_entries (id_at 2 1) (record { kind = insert_kind; namespace = codes "d.c"; operations = map insert_operation three; ordered = true }) }
+    ensures first_missing { IsPart (entry_at 2 2 1 1 long_five done ∷ []) (id_at 2 1) (record { kind = insert_kind; namespace = codes "d.c"; operations = map insert_operation three; ordered = true }) → ⊥ }
+    ensures behind_error { IsPart three_entries (id_at 2 1) (record { kind = insert_kind; namespace = codes "d.c"; operations = map insert_operation three; ordered = true }) → ⊥ }
     ensures answered_early { IsRight (first_entry ∷ []) (three_asked false true) (tells (three_asked false true) 3 2 done_reply) → ⊥ }
 {}
 
@@ -93,6 +97,53 @@ pub fn found()
     ensures not_ahead { IsRight both_entries (finding five (Some (timestamp 1000 2))) (tells (finding five (Some (timestamp 1000 2))) 7 2 ahead_reply) → ⊥ }
     ensures another_time { IsRight both_entries (finding five (Some (timestamp 1000 3))) (tells (finding five (Some (timestamp 1000 3))) 7 1 ahead_reply) → ⊥ }
     ensures never_named { IsRight both_entries third (tells third 7 2 ahead_reply) → ⊥ }
+{}
+
+/// An update that changed the document that it met, and a delete that took one out, are told just so. An answer with another count, and
+/// the answer of another kind of write, are wrong, and so is an entry with another count.
+pub fn changed()
+    ensures legal { Legal three_writes }
+    ensures miscounted { Legal (first_entry ∷ record changing_entry { outcome = done } ∷ []) → ⊥ }
+    ensures updated { IsRight three_writes changing (tells changing 5 3 (changed_reply 1 1)) }
+    ensures not_changed { IsRight three_writes changing (tells changing 5 3 (changed_reply 1 0)) → ⊥ }
+    ensures not_met { IsRight three_writes changing (tells changing 5 3 (changed_reply 0 0)) → ⊥ }
+    ensures another_kind { IsRight three_writes changing (tells changing 5 3 (deleted_reply 1 3)) → ⊥ }
+    ensures deleted { IsRight three_writes deleting (tells deleting 7 4 (deleted_reply 1 4)) }
+    ensures not_deleted { IsRight three_writes deleting (tells deleting 7 4 (deleted_reply 0 4)) → ⊥ }
+{}
+
+/// Of three updates at once the first meets a document and changes nothing, the second meets none and puts one in, and the third can't change
+/// the key of what it meets. Each of these is told. A delete that meets none has an entry and is told 0.
+pub fn updates_told()
+    ensures right { IsRight upserting_entries upserting (tells upserting 5 5 (upserting_reply 2 0 1)) }
+    ensures more_changed { IsRight upserting_entries upserting (tells upserting 5 5 (upserting_reply 2 2 1)) → ⊥ }
+    ensures more_met { IsRight upserting_entries upserting (tells upserting 5 5 (upserting_reply 3 0 1)) → ⊥ }
+    ensures another_index { IsRight upserting_entries upserting (tells upserting 5 5 (upserting_reply 2 0 0)) → ⊥ }
+    ensures unmet { IsRight unmet_entries unmet_delete (tells unmet_delete 5 3 (deleted_reply 0 3)) }
+    ensures unmet_without_entry { IsRight (first_entry ∷ []) unmet_delete (tells unmet_delete 5 3 (deleted_reply 0 3)) → ⊥ }
+{}
+
+/// An entry of a statement has the client's own words.
+pub fn own_words()
+    ensures insert { IsPart (record first_entry { operation = insert_operation (with_id six) } ∷ []) (id_at 2 1) (record { kind = insert_kind; namespace = codes "d.c"; operations = map insert_operation three; ordered = true }) → ⊥ }
+    ensures update { IsPart (record changing_entry { operation = delete_operation (with_id five) } ∷ []) (id_at 2 2) (record { kind = update_kind; namespace = codes "d.c"; operations = update_operation (with_id five) change_one false ∷ []; ordered = true }) → ⊥ }
+{}
+
+/// A find that names no time is of its router's time as that took it, also where it is told later and its document is gone by then.
+pub fn found_as_taken()
+    ensures right { IsRight three_writes (finding_at 3) (is_shown_at 3 5 (changed_five ∷ []) 3) }
+    ensures later { IsRight three_writes (finding_at 3) (is_shown_at 3 5 [] 4) → ⊥ }
+{}
+
+/// A delete at Timestamp(1000, 4): before it a find shows the document as the update left it, from its time on none.
+pub fn found_around_delete()
+    ensures before { IsRight three_writes (finding_later (Some (timestamp 1000 3))) (is_shown_later (Some (timestamp 1000 3)) (changed_five ∷ []) 3) }
+    ensures at { IsRight three_writes (finding_later (Some (timestamp 1000 4))) (is_shown_later (Some (timestamp 1000 4)) [] 4) }
+    ensures after { IsRight three_writes (finding_later None) (is_shown_later None [] 5) }
+    ensures unchanged { IsRight three_writes (finding_later (Some (timestamp 1000 3))) (is_shown_later (Some (timestamp 1000 3)) (with_id five ∷ []) 3) → ⊥ }
+    ensures gone_early { IsRight three_writes (finding_later (Some (timestamp 1000 3))) (is_shown_later (Some (timestamp 1000 3)) [] 3) → ⊥ }
+    ensures still_there { IsRight three_writes (finding_later (Some (timestamp 1000 4))) (is_shown_later (Some (timestamp 1000 4)) (changed_five ∷ []) 4) → ⊥ }
+    ensures back_again { IsRight three_writes (finding_later None) (is_shown_later None (changed_five ∷ []) 5) → ⊥ }
 {}
 
 /// Replies that are wrong: another request's, under another number, on another link, before the request came, to a request that was not

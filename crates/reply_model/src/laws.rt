@@ -1,30 +1,30 @@
 //! The laws between the definitions.
 
-ghost use Rattle.std.specs.Prelude.{◌≡◌, ◌≢◌, ◌<◌, ◌≤◌, ◌∷◌, ◌++◌, ℕ, List, [], Some, None, Ok, true};
+ghost use Rattle.std.specs.Prelude.{◌≡◌, ◌≢◌, ◌⊎◌, ◌<◌, ◌≤◌, ◌∷◌, ◌++◌, ℕ, List, [], Some, None, Ok, true, false};
+ghost use Rattle.std.specs.List.{AllByRecursion};
 ghost use Rattle.command_model.specs.Tree.{Fields};
-ghost use Rattle.command_model.specs.Errors.{object_too_large};
 ghost use Rattle.command_model.specs.Refusals.{time_ahead};
 ghost use Rattle.command_model.specs.ReplyParts.{operation_time};
-ghost use Rattle.command_model.specs.Insert.{Insert};
+ghost use Rattle.command_model.specs.Writes.{WriteCommand};
 ghost use Rattle.command_model.specs.Find.{Find};
 ghost use Rattle.command_model.specs.Answers.{answer_document, find_answer, refusal_answer};
-ghost use Rattle.command_model.specs.Command.{find_command, insert_command, command_of};
+ghost use Rattle.command_model.specs.Command.{find_command, write_command, command_of};
 ghost use Rattle.chunk_model.specs.Catalogue.{Creation};
-ghost use Rattle.history_model.specs.History.{Entry, IsIn, insert_operation, same_key, writes_to};
+ghost use Rattle.history_model.specs.History.{Entry, IsIn, document_at, document_left, effect, same_key, writes_to};
 ghost use Rattle.reply_model.specs.Exchanges.{Asked, Answered, entries_by};
 ghost use Rattle.reply_model.specs.Outcomes.{answer_of};
-ghost use Rattle.reply_model.specs.Right.{IsWhole, told_by};
+ghost use Rattle.reply_model.specs.Right.{IsWhole, found, told_by};
 ghost use Rattle.reply_model.specs.Earlier.{IsEntryOf, IsTold, WasTakenBefore, WasToldBefore};
 ghost use Rattle.reply_model.specs.OneHistory.{Given, OneHistory};
 
-/// An insert that was answered, with or without moreToCome, is whole in the history, and its answer is that of all its entries.
-pub fn told_inserts_stand()
+/// A write that was answered, with or without moreToCome, is whole in the history, and its answer is that of all its entries.
+pub fn told_writes_stand()
     ensures whole { (given : List Given) (creations : List Creation) (history : List Entry) (asked : List Asked) (answered : List Answered) (t : Answered)
-        (insert : Insert) → OneHistory given creations history asked answered → IsIn t answered → command_of t.request ≡ Ok (insert_command insert)
-        → IsWhole history t.id insert }
+        (write : WriteCommand) → OneHistory given creations history asked answered → IsIn t answered → command_of t.request ≡ Ok (write_command write)
+        → IsWhole history t.id write }
     ensures told { (given : List Given) (creations : List Creation) (history : List Entry) (asked : List Asked) (answered : List Answered) (t : Answered)
-        (insert : Insert) → OneHistory given creations history asked answered → IsIn t answered → command_of t.request ≡ Ok (insert_command insert)
-        → t.document ≡ answer_document (answer_of (told_by t.id history)) }
+        (write : WriteCommand) → OneHistory given creations history asked answered → IsIn t answered → command_of t.request ≡ Ok (write_command write)
+        → t.document ≡ answer_document (answer_of write.kind (told_by t.id history)) }
 {}
 
 /// An entry is that of a statement of a request that was taken, and of one request alone: of one router, in one of its lives, with one
@@ -54,11 +54,11 @@ pub fn writes_come_later()
         → b.time < e.time }
 {}
 
-/// An insert whose request came after its router had told a time, in that life, is told a later time.
+/// A write whose request came after its router had told a time, in that life, is told a later time.
 pub fn later_writes_tell_later()
     ensures { (given : List Given) (creations : List Creation) (history : List Entry) (asked : List Asked) (answered : List Answered) (a : Asked)
-        (s t : Answered) (insert : Insert) (before now : ℕ) → OneHistory given creations history asked answered → IsTold asked answered a t
-        → WasToldBefore answered a s → command_of a.request ≡ Ok (insert_command insert) → operation_time (Some s.document) ≡ Some before
+        (s t : Answered) (write : WriteCommand) (before now : ℕ) → OneHistory given creations history asked answered → IsTold asked answered a t
+        → WasToldBefore answered a s → command_of a.request ≡ Ok (write_command write) → operation_time (Some s.document) ≡ Some before
         → operation_time (Some t.document) ≡ Some now → before < now }
 {}
 
@@ -74,32 +74,52 @@ pub fn reads_are_fresh()
         → operation_time (Some s.document) ≡ Some before → t.document ≡ answer_document (refusal_answer (time_ahead greatest)) → before ≤ greatest }
 {}
 
-/// A find that shows no document is of a time before every entry under its key that was not told that its document is too large.
-/// So a find that names no time, and whose request came after its router, in that life, had answered an insert, shows a document under
-/// each key that the insert has such an entry of; under a key that it put a document in, it shows this one, as of its router's time.
-pub fn reads_miss_nothing()
-    ensures later { (given : List Given) (creations : List Creation) (history : List Entry) (asked : List Asked) (answered : List Answered) (t : Answered)
-        (e : Entry) (find : Find) (time : ℕ) → OneHistory given creations history asked answered → IsIn t answered → IsIn e history
-        → e.outcome.error ≢ Some object_too_large → command_of t.request ≡ Ok (find_command find)
-        → t.document ≡ answer_document (find_answer find.namespace [] time) → writes_to find.namespace (Some find.key) e ≡ true → time < e.time }
-    ensures acknowledged { (given : List Given) (creations : List Creation) (history : List Entry) (asked : List Asked) (answered : List Answered)
-        (a : Asked) (s t : Answered) (e : Entry) (find : Find) (time : ℕ) → OneHistory given creations history asked answered → IsTold asked answered a t
-        → WasToldBefore answered a s → IsIn e (entries_by s.id history) → e.outcome.error ≢ Some object_too_large
-        → writes_to find.namespace (Some find.key) e ≡ true → command_of a.request ≡ Ok (find_command find) → find.at ≡ None
-        → t.document ≢ answer_document (find_answer find.namespace [] time) }
-    ensures shown { (given : List Given) (creations : List Creation) (history : List Entry) (asked : List Asked) (answered : List Answered) (a : Asked)
-        (s t : Answered) (e : Entry) (find : Find) (document : Fields) → OneHistory given creations history asked answered → IsTold asked answered a t
-        → WasToldBefore answered a s → IsIn e (entries_by s.id history) → e.operation ≡ insert_operation document → e.outcome.error ≡ None
-        → writes_to find.namespace (Some find.key) e ≡ true → command_of a.request ≡ Ok (find_command find) → find.at ≡ None
-        → t.document ≡ answer_document (find_answer find.namespace (document ∷ []) a.time) }
+/// A find is told what a find is: of its router's time, as that took it; or of the time that it names, or else that this is ahead of a
+/// time that the router had reached.
+pub fn finds_are_answered()
+    ensures now { (given : List Given) (creations : List Creation) (history : List Entry) (asked : List Asked) (answered : List Answered) (a : Asked)
+        (t : Answered) (find : Find) → OneHistory given creations history asked answered → IsTold asked answered a t
+        → command_of a.request ≡ Ok (find_command find) → find.at ≡ None
+        → t.document ≡ answer_document (find_answer find.namespace (found (document_at history find.namespace (Some find.key) a.time)) a.time) }
+    ensures named { (given : List Given) (creations : List Creation) (history : List Entry) (asked : List Asked) (answered : List Answered) (a : Asked)
+        (t : Answered) (find : Find) (named : ℕ) → OneHistory given creations history asked answered → IsTold asked answered a t
+        → command_of a.request ≡ Ok (find_command find) → find.at ≡ Some named
+        → (t.document ≡ answer_document (find_answer find.namespace (found (document_at history find.namespace (Some find.key) named)) named))
+        ⊎ ((greatest : ℕ) × (greatest < named) × (t.document ≡ answer_document (refusal_answer (time_ahead greatest)))) }
 {}
 
-/// A find that names no time shows each document that its router showed before, in that life, under the same key.
-pub fn reads_stay()
+/// A find shows what the last entry under its key left of those that are not later than the time that it tells.
+pub fn reads_miss_nothing()
+    ensures last { (given : List Given) (creations : List Creation) (earlier later : List Entry) (asked : List Asked) (answered : List Answered)
+        (t : Answered) (e : Entry) (find : Find) (documents : List Fields) (time : ℕ) → OneHistory given creations (earlier ++ e ∷ later) asked answered
+        → IsIn t answered → command_of t.request ≡ Ok (find_command find) → t.document ≡ answer_document (find_answer find.namespace documents time)
+        → e.time ≤ time → writes_to find.namespace (Some find.key) e ≡ true
+        → AllByRecursion (λ (d : Entry). d.time ≤ time → writes_to find.namespace (Some find.key) d ≡ false) later
+        → documents ≡ found (effect e.operation (document_left find.namespace (Some find.key) earlier)).0 }
+    ensures none { (given : List Given) (creations : List Creation) (history : List Entry) (asked : List Asked) (answered : List Answered)
+        (t : Answered) (find : Find) (documents : List Fields) (time : ℕ) → OneHistory given creations history asked answered
+        → IsIn t answered → command_of t.request ≡ Ok (find_command find) → t.document ≡ answer_document (find_answer find.namespace documents time)
+        → AllByRecursion (λ (d : Entry). d.time ≤ time → writes_to find.namespace (Some find.key) d ≡ false) history → documents ≡ [] }
+{}
+
+/// A find that names no time, and whose request came after its router, in that life, had answered a write, reads a time that is not
+/// before that of any entry of the write.
+pub fn reads_reach_writes()
     ensures { (given : List Given) (creations : List Creation) (history : List Entry) (asked : List Asked) (answered : List Answered) (a : Asked)
-        (s t : Answered) (earlier find : Find) (document : Fields) (time : ℕ) → OneHistory given creations history asked answered → IsTold asked answered a t
-        → WasToldBefore answered a s → command_of s.request ≡ Ok (find_command earlier)
-        → s.document ≡ answer_document (find_answer earlier.namespace (document ∷ []) time) → command_of a.request ≡ Ok (find_command find) → find.at ≡ None
-        → earlier.namespace ≡ find.namespace → same_key (Some earlier.key) (Some find.key) ≡ true
-        → t.document ≡ answer_document (find_answer find.namespace (document ∷ []) a.time) }
+        (s t : Answered) (e : Entry) (find : Find) (documents : List Fields) (time : ℕ) → OneHistory given creations history asked answered
+        → IsTold asked answered a t → WasToldBefore answered a s → IsIn e (entries_by s.id history) → command_of a.request ≡ Ok (find_command find)
+        → find.at ≡ None → t.document ≡ answer_document (find_answer find.namespace documents time) → e.time ≤ time }
+{}
+
+/// A find shows what another find under the same key showed of a time that is not later, where no entry under the key came between the
+/// two times.
+pub fn reads_stay()
+    ensures { (given : List Given) (creations : List Creation) (history : List Entry) (asked : List Asked) (answered : List Answered) (s t : Answered)
+        (first second : Find) (shown documents : List Fields) (before time : ℕ) → OneHistory given creations history asked answered
+        → IsIn s answered → IsIn t answered → command_of s.request ≡ Ok (find_command first) → command_of t.request ≡ Ok (find_command second)
+        → first.namespace ≡ second.namespace → same_key (Some first.key) (Some second.key) ≡ true
+        → s.document ≡ answer_document (find_answer first.namespace shown before)
+        → t.document ≡ answer_document (find_answer second.namespace documents time) → before ≤ time
+        → AllByRecursion (λ (d : Entry). before < d.time → d.time ≤ time → writes_to second.namespace (Some second.key) d ≡ false) history
+        → documents ≡ shown }
 {}

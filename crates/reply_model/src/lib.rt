@@ -6,6 +6,6 @@ pub mod examples;
 mod laws;
 
 pub use laws::{
-    later_writes_tell_later, one_answer, own_entry, reads_are_fresh, reads_miss_nothing,
-    reads_stay, told_inserts_stand, writes_come_later,
+    finds_are_answered, later_writes_tell_later, one_answer, own_entry, reads_are_fresh,
+    reads_miss_nothing, reads_reach_writes, reads_stay, told_writes_stand, writes_come_later,
 };

@@ -7,6 +7,7 @@ use Rattle.node_model.specs.Outcomes.{Done}
 use Rattle.node_model.specs.RouterRows.{with_work}
 use Rattle.node_model.specs.States.{Open, Router, Work, writing, reading, open_with, replaced}
 use Rattle.node_model.specs.Tables.{Table}
+use Rattle.node_model.specs.Writes.{WriteKind}
 use Rattle.open_requests.specs.Works.{wait_meant}
 use Rattle.open_requests.specs.declared.work.Wait.{Wait}
 use Rattle.protocol_model.specs.Statements.{done_meant}
@@ -32,19 +33,19 @@ module _ (r : Router) (time count : ℕ) (q : Open) (found : open_with count r.r
       subst (λ (o : Option Open). replaced (with_work q (wait_meant wait) q.work) r.requests
       ≡ elim o as (λ _. List Open) [ None ↦ r.requests | Some x ↦ replaced (with_work x (wait_meant wait) x.work) r.requests ]) (sym found) refl
 
-  pub opens_notes : (wait : Wait) (answers : Vec StatementDone Global) (ordered : Bool) (statements : List Statement) (before : List Done) → q.work ≡ writing ordered statements before
-      → replaced (with_work q (wait_meant wait) (writing ordered statements (map done_meant answers.items))) r.requests ≡ opens_then r time (Notes count wait answers)
-  opens_notes wait answers ordered statements before work =
-      subst (λ (o : Option Open). replaced (with_work q (wait_meant wait) (writing ordered statements (map done_meant answers.items))) r.requests
+  pub opens_notes : (wait : Wait) (answers : Vec StatementDone Global) (kind : WriteKind) (ordered : Bool) (statements : List Statement) (before : List Done) → q.work ≡ writing kind ordered statements before
+      → replaced (with_work q (wait_meant wait) (writing kind ordered statements (map done_meant answers.items))) r.requests ≡ opens_then r time (Notes count wait answers)
+  opens_notes wait answers kind ordered statements before work =
+      subst (λ (o : Option Open). replaced (with_work q (wait_meant wait) (writing kind ordered statements (map done_meant answers.items))) r.requests
       ≡ elim o as (λ _. List Open) [
         | None ↦ r.requests
         | Some x ↦ elim x.work as (λ _. List Open) [
-          | writing a s b ↦ replaced (with_work x (wait_meant wait) (writing a s (map done_meant answers.items))) r.requests
+          | writing k a s b ↦ replaced (with_work x (wait_meant wait) (writing k a s (map done_meant answers.items))) r.requests
           | reading at half ↦ r.requests
         ]
       ]) (sym found)
-      (subst (λ (w : Work). replaced (with_work q (wait_meant wait) (writing ordered statements (map done_meant answers.items))) r.requests
+      (subst (λ (w : Work). replaced (with_work q (wait_meant wait) (writing kind ordered statements (map done_meant answers.items))) r.requests
       ≡ elim w as (λ _. List Open) [
-        | writing a s b ↦ replaced (with_work q (wait_meant wait) (writing a s (map done_meant answers.items))) r.requests
+        | writing k a s b ↦ replaced (with_work q (wait_meant wait) (writing k a s (map done_meant answers.items))) r.requests
         | reading at half ↦ r.requests
       ]) (sym work) refl)

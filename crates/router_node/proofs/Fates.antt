@@ -10,6 +10,7 @@ use Rattle.node_model.specs.Refusals.{time_ahead}
 use Rattle.node_model.specs.RouterRows.{router_read, router_reach, router_ahead, router_note, router_wrote, heard, knows, open_of, reply_to, noted, is_answered, asks_for, going_on, answers_now, IsLate, IsNoRead, IsNotAwaited, AreNoNews}
 use Rattle.node_model.specs.States.{Open, Router, for_time, reading, writing, without, replaced}
 use Rattle.node_model.specs.Tree.{Fields}
+use Rattle.node_model.specs.Writes.{WriteKind}
 use Rattle.node_traits.specs.Effects.{puts_of}
 use Rattle.node_traits.specs.declared.outputs.ToLink.{ToLink}
 use Rattle.router_node.specs.Rows.{TookRow}
@@ -25,14 +26,14 @@ pub dones_of_none : (r : Router) (m : Letter) (id : RequestId) (dones : List Don
 dones_of_none r m id dones is none = subst (λ b. IsLate r b) (sym is) (subst (λ o. AreNoNews o dones) (sym none) tt)
 
 module _ (r : Router) (m : Letter) (id : RequestId) (q : Open) (opened : open_of r id ≡ Some q) where
-  pub rows_of_write : (turn : ℕ) (rows : List Fields) (ordered : Bool) (statements : List letters.Statement) (answers : List Done) → m.body ≡ read_rows id turn rows
-      → q.work ≡ writing ordered statements answers → IsLate r m.body
-  rows_of_write turn rows ordered statements answers is work =
-      subst (λ b. IsLate r b) (sym is) (subst (λ o. IsNoRead o turn) (sym opened) (subst (λ w. elim w as (λ _. Type 0) [ writing o s a ↦ Unit {0} | reading at half ↦ turn ≢ 1 ]) (sym work) tt))
+  pub rows_of_write : (turn : ℕ) (rows : List Fields) (kind : WriteKind) (ordered : Bool) (statements : List letters.Statement) (answers : List Done) → m.body ≡ read_rows id turn rows
+      → q.work ≡ writing kind ordered statements answers → IsLate r m.body
+  rows_of_write turn rows kind ordered statements answers is work =
+      subst (λ b. IsLate r b) (sym is) (subst (λ o. IsNoRead o turn) (sym opened) (subst (λ w. elim w as (λ _. Type 0) [ writing k o s a ↦ Unit {0} | reading at half ↦ turn ≢ 1 ]) (sym work) tt))
 
   pub rows_of_turn : (turn : ℕ) (rows : List Fields) (at : ℕ) (half : Half) → m.body ≡ read_rows id turn rows → q.work ≡ reading at half → turn ≢ 1 → IsLate r m.body
   rows_of_turn turn rows at half is work other =
-      subst (λ b. IsLate r b) (sym is) (subst (λ o. IsNoRead o turn) (sym opened) (subst (λ w. elim w as (λ _. Type 0) [ writing o s a ↦ Unit {0} | reading at half ↦ turn ≢ 1 ]) (sym work) other))
+      subst (λ b. IsLate r b) (sym is) (subst (λ o. IsNoRead o turn) (sym opened) (subst (λ w. elim w as (λ _. Type 0) [ writing k o s a ↦ Unit {0} | reading at half ↦ turn ≢ 1 ]) (sym work) other))
 
   pub rows_told : (rows : List Fields) (at : ℕ) (half : Half) (replies : List ToLink) → m.body ≡ read_rows id 1 rows → q.work ≡ reading at half
       → replies ≡ puts_of (reply_to r (heard r m) q (find_answer q.namespace rows at) ∷ [])
@@ -47,15 +48,15 @@ module _ (r : Router) (m : Letter) (id : RequestId) (q : Open) (opened : open_of
 
   pub dones_of_read : (dones : List Done) (at : ℕ) (half : Half) → m.body ≡ write_done id dones → q.work ≡ reading at half → IsLate r m.body
   dones_of_read dones at half is work =
-      subst (λ b. IsLate r b) (sym is) (subst (λ o. AreNoNews o dones) (sym opened) (subst (λ w. elim w as (λ _. Type 0) [ writing o s a ↦ noted a dones ≡ a | reading at half ↦ Unit {0} ]) (sym work) tt))
+      subst (λ b. IsLate r b) (sym is) (subst (λ o. AreNoNews o dones) (sym opened) (subst (λ w. elim w as (λ _. Type 0) [ writing k o s a ↦ noted a dones ≡ a | reading at half ↦ Unit {0} ]) (sym work) tt))
 
-  pub time_of_write : (ordered : Bool) (statements : List letters.Statement) (answers : List Done) → m.body ≡ time_told id → q.work ≡ writing ordered statements answers → IsLate r m.body
-  time_of_write ordered statements answers is work =
-      subst (λ b. IsLate r b) (sym is) (subst (λ o. IsNotAwaited o) (sym opened) (subst (λ w. elim w as (λ _. Type 0) [ writing o s a ↦ Unit {0} | reading at half ↦ q.wait ≢ for_time ]) (sym work) tt))
+  pub time_of_write : (kind : WriteKind) (ordered : Bool) (statements : List letters.Statement) (answers : List Done) → m.body ≡ time_told id → q.work ≡ writing kind ordered statements answers → IsLate r m.body
+  time_of_write kind ordered statements answers is work =
+      subst (λ b. IsLate r b) (sym is) (subst (λ o. IsNotAwaited o) (sym opened) (subst (λ w. elim w as (λ _. Type 0) [ writing k o s a ↦ Unit {0} | reading at half ↦ q.wait ≢ for_time ]) (sym work) tt))
 
   pub time_not_awaited : (at : ℕ) (half : Half) → m.body ≡ time_told id → q.work ≡ reading at half → q.wait ≢ for_time → IsLate r m.body
   time_not_awaited at half is work other =
-      subst (λ b. IsLate r b) (sym is) (subst (λ o. IsNotAwaited o) (sym opened) (subst (λ w. elim w as (λ _. Type 0) [ writing o s a ↦ Unit {0} | reading at half ↦ q.wait ≢ for_time ]) (sym work) other))
+      subst (λ b. IsLate r b) (sym is) (subst (λ o. IsNotAwaited o) (sym opened) (subst (λ w. elim w as (λ _. Type 0) [ writing k o s a ↦ Unit {0} | reading at half ↦ q.wait ≢ for_time ]) (sym work) other))
 
   pub time_ahead_told : (at : ℕ) (half : Half) (replies : List ToLink) → m.body ≡ time_told id → q.work ≡ reading at half → q.wait ≡ for_time → heard r m < at
       → replies ≡ puts_of (reply_to r (heard r m) q (refusal_answer (time_ahead (heard r m))) ∷ [])
@@ -80,30 +81,30 @@ module _ (r : Router) (m : Letter) (id : RequestId) (q : Open) (opened : open_of
         told = refl;
       })
 
-  module _ (dones : List Done) (ordered : Bool) (statements : List letters.Statement) (answers : List Done) (is : m.body ≡ write_done id dones) (work : q.work ≡ writing ordered statements answers) where
+  module _ (dones : List Done) (kind : WriteKind) (ordered : Bool) (statements : List letters.Statement) (answers : List Done) (is : m.body ≡ write_done id dones) (work : q.work ≡ writing kind ordered statements answers) where
     pub dones_no_news : noted answers dones ≡ answers → IsLate r m.body
     dones_no_news same =
-        subst (λ b. IsLate r b) (sym is) (subst (λ o. AreNoNews o dones) (sym opened) (subst (λ w. elim w as (λ _. Type 0) [ writing o s a ↦ noted a dones ≡ a | reading at half ↦ Unit {0} ]) (sym work) same))
+        subst (λ b. IsLate r b) (sym is) (subst (λ o. AreNoNews o dones) (sym opened) (subst (λ w. elim w as (λ _. Type 0) [ writing k o s a ↦ noted a dones ≡ a | reading at half ↦ Unit {0} ]) (sym work) same))
 
     pub dones_wrote : (replies : List ToLink) → noted answers dones ≢ answers → is_answered ordered statements (noted answers dones) ≡ true
-        → replies ≡ puts_of (reply_to r (heard r m) q (answer_of (noted answers dones)) ∷ [])
+        → replies ≡ puts_of (reply_to r (heard r m) q (answer_of kind (noted answers dones)) ∷ [])
         → TookRow r (letter_input m) [] replies (knows r (heard r m) r.tables (without q.count r.requests))
     dones_wrote replies news all told = record {
-      effect = answers_now (reply_to r (heard r m) q (answer_of (noted answers dones)));
-      row = router_wrote r m id dones q ordered statements answers is opened work news all;
+      effect = answers_now (reply_to r (heard r m) q (answer_of kind (noted answers dones)));
+      row = router_wrote r m id dones q kind ordered statements answers is opened work news all;
       written = refl;
       sent = refl;
       told = told;
     }
 
     pub dones_noted : (mail : List Letter) (next : Open) → noted answers dones ≢ answers → is_answered ordered statements (noted answers dones) ≡ false
-        → mail ≡ asks_for r (heard r m) q.count q.namespace (writing ordered statements (noted answers dones))
-        → next ≡ going_on r (heard r m) q (writing ordered statements (noted answers dones))
+        → mail ≡ asks_for r (heard r m) q.count q.namespace (writing kind ordered statements (noted answers dones))
+        → next ≡ going_on r (heard r m) q (writing kind ordered statements (noted answers dones))
         → TookRow r (letter_input m) mail [] (knows r (heard r m) r.tables (replaced next r.requests))
     dones_noted mail next news some asked goes =
         subst (λ n. TookRow r (letter_input m) mail [] (knows r (heard r m) r.tables (replaced n r.requests))) (sym goes) (record {
-          effect = sends (asks_for r (heard r m) q.count q.namespace (writing ordered statements (noted answers dones)));
-          row = router_note r m id dones q ordered statements answers is opened work news some;
+          effect = sends (asks_for r (heard r m) q.count q.namespace (writing kind ordered statements (noted answers dones)));
+          row = router_note r m id dones q kind ordered statements answers is opened work news some;
           written = refl;
           sent = sym asked;
           told = refl;

@@ -7,6 +7,7 @@ use Rattle.node_model.specs.Letters.{Letter, Input, letter_input, nothing}
 use Rattle.node_model.specs.Outcomes.{Done}
 use Rattle.node_model.specs.RouterRows.{heard, knows, open_of, id_of, with_work, router_late, IsLate}
 use Rattle.node_model.specs.States.{Open, Router, Work, writing, reading, open_with, replaced}
+use Rattle.node_model.specs.Writes.{WriteKind}
 use Rattle.node_traits.specs.declared.outputs.ToLink.{ToLink}
 use Rattle.open_requests.specs.Works.{wait_meant}
 use Rattle.open_requests.specs.declared.work.Wait.{Wait}
@@ -64,11 +65,11 @@ module _ (r : Router) (id : RequestId) (q : Open) (opened : open_of r id ≡ Som
       })) (sym found) took
 
   -- it has these answers now, and waits for this
-  pub notes_so : (i : Input) (ls : List Letter) (rs : List ToLink) (time : ℕ) (wait : Wait) (answers : Vec Done_told Global) (ordered : Bool) (statements : List letters.Statement) (before : List Done)
-      → q.work ≡ writing ordered statements before
-      → TookRow r i ls rs (knows r time r.tables (replaced (with_work q (wait_meant wait) (writing ordered statements (map done_meant answers.items))) r.requests))
+  pub notes_so : (i : Input) (ls : List Letter) (rs : List ToLink) (time : ℕ) (wait : Wait) (answers : Vec Done_told Global) (kind : WriteKind) (ordered : Bool) (statements : List letters.Statement) (before : List Done)
+      → q.work ≡ writing kind ordered statements before
+      → TookRow r i ls rs (knows r time r.tables (replaced (with_work q (wait_meant wait) (writing kind ordered statements (map done_meant answers.items))) r.requests))
       → TookRow r i ls rs (changed r time r.begun r.moment (Notes id.count wait answers))
-  notes_so i ls rs time wait answers ordered statements before work took =
+  notes_so i ls rs time wait answers kind ordered statements before work took =
       subst (λ (o : Option Open). TookRow r i ls rs (record {
         me = r.me;
         time = time;
@@ -80,7 +81,7 @@ module _ (r : Router) (id : RequestId) (q : Open) (opened : open_of r id ≡ Som
         requests = elim o as (λ _. List Open) [
           | None ↦ r.requests
           | Some x ↦ elim x.work as (λ _. List Open) [
-            | writing a s b ↦ replaced (with_work x (wait_meant wait) (writing a s (map done_meant answers.items))) r.requests
+            | writing k a s b ↦ replaced (with_work x (wait_meant wait) (writing k a s (map done_meant answers.items))) r.requests
             | reading at half ↦ r.requests
           ]
         ];
@@ -93,7 +94,7 @@ module _ (r : Router) (id : RequestId) (q : Open) (opened : open_of r id ≡ Som
         count = r.count;
         tables = r.tables;
         requests = elim w as (λ _. List Open) [
-          | writing a s b ↦ replaced (with_work q (wait_meant wait) (writing a s (map done_meant answers.items))) r.requests
+          | writing k a s b ↦ replaced (with_work q (wait_meant wait) (writing k a s (map done_meant answers.items))) r.requests
           | reading at half ↦ r.requests
         ];
       })) (sym work) took)

@@ -1,6 +1,4 @@
-mod Asked
 mod Changed
-mod Documents
 mod Fates
 mod Heard
 mod Known
@@ -8,3 +6,4 @@ mod Learning
 mod Puts
 mod Rest
 mod Started
+mod TakenBodies

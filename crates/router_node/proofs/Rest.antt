@@ -7,24 +7,25 @@ use Rattle.node_model.specs.Outcomes.{Done}
 use Rattle.node_model.specs.RouterRows.{asks_by, asks_for, enough_of, wait_by, wait_of}
 use Rattle.node_model.specs.States.{Router, Wait, writing}
 use Rattle.node_model.specs.Tables.{Table, table_of}
+use Rattle.node_model.specs.Writes.{WriteKind}
 use Rattle.open_requests.proofs.Askers.{asked_alike}
 use Rattle.open_requests.specs.Askers.{asking}
 
-module _ (r : Router) (time count : ℕ) (namespace : List ℕ) (ordered : Bool) (statements : List Statement) (answers : List Done) where
+module _ (r : Router) (time count : ℕ) (namespace : List ℕ) (kind : WriteKind) (ordered : Bool) (statements : List Statement) (answers : List Done) where
   -- any table is enough for a write
-  enough : (o : Option Table) → enough_of o (writing ordered statements answers) ≡ o
+  enough : (o : Option Table) → enough_of o (writing kind ordered statements answers) ≡ o
   enough None = refl
   enough (Some t) = refl
 
   pub rest_asked : (letters : List Letter) (known : Option Table) → known ≡ table_of namespace r.tables
-      → letters ≡ asks_by (asking r.me r.life) time count namespace (writing ordered statements answers) known
-      → letters ≡ asks_for r time count namespace (writing ordered statements answers)
+      → letters ≡ asks_by (asking r.me r.life) time count namespace (writing kind ordered statements answers) known
+      → letters ≡ asks_for r time count namespace (writing kind ordered statements answers)
   rest_asked letters known is asked =
-      asked ∙ asked_alike r time count namespace (writing ordered statements answers) known
-      ∙ ap (λ (o : Option Table). asks_by r time count namespace (writing ordered statements answers) o) (is ∙ sym (enough (table_of namespace r.tables)))
+      asked ∙ asked_alike r time count namespace (writing kind ordered statements answers) known
+      ∙ ap (λ (o : Option Table). asks_by r time count namespace (writing kind ordered statements answers) o) (is ∙ sym (enough (table_of namespace r.tables)))
 
   pub rest_waits : (wait : Wait) (known : Option Table) → known ≡ table_of namespace r.tables → wait ≡ wait_by known
-      → wait ≡ wait_of r time namespace (writing ordered statements answers)
+      → wait ≡ wait_of r time namespace (writing kind ordered statements answers)
   rest_waits wait known is waits = waits ∙ ap (λ (o : Option Table). wait_by o) (is ∙ sym (enough (table_of namespace r.tables)))
 
 -- as many, or not, of what they mean

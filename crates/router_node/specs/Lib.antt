@@ -1,4 +1,5 @@
 pub mod RouterStates
+pub mod Bodies
 pub mod Plans
 pub mod Rows
 pub mod Nexts

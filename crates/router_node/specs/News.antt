@@ -5,13 +5,14 @@ use Rattle.node_model.specs.Letters.{Letter, Statement, write_done}
 use Rattle.node_model.specs.Outcomes.{Done}
 use Rattle.node_model.specs.RouterRows.{noted, open_of}
 use Rattle.node_model.specs.States.{Open, Router, writing}
+use Rattle.node_model.specs.Writes.{WriteKind}
 
 -- the letter tells an open write, of these statements, outcomes with which its answers are these, which are more than it had
-pub record IsNews (r : Router) (m : Letter) (id : RequestId) (q : Open) (ordered : Bool) (statements : List Statement) (answers : List Done) : Type 0 where
+pub record IsNews (r : Router) (m : Letter) (id : RequestId) (q : Open) (kind : WriteKind) (ordered : Bool) (statements : List Statement) (answers : List Done) : Type 0 where
   pub dones : List Done
   pub before : List Done
   pub opened : open_of r id ≡ Some q
   pub body : m.body ≡ write_done id dones
-  pub work : q.work ≡ writing ordered statements before
+  pub work : q.work ≡ writing kind ordered statements before
   pub are : noted before dones ≡ answers
   pub news : noted before dones ≢ before

@@ -8,6 +8,7 @@ use Rattle.node_model.specs.Outcomes.{Done}
 use Rattle.node_model.specs.RouterRows.{adopted, with_work, stay_in, next_of}
 use Rattle.node_model.specs.States.{Open, Router, router_state, writing, reading, open_with, without, replaced}
 use Rattle.node_model.specs.Tables.{Table}
+use Rattle.node_model.specs.Writes.{WriteKind}
 use Rattle.node_traits.specs.Effects.{AreSound, StepPlanned, spellings}
 use Rattle.node_traits.specs.declared.outputs.ToLink.{ToLink}
 use Rattle.open_requests.specs.Lists.{has_room}
@@ -52,7 +53,7 @@ opens_then r time (Waits count wait) = elim (open_with count r.requests) [ None 
 opens_then r time (Notes count wait answers) = elim (open_with count r.requests) [
   | None ↦ r.requests
   | Some q ↦ elim q.work [
-    | writing ordered statements before ↦ replaced (with_work q (wait_meant wait) (writing ordered statements (map done_meant answers.items))) r.requests
+    | writing kind ordered statements before ↦ replaced (with_work q (wait_meant wait) (writing kind ordered statements (map done_meant answers.items))) r.requests
     | reading at half ↦ r.requests
   ]
 ]
@@ -107,8 +108,8 @@ FollowsBy r begun (Opens q) = (begun ≡ true) × (r.count < 2 ^ 64 - 1) × (q.c
 FollowsBy r begun (Closes count) = begun ≡ false → r.begun ≡ false
 FollowsBy r begun (Waits count wait) = (begun ≡ false → r.begun ≡ false) × (q : Open) × (open_with count r.requests ≡ Some q)
 FollowsBy r begun (Notes count wait answers) =
-    (begun ≡ false → r.begun ≡ false) × (q : Open) × (ordered : Bool) × (statements : List Statement) × (before : List Done)
-    × (open_with count r.requests ≡ Some q) × (q.work ≡ writing ordered statements before)
+    (begun ≡ false → r.begun ≡ false) × (q : Open) × (kind : WriteKind) × (ordered : Bool) × (statements : List Statement) × (before : List Done)
+    × (open_with count r.requests ≡ Some q) × (q.work ≡ writing kind ordered statements before)
 FollowsBy r begun (Learns namespace at table) = begun ≡ false → r.begun ≡ false
 
 abbrev pub Follows : Router → StepPlan → Type 0

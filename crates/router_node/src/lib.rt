@@ -2,6 +2,7 @@
 #![tactic(auto)]
 
 mod begin;
+mod bodies;
 mod clients;
 mod learns;
 mod mail;
@@ -10,6 +11,7 @@ mod node;
 mod plans;
 mod reads;
 mod replies;
+mod statements;
 mod step;
 mod step_plan;
 mod steps;

@@ -2,6 +2,7 @@
 
 ghost use Rattle.std.specs.Prelude.{◌≡◌, ◌≢◌, length, map, true, false, IfOk};
 ghost use Rattle.command_answers.specs.AnswerMeanings.{answer_meant};
+ghost use Rattle.command_answers.specs.Kinds.{kind_meant};
 ghost use Rattle.node_model.specs.Exchanges as asked;
 ghost use Rattle.node_model.specs.Outcomes as outcomes;
 ghost use Rattle.node_model.specs.RouterRows as rows;
@@ -13,7 +14,7 @@ use crate::step_plan::{Change, StepPlan};
 use bson_values::Memory;
 use chunk_table::Table;
 use cluster_base::{RequestId, Time};
-use command_answers::Answer;
+use command_answers::{Answer, WriteKind};
 use open_requests::{OpenRequest, Work, answer_of, is_answered, note};
 use protocol_model::{DoneList, Message, StatementList, WriteDone};
 use std::alloc::Global;
@@ -40,11 +41,11 @@ fn is_all(ordered: bool, statements: &StatementList, answers: &DoneList) -> bool
     is_answered(ordered, statements, answers)
 }
 
-/// What the statements are told together. Fails for want of memory.
-fn answer_to(alloc: Global, answers: &DoneList) -> Result<Answer, Memory>
-    ensures { IfOk result (λ answer. answer_meant answer ≡ outcomes.answer_of (map done_meant answers.now.items)) }
+/// What the statements of a write of this kind are told together. Fails for want of memory, and where that is longer than can be told.
+fn answer_to(alloc: Global, kind: WriteKind, answers: &DoneList) -> Result<Answer, Memory>
+    ensures { IfOk result (λ answer. answer_meant answer ≡ outcomes.answer_of (kind_meant kind) (map done_meant answers.now.items)) }
 {
-    answer_of(alloc, answers)
+    answer_of(alloc, kind, answers)
 }
 
 impl RouterNode {
@@ -52,6 +53,8 @@ impl RouterNode {
     ghost use Rattle.node_model.specs.Letters as letters;
     ghost use Rattle.node_model.specs.RouterRows as rows;
     ghost use Rattle.node_model.specs.States as states;
+    ghost use Rattle.node_model.specs.Writes as writes;
+    ghost use Rattle.command_answers.specs.Kinds.{kind_meant};
     ghost use Rattle.open_requests.specs.Askers.{asking, letters_of};
     ghost use Rattle.open_requests.specs.Works.{open_meant};
     ghost use Rattle.std.specs.Option.{option_map};
@@ -68,14 +71,15 @@ impl RouterNode {
         time: Time,
         id: RequestId,
         request: &OpenRequest,
+        kind: WriteKind,
         ordered: bool,
         noted: &DoneList,
     ) -> Result<StepPlan, Memory>
         ensures { (m : letters.Letter) (statements : List letters.Statement) → time.0 ≡ rows.heard (router_of self.now) m →
-            IsNews (router_of self.now) m (id_meant id) (open_meant self.now.me.0 self.now.life request.now) ordered statements (map done_meant noted.now.items) →
+            IsNews (router_of self.now) m (id_meant id) (open_meant self.now.me.0 self.now.life request.now) (kind_meant kind) ordered statements (map done_meant noted.now.items) →
             rows.is_answered ordered statements (map done_meant noted.now.items) ≡ true → IfOk result (λ p. IsHeard (router_of self.now) m p) }
     {
-        let answer = answer_to(self.alloc, noted)?;
+        let answer = answer_to(self.alloc, kind, noted)?;
         let reply = reply_to(
             self.alloc,
             request.link,
@@ -96,8 +100,8 @@ impl RouterNode {
         statements: &StatementList,
         noted: &DoneList,
     ) -> Result<Option<Message>, Memory>
-        ensures { IfOk result (λ m. letters_of m ≡ rows.asks_by (asking self.now.me.0 self.now.life) time.0 request.now.count request.now.namespace
-            (states.writing ordered (map (λ s. statement_meant (rows.id_of (router_of self.now) request.now.count) s) statements.now.items) (map done_meant noted.now.items))
+        ensures { (kind : writes.WriteKind) → IfOk result (λ m. letters_of m ≡ rows.asks_by (asking self.now.me.0 self.now.life) time.0 request.now.count request.now.namespace
+            (states.writing kind ordered (map (λ s. statement_meant (rows.id_of (router_of self.now) request.now.count) s) statements.now.items) (map done_meant noted.now.items))
             (option_map (λ t. t.now) table.entry)) }
     {
         let namespace = &request.namespace;
@@ -118,8 +122,8 @@ impl RouterNode {
         statements: &StatementList,
         noted: DoneList,
     ) -> Result<StepPlan, Memory>
-        ensures { (m : letters.Letter) → time.0 ≡ rows.heard (router_of self.now) m →
-            IsNews (router_of self.now) m (id_meant id) (open_meant self.now.me.0 self.now.life request.now) ordered
+        ensures { (m : letters.Letter) (kind : writes.WriteKind) → time.0 ≡ rows.heard (router_of self.now) m →
+            IsNews (router_of self.now) m (id_meant id) (open_meant self.now.me.0 self.now.life request.now) kind ordered
             (map (λ s. statement_meant (rows.id_of (router_of self.now) request.now.count) s) statements.now.items) (map done_meant noted.items) →
             rows.is_answered ordered (map (λ s. statement_meant (rows.id_of (router_of self.now) request.now.count) s) statements.now.items) (map done_meant noted.items) ≡ false →
             IfOk result (λ p. IsHeard (router_of self.now) m p) }
@@ -136,17 +140,18 @@ impl RouterNode {
         time: Time,
         id: RequestId,
         request: &OpenRequest,
+        kind: WriteKind,
         ordered: bool,
         statements: &StatementList,
         noted: DoneList,
     ) -> Result<StepPlan, Memory>
         ensures { (m : letters.Letter) → time.0 ≡ rows.heard (router_of self.now) m →
-            IsNews (router_of self.now) m (id_meant id) (open_meant self.now.me.0 self.now.life request.now) ordered
+            IsNews (router_of self.now) m (id_meant id) (open_meant self.now.me.0 self.now.life request.now) (kind_meant kind) ordered
             (map (λ s. statement_meant (rows.id_of (router_of self.now) request.now.count) s) statements.now.items) (map done_meant noted.items) →
             IfOk result (λ p. IsHeard (router_of self.now) m p) }
     {
         if is_all(ordered, statements, &noted) {
-            self.plan_all(time, id, request, ordered, &noted)
+            self.plan_all(time, id, request, kind, ordered, &noted)
         } else {
             self.plan_rest(time, id, request, ordered, statements, noted)
         }
@@ -161,6 +166,7 @@ impl RouterNode {
             Some(request) => match &request.work {
                 Work::Reading { .. } => Ok(self.late(time)),
                 Work::Writing {
+                    kind,
                     ordered,
                     statements,
                     answers,
@@ -169,7 +175,7 @@ impl RouterNode {
                     if are_as_many(answers, &noted) {
                         Ok(self.late(time))
                     } else {
-                        self.plan_noted(time, told.id, request, *ordered, statements, noted)
+                        self.plan_noted(time, told.id, request, *kind, *ordered, statements, noted)
                     }
                 }
             },

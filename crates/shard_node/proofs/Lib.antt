@@ -1,3 +1,4 @@
+pub mod UpsertedKeys
 pub mod Planned
 pub mod Writing
 pub mod Serving

@@ -1,37 +1,27 @@
 -- The record of an entry that is served.
 use Rattle.std.proofs.Common.{◌≡◌, ◌≢◌, ◌+◌, ℕ, List, [], ◌∷◌, ◌++◌, refl, sym, ap, subst, ◌∙◌, arith}
-use Rattle.std.specs.Prelude.{Option, Some, None, pos}
-use Rattle.bson_values.specs.Tree.{Fields}
-use Rattle.cluster_base.specs.declared.identity.Stmt.{Stmt}
-use Rattle.value_compare.specs.declared.words.Reply.{Reply}
-use Rattle.node_model.specs.Outcomes.{Done, done_of}
-use Rattle.node_model.specs.History as history
-use Rattle.node_model.specs.Service.{entry_for}
-use Rattle.node_traits.specs.History.{StatementNumber, insert_operation, Entry}
-use Rattle.node_traits.specs.Letters.{Statement}
-use Rattle.shard_records.specs.Meanings as words
-use Rattle.shard_records.specs.Records.{Record, OutcomeWords, entry_record, outcome_words, record_of}
-use Rattle.shard_records.specs.RecordFormat.{spelled, IsSound}
-use Rattle.node_traits.specs.Ids.{id_meant}
-use Rattle.shard_store.specs.Outcomes.{outcome_meant, reply_meant, done_meant}
-use Rattle.shard_store.specs.Plans.{IsServed, served_again, served_new, left_for_later, made_by}
-use Rattle.shard_store.specs.declared.plan.Plan.{Plan}
-use Rattle.shard_store.specs.declared.outcome.InsertOutcome.{InsertOutcome}
-use Rattle.shard_store.specs.declared.outcome.InsertOutcome.TheVariants.{Inserted, Duplicate, TooLarge}
-use Rattle.shard_store.specs.declared.outcome.InsertResult.{InsertResult}
+use Rattle.std.specs.Prelude.{Option, Some, None}
 use Rattle.cluster_base.specs.declared.identity.RequestId.{RequestId}
+use Rattle.cluster_base.specs.declared.identity.Stmt.{Stmt}
+use Rattle.node_model.specs.Outcomes.{Done, done_of}
+use Rattle.node_model.specs.Service.{entry_for}
 use Rattle.node_traits.specs.Exchanges.{number_for}
+use Rattle.node_traits.specs.History.{Operation, Entry, document_left, key_written}
+use Rattle.node_traits.specs.Ids.{id_meant}
+use Rattle.node_traits.specs.Letters.{Statement}
 use Rattle.node_traits.specs.Lists.{listed}
 use Rattle.protocol_model.specs.Statements as protocol
-use Rattle.shard_store.specs.Outcomes.{statement_of}
+use Rattle.shard_records.specs.Meanings as words
+use Rattle.shard_records.specs.Records.{Record, entry_record, outcome_words, record_of}
+use Rattle.shard_records.specs.RecordFormat.{spelled, IsSound}
+use Rattle.shard_records.specs.Sizes.{IsWritableKey}
+use Rattle.shard_store.specs.Outcomes.{outcome_meant, done_meant, statement_of}
+use Rattle.shard_store.specs.Plans.{IsServed, served_again, served_new, left_for_later, made_by}
+use Rattle.shard_store.specs.declared.outcome.EntryResult.{EntryResult}
+use Rattle.shard_store.specs.declared.plan.Plan.{Plan}
 use Rattle.shard_node.specs.declared.writes.StatementResult.{StatementResult}
+use Rattle.shard_node.proofs.UpsertedKeys.{short_key}
 use Rattle.shard_node.specs.Writes.{entry_record_of, AreKept, IsStep}
-
--- a reply tells the outcome in the words of a record
-pub words_of : (o : InsertOutcome) → words.outcome_meant (reply_meant o) ≡ outcome_words (outcome_meant o)
-words_of Inserted = refl
-words_of Duplicate = refl
-words_of TooLarge = refl
 
 module _ (shard : ℕ) (namespace : List ℕ) (entries : List Entry) (time : ℕ) (s : Statement) where
   never_later : (t : ℕ) → t ≡ t + 1 → ⊥
@@ -43,22 +33,31 @@ module _ (shard : ℕ) (namespace : List ℕ) (entries : List Entry) (time : ℕ
   kept_none o more after (served_new unseen) same = absurd (never_later time (sym same))
   kept_none o more after left_for_later same = record { spelled = refl; sound = tt }
 
+  -- where one was, the key that is told is short
+  pub told_short : (o : Option Done) (more : List Entry) (after : ℕ) (index : ℕ) (told : EntryResult) → IsServed shard namespace entries time s o more after → after ≢ time →
+      o ≡ Some (done_meant index told) → IsWritableKey (outcome_meant told.outcome).upserted
+  told_short o more after index told (served_again e seen) later is = absurd (later refl)
+  told_short o more after index told left_for_later later is = absurd (later refl)
+  told_short o more after index told (served_new unseen) later is =
+      let same : done_of (entry_for entries (time + 1) shard namespace s) ≡ done_meant index told = cc in
+      short_key s.operation (document_left namespace (key_written s.operation) entries) (outcome_meant told.outcome) (sym (ap (λ (d : Done). d.outcome) same))
+
   -- where one was, the entry is what was told
-  pub kept_one : (o : Option Done) (more : List Entry) (after : ℕ) (index : ℕ) (told : InsertResult) (statement : Stmt) (document : Fields) (bytes : List ℕ) →
+  pub kept_one : (o : Option Done) (more : List Entry) (after : ℕ) (index : ℕ) (told : EntryResult) (statement : Stmt) (operation : Operation) (bytes : List ℕ) →
       IsServed shard namespace entries time s o more after → after ≢ time → o ≡ Some (done_meant index told) → words.number_meant statement ≡ s.number →
-      s.operation ≡ insert_operation document → bytes ≡ spelled 1 (entry_record_of told namespace statement document) → IsSound (entry_record_of told namespace statement document) →
+      s.operation ≡ operation → bytes ≡ spelled 1 (entry_record_of told namespace statement operation) → IsSound (entry_record_of told namespace statement operation) →
       AreKept more (bytes ∷ [])
-  kept_one o more after index told statement document bytes (served_again e seen) later is number operation spells sound = absurd (later refl)
-  kept_one o more after index told statement document bytes left_for_later later is number operation spells sound = absurd (later refl)
-  kept_one o more after index told statement document bytes (served_new unseen) later is number operation spells sound =
+  kept_one o more after index told statement operation bytes (served_again e seen) later is number same_words spells sound = absurd (later refl)
+  kept_one o more after index told statement operation bytes left_for_later later is number same_words spells sound = absurd (later refl)
+  kept_one o more after index told statement operation bytes (served_new unseen) later is number same_words spells sound =
       let e = entry_for entries (time + 1) shard namespace s in
       let same : done_of e ≡ done_meant index told = cc in
-      let r : record_of e ≡ entry_record_of told namespace statement document =
+      let r : record_of e ≡ entry_record_of told namespace statement operation =
       λ i. entry_record (record {
         time = (same i).time;
         namespace = namespace;
         number = sym number i;
-        operation = operation i;
+        operation = same_words i;
         outcome = outcome_words (same i).outcome;
       }) in
       record {
@@ -72,13 +71,13 @@ own_number id index statement is = ap (λ (x : Stmt). words.number_meant x) is
 
 -- a statement that takes a time makes an entry, with its record
 pub step_new : (store shard : ℕ) (namespace : List ℕ) (entries : List Entry) (plan plan_then : Plan) (time after : ℕ) (t s : Statement) (o : Option Done) (id : RequestId) (index : ℕ)
-    (told : InsertResult) (statement : Stmt) (document : Fields) (served : StatementResult) (bytes : List ℕ) → store ≡ shard
+    (told : EntryResult) (statement : Stmt) (operation : Operation) (served : StatementResult) (bytes : List ℕ) → store ≡ shard
     → ((more : List Entry) × (made_by store namespace plan_then ≡ made_by store namespace plan ++ more) × IsServed store namespace (entries ++ made_by store namespace plan) time t o more after)
     → t ≡ s → o ≡ Some (done_meant index told) → protocol.done_meant served.done ≡ done_meant index told → after ≢ time → statement ≡ statement_of id index
-    → number_for (id_meant id) index ≡ s.number → s.operation ≡ insert_operation document
-    → bytes ≡ spelled 1 (entry_record_of told namespace statement document) → IsSound (entry_record_of told namespace statement document) → served.record ≡ Some bytes
+    → number_for (id_meant id) index ≡ s.number → s.operation ≡ operation
+    → bytes ≡ spelled 1 (entry_record_of told namespace statement operation) → IsSound (entry_record_of told namespace statement operation) → served.record ≡ Some bytes
     → IsStep shard namespace entries (made_by shard namespace plan) time s (Some served) (made_by shard namespace plan_then) after
-step_new store shard namespace entries plan plan_then time after t s o id index told statement document served bytes own served_there same is done later number numbered operation spells sound written =
+step_new store shard namespace entries plan plan_then time after t s o id index told statement operation served bytes own served_there same is done later number numbered same_words spells sound written =
     let served_is = subst
     (λ (n : ℕ). (more : List Entry) × (made_by n namespace plan_then ≡ made_by n namespace plan ++ more) × IsServed n namespace (entries ++ made_by n namespace plan) time t o more after)
     own served_there in
@@ -89,6 +88,6 @@ step_new store shard namespace entries plan plan_then time after t s o id index 
       grown = served_is.1;
       served_is = subst (λ (x : Option Done). IsServed shard namespace (entries ++ made_by shard namespace plan) time s x served_is.0 after) (is ∙ ap (λ (d : Done). Some d) (sym done)) serving;
       kept = subst (λ (x : Option (List ℕ)). AreKept served_is.0 (listed x)) (sym written)
-          (kept_one shard namespace (entries ++ made_by shard namespace plan) time s o served_is.0 after index told statement document bytes serving later is
-          (own_number id index statement number ∙ numbered) operation spells sound);
+          (kept_one shard namespace (entries ++ made_by shard namespace plan) time s o served_is.0 after index told statement operation bytes serving later is
+          (own_number id index statement number ∙ numbered) same_words spells sound);
     }

@@ -2,9 +2,8 @@
 use Rattle.std.specs.Prelude.{◌≡◌, ℕ, List, [], ◌∷◌, ◌++◌, map, Option, Some, None}
 use Rattle.std.specs.List.{AllByRecursion}
 use Rattle.std.specs.Option.{option_map}
-use Rattle.bson_values.specs.Tree.{Fields}
 use Rattle.cluster_base.specs.declared.identity.Stmt.{Stmt}
-use Rattle.node_traits.specs.History.{insert_operation, Entry}
+use Rattle.node_traits.specs.History.{Operation, Entry}
 use Rattle.node_traits.specs.Letters.{Statement}
 use Rattle.node_traits.specs.Lists.{listed}
 use Rattle.protocol_model.specs.Statements.{done_meant}
@@ -13,16 +12,16 @@ use Rattle.shard_records.specs.Records.{Record, entry_record, outcome_words, rec
 use Rattle.shard_records.specs.RecordFormat.{spelled, IsSound}
 use Rattle.shard_store.specs.Outcomes.{outcome_meant}
 use Rattle.shard_store.specs.Plans.{IsServed}
-use Rattle.shard_store.specs.declared.outcome.InsertResult.{InsertResult}
+use Rattle.shard_store.specs.declared.outcome.EntryResult.{EntryResult}
 use Rattle.shard_node.specs.declared.writes.StatementResult.{StatementResult}
 
 -- the record of a statement's entry
-abbrev pub entry_record_of : InsertResult → List ℕ → Stmt → Fields → Record
-entry_record_of told namespace statement document = entry_record (record {
+abbrev pub entry_record_of : EntryResult → List ℕ → Stmt → Operation → Record
+entry_record_of told namespace statement operation = entry_record (record {
   time = told.time.0;
   namespace = namespace;
   number = number_meant statement;
-  operation = insert_operation document;
+  operation = operation;
   outcome = outcome_words (outcome_meant told.outcome);
 })
 

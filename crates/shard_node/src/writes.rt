@@ -3,7 +3,7 @@
 ghost use Rattle.std.specs.Prelude.{◌≡◌, ◌≢◌, ◌≤◌, ◌<◌, ◌+◌, ◌-◌, ◌^◌, ◌++◌, ◌∷◌, [], ℕ, List, IfOk, IfSome, OnOk, None, Some, false, map, length};
 ghost use Rattle.std.specs.List.{AllByRecursion};
 ghost use Rattle.std.specs.Option.{IsSome, option_map};
-ghost use Rattle.bson_values.specs.Tree.{Fields};
+ghost use Rattle.std.specs.Arc.{arc_value};
 ghost use Rattle.chunk_table.specs.VerdictMeanings.{sent_meant};
 ghost use Rattle.chunk_table.specs.Tables.{table_of};
 ghost use Rattle.chunk_table.specs.Verdicts.{fits, verdict_of};
@@ -18,13 +18,17 @@ ghost use Rattle.node_traits.specs.Lists.{listed};
 ghost use Rattle.node_traits.specs.ShardRows.{Ask, ask_in, heard, was_seen};
 ghost use Rattle.node_traits.specs.Ids.{id_meant};
 ghost use Rattle.protocol_model.specs.Bodies.{write_ask_meant};
-ghost use Rattle.protocol_model.specs.Statements.{done_meant, statement_meant};
+ghost use Rattle.protocol_model.specs.Statements.{done_meant, operation_meant, statement_meant};
 ghost use Rattle.shard_node.specs.Plans.{Follows, IsPlanned};
 ghost use Rattle.shard_node.specs.Progress.{GoesOn, GoesOrEnds};
 ghost use Rattle.shard_node.specs.State.{shard_meant};
 ghost use Rattle.shard_node.specs.Writes.{AreKept, IsStep, entry_record_of, record_in};
+ghost use Rattle.shard_records.specs.Meanings.{operation_lent};
 ghost use Rattle.shard_records.specs.RecordFormat.{spelled, IsSound};
+ghost use Rattle.shard_records.specs.Sizes.{IsWritableKey};
+ghost use Rattle.shard_store.specs.Entries.{operation_of};
 ghost use Rattle.shard_store.specs.Outcomes as outcomes;
+ghost use Rattle.shard_store.specs.Outcomes.{outcome_meant};
 ghost use Rattle.shard_store.specs.Plans.{IsPlan, IsServed, made_by, planned_in, time_of};
 ghost use Rattle.shard_store.specs.Stores.{entries_of, last_of};
 
@@ -35,8 +39,10 @@ use cluster_base::{Namespace, Stmt, Time};
 use node_traits::MailList;
 use protocol_model::{Body, Done, DoneList, Operation, Outcome, Statement, WriteAsk, WriteDone};
 use shard_records::{WordsRef, write_entry};
-use shard_store::{InsertResult, Plan as Entries, own_statement};
+use shard_store::{EntryResult, Plan as Entries, Words, own_statement};
 use std::alloc::Global;
+use std::sync::Arc;
+use value_compare::{Key, Reply};
 
 /// So many statements of an ask are served in one step at most.
 const MOST_SERVED: usize = 100_000;
@@ -55,20 +61,40 @@ pub(crate) struct WriteResult {
     pub(crate) records: Vec<Blob>,
 }
 
-// What a statement with this index is told, as a message tells it.
-fn done_of(index: u32, told: InsertResult) -> Done
-    ensures { done_meant result ≡ outcomes.done_meant index told }
+// The key, to be shared, if there is one. Fails for want of memory.
+fn share_key(alloc: Global, key: Option<Key>) -> Result<Option<Arc<Key, Global>>, Memory>
+    ensures { IfOk result (λ shared. option_map (λ k. arc_value k) shared ≡ key) }
 {
-    Done {
-        index,
-        time: told.time,
-        outcome: Outcome {
-            count: told.outcome.count(),
-            modified: 0,
-            upserted: None,
-            error: told.outcome.error(),
-        },
+    match key {
+        Some(key) => Ok(Some(Arc::new(alloc, key)?)),
+        None => Ok(None),
     }
+}
+
+// What a statement with this index is told, as a message tells it. Fails for want of memory.
+fn done_of(alloc: Global, index: u32, told: EntryResult) -> Result<Done, Memory>
+    ensures { IfOk result (λ d. done_meant d ≡ outcomes.done_meant index told) }
+{
+    let EntryResult { time, outcome } = told;
+    let error = outcome.error();
+    let Reply {
+        n,
+        modified,
+        upserted,
+        ..
+    } = outcome.into_reply();
+    let upserted = share_key(alloc, upserted)?;
+    let outcome = Outcome {
+        count: n,
+        modified,
+        upserted,
+        error,
+    };
+    Ok(Done {
+        index,
+        time,
+        outcome,
+    })
 }
 
 // Whether a statement that is told this ends an ordered command.
@@ -78,22 +104,47 @@ fn ends(ordered: bool, done: &Done) -> bool
     ordered && done.outcome.error.is_some()
 }
 
+// What a statement does, lent; it may be kept.
+fn words_of(operation: &Operation) -> WordsRef<'_>
+    ensures words { operation_lent result ≡ operation_meant operation.now }
+    ensures keepable { IsKeepable (operation_meant operation.now) }
+{
+    match operation {
+        Operation::Insert(document) => {
+            let document: &Document = document.document();
+            WordsRef::Insert(document)
+        }
+        Operation::Change(change) => WordsRef::of(change.words()),
+    }
+}
+
+// What a statement does, shared; it may be kept. Fails for want of memory.
+fn share_words(operation: &Operation) -> Result<Words, Memory>
+    ensures words { IfOk result (λ words. operation_of words ≡ operation_meant operation.now) }
+    ensures keepable { IsKeepable (operation_meant operation.now) }
+{
+    match operation {
+        Operation::Insert(document) => Ok(Words::Insert(Arc::try_clone(document.document())?)),
+        Operation::Change(change) => Ok(Words::Change(Arc::try_clone(change.words())?)),
+    }
+}
+
 // The record of an entry. Fails for want of memory.
 fn entry_bytes(
     alloc: Global,
-    told: InsertResult,
+    told: &EntryResult,
     namespace: &Namespace,
     statement: &Stmt,
-    document: &Document,
+    operation: &Operation,
 ) -> Result<Blob, Memory>
-    requires keepable { IsKeepable document.now }
-    ensures { IfOk result (λ b. (b ≡ spelled 1 (entry_record_of told namespace.now statement.now document.now))
-        × IsSound (entry_record_of told namespace.now statement.now document.now)) }
+    requires key { IsWritableKey (outcome_meant told.now.outcome).upserted }
+    ensures { IfOk result (λ b. (b ≡ spelled 1 (entry_record_of told.now namespace.now statement.now (operation_meant operation.now)))
+        × IsSound (entry_record_of told.now namespace.now statement.now (operation_meant operation.now))) }
 {
     let mut bytes = Vec::new(alloc);
-    let words = WordsRef::Insert(document);
+    let words = words_of(operation);
     let reply = told.outcome.reply();
-    write_entry(told.time, namespace, statement, &words, &reply, &mut bytes)?;
+    write_entry(told.time, namespace, statement, &words, reply, &mut bytes)?;
     Blob::of(alloc, &bytes)
 }
 
@@ -143,29 +194,24 @@ impl ShardNode {
         ensures id { entries.new.id ≡ entries.old.id }
     {
         let before = entries.time();
-        let Operation::Insert(document) = &statement.operation;
-        let told = self.store.serve(
-            entries,
-            self.alloc,
-            &ask.namespace,
-            statement.index,
-            document.document(),
-        )?;
+        let words = share_words(&statement.operation)?;
+        let told = self.store.serve(entries, self.alloc, &ask.namespace, statement.index, words)?;
         let Some(told) = told else {
             return Ok(None);
         };
-        let done = done_of(statement.index, told);
         if entries.time().0 == before.0 {
+            let done = done_of(self.alloc, statement.index, told)?;
             return Ok(Some(StatementResult { done, record: None }));
         }
         let number = own_statement(ask.id, statement.index);
         let record = entry_bytes(
             self.alloc,
-            told,
+            &told,
             &ask.namespace,
             &number,
-            document.document(),
+            &statement.operation,
         )?;
+        let done = done_of(self.alloc, statement.index, told)?;
         Ok(Some(StatementResult {
             done,
             record: Some(record),
@@ -271,11 +317,11 @@ impl ShardNode {
         let Some(statement) = ask.statements.first() else {
             return Ok(None);
         };
-        let Some(told) = self.store.look(ask.id, statement.index) else {
+        let Some(told) = self.store.look(ask.id, statement.index)? else {
             return Ok(None);
         };
         let mut dones = Vec::new(self.alloc);
-        dones.push(done_of(statement.index, told))?;
+        dones.push(done_of(self.alloc, statement.index, told)?)?;
         let done = WriteDone { id: ask.id, dones };
         let answer = self.message(ask.id.router, time, Body::WriteDone(done));
         Ok(Some(Plan::of_message(self.alloc, time, answer)))

@@ -1,21 +1,24 @@
 -- What a store says of itself, once it has one more entry.
 use Rattle.std.proofs.Common.{◌≡◌, ◌≤◌, ◌<◌, ◌⊎◌, inl, inr, ℕ, List, [], ◌∷◌, ◌++◌, refl, sym, ap, subst, ◌∙◌, arith}
-use Rattle.std.specs.Prelude.{Bool, true, false, Option, Some, None, pos, IfSome}
+use Rattle.std.specs.Prelude.{Bool, true, false, ◌&&◌, Option, Some, None, Result, Ok, Err, pos, IfSome, OnOk, filter, nat_le, if◌then◌else◌}
 use Rattle.std.specs.List.{AllByRecursion}
+use Rattle.std.specs.Result.{result_ok}
 use Rattle.std.specs.Str.{bytes_eq}
 use Rattle.std.proofs.lemmas.List.{map-append}
-use Rattle.bson_values.specs.Tree.{Datum}
-use Rattle.value_compare.specs.Keys.{is_key}
+use Rattle.bson_values.specs.Tree.{Datum, Fields}
 use Rattle.value_compare.specs.Order.{same_value}
-use Rattle.bson_model.proofs.Booleans.{both}
+use Rattle.value_model.specs.Keys.{KeyFault, is_key, key_of, valid_key}
 use Rattle.value_model.proofs.Spans.{same_is_key}
-use Rattle.node_model.specs.History.{Operation, insert_operation, same_key, key_written, Entry, writes_to, document_after, document_at, IsIn}
-use Rattle.history_model.proofs.LegalHistories.{insert_key, key_inserted}
-use Rattle.history_model.proofs.Lists.{all_filter, all_from, in_push}
-use Rattle.history_model.proofs.StandingDocuments.{IsInsert}
+use Rattle.node_model.specs.History.{same_key, key_read, key_written, read_operation, Entry, writes_to, document_after, document_at, IsIn}
+use Rattle.history_model.proofs.Lists.{all_from, in_push}
 use Rattle.query_model.proofs.KeysAsked.{valid_from}
-use Rattle.value_model.specs.Keys.{key_of}
+use Rattle.query_model.specs.KeySpans.{key_asked}
+use Rattle.query_model.specs.Queries.{QueryFault}
+use Rattle.query_model.specs.Writes.{Write, insert_write, update_write, delete_write}
+use Rattle.query_model.specs.Effects.{write_key}
 use Rattle.shard_store.proofs.Seen.{AreZero}
+use Rattle.shard_store.specs.Collections.{room_under}
+use Rattle.shard_store.specs.declared.collections.Collections.{Collections}
 use Rattle.shard_store.specs.Entries.{Kept, entry_meant, entries_kept, note_kept, notes_kept}
 use Rattle.shard_store.specs.declared.entry.Planned.{Planned}
 
@@ -59,30 +62,63 @@ versions_grown was now last time each later entered t e = by_part (entered t e)
     by_part (inl same) = omega (arith, same)
     by_part (inr old) = omega (arith, each t old, later)
 
+pub on_ok : {T E : Type 0} (r : Result T E) (P Q : Type 0) → (P → Q) → OnOk r P → OnOk r Q
+on_ok (Ok x) P Q step all = step all
+on_ok (Err e) P Q step all = tt
+
+-- room in the same collections for the same entries
+pub same_rooms : (c : Collections) (m n : List ℕ) (ps qs : List Planned) → m ≡ n → ps ≡ qs → AllByRecursion (λ (p : Planned). 1 ≤ room_under c m p.key) ps →
+    AllByRecursion (λ (p : Planned). 1 ≤ room_under c n p.key) qs
+same_rooms c m n ps qs name same all =
+    subst (λ (l : List ℕ). AllByRecursion (λ (p : Planned). 1 ≤ room_under c l p.key) qs) name
+    (subst (λ (l : List Planned). AllByRecursion (λ (p : Planned). 1 ≤ room_under c m p.key) l) same all)
+
 -- NOTHING STANDS UNDER WHAT IS NO KEY
 
-inserts_kept : (shard : ℕ) (kept : List Kept) → AllByRecursion IsInsert (entries_kept shard kept)
-inserts_kept shard [] = tt
-inserts_kept shard (k ∷ kept) = ((_, refl), inserts_kept shard kept)
+valid_is : (found : Result Datum KeyFault) (document : Fields) (key : Datum) → valid_key document ≡ found → result_ok found ≡ Some key → is_key key ≡ true
+valid_is (Ok d) document key is e =
+    let same : d ≡ key = cc in
+    ap is_key (sym same) ∙ (valid_from (key_of document) d is).1
+valid_is (Err fault) document key is e = absurd cc
 
-never_writes : (namespace : List ℕ) (d : Datum) → is_key d ≡ false → (e : Entry) → IsInsert e → writes_to namespace (Some d) e ≡ false
-never_writes namespace d none e inserts = by_test (writes_to namespace (Some d) e) refl
+asked_is : (asked : Option Datum) (key : Datum) → elim asked [ None ↦ None | Some x ↦ if is_key x then Some x else None ] ≡ Some key → is_key key ≡ true
+asked_is None key e = absurd cc
+asked_is (Some x) key e = by_test (is_key x) refl e
   where
-    by_test : (b : Bool) → writes_to namespace (Some d) e ≡ b → b ≡ false
+    by_test : (b : Bool) → is_key x ≡ b → (if b then Some x else None) ≡ Some key → is_key key ≡ true
+    by_test true is h = let same : x ≡ key = cc in ap is_key (sym same) ∙ is
+    by_test false is h = absurd cc
+
+write_is : (write : Write) (key : Datum) → write_key write ≡ Some key → is_key key ≡ true
+write_is (insert_write document) key e = valid_is (valid_key document) document key refl e
+write_is (update_write asked change start) key e = asked_is (key_asked asked) key e
+write_is (delete_write asked) key e = asked_is (key_asked asked) key e
+
+-- an operation acts under what is a key
+read_is : (read : Result Write QueryFault) (key : Datum) → key_read read ≡ Some key → is_key key ≡ true
+read_is (Ok write) key e = write_is write key e
+read_is (Err fault) key e = absurd cc
+
+other_key : (written : Option Datum) (d : Datum) → is_key d ≡ false → ((key : Datum) → written ≡ Some key → is_key key ≡ true) → same_key written (Some d) ≡ false
+other_key None d none own = refl
+other_key (Some key) d none own = by_test (same_value key d) refl
+  where
+    by_test : (b : Bool) → same_value key d ≡ b → b ≡ false
     by_test false h = refl
-    by_test true h =
-        let document = inserts.0 in
-        let under : same_key (key_written (insert_operation document)) (Some d) ≡ true =
-        subst (λ (o : Operation). same_key (key_written o) (Some d) ≡ true) inserts.1 (both (bytes_eq e.namespace namespace) (same_key (key_written e.operation) (Some d)) h).1 in
-        let own = key_inserted document (Some d) under in
-        let same : same_value own.0 d ≡ true = sym (ap (λ (k : Option Datum). same_key k (Some d)) (insert_key document own.0 own.1)) ∙ under in
-        sym (valid_from (key_of document) own.0 own.1).1 ∙ same_is_key own.0 d same ∙ none
+    by_test true h = sym (own key refl) ∙ same_is_key key d h ∙ none
 
-never_left : (namespace : List ℕ) (d : Datum) → is_key d ≡ false → (es : List Entry) → AllByRecursion IsInsert es → document_after namespace (Some d) None es ≡ None
-never_left namespace d none [] inserts = refl
-never_left namespace d none (e ∷ es) inserts = rw (never_writes namespace d none e inserts.0) (never_left namespace d none es inserts.1)
+and_false : (a b : Bool) → b ≡ false → (a && b) ≡ false
+and_false true b e = e
+and_false false b e = refl
 
-pub nothing_at : (shard : ℕ) (kept : List Kept) (namespace : List ℕ) (d : Datum) (time : ℕ) → is_key d ≡ false →
-    document_at (entries_kept shard kept) namespace (Some d) time ≡ None
-nothing_at shard kept namespace d time none =
-    never_left namespace d none _ (all_filter IsInsert _ (entries_kept shard kept) (inserts_kept shard kept))
+never_writes : (namespace : List ℕ) (d : Datum) → is_key d ≡ false → (e : Entry) → writes_to namespace (Some d) e ≡ false
+never_writes namespace d none e =
+    and_false (bytes_eq e.namespace namespace) (same_key (key_written e.operation) (Some d))
+    (other_key (key_written e.operation) d none (λ key is. read_is (read_operation e.operation) key is))
+
+never_left : (namespace : List ℕ) (d : Datum) → is_key d ≡ false → (es : List Entry) → document_after namespace (Some d) None es ≡ None
+never_left namespace d none [] = refl
+never_left namespace d none (e ∷ es) = rw (never_writes namespace d none e) (never_left namespace d none es)
+
+pub nothing_at : (entries : List Entry) (namespace : List ℕ) (d : Datum) (time : ℕ) → is_key d ≡ false → document_at entries namespace (Some d) time ≡ None
+nothing_at entries namespace d time none = never_left namespace d none (filter (λ (e : Entry). nat_le e.time time) entries)

@@ -1,3 +1,5 @@
+pub mod Effects
+pub mod Faults
 pub mod Facts
 pub mod Following
 pub mod Lists

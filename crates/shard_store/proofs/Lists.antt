@@ -21,3 +21,8 @@ or_none false = refl
 pub any_push : {X : Type 0} (test : X → Bool) (xs : List X) (y : X) → list_any test (xs ++ y ∷ []) ≡ (list_any test xs || test y)
 any_push test [] y = or_none (test y)
 any_push test (x ∷ xs) y = ap (λ (b : Bool). test x || b) (any_push test xs y) ∙ or_again (test x) (list_any test xs) (test y)
+
+-- nothing passes a test where nothing is
+pub none_passes : {X : Type 0} (test : X → Bool) (xs : List X) (b : Bool) → b ≡ list_any test xs → b ≡ true → xs ≡ [] → ⊥
+none_passes test [] b is passed none = let clash : true ≡ false = sym passed ∙ is in cc
+none_passes test (x ∷ xs) b is passed none = cc

@@ -1,26 +1,22 @@
--- What entries leave at a time, with one more that puts a document in.
-use Rattle.std.proofs.Common.{◌≡◌, ◌≤◌, ◌<◌, ◌⊎◌, inl, inr, ℕ, List, [], ◌∷◌, ◌++◌, refl, sym, ap, ◌∙◌, arith, append-nil}
-use Rattle.std.specs.Prelude.{Bool, true, false, ◌&&◌, Option, Some, None, filter, nat_le, Ok, if◌then◌else◌}
-use Rattle.std.specs.Arc.{arc_value}
+-- What entries leave at a time, with one more.
+use Rattle.std.proofs.Common.{◌≡◌, ◌≤◌, ◌<◌, ◌⊎◌, inl, inr, ℕ, List, [], ◌∷◌, ◌++◌, refl, sym, ap, subst, ◌∙◌, arith, append-nil}
+use Rattle.std.specs.Prelude.{Bool, true, false, ◌&&◌, Option, Some, None, filter, nat_le, if◌then◌else◌}
 use Rattle.std.specs.Str.{bytes_eq}
 use Rattle.std.proofs.lemmas.Bool.{le-leb}
 use Rattle.std.proofs.lemmas.Bool.Decides.{leb_tells}
 use Rattle.std.proofs.lemmas.List.Elements.{filter-append}
 use Rattle.std.proofs.lemmas.Slice.Eq.{bytes_eq-Decides}
 use Rattle.bson_values.specs.Tree.{Datum, Fields}
-use Rattle.value_compare.specs.Keys.{valid_key}
 use Rattle.value_compare.specs.Order.{same_value}
-use Rattle.node_model.specs.Errors.{duplicate_key, object_too_large}
-use Rattle.node_model.specs.History.{insert_operation, Outcome, done, is_too_large, same_key, key_written, effect, Entry, writes_to, document_after, document_left, document_at, IsIn}
-use Rattle.history_model.proofs.LegalHistories.{insert_again, insert_key, insert_new, put_in, refused_leaves, same_written}
+use Rattle.node_model.specs.History.{Operation, same_key, key_written, effect, Entry, writes_to, document_after, document_left, document_at, IsIn}
+use Rattle.history_model.proofs.LegalHistories.{same_written}
 use Rattle.history_model.proofs.Lists.{in_first, in_later}
 use Rattle.history_model.proofs.Stores.{document_after_push}
 use Rattle.history_model.specs.Versions.{one_more}
-use Rattle.shard_store.specs.Entries.{entry_meant, is_inserted, put_of, puts}
-use Rattle.shard_store.specs.Outcomes.{outcome_meant}
+use Rattle.shard_store.specs.Entries.{entry_meant, is_other, left_behind, operation_of, put_of}
 use Rattle.shard_store.specs.Plans.{IsNext}
-use Rattle.shard_store.specs.declared.outcome.InsertOutcome as answers
-use Rattle.shard_store.specs.declared.outcome.InsertOutcome.TheVariants.{Inserted, Duplicate, TooLarge}
+use Rattle.shard_store.specs.declared.entry.Left.{Left}
+use Rattle.shard_store.specs.declared.entry.Left.TheVariants.{Same, Other}
 use Rattle.shard_store.specs.declared.entry.Planned.{Planned}
 
 -- keys that compare equal find the same
@@ -58,38 +54,21 @@ at_push n key t es e =
     by_test true = document_after_push n key None before e
     by_test false = ap (λ (l : List Entry). document_left n key l) (append-nil before)
 
--- an insert leaves its document exactly where it is told so
-left_as : (document : Fields) (key : Datum) → valid_key document ≡ Ok key → (o : answers.InsertOutcome) (before : Option Fields) →
-    outcome_meant o ≡ (effect (insert_operation document) before).1 →
-    (effect (insert_operation document) before).0 ≡ (if is_inserted o then Some document else before)
-left_as document key valid Inserted None told =
-    ap (λ (w : Option Fields × Outcome). w.0) (insert_new document key valid)
-    ∙ by_size (is_too_large document) (told ∙ ap (λ (w : Option Fields × Outcome). w.1) (insert_new document key valid))
-  where
-    by_size : (large : Bool) → done ≡ (put_in document large).1 → (put_in document large).0 ≡ Some document
-    by_size true e = absurd (let none : None ≡ Some object_too_large = ap (λ (o : Outcome). o.error) e in cc)
-    by_size false e = refl
-left_as document key valid Inserted (Some before) told =
-    absurd (let none : None ≡ Some duplicate_key = ap (λ (o : Outcome). o.error) (told ∙ ap (λ (w : Option Fields × Outcome). w.1) (insert_again document key before valid)) in cc)
-left_as document key valid Duplicate before told = refused_leaves (insert_operation document) before duplicate_key (sym (ap (λ (o : Outcome). o.error) told))
-left_as document key valid TooLarge before told = refused_leaves (insert_operation document) before object_too_large (sym (ap (λ (o : Outcome). o.error) told))
-
--- what stands at a time, by whether it puts, and writes here and up to then
-by_tests : (document : Fields) (put name same early : Bool) (was d after : Option Fields) → was ≡ d →
-    (name ≡ true → same ≡ true → early ≡ true → after ≡ (if put then Some document else d)) →
-    (if put && name then (if same && early then Some document else was) else was) ≡ (if early then (if name && same then after else d) else d)
-by_tests document true true true true was d after e h = sym (h refl refl refl)
-by_tests document false true true true was d after e h = e ∙ sym (h refl refl refl)
-by_tests document true true true false was d after e h = e
-by_tests document true true false true was d after e h = e
-by_tests document true true false false was d after e h = e
-by_tests document true false same true was d after e h = e
-by_tests document true false same false was d after e h = e
-by_tests document false true true false was d after e h = e
-by_tests document false true false true was d after e h = e
-by_tests document false true false false was d after e h = e
-by_tests document false false same true was d after e h = e
-by_tests document false false same false was d after e h = e
+-- what stands at a time, by whether another is left, and writes here and up to then
+by_tests : (left : Left) (name same early : Bool) (was d after : Option Fields) → was ≡ d → (name ≡ true → same ≡ true → early ≡ true → left_behind left d ≡ after) →
+    (if is_other left && name then (if same && early then left_behind left None else was) else was) ≡ (if early then (if name && same then after else d) else d)
+by_tests (Other document) true true true was d after e h = h refl refl refl
+by_tests Same true true true was d after e h = e ∙ h refl refl refl
+by_tests (Other document) true true false was d after e h = e
+by_tests (Other document) true false true was d after e h = e
+by_tests (Other document) true false false was d after e h = e
+by_tests (Other document) false same true was d after e h = e
+by_tests (Other document) false same false was d after e h = e
+by_tests Same true true false was d after e h = e
+by_tests Same true false true was d after e h = e
+by_tests Same true false false was d after e h = e
+by_tests Same false same true was d after e h = e
+by_tests Same false same false was d after e h = e
 
 at_least : (a b : ℕ) → nat_le a b ≡ true → a ≤ b
 at_least a b e = by_test (leb_tells a b) e
@@ -100,30 +79,28 @@ at_least a b e = by_test (leb_tells a b) e
 
 module _ (shard : ℕ) (entries : List Entry) (last : ℕ) (namespace : List ℕ) (p : Planned) (past : (e : Entry) → IsIn e entries → e.time ≤ last)
     (next : IsNext entries last namespace p) where
-  abbrev document : Fields
-  document = arc_value p.document
+  abbrev operation : Operation
+  operation = operation_of p.words
 
   -- where the entry writes, all entries before it count
   leaves : (n : List ℕ) (k : Datum) (t : ℕ) → bytes_eq namespace n ≡ true → same_value p.key k ≡ true → nat_le p.time.0 t ≡ true →
-      (effect (insert_operation document) (document_at entries n (Some k) t)).0 ≡ (if puts p then Some document else document_at entries n (Some k) t)
+      left_behind p.left (document_at entries n (Some k) t) ≡ (effect operation (document_at entries n (Some k) t)).0
   leaves n k t name same early =
       let here : document_at entries n (Some k) t ≡ document_left namespace (Some p.key) entries =
       left_at entries last t past (omega (arith, next.later, at_least p.time.0 t early)) n (Some k)
       ∙ ap (λ (m : List ℕ). document_left m (Some k) entries) (sym ((bytes_eq-Decides namespace n).0 name))
       ∙ sym (same_left namespace p.key k same None entries) in
-      ap (λ (b : Option Fields). (effect (insert_operation document) b).0) here
-      ∙ left_as document p.key next.valid p.outcome (document_left namespace (Some p.key) entries) next.told
-      ∙ ap (λ (b : Option Fields). if puts p then Some document else b) (sym here)
+      subst (λ (b : Option Fields). left_behind p.left b ≡ (effect operation b).0) (sym here) next.does.leaves
 
   -- the collections show the entry too
   pub shown_after : (n : List ℕ) (k : Datum) (t : ℕ) (was now : Option Fields) → was ≡ document_at entries n (Some k) t →
-      now ≡ (if puts p && bytes_eq namespace n then one_more (put_of p) k t was else was) →
+      now ≡ (if is_other p.left && bytes_eq namespace n then one_more (put_of p.key p.time p.left) k t was else was) →
       now ≡ document_at (entries ++ entry_meant shard namespace p ∷ []) n (Some k) t
   shown_after n k t was now e is =
       is
-      ∙ by_tests document (puts p) (bytes_eq namespace n) (same_value p.key k) (nat_le p.time.0 t) was (document_at entries n (Some k) t)
-      (effect (insert_operation document) (document_at entries n (Some k) t)).0 e (leaves n k t)
+      ∙ by_tests p.left (bytes_eq namespace n) (same_value p.key k) (nat_le p.time.0 t) was (document_at entries n (Some k) t)
+      (effect operation (document_at entries n (Some k) t)).0 e (leaves n k t)
       ∙ ap (λ (written : Option Datum). if nat_le p.time.0 t
-      then (if bytes_eq namespace n && same_key written (Some k) then (effect (insert_operation document) (document_at entries n (Some k) t)).0 else document_at entries n (Some k) t)
-      else document_at entries n (Some k) t) (sym (insert_key document p.key next.valid))
+      then (if bytes_eq namespace n && same_key written (Some k) then (effect operation (document_at entries n (Some k) t)).0 else document_at entries n (Some k) t)
+      else document_at entries n (Some k) t) (sym next.does.under)
       ∙ sym (at_push n (Some k) t entries (entry_meant shard namespace p))

@@ -12,7 +12,7 @@ use Rattle.node_model.specs.Service.{seen_before}
 use Rattle.history_model.specs.Notes.{Seen, new_statement, done_before, older_than, same_session, same_number, greatest_of, noted, seen_beside, seen}
 use Rattle.history_model.proofs.Noted.{same_number_is}
 use Rattle.session_book.specs.Meanings.{session_meant, number_meant}
-use Rattle.shard_store.specs.declared.outcome.InsertResult.{InsertResult}
+use Rattle.shard_store.specs.declared.outcome.EntryResult.{EntryResult}
 use Rattle.shard_store.specs.Outcomes.{outcome_meant, reply_meant, done_meant}
 use Rattle.shard_store.specs.Entries.{Kept, entry_meant, entries_kept, note_kept, notes_kept}
 
@@ -70,7 +70,7 @@ none_with number (k ∷ kept) e = by_test (same_session (session_meant k.1.state
 
 abbrev pub seen_as : Option Kept → Seen Reply
 seen_as None = new_statement
-seen_as (Some k) = done_before k.1.time.0 (reply_meant k.1.outcome)
+seen_as (Some k) = done_before k.1.time.0 (reply_meant (outcome_meant k.1.outcome))
 
 beside_zero : (number : StatementNumber) (found : Option Kept) → number.transaction ≡ pos 0 →
     seen_beside number (Some (pos 0)) (option_map note_kept found) ≡ seen_as found
@@ -126,19 +126,19 @@ module _ (shard : ℕ) (number : StatementNumber) (kept : List Kept) (zero : Are
           sym (ap (λ (x : Kept). number_meant x.1.statement) same) ∙ same_number_is (number_meant d.1.statement) number s
       by_test false s e later = later e
 
-  told_as : (found : Option Kept) (told : InsertResult) (reply : Reply) → with_number number kept ≡ found →
-      seen_as found ≡ done_before told.time.0 reply → ((k : Kept) → reply ≡ reply_meant k.1.outcome → told.outcome ≡ k.1.outcome) →
+  told_as : (found : Option Kept) (told : EntryResult) (reply : Reply) → with_number number kept ≡ found →
+      seen_as found ≡ done_before told.time.0 reply → ((k : Kept) → reply ≡ reply_meant (outcome_meant k.1.outcome) → outcome_meant told.outcome ≡ outcome_meant k.1.outcome) →
       option_map done_of (option_map (λ (k : Kept). entry_meant shard k.0 k.1) found) ≡ Some (done_meant number.index told)
   told_as None told reply w e outcome = absurd cc
   told_as (Some k) told reply w e outcome =
       let time : k.1.time.0 ≡ told.time.0 = cc in
-      let words : reply_meant k.1.outcome ≡ reply = cc in
+      let words : reply_meant (outcome_meant k.1.outcome) ≡ reply = cc in
       let index : k.1.statement.index ≡ number.index = ap (λ (n : StatementNumber). n.index) (found_is kept k w) in
-      λ i. Some (record { index = index i; time = time i; outcome = outcome_meant (sym (outcome k (sym words)) i) })
+      λ i. Some (record { index = index i; time = time i; outcome = sym (outcome k (sym words)) i })
 
   -- what was done is told again
-  pub look_done : (told : InsertResult) (reply : Reply) → seen (notes_kept kept) number ≡ done_before told.time.0 reply →
-      ((k : Kept) → reply ≡ reply_meant k.1.outcome → told.outcome ≡ k.1.outcome) →
+  pub look_done : (told : EntryResult) (reply : Reply) → seen (notes_kept kept) number ≡ done_before told.time.0 reply →
+      ((k : Kept) → reply ≡ reply_meant (outcome_meant k.1.outcome) → outcome_meant told.outcome ≡ outcome_meant k.1.outcome) →
       option_map done_of (seen_before number (entries_kept shard kept)) ≡ Some (done_meant number.index told)
   look_done told reply done outcome =
       ap (λ (o : Option Entry). option_map done_of o) (before_is shard number kept)

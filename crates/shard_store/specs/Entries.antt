@@ -1,16 +1,32 @@
 -- The entries that a shard keeps and plans, as the history has them.
-use Rattle.std.specs.Prelude.{ℕ, List, map, Bool, true, false, Some}
+use Rattle.std.specs.Prelude.{ℕ, List, map, Bool, true, false, Option, Some, None}
 use Rattle.std.specs.Arc.{arc_value}
+use Rattle.std.specs.Option.{option_map}
+use Rattle.bson_values.specs.Tree.{Datum, Fields}
+use Rattle.cluster_base.specs.declared.time.Time.{Time}
 use Rattle.value_compare.specs.declared.words.Reply.{Reply}
-use Rattle.node_model.specs.History.{insert_operation, Entry}
+use Rattle.node_model.specs.History.{Operation, insert_operation, Entry}
 use Rattle.history_model.specs.Notes.{Note}
 use Rattle.history_model.specs.Versions.{Put}
 use Rattle.session_book.specs.Books.{note_meant}
 use Rattle.session_book.specs.Meanings.{number_meant}
-use Rattle.shard_store.specs.declared.outcome.InsertOutcome.{InsertOutcome}
-use Rattle.shard_store.specs.declared.outcome.InsertOutcome.TheVariants.{Inserted, Duplicate, TooLarge}
+use Rattle.shard_records.specs.Meanings.{operation_meant}
+use Rattle.shard_store.specs.declared.entry.Words.{Words}
+use Rattle.shard_store.specs.declared.entry.Words.TheVariants.{Insert, Change}
+use Rattle.shard_store.specs.declared.entry.Left.{Left}
+use Rattle.shard_store.specs.declared.entry.Left.TheVariants.{Same, Other}
 use Rattle.shard_store.specs.declared.entry.Planned.{Planned}
 use Rattle.shard_store.specs.Outcomes.{outcome_meant, reply_meant}
+
+-- what a statement does
+abbrev pub operation_of : Words → Operation
+operation_of (Insert document) = insert_operation (arc_value document)
+operation_of (Change words) = operation_meant (arc_value words)
+
+-- what stands once a statement left this, where that stood before
+abbrev pub left_behind : Left → Option Fields → Option Fields
+left_behind Same before = before
+left_behind (Other document) before = option_map arc_value document
 
 -- the entry that was planned, of a shard and in a namespace
 abbrev pub entry_meant : (shard : ℕ) → (namespace : List ℕ) → Planned → Entry
@@ -19,7 +35,7 @@ entry_meant shard namespace p = record {
   shard = shard;
   number = number_meant p.statement;
   namespace = namespace;
-  operation = insert_operation (arc_value p.document);
+  operation = operation_of p.words;
   outcome = outcome_meant p.outcome;
 }
 
@@ -31,21 +47,17 @@ abbrev pub entries_kept : (shard : ℕ) → List Kept → List Entry
 entries_kept shard kept = map (λ (k : Kept). entry_meant shard k.0 k.1) kept
 
 abbrev pub note_kept : Kept → Note Reply
-note_kept k = note_meant k.1.statement k.1.time (reply_meant k.1.outcome)
+note_kept k = note_meant k.1.statement k.1.time (reply_meant (outcome_meant k.1.outcome))
 
 -- what the statements were told, in order
 abbrev pub notes_kept : List Kept → List (Note Reply)
 notes_kept kept = map note_kept kept
 
-abbrev pub is_inserted : InsertOutcome → Bool
-is_inserted Inserted = true
-is_inserted Duplicate = false
-is_inserted TooLarge = false
+-- another document is left, or none
+abbrev pub is_other : Left → Bool
+is_other Same = false
+is_other (Other document) = true
 
--- it puts its document in
-abbrev pub puts : Planned → Bool
-puts p = is_inserted p.outcome
-
--- from its time on its document stands under its key
-abbrev pub put_of : Planned → Put
-put_of p = record { key = p.key; time = p.time.0; document = Some (arc_value p.document) }
+-- from this time on what is left stands under the key
+abbrev pub put_of : Datum → Time → Left → Put
+put_of key time left = record { key = key; time = time.0; document = left_behind left None }

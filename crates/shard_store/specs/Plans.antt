@@ -1,28 +1,33 @@
 -- Plans: the entries that a shard is about to make in one collection for one request, behind those that it has.
-use Rattle.std.specs.Prelude.{◌≡◌, ◌<◌, ◌≤◌, ◌+◌, ℕ, List, [], ◌∷◌, map, false, Option, Some, None, Ok, is_some}
-use Rattle.std.specs.Arc.{arc_value}
+use Rattle.std.specs.Prelude.{◌≡◌, ◌<◌, ◌≤◌, ◌+◌, ℕ, List, [], ◌∷◌, map, false, Option, Some, None, is_some}
 use Rattle.std.specs.BTreeMap.{get_by}
 use Rattle.std.specs.List.{AllByRecursion, list_any}
 use Rattle.cluster_base.specs.declared.identity.RequestId.{RequestId}
-use Rattle.value_compare.specs.Keys.{valid_key}
 use Rattle.value_compare.specs.Order.{order, same_value}
 use Rattle.bson_values.specs.Tree.{Datum}
-use Rattle.node_model.specs.History.{insert_operation, effect, Entry, document_left}
+use Rattle.node_model.specs.History.{Operation, key_written, effect, Entry, document_left}
 use Rattle.node_model.specs.Letters.{Statement}
 use Rattle.node_model.specs.Outcomes.{Done, done_of}
 use Rattle.node_model.specs.Service.{seen_before, entry_for}
 use Rattle.session_book.specs.Meanings.{number_meant}
-use Rattle.shard_store.specs.Entries.{entry_meant}
+use Rattle.shard_store.specs.Entries.{entry_meant, left_behind, operation_of}
 use Rattle.shard_store.specs.Outcomes.{outcome_meant, statement_of}
 use Rattle.shard_store.specs.declared.plan.Plan.{Plan}
+use Rattle.shard_store.specs.declared.entry.Left.{Left}
 use Rattle.shard_store.specs.declared.entry.Planned.{Planned}
+use Rattle.shard_store.specs.declared.outcome.EntryOutcome.{EntryOutcome}
 
--- The entry may follow these, the last of which is no later than `last`: it is told what its document does to what they leave under
--- its key, and its statement is none of theirs.
+-- behind these entries the operation acts under this key, leaves this there, and is told this
+pub record IsEffect (entries : List Entry) (namespace : List ℕ) (operation : Operation) (key : Datum) (left : Left) (outcome : EntryOutcome) : Type 0 where
+  pub under : key_written operation ≡ Some key
+  pub leaves : left_behind left (document_left namespace (Some key) entries) ≡ (effect operation (document_left namespace (Some key) entries)).0
+  pub told : outcome_meant outcome ≡ (effect operation (document_left namespace (Some key) entries)).1
+
+-- The entry may follow these, the last of which is no later than `last`: it does what its operation does behind them, and its statement
+-- is none of theirs.
 pub record IsNext (entries : List Entry) (last : ℕ) (namespace : List ℕ) (p : Planned) : Type 0 where
   pub later : last < p.time.0
-  pub valid : valid_key (arc_value p.document) ≡ Ok p.key
-  pub told : outcome_meant p.outcome ≡ (effect (insert_operation (arc_value p.document)) (document_left namespace (Some p.key) entries)).1
+  pub does : IsEffect entries namespace (operation_of p.words) p.key p.left p.outcome
   pub unseen : seen_before (number_meant p.statement) entries ≡ None
 
 -- q comes later than p, is another statement, and has another key

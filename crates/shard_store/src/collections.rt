@@ -11,8 +11,7 @@ ghost use Rattle.bson_values.specs.Tree.{Datum};
 ghost use Rattle.history_model.specs.Versions.{one_more};
 ghost use Rattle.mvcc_collection.specs.Collections.{put_meant};
 
-use crate::entry::Planned;
-use crate::outcome::InsertOutcome;
+use crate::entry::{Left, Planned};
 use bson_values::{Document, Memory};
 use cluster_base::Time;
 use mvcc_collection::Collection;
@@ -30,7 +29,7 @@ pub struct Collections {
 
 impl Collections {
     ghost use Rattle.shard_store.specs.Collections.{last_under, room_under, shown_in};
-    ghost use Rattle.shard_store.specs.Entries.{put_of, puts};
+    ghost use Rattle.shard_store.specs.Entries.{is_other, put_of};
 
     /// No collections.
     pub fn new(alloc: Global) -> Collections
@@ -82,42 +81,41 @@ impl Collections {
         Ok(())
     }
 
-    // From this time on this document stands in the namespace under the key.
-    fn put(&mut self, namespace: &str, key: &Key, time: Time, document: Arc<Document, Global>)
+    // From this time on this document, or none, stands in the namespace under the key.
+    fn put(
+        &mut self,
+        namespace: &str,
+        key: &Key,
+        time: Time,
+        document: Option<Arc<Document, Global>>,
+    )
         requires room { 1 ≤ room_under self.old namespace.now key.now }
         requires later { IfSome (last_under self.old namespace.now key.now) (λ t. t < time.0) }
         ensures shown { (n : List ℕ) (k : Datum) (t : ℕ) → shown_in self.new n k t
-            ≡ (if bytes_eq namespace.now n then one_more (put_meant key.now time (Some document)) k t (shown_in self.old n k t) else shown_in self.old n k t) }
+            ≡ (if bytes_eq namespace.now n then one_more (put_meant key.now time document) k t (shown_in self.old n k t) else shown_in self.old n k t) }
         ensures last { (n : List ℕ) (k : Datum) → last_under self.new n k
             ≡ (if bytes_eq namespace.now n && same_value key.now k then Some time.0 else last_under self.old n k) }
         ensures rooms { (n : List ℕ) (k : Datum) → room_under self.old n k
             ≤ room_under self.new n k + (if bytes_eq namespace.now n && same_value key.now k then 1 else 0) }
     {
         if let Some(collection) = self.by_name.get_mut(namespace) {
-            collection.put(key, time, Some(document));
+            collection.put(key, time, document);
         }
     }
 
-    /// From its time on the document of an entry stands in the namespace under its key, if it is put in. There is room for it, and
-    /// all that was put under the key before is earlier. Takes no memory.
-    pub fn enter(&mut self, namespace: &str, planned: Planned)
-        requires room { 1 ≤ room_under self.old namespace.now planned.key }
-        requires later { IfSome (last_under self.old namespace.now planned.key) (λ t. t < planned.time.0) }
+    /// From this time on what a statement left stands in the namespace under the key. There is room for it, and all that was put under
+    /// the key before is earlier. Takes no memory.
+    pub fn enter(&mut self, namespace: &str, key: &Key, time: Time, left: Left)
+        requires room { 1 ≤ room_under self.old namespace.now key.now }
+        requires later { IfSome (last_under self.old namespace.now key.now) (λ t. t < time.0) }
         ensures shown { (n : List ℕ) (k : Datum) (t : ℕ) → shown_in self.new n k t
-            ≡ (if puts planned && bytes_eq namespace.now n then one_more (put_of planned) k t (shown_in self.old n k t) else shown_in self.old n k t) }
-        ensures last { (n : List ℕ) (k : Datum) (t : ℕ) → last_under self.new n k ≡ Some t → (t ≡ planned.time.0) ⊎ (last_under self.old n k ≡ Some t) }
+            ≡ (if is_other left && bytes_eq namespace.now n then one_more (put_of key.now time left) k t (shown_in self.old n k t) else shown_in self.old n k t) }
+        ensures last { (n : List ℕ) (k : Datum) (t : ℕ) → last_under self.new n k ≡ Some t → (t ≡ time.0) ⊎ (last_under self.old n k ≡ Some t) }
         ensures rooms { (n : List ℕ) (k : Datum) → room_under self.old n k
-            ≤ room_under self.new n k + (if bytes_eq namespace.now n && same_value planned.key k then 1 else 0) }
+            ≤ room_under self.new n k + (if bytes_eq namespace.now n && same_value key.now k then 1 else 0) }
     {
-        let Planned {
-            time,
-            key,
-            document,
-            outcome,
-            ..
-        } = planned;
-        if outcome == InsertOutcome::Inserted {
-            self.put(namespace, &key, time, document);
+        if let Left::Other(document) = left {
+            self.put(namespace, key, time, document);
         }
     }
 }

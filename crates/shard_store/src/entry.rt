@@ -3,26 +3,46 @@
 ghost use Rattle.std.specs.Prelude.{◌≡◌};
 ghost use Rattle.shard_store.specs.Outcomes.{statement_of};
 
-use crate::outcome::InsertOutcome;
+use crate::outcome::EntryOutcome;
 use bson_values::Document;
 use cluster_base::{RequestId, Session, Stmt, Time};
 use std::alloc::Global;
 use std::sync::Arc;
-use value_compare::Key;
+use value_compare::{Key, OpWords};
 
-/// An entry of a statement that inserts a document, but for its namespace and its shard.
+/// What a statement does, in the words of the client, shared with whoever else has them.
+#[derive(Drop)]
+pub enum Words {
+    /// Puts the document in.
+    Insert(Arc<Document, Global>),
+    /// Does what the words say: mostly an update or a delete, since the document of an insert is copied.
+    Change(Arc<OpWords, Global>),
+}
+
+/// What a statement leaves under its key.
+#[derive(Drop)]
+pub enum Left {
+    /// What stood there.
+    Same,
+    /// This document, or none.
+    Other(Option<Arc<Document, Global>>),
+}
+
+/// An entry of a statement, but for its namespace and its shard.
 #[derive(Drop)]
 pub struct Planned {
     /// Which statement it is.
     pub statement: Stmt,
     /// When it happens.
     pub time: Time,
-    /// The document's key.
+    /// What the statement does.
+    pub words: Words,
+    /// The key that it acts under.
     pub key: Key,
-    /// The document, shared with whoever else has it.
-    pub document: Arc<Document, Global>,
-    /// What the statement is told.
-    pub outcome: InsertOutcome,
+    /// What it leaves there.
+    pub left: Left,
+    /// What it is told.
+    pub outcome: EntryOutcome,
 }
 
 /// The statement with this index of a request whose client numbered none: its session is the router's own for that request.

@@ -2,12 +2,15 @@
 #![tactic(auto)]
 
 mod collections;
+mod effect;
 mod entry;
+mod fault;
 mod outcome;
 mod plan;
 mod store;
 
-pub use entry::{Planned, own_statement};
-pub use outcome::{InsertOutcome, InsertResult};
+pub use entry::{Left, Planned, Words, own_statement};
+pub use fault::WriteFault;
+pub use outcome::{EntryOutcome, EntryResult};
 pub use plan::Plan;
 pub use store::ShardStore;

@@ -1,82 +1,128 @@
-//! What statements that insert are told (MongoDB manual, "insert").
+//! What statements are told (MongoDB manual, "insert", "update", "delete").
 
-ghost use Rattle.std.specs.Prelude.{◌≡◌};
+ghost use Rattle.std.specs.Prelude.{◌≡◌, IfOk, None};
 ghost use Rattle.std.specs.Option.{option_map};
 ghost use Rattle.cluster_base.specs.Codes.{meaning_of};
-ghost use Rattle.shard_store.specs.Outcomes.{outcome_meant, reply_meant};
+ghost use Rattle.node_model.specs.History.{done, fails_with};
+ghost use Rattle.shard_store.specs.Faults.{code_told, error_meant};
 
+use crate::fault::{WriteFault, code_of};
+use bson_values::Memory;
 use cluster_base::{Code, Time};
-use value_compare::Reply;
+use value_compare::{Key, Reply};
 
-/// What a statement that inserts a document is told.
-#[derive(Clone, Copy, Debug, PartialEq, Eq)]
-pub enum InsertOutcome {
-    /// The document was put in.
-    Inserted,
-    /// There is a document with that key.
-    Duplicate,
-    /// There is none, but the document is too large to be kept.
-    TooLarge,
+/// What a statement is told: how many documents it put in, met or took out, how many it changed, the key that it put in having met none,
+/// and why it changed nothing.
+#[derive(Drop)]
+pub struct EntryOutcome {
+    // Its code is that of the fault, or 0.
+    reply: Reply,
+    fault: Option<WriteFault>,
+    ghost told: { reply.code ≡ code_told fault },
 }
 
-/// A statement that inserts was done at a time, and was told this.
-#[derive(Clone, Copy, Debug, PartialEq, Eq)]
-pub struct InsertResult {
+/// A statement was done at a time, and was told this.
+#[derive(Drop)]
+pub struct EntryResult {
     /// The time of its entry.
     pub time: Time,
     /// What it was told.
-    pub outcome: InsertOutcome,
+    pub outcome: EntryOutcome,
 }
 
-impl InsertOutcome {
-    /// How many documents were put in.
-    pub fn count(self) -> u32
-        ensures { result ≡ (outcome_meant self).count }
+// The same key once more, if there is one. Fails for want of memory.
+fn copy_key(key: &Option<Key>) -> Result<Option<Key>, Memory>
+    ensures { IfOk result (λ copy. copy ≡ key.now) }
+{
+    match key {
+        Some(key) => Ok(Some(key.copy()?)),
+        None => Ok(None),
+    }
+}
+
+impl EntryOutcome {
+    ghost use Rattle.shard_store.specs.Outcomes.{outcome_meant, reply_meant};
+
+    // So many documents were put in, met or taken out, so many of them changed, this key was put in, and this is the fault.
+    fn new(n: u32, modified: u32, upserted: Option<Key>, fault: Option<WriteFault>) -> EntryOutcome
+        ensures { outcome_meant result ≡ record { count = n; modified = modified; upserted = upserted; error = option_map error_meant fault } }
     {
-        match self {
-            InsertOutcome::Inserted => 1,
-            InsertOutcome::Duplicate | InsertOutcome::TooLarge => 0,
-        }
+        let reply = Reply {
+            n,
+            modified,
+            upserted,
+            code: code_of(fault),
+        };
+        EntryOutcome { reply, fault }
+    }
+
+    // One document was put in.
+    pub(crate) fn inserted() -> EntryOutcome
+        ensures { outcome_meant result ≡ done }
+    {
+        EntryOutcome::new(1, 0, None, None)
+    }
+
+    // Nothing was changed.
+    pub(crate) fn refused(fault: WriteFault) -> EntryOutcome
+        ensures { outcome_meant result ≡ fails_with (error_meant fault) }
+    {
+        EntryOutcome::new(0, 0, None, Some(fault))
+    }
+
+    // What a reply tells beside its code: there was no fault.
+    pub(crate) fn done(reply: Reply) -> EntryOutcome
+        ensures { outcome_meant result ≡ record { count = reply.n; modified = reply.modified; upserted = reply.upserted; error = None } }
+    {
+        let Reply {
+            n,
+            modified,
+            upserted,
+            ..
+        } = reply;
+        EntryOutcome::new(n, modified, upserted, None)
+    }
+
+    // What a reply tells. Fails for want of memory.
+    pub(crate) fn of(reply: &Reply) -> Result<EntryOutcome, Memory>
+        ensures { (outcome : EntryOutcome) → reply.now ≡ reply_meant (outcome_meant outcome) →
+            IfOk result (λ told. outcome_meant told ≡ outcome_meant outcome) }
+    {
+        let fault = WriteFault::told(reply.code);
+        let upserted = copy_key(&reply.upserted)?;
+        Ok(EntryOutcome::new(reply.n, reply.modified, upserted, fault))
+    }
+
+    // The same once more. Fails for want of memory.
+    pub(crate) fn copy(&self) -> Result<EntryOutcome, Memory>
+        ensures { IfOk result (λ outcome. outcome_meant outcome ≡ outcome_meant self.now) }
+    {
+        let reply = &self.reply;
+        let upserted = copy_key(&reply.upserted)?;
+        Ok(EntryOutcome::new(reply.n, reply.modified, upserted, self.fault))
     }
 
     /// The error that is told, if one is.
-    pub fn error(self) -> Option<Code>
-        ensures { option_map meaning_of result ≡ (outcome_meant self).error }
+    pub fn error(&self) -> Option<Code>
+        ensures { option_map meaning_of result ≡ (outcome_meant self.now).error }
     {
-        match self {
-            InsertOutcome::Inserted => None,
-            InsertOutcome::Duplicate => Some(Code::DuplicateKey),
-            InsertOutcome::TooLarge => Some(Code::ObjectTooLarge),
+        match self.fault {
+            Some(fault) => Some(fault.error()),
+            None => None,
         }
     }
 
     /// The reply that tells it.
-    pub fn reply(self) -> Reply
-        ensures { result ≡ reply_meant self }
+    pub fn reply(&self) -> &Reply
+        ensures { result.now ≡ reply_meant (outcome_meant self.now) }
     {
-        let code = match self {
-            InsertOutcome::Inserted => 0,
-            InsertOutcome::Duplicate => 11000,
-            InsertOutcome::TooLarge => 10334,
-        };
-        Reply {
-            n: self.count(),
-            modified: 0,
-            upserted: None,
-            code,
-        }
+        &self.reply
     }
 
-    /// What a reply tells.
-    pub(crate) fn of(reply: &Reply) -> InsertOutcome
-        ensures { (outcome : InsertOutcome) → reply.now ≡ reply_meant outcome → result ≡ outcome }
+    /// The reply that tells it; nothing else is left.
+    pub fn into_reply(self) -> Reply
+        ensures { result ≡ reply_meant (outcome_meant self) }
     {
-        if reply.code == 0 {
-            InsertOutcome::Inserted
-        } else if reply.code == 11000 {
-            InsertOutcome::Duplicate
-        } else {
-            InsertOutcome::TooLarge
-        }
+        self.reply
     }
 }

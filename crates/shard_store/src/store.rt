@@ -5,25 +5,26 @@ ghost use Rattle.std.specs.Arc.{arc_value};
 ghost use Rattle.std.specs.Option.{option_map, IsSome};
 ghost use Rattle.bson_values.specs.Tree.{Datum};
 ghost use Rattle.bson_values.specs.View.{datum_of};
-ghost use Rattle.value_compare.specs.Keys.{valid_key};
 ghost use Rattle.value_compare.specs.Order.{same_value};
 ghost use Rattle.cluster_base.specs.declared.identity.Session.{Session};
-ghost use Rattle.node_model.specs.History.{Entry, IsIn, document_at, document_left, effect, insert_operation};
+ghost use Rattle.node_model.specs.History.{Entry, IsIn, document_at, document_left, insert_operation};
 ghost use Rattle.node_model.specs.Exchanges.{number_for};
 ghost use Rattle.node_model.specs.Outcomes.{done_of};
 ghost use Rattle.node_model.specs.Service.{seen_before};
 ghost use Rattle.command_model.specs.CommandSizes.{IsKeepable};
 ghost use Rattle.session_book.specs.Books.{NotesAre, room_in};
 ghost use Rattle.node_traits.specs.Ids.{id_meant};
-ghost use Rattle.shard_store.specs.Outcomes.{done_meant, outcome_meant};
-ghost use Rattle.shard_store.specs.Entries.{Kept, entries_kept, entry_meant, notes_kept};
+ghost use Rattle.shard_records.specs.Meanings.{operation_meant};
+ghost use Rattle.shard_store.specs.Outcomes.{done_meant};
+ghost use Rattle.shard_store.specs.Entries.{Kept, entries_kept, entry_meant, notes_kept, operation_of};
 ghost use Rattle.shard_store.specs.Codes.{AreShown, noted-prop, shown-prop};
 ghost use Rattle.shard_store.specs.Collections.{last_under, room_under};
-ghost use Rattle.shard_store.specs.Plans.{AreNext, IsNext, IsOf, IsPlan, IsServed, made_by, planned_in, time_of};
+ghost use Rattle.shard_store.specs.Plans.{AreNext, IsEffect, IsNext, IsOf, IsPlan, IsServed, made_by, planned_in, time_of};
 
 use crate::collections::Collections;
-use crate::entry::{Planned, own_statement};
-use crate::outcome::{InsertOutcome, InsertResult};
+use crate::effect::{Effect, key_of_op};
+use crate::entry::{Planned, Words, own_statement};
+use crate::outcome::{EntryOutcome, EntryResult};
 use crate::plan::Plan;
 use bson_values::{Document, Memory, Value};
 use cluster_base::{Namespace, NodeId, RequestId, Time};
@@ -31,10 +32,8 @@ use ghost_list::GhostList;
 use session_book::{Book, Seen};
 use std::alloc::Global;
 use std::sync::Arc;
-use value_compare::{Key, key_of};
-
-/// A document that is kept has at most so many bytes (MongoDB manual, "MongoDB Limits and Thresholds", BSON document size).
-const MOST_BYTES: usize = 16_777_216;
+use update_ops::Op;
+use value_compare::{Key, OpWords, key_of};
 
 /// What a shard keeps of its entries: the documents that they leave, with their past, and what each statement was told.
 ///
@@ -77,17 +76,18 @@ impl ShardStore {
         }
     }
 
-    /// What the statement with this index of a request, whose client numbered none, was told, if it was seen before.
-    pub fn look(&self, id: RequestId, index: u32) -> Option<InsertResult>
-        ensures { option_map (done_meant index) result ≡ option_map done_of (seen_before (number_for (id_meant id) index) (entries_of self.now)) }
+    /// What the statement with this index of a request, whose client numbered none, was told, if it was seen before. Fails for want of
+    /// memory.
+    pub fn look(&self, id: RequestId, index: u32) -> Result<Option<EntryResult>, Memory>
+        ensures { IfOk result (λ told. option_map (done_meant index) told ≡ option_map done_of (seen_before (number_for (id_meant id) index) (entries_of self.now))) }
     {
         match self.book.look(&own_statement(id, index)) {
-            Seen::New => None,
-            Seen::Done { time, reply } => Some(InsertResult {
-                time,
-                outcome: InsertOutcome::of(reply),
-            }),
-            Seen::Older(_) => None,
+            Seen::New => Ok(None),
+            Seen::Done { time, reply } => {
+                let outcome = EntryOutcome::of(reply)?;
+                Ok(Some(EntryResult { time, outcome }))
+            }
+            Seen::Older(_) => Ok(None),
         }
     }
 
@@ -115,18 +115,55 @@ impl ShardStore {
         Ok(self.collections.get_at(namespace.as_str(), &key, time))
     }
 
-    // What an insert of a document with this key is told.
-    fn outcome_of(&self, namespace: &Namespace, key: &Key, document: &Document) -> InsertOutcome
-        requires keepable { IsKeepable document.now }
-        requires valid { valid_key document.now ≡ Ok key.now }
-        ensures { outcome_meant result ≡ (effect (insert_operation document.now) (document_left namespace.now (Some key.now) (entries_of self.now))).1 }
+    // What an insert does behind the entries. Fails for want of memory.
+    fn insert(
+        &self,
+        alloc: Global,
+        namespace: &Namespace,
+        document: &Arc<Document, Global>,
+    ) -> Result<Effect, Memory>
+        requires { IsKeepable (insert_operation (arc_value document.now)) }
+        ensures { IfOk result (λ e. IsEffect (entries_of self.now) namespace.now (insert_operation (arc_value document.now)) e.key e.left e.outcome) }
     {
-        if self.document(namespace, key).is_some() {
-            InsertOutcome::Duplicate
-        } else if document.size() > MOST_BYTES {
-            InsertOutcome::TooLarge
-        } else {
-            InsertOutcome::Inserted
+        let Ok(key) = key_of(alloc, document) else {
+            // A document that may be kept has a key.
+            return Err(Memory);
+        };
+        let stands = self.document(namespace, &key).is_some();
+        Effect::of_insert(key, document, stands)
+    }
+
+    // What words do behind the entries. Fails for want of memory.
+    fn change(
+        &self,
+        alloc: Global,
+        namespace: &Namespace,
+        words: &Arc<OpWords, Global>,
+    ) -> Result<Effect, Memory>
+        ensures { IfOk result (λ e. IsEffect (entries_of self.now) namespace.now (operation_meant (arc_value words.now)) e.key e.left e.outcome) }
+    {
+        let Ok(op) = Op::read(alloc, words) else {
+            // Words that may be kept read as a statement.
+            return Err(Memory);
+        };
+        let key = key_of_op(alloc, &op)?;
+        match self.document(namespace, &key) {
+            Some(before) => {
+                let before: &Document = before;
+                Effect::of_op(alloc, key, &op, Some(before))
+            }
+            None => Effect::of_op(alloc, key, &op, None),
+        }
+    }
+
+    // What a statement does behind the entries. Fails for want of memory.
+    fn effect(&self, alloc: Global, namespace: &Namespace, words: &Words) -> Result<Effect, Memory>
+        requires { IsKeepable (operation_of words.now) }
+        ensures { IfOk result (λ e. IsEffect (entries_of self.now) namespace.now (operation_of words.now) e.key e.left e.outcome) }
+    {
+        match words {
+            Words::Insert(document) => self.insert(alloc, namespace, document),
+            Words::Change(words) => self.change(alloc, namespace, words),
         }
     }
 
@@ -139,43 +176,44 @@ impl ShardStore {
         alloc: Global,
         namespace: &Namespace,
         index: u32,
-        document: &Arc<Document, Global>,
-    ) -> Result<Option<InsertResult>, Memory>
+        words: Words,
+    ) -> Result<Option<EntryResult>, Memory>
         requires plan { IsPlan (entries_of self.now) (last_of self.now) namespace.now plan.old }
-        requires keepable { IsKeepable (arc_value document.now) }
+        requires keepable { IsKeepable (operation_of words) }
         requires room { time_of plan.old < 2 ^ 64 - 1 }
         ensures plan { OnOk result (IsPlan (entries_of self.now) (last_of self.now) namespace.now plan.new) }
         ensures served { IfOk result (λ told. (made : List Entry)
             × (made_by (shard_of self.now) namespace.now plan.new ≡ made_by (shard_of self.now) namespace.now plan.old ++ made)
             × IsServed (shard_of self.now) namespace.now (entries_of self.now ++ made_by (shard_of self.now) namespace.now plan.old) (time_of plan.old)
-            (record { number = number_for (id_meant plan.old.id) index; operation = insert_operation (arc_value document.now) })
+            (record { number = number_for (id_meant plan.old.id) index; operation = operation_of words })
             (option_map (done_meant index) told) made (time_of plan.new)) }
         ensures first { planned_in plan.old ≡ [] → IfOk result (λ told. IsSome told) }
         ensures id { plan.new.id ≡ plan.old.id }
     {
-        if let Some(told) = self.look(plan.id, index) {
+        if let Some(told) = self.look(plan.id, index)? {
             return Ok(Some(told));
         }
         if (index as u64) < plan.free {
             return Ok(None);
         }
-        let Ok(key) = key_of(alloc, document) else {
-            // A document that may be kept has a key.
-            return Err(Memory);
-        };
+        let Effect { key, left, outcome } = self.effect(alloc, namespace, &words)?;
         if plan.has_key(&key) {
             return Ok(None);
         }
-        let outcome = self.outcome_of(namespace, &key, document);
         let time = Time(plan.last.0 + 1);
+        let told = EntryResult {
+            time,
+            outcome: outcome.copy()?,
+        };
         plan.push(Planned {
             statement: own_statement(plan.id, index),
             time,
+            words,
             key,
-            document: Arc::try_clone(document)?,
+            left,
             outcome,
         })?;
-        Ok(Some(InsertResult { time, outcome }))
+        Ok(Some(told))
     }
 
     /// Makes room for the entries of a plan. Fails for want of memory. Either way nothing else is to be seen of it.
@@ -205,10 +243,17 @@ impl ShardStore {
         ensures notes { (s : Session) → room_in self.old.book s ≤ room_in self.new.book s + 1 }
     {
         self.entries = self.entries.with(namespace, &planned);
-        self.book
-            .note(&planned.statement, planned.time, planned.outcome.reply());
-        self.last = planned.time;
-        self.collections.enter(namespace.as_str(), planned);
+        let Planned {
+            statement,
+            time,
+            key,
+            left,
+            outcome,
+            ..
+        } = planned;
+        self.book.note(&statement, time, outcome.into_reply());
+        self.last = time;
+        self.collections.enter(namespace.as_str(), &key, time, left);
     }
 
     /// Makes the entries of a plan, for which there is room. Takes no memory.

@@ -2,11 +2,14 @@
 
 use bson_values::{Document, Text, Value, read};
 use cluster_base::{Code, Time};
-use command_answers::{Answer, Evidence, Refusal, StatementIndex, WriteError, write_answer};
+use command_answers::{
+    Answer, Evidence, Refusal, StatementIndex, Upserted, WriteError, WriteKind, write_answer,
+};
 use std::alloc::Global;
 use std::cmp::Ordering;
+use std::sync::Arc;
 use std::test::Fail;
-use value_compare::compare;
+use value_compare::{Key, compare};
 
 const TIME: Time = Time(4_294_967_296_002);
 
@@ -18,6 +21,11 @@ const MANY: &str =
 /// operationTime: Timestamp(1000, 2)}`.
 const ERRORS: &str =
     "a5000000106e00010000000477726974654572726f7273006d0000000330003300000010696e646578000100000010636f646500f82a0000026572726d7367000d0000004475706c69636174654b657900000331002f00000010696e646578000300000010636f64650002000000026572726d7367000900000042616456616c7565000000106f6b0001000000116f7065726174696f6e54696d650002000000e803000000";
+
+/// `{n: 3, nModified: 1, upserted: [{index: 0, _id: 7}, {index: 2, _id: "a"}], writeErrors: [{index: 3, code: 66, errmsg:
+/// "ImmutableField"}], ok: 1, operationTime: Timestamp(1000, 2)}`.
+const UPDATED: &str =
+    "cd000000106e0003000000106e4d6f6469666965640001000000047570736572746564003f0000000330001900000010696e6465780000000000105f69640007000000000331001b00000010696e6465780002000000025f69640002000000610000000477726974654572726f7273003d0000000330003500000010696e646578000300000010636f64650042000000026572726d7367000f000000496d6d757461626c654669656c64000000106f6b0001000000116f7065726174696f6e54696d650002000000e803000000";
 
 /// `{cursor: {id: 0L, ns: "d.c", firstBatch: [{_id: 1}, {_id: 2}], atClusterTime: Timestamp(1000, 2)}, ok: 1,
 /// operationTime: Timestamp(1000, 2)}`.
@@ -60,17 +68,30 @@ fn error(index: u32, code: Code) -> Option<WriteError> {
 }
 
 /// The answer of an insert.
-fn inserted(count: u32, errors: Vec<WriteError>) -> Answer {
-    Answer::Insert {
+fn inserted(alloc: Global, count: u32, errors: Vec<WriteError>) -> Answer {
+    Answer::Write {
+        kind: WriteKind::Insert,
         count,
+        modified: 0,
+        upserted: Vec::new(alloc),
         errors,
         time: TIME,
     }
 }
 
+/// The key that the statement with that number put in.
+fn upserted(alloc: Global, index: u32, value: Value) -> Result<Upserted, Fail> {
+    let index = StatementIndex::of(index).ok_or("no index")?;
+    let key = Key::of(value).map_err(|_| "no key")?;
+    Ok(Upserted {
+        index,
+        key: Arc::new(alloc, key)?,
+    })
+}
+
 #[test]
 fn many_are_counted_in_64_bits(rt: HostRuntime) -> Result<(), Fail> {
-    let many = inserted(1 << 31, Vec::new(rt.alloc()));
+    let many = inserted(rt.alloc(), 1 << 31, Vec::new(rt.alloc()));
     assert!(rt; is_spelled(rt.alloc(), &many, MANY)?);
     Ok(())
 }
@@ -80,7 +101,27 @@ fn errors_stand_in_order(rt: HostRuntime) -> Result<(), Fail> {
     let mut errors = Vec::new(rt.alloc());
     errors.push(error(1, Code::DuplicateKey).ok_or("no index")?)?;
     errors.push(error(3, Code::BadValue).ok_or("no index")?)?;
-    assert!(rt; is_spelled(rt.alloc(), &inserted(1, errors), ERRORS)?);
+    assert!(rt; is_spelled(rt.alloc(), &inserted(rt.alloc(), 1, errors), ERRORS)?);
+    Ok(())
+}
+
+#[test]
+fn updates_are_counted_and_their_keys_told(rt: HostRuntime) -> Result<(), Fail> {
+    let alloc = rt.alloc();
+    let mut keys = Vec::new(alloc);
+    keys.push(upserted(alloc, 0, Value::Int32(7))?)?;
+    keys.push(upserted(alloc, 2, Value::Text(Text::of(alloc, "a")?))?)?;
+    let mut errors = Vec::new(alloc);
+    errors.push(error(3, Code::ImmutableField).ok_or("no index")?)?;
+    let updated = Answer::Write {
+        kind: WriteKind::Update,
+        count: 3,
+        modified: 1,
+        upserted: keys,
+        errors,
+        time: TIME,
+    };
+    assert!(rt; is_spelled(alloc, &updated, UPDATED)?);
     Ok(())
 }
 

@@ -2,12 +2,12 @@
 
 use crate::faults::RowFault;
 use bson_values::{Document, Value};
-use command_answers::{Evidence, Refusal};
-use command_words::{Command, CommandFault, Find, Insert, Legacy};
+use command_answers::{Evidence, Refusal, WriteKind};
+use command_words::{Command, CommandFault, Find, Legacy, WriteCommand};
 use opmsg_frames::{Body, Request};
 use std::alloc::Global;
 use std::cmp::Ordering;
-use value_compare::compare;
+use value_compare::{OpWords, compare};
 
 fn put(line: &mut String, word: &str) -> Result<(), RowFault> {
     line.push_str(word)?;
@@ -29,27 +29,58 @@ fn put_refusal(alloc: Global, line: &mut String, refusal: &Refusal) -> Result<()
     }
 }
 
-/// Puts the sizes of the documents that are to be inserted.
-fn put_sizes(alloc: Global, line: &mut String, documents: &[Document]) -> Result<(), RowFault> {
-    for document in documents {
-        let size = document.size();
-        put(line, format!(in alloc; " {size}")?.as_str())?;
+/// Puts the sizes of the documents of an operation, and whether it upserts.
+fn put_operation(alloc: Global, line: &mut String, words: &OpWords) -> Result<(), RowFault> {
+    match words {
+        OpWords::Insert(document) => put_size(alloc, line, " ", document),
+        OpWords::Update {
+            filter,
+            change,
+            upsert,
+        } => {
+            put_size(alloc, line, " ", filter)?;
+            put_size(alloc, line, ":", change)?;
+            put(line, if *upsert { ":upsert" } else { "" })
+        }
+        OpWords::Delete { filter } => put_size(alloc, line, " ", filter),
     }
-    Ok(())
 }
 
-fn put_insert(alloc: Global, line: &mut String, insert: &Insert) -> Result<(), RowFault> {
-    let order = if insert.ordered {
+/// Puts the size of a document behind a mark.
+fn put_size(
+    alloc: Global,
+    line: &mut String,
+    mark: &str,
+    document: &Document,
+) -> Result<(), RowFault> {
+    let size = document.size();
+    put(line, format!(in alloc; "{mark}{size}")?.as_str())
+}
+
+fn kind_word(kind: WriteKind) -> &'static str {
+    match kind {
+        WriteKind::Insert => "insert",
+        WriteKind::Update => "update",
+        WriteKind::Delete => "delete",
+    }
+}
+
+fn put_write(alloc: Global, line: &mut String, write: &WriteCommand) -> Result<(), RowFault> {
+    let kind = kind_word(write.kind);
+    let order = if write.ordered {
         "ordered"
     } else {
         "unordered"
     };
-    let namespace = insert.namespace.as_str();
+    let namespace = write.namespace.as_str();
     put(
         line,
-        format!(in alloc; "insert {namespace} {order}")?.as_str(),
+        format!(in alloc; "{kind} {namespace} {order}")?.as_str(),
     )?;
-    put_sizes(alloc, line, &insert.documents)
+    for words in &write.operations {
+        put_operation(alloc, line, words)?;
+    }
+    Ok(())
 }
 
 /// The value of `_id` in the filter of a find.
@@ -101,7 +132,7 @@ fn put_asked(
         Command::Legacy(legacy) => put(line, legacy_words(legacy)),
         Command::Ping => put(line, "ping"),
         Command::EndSessions => put(line, "endSessions"),
-        Command::Insert(insert) => put_insert(alloc, line, insert),
+        Command::Write(write) => put_write(alloc, line, write),
         Command::Find(find) => put_find(alloc, line, find, is_own_key(request, &find.key)),
     }
 }

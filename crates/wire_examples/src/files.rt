@@ -160,6 +160,7 @@ pub fn check_files<R: Files + AllocGlobal + Print + Threads + Wait + Sync>(
     check_file(rt, alloc, "commands.rows")?;
     check_file(rt, alloc, "refusals.rows")?;
     check_file(rt, alloc, "connections.rows")?;
+    check_file(rt, alloc, "writes.rows")?;
     check_file(rt, alloc, "drivers.rows")?;
     check_file(rt, alloc, "devices.rows")?;
     check_file(rt, alloc, "scripts.rows")?;

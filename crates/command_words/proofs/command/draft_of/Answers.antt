@@ -1,9 +1,10 @@
 use Rattle.std.proofs.Common.{◌≡◌, arith, Some}
 use Rattle.opmsg_frames.specs.Lists.{pairs_of}
 use Rattle.opmsg_frames.specs.RequestMeanings.{form_meant}
-use Rattle.command_model.specs.Command.{form_of, insert_command, find_command}
+use Rattle.command_model.specs.Command.{form_of, write_command, find_command}
 use Rattle.command_model.specs.Forms.{made_into}
-use Rattle.command_model.specs.Insert.{insert_form}
+use Rattle.command_answers.specs.Kinds.{kind_meant}
+use Rattle.command_model.specs.Writes.{write_form}
 use Rattle.command_model.specs.Find.{find_form}
 use Rattle.command_words.specs.Handshakes.{handshake_meant}
 use Rattle.command_words.specs.Drafts.{Drafts}
@@ -15,10 +16,10 @@ returns-in-Handshake c =
     let named : Some (handshake_meant c.in-Handshake.form) ≡ form_of c.own-item.result.name = rw (c.in-Handshake.is, c.as_str.ensures.text) at c.in-Some.ensures in
     told_by (λ told. Drafts c.args.document.now (pairs_of c.args.sequences.now) c.read_by.result told) (handshake_meant c.in-Handshake.form) (form_meant c.args.sent) c.args.document.now c.fields.result.now c.own-item.result (pairs_of c.args.sequences.now) (omega (arith, c.in-len1-up.len_at_least)) c.own-item.is c.fields.ensures.fields named c.read_by.ensures
 
-pub returns-in-Insert : goal.returns-in-Insert
-returns-in-Insert c =
-    let named : Some (made_into insert_command insert_form) ≡ form_of c.own-item.result.name = rw (c.in-Insert.is, c.as_str.ensures.text) at c.in-Some.ensures in
-    told_by (λ told. Drafts c.args.document.now (pairs_of c.args.sequences.now) c.read_by-in-Insert.result told) (made_into insert_command insert_form) (form_meant c.args.sent) c.args.document.now c.fields.result.now c.own-item.result (pairs_of c.args.sequences.now) (omega (arith, c.in-len1-up.len_at_least)) c.own-item.is c.fields.ensures.fields named c.read_by-in-Insert.ensures
+pub returns-in-Write : goal.returns-in-Write
+returns-in-Write c =
+    let named : Some (made_into write_command (write_form (kind_meant c.in-Write.form.kind))) ≡ form_of c.own-item.result.name = rw (c.in-Write.is, c.as_str.ensures.text) at c.in-Some.ensures in
+    told_by (λ told. Drafts c.args.document.now (pairs_of c.args.sequences.now) c.read_by-in-Write.result told) (made_into write_command (write_form (kind_meant c.in-Write.form.kind))) (form_meant c.args.sent) c.args.document.now c.fields.result.now c.own-item.result (pairs_of c.args.sequences.now) (omega (arith, c.in-len1-up.len_at_least)) c.own-item.is c.fields.ensures.fields named c.read_by-in-Write.ensures
 
 pub returns-in-Find : goal.returns-in-Find
 returns-in-Find c =

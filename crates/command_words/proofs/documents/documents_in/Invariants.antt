@@ -1,7 +1,7 @@
 use Rattle.std.proofs.Common.{◌≡◌}
 use Rattle.std.specs.Vec.Iter.{into_iter_items}
 use Rattle.bson_values.specs.View.{items_of}
-use Rattle.command_model.specs.Insert.{documents_in}
+use Rattle.command_model.specs.Writes.{documents_in}
 use Rattle.command_words.proofs.Copied.{with_prefix}
 use Rattle.command_words.proofs.documents.documents_in.Given as goal
 

@@ -5,15 +5,15 @@ use Rattle.command_model.specs.SampleReplies.{done_reply, duplicate_reply}
 use Rattle.command_model.specs.SampleRequests.{five, long_five, shown, with_id}
 use Rattle.command_model.specs.Tree.{Fields}
 use Rattle.command_model.specs.Times.{timestamp}
-use Rattle.command_model.specs.Insert.{Insert}
+use Rattle.command_model.specs.Writes.{WriteCommand, insert_kind}
 use Rattle.chunk_model.specs.SampleCollections.{creation}
-use Rattle.history_model.specs.History.{Legal, IsIn, StatementNumber, router_session}
+use Rattle.history_model.specs.History.{Legal, IsIn, insert_operation, StatementNumber, router_session}
 use Rattle.history_model.proofs.Lists.{all_at, in_first, in_later, in_none}
 use Rattle.reply_model.specs.Exchanges.{RequestId, Asked, is_session_of}
 use Rattle.reply_model.specs.OneHistory.{AreDifferent, Given, WasSent, WasWanted, IsRightOf, IsKnown, IsPlaced}
-use Rattle.reply_model.specs.Right.{IsPart, IsRight, right_find, right_insert}
+use Rattle.reply_model.specs.Right.{IsPart, IsRight, right_find, right_write}
 use Rattle.reply_model.specs.SampleExchanges.{all_asked, both_entries, first, first_entry, first_told, id_at, moments, second, second_entry, second_told, tells, third, third_told}
-use Rattle.reply_model.proofs.RightAnswers.{same_insert}
+use Rattle.reply_model.proofs.RightAnswers.{same_write}
 use Rattle.reply_model.proofs.examples.one_history.Goals as goal
 
 -- THE WHOLE
@@ -24,17 +24,17 @@ two_moment = record { node = 2; moment = 1000000; step = 0 }
 abbrev three_moment : Given
 three_moment = record { node = 3; moment = 1000000; step = 1 }
 
-abbrev inserts_five : Insert
-inserts_five = record { namespace = codes "d.c"; documents = with_id five ∷ []; ordered = true }
+abbrev inserts_five : WriteCommand
+inserts_five = record { kind = insert_kind; namespace = codes "d.c"; operations = insert_operation (with_id five) ∷ []; ordered = true }
 
-abbrev inserts_long_five : Insert
-inserts_long_five = record { namespace = codes "d.c"; documents = with_id long_five ∷ []; ordered = true }
+abbrev inserts_long_five : WriteCommand
+inserts_long_five = record { kind = insert_kind; namespace = codes "d.c"; operations = insert_operation (with_id long_five) ∷ []; ordered = true }
 
 first_sent : WasSent all_asked first_entry
 first_sent = record {
   request = first;
   taken = in_first first (second ∷ third ∷ []);
-  into = record { insert = inserts_five; asks = refl; name = refl };
+  writes = record { write = inserts_five; asks = refl; name = refl };
   own = refl;
   later = omega arith;
 }
@@ -49,7 +49,7 @@ third_taken : IsInAll third
 third_taken = in_later third first (second ∷ third ∷ []) (in_later third second (third ∷ []) (in_first third []))
 
 second_sent : WasSent all_asked second_entry
-second_sent = record { request = second; taken = second_taken; into = record { insert = inserts_long_five; asks = refl; name = refl }; own = refl; later = omega arith }
+second_sent = record { request = second; taken = second_taken; writes = record { write = inserts_long_five; asks = refl; name = refl }; own = refl; later = omega arith }
 
 first_placed : IsPlaced (creation ∷ []) first_entry
 first_placed = record { creation = creation; key = five; begun = in_first creation []; name = refl; before = omega arith; writes = refl; owner = refl }
@@ -58,16 +58,16 @@ second_placed : IsPlaced (creation ∷ []) second_entry
 second_placed = record { creation = creation; key = long_five; begun = in_first creation []; name = refl; before = omega arith; writes = refl; owner = refl }
 
 first_part : IsPart both_entries (id_at 2 1) inserts_five
-first_part = (record { number = refl; name = refl; operation = refl }, (λ e. refl), tt)
+first_part = (record { number = refl; name = refl; does = refl }, (λ e. refl), tt)
 
 second_part : IsPart both_entries (id_at 3 1) inserts_long_five
-second_part = (record { number = refl; name = refl; operation = refl }, (λ e. refl), tt)
+second_part = (record { number = refl; name = refl; does = refl }, (λ e. refl), tt)
 
 wanted : WasWanted all_asked creation
 wanted = record {
   request = first;
   taken = in_first first (second ∷ third ∷ []);
-  into = record { insert = inserts_five; asks = refl; name = refl };
+  writes = record { write = inserts_five; asks = refl; name = refl };
   later = omega arith;
 }
 
@@ -78,12 +78,12 @@ right_of a step counter document there came risen right = record { request = a; 
 first_right : IsRightOf both_entries all_asked first_told
 first_right =
     right_of first 3 2 done_reply (in_first first (second ∷ third ∷ [])) (omega arith) (omega arith)
-    (right_insert inserts_five refl (record { part = first_part; all = refl }) refl)
+    (right_write inserts_five refl (record { part = first_part; all = refl }) refl)
 
 second_right : IsRightOf both_entries all_asked second_told
 second_right =
     right_of second 5 3 duplicate_reply second_taken (omega arith) (omega arith)
-    (right_insert inserts_long_five refl (record { part = second_part; all = refl }) refl)
+    (right_write inserts_long_five refl (record { part = second_part; all = refl }) refl)
 
 third_right : IsRightOf both_entries all_asked third_told
 third_right =
@@ -134,10 +134,10 @@ returns-clause-whole c = record {
   sent = (first_sent, (second_sent, tt));
   placed = (first_placed, (second_placed, tt));
   parts = (
-    (λ insert asks. subst (IsPart both_entries (id_at 2 1)) (same_insert inserts_five insert asks) first_part),
+    (λ write asks. subst (IsPart both_entries (id_at 2 1)) (same_write inserts_five write asks) first_part),
     (
-      (λ insert asks. subst (IsPart both_entries (id_at 3 1)) (same_insert inserts_long_five insert asks) second_part),
-      ((λ insert asks. absurd (cc)), tt),
+      (λ write asks. subst (IsPart both_entries (id_at 3 1)) (same_write inserts_long_five write asks) second_part),
+      ((λ write asks. absurd (cc)), tt),
     ),
   );
   wanted = (wanted, tt);

@@ -5,23 +5,24 @@ use Rattle.command_model.specs.SampleRequests.{five, long_five, with_id}
 use Rattle.command_model.specs.Times.{timestamp}
 use Rattle.chunk_model.specs.Catalogue.{Creation}
 use Rattle.chunk_model.specs.SampleCollections.{creation}
-use Rattle.history_model.specs.History.{StatementNumber}
+use Rattle.command_model.specs.Writes.{insert_kind}
+use Rattle.history_model.specs.History.{StatementNumber, insert_operation}
 use Rattle.history_model.proofs.Lists.{all_at, in_first, in_none}
 use Rattle.reply_model.specs.Exchanges.{Asked, number_for}
 use Rattle.reply_model.specs.Earlier.{IsEntryOf}
-use Rattle.reply_model.specs.OneHistory.{IsInsertInto, IsPlaced, WasWanted}
+use Rattle.reply_model.specs.OneHistory.{IsWriteIn, IsPlaced, WasWanted}
 use Rattle.reply_model.specs.SampleExchanges.{all_asked, first, first_entry, second, second_entry, third}
 use Rattle.reply_model.proofs.examples.related.Goals as goal
 
 own : IsEntryOf first first_entry
 own = record {
-  insert = record { namespace = codes "d.c"; documents = with_id five ∷ []; ordered = true };
+  write = record { kind = insert_kind; namespace = codes "d.c"; operations = insert_operation (with_id five) ∷ []; ordered = true };
   prefix = [];
-  document = with_id five;
+  operation = insert_operation (with_id five);
   back = [];
   asks = refl;
   both = refl;
-  statement = record { number = refl; name = refl; operation = refl };
+  statement = record { number = refl; name = refl; does = refl };
 }
 
 another_router : IsEntryOf second first_entry → ⊥
@@ -51,12 +52,12 @@ wanted : WasWanted all_asked creation
 wanted = record {
   request = first;
   taken = in_first first (second ∷ third ∷ []);
-  into = record { insert = record { namespace = codes "d.c"; documents = with_id five ∷ []; ordered = true }; asks = refl; name = refl };
+  writes = record { write = record { kind = insert_kind; namespace = codes "d.c"; operations = insert_operation (with_id five) ∷ []; ordered = true }; asks = refl; name = refl };
   later = omega arith;
 }
 
 by_no_find : WasWanted (third ∷ []) creation → ⊥
-by_no_find w = all_at (λ (a : Asked). IsInsertInto creation.namespace a → ⊥) w.request (third ∷ []) ((λ i. let e = i.asks in cc), tt) w.taken w.into
+by_no_find w = all_at (λ (a : Asked). IsWriteIn creation.namespace a → ⊥) w.request (third ∷ []) ((λ i. let e = i.asks in cc), tt) w.taken w.writes
 
 pub returns-clause-wanted : goal.returns-clause-wanted
 returns-clause-wanted c = (wanted, by_no_find)

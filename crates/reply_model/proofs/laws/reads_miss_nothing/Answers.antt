@@ -1,12 +1,11 @@
--- A key that was written keeps its document, and no read is stale.
-use Rattle.reply_model.proofs.Freshness.{none_before_writes, shows_some, shows_inserted}
+-- What stands at a time is what the last entry of then left.
+use Rattle.std.proofs.Common.{◌∷◌, ◌++◌, refl}
+use Rattle.reply_model.proofs.Freshness.{shows_last, shows_none}
 use Rattle.reply_model.proofs.laws.reads_miss_nothing.Goals as goal
 
-pub returns-clause-later : goal.returns-clause-later
-returns-clause-later c given creations history asked answered t e find time one i j small asks told hits = none_before_writes given creations history asked answered one t e find time i j small asks told hits
+pub returns-clause-last : goal.returns-clause-last
+returns-clause-last c given creations earlier later asked answered t e find documents time one i asks told early hits none =
+    shows_last given creations (earlier ++ e ∷ later) asked answered one earlier later t e find documents time refl i asks told early hits none
 
-pub returns-clause-acknowledged : goal.returns-clause-acknowledged
-returns-clause-acknowledged c given creations history asked answered a s t e find time one told w by small hits asks none = shows_some given creations history asked answered one a s t e find time told w by small hits asks none
-
-pub returns-clause-shown : goal.returns-clause-shown
-returns-clause-shown c given creations history asked answered a s t e find document one told w by inserts done hits asks none = shows_inserted given creations history asked answered one a s t e find document told w by inserts done hits asks none
+pub returns-clause-none : goal.returns-clause-none
+returns-clause-none c given creations history asked answered t find documents time one i asks told none = shows_none given creations history asked answered one t find documents time i asks told none

@@ -14,15 +14,15 @@ invariant_of-self c =
     }
 
 pub returns-then-place-len-clause-opens : goal.returns-then-place-len-clause-opens
-returns-then-place-len-clause-opens c = λ router life q ordered statements before found is.
+returns-then-place-len-clause-opens c = λ router life q kind ordered statements before found is.
     let inside : c.place-place.result < length c.args.self.now.requests.items = omega (arith, c.if-place-len.true, c.len.ensures, c.args.self.now.requests.ok.0) in
     let was : open_meant router life c.index_mut.result.now ≡ q = was_there router life c.args.count c.place-place.result c.args.self.now.requests.items c.index_mut.result.now q c.place-place.ensures inside c.index_mut.ensures.value found in
     is_put router life c.args.count c.args.self.now.taken c.place-place.result c.args.self.now.requests.items c.index_mut.result.now c.answer.new.self
     c.args.self.now.rising c.place-place.ensures inside c.index_mut.ensures.value c.answer.ensures.count
     ∙ ap (λ (x : Open). replaced x (map (λ p. open_meant router life p) c.args.self.now.requests.items))
-    (c.answer.ensures.work router life ordered statements before (ap (λ (x : Open). x.work) was ∙ is)
-    ∙ ap (λ (x : Open). with_work x (wait_meant c.args.wait) (writing ordered statements (map done_meant c.args.answers.items))) was)
+    (c.answer.ensures.work router life kind ordered statements before (ap (λ (x : Open). x.work) was ∙ is)
+    ∙ ap (λ (x : Open). with_work x (wait_meant c.args.wait) (writing kind ordered statements (map done_meant c.args.answers.items))) was)
 
 pub returns-else-place-len-clause-opens : goal.returns-else-place-len-clause-opens
-returns-else-place-len-clause-opens c = λ router life q ordered statements before found is.
+returns-else-place-len-clause-opens c = λ router life q kind ordered statements before found is.
     absurd (not_there router life c.args.count c.args.self.now.requests.items q (omega (arith, c.if-place-len.false, c.place-place.ensures, c.len.ensures, c.args.self.now.requests.ok.0)) found)

@@ -31,7 +31,7 @@ returns-then-are_as_many c = λ m is late.
     let before = map done_meant c.in-Writing.answers.items in
     let dones = map done_meant c.args.told.now.dones.items in
     heard_late r m c.late-then-are_as_many.result c.args.time.0 late c.late-then-are_as_many.ensures
-    (dones_no_news r m (id_meant c.args.told.now.id) q (sym c.in-Some.ensures) dones _ _ before is (ap (λ (w : Work). work_meant (rows.id_of r c.in-Some.request.now.count) w) c.in-Writing.is)
+    (dones_no_news r m (id_meant c.args.told.now.id) q (sym c.in-Some.ensures) dones _ _ _ before is (ap (λ (w : Work). work_meant (rows.id_of r c.in-Some.request.now.count) w) c.in-Writing.is)
     (no_news before dones (as_many done_meant c.in-Writing.answers.items c.in_ok-noted-in-Writing.noted.items (rows.noted before dones) c.in_ok-noted-in-Writing.ensures (c.are_as_many.ensures.same c.if-are_as_many.true))))
 
 pub returns-else-are_as_many : goal.returns-else-are_as_many

@@ -20,7 +20,7 @@ returns-in-Writing c = λ m is late.
     let n = c.args.self.now in
     let q = open_meant n.me.0 n.life c.in-Some.request.now in
     heard_late (router_of n) m c.late-in-Writing.result c.args.time.0 late c.late-in-Writing.ensures
-    (rows_of_write (router_of n) m (id_meant c.args.told.now.id) q (sym c.in-Some.ensures) _ _ _ _ _ is (ap (λ (w : Work). work_meant (rows.id_of (router_of n) c.in-Some.request.now.count) w) c.in-Writing.is))
+    (rows_of_write (router_of n) m (id_meant c.args.told.now.id) q (sym c.in-Some.ensures) _ _ _ _ _ _ is (ap (λ (w : Work). work_meant (rows.id_of (router_of n) c.in-Some.request.now.count) w) c.in-Writing.is))
 
 pub returns-else-is_first : goal.returns-else-is_first
 returns-else-is_first c = λ m is late.

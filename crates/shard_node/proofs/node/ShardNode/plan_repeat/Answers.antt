@@ -1,5 +1,6 @@
-use Rattle.std.proofs.Common.{◌≡◌, ◌++◌, ◌∷◌, [], ap, ◌∙◌, rules}
+use Rattle.std.proofs.Common.{◌≡◌, ◌++◌, ◌∷◌, [], ap, sym, ◌∙◌, rules}
 use Rattle.std.specs.Prelude.{List, map}
+use Rattle.std.specs.Option.{option_map}
 use Rattle.chunk_table.specs.VerdictMeanings.{sent_meant}
 use Rattle.node_traits.specs.Letters.{letter_input, write_done}
 use Rattle.node_traits.specs.Outcomes as outcomes
@@ -17,10 +18,10 @@ returns-clause-planned c = λ m body timed.
     let s = shard_meant c.args.self.now in
     let ask = c.args.ask.now in
     let statements = map (statement_meant (id_meant ask.id)) ask.statements.items in
-    let d = told.done_meant c.in-Some.statement.now.index c.in-Some-look.told in
+    let d = told.done_meant c.in-Some.statement.now.index c.in-Some-2.told in
     let dones : map (λ x. done_meant x) c.push.new.self.items ≡ d ∷ [] = search rules in
     let repeated = repeats_first ask.ordered s.entries (id_meant ask.id) ask.statements.items c.deref.result.now c.in-Some.statement.now d (search rules) c.in-Some.ensures.item.3.0
-    c.in-Some.ensures.item.1 c.in-Some-look.ensures in
+    c.in-Some.ensures.item.1 (sym (ap (option_map (told.done_meant c.in-Some.statement.now.index)) c.in-Some-2.is) ∙ c.in_ok-told.ensures) in
     let old = not_fitting s.me s.tables (id_meant ask.id) ask.turn ask.ordered ask.namespace ask.statements.items c.deref.result.now (sent_meant ask.sent)
     (search rules) c.in-Some.ensures.item.3.0 c.requires.old in
     told_planned s (letter_input m) c.of_message.result ask.id.router.0 c.args.time.0 (heard s m) (write_done (id_meant ask.id) (d ∷ [])) _

@@ -1,8 +1,22 @@
-use Rattle.std.proofs.Common.{◌≡◌, ◌≢◌, refl, rules}
-use Rattle.shard_node.proofs.Writing.{step_new}
+use Rattle.std.proofs.Common.{◌≡◌, ◌≢◌, ap, sym, refl, rules, ◌∙◌}
+use Rattle.std.specs.Option.{option_map}
+use Rattle.shard_store.specs.Outcomes.{done_meant}
+use Rattle.shard_store.specs.Plans.{time_of}
+use Rattle.shard_node.proofs.Writing.{step_new, told_short}
 use Rattle.shard_node.proofs.node.ShardNode.serve.Goals as goal
+
+pub entry_bytes-requires : goal.entry_bytes-requires
+entry_bytes-requires c =
+    let index = c.args.statement.now.index in
+    let served = c.in_ok-told.ensures.served in
+    let later : time_of c.serve.new.plan ≢ time_of c.args.entries.now = λ e. c.if-time-before.false (c.time.ensures ∙ e ∙ sym c.time-before.ensures) in
+    record { key = told_short _ _ _ _ _ _ served.0 _ index c.in-Some.told served.2 later (ap (option_map (done_meant index)) c.in-Some.is) }
 
 pub returns-clause-served : goal.returns-clause-served
 returns-clause-served c =
-    step_new _ _ _ _ c.args.entries.now c.serve.new.plan _ _ _ _ _ c.args.ask.now.id c.args.statement.now.index c.in-Some.told c.own_statement-number.result c.deref.result.now _ c.in_ok-record.record
-    (search rules) c.in_ok-told.ensures.served (search rules) (search rules) (search rules) (search rules) (search rules) (search rules) (search rules) (search rules) (search rules) refl
+    let id = c.args.ask.now.id in
+    let index = c.args.statement.now.index in
+    let later : time_of c.serve.new.plan ≢ time_of c.args.entries.now = λ e. c.if-time-before.false (c.time.ensures ∙ e ∙ sym c.time-before.ensures) in
+    step_new _ c.args.self.now.me.0 c.args.ask.now.namespace _ c.args.entries.now c.serve.new.plan _ _ _ _ _ id index c.in-Some.told c.own_statement-number.result _ _ _ (search rules)
+    c.in_ok-told.ensures.served (rw (c.requires.id, c.in_ok-words.ensures.words) refl) (ap (option_map (done_meant index)) c.in-Some.is) c.in_ok-done-2.ensures later
+    c.own_statement-number.ensures refl refl c.in_ok-record.ensures.0 c.in_ok-record.ensures.1 refl

@@ -40,6 +40,6 @@ invariant_of-self c =
           (c.enter.ensures.last n k) t e;
       noted = λ number.
           c.note.ensures.so_far (notes_kept kept) store.noted number
-          ∙ ap (λ reply. seen (notes_kept kept ++ note_meant p.statement p.time reply ∷ []) number) c.reply.ensures
+          ∙ ap (λ reply. seen (notes_kept kept ++ note_meant p.statement p.time reply ∷ []) number) c.into_reply.ensures
           ∙ ap (λ l. seen l number) (sym (notes_grown store.shard.0 kept new name p grown));
     }

@@ -17,14 +17,14 @@ returns-in-New c =
     sym (store.noted number) ∙ ap (λ s. seen_in store.book (number_meant s)) (sym c.own_statement.ensures) ∙ sym c.in-New.ensures in
     sym (look_new store.shard.0 number store.entries.items (zero_from store.entries.items store.zero) refl new)
 
-pub returns-in-Done : goal.returns-in-Done
-returns-in-Done c =
+pub returns-in_ok-outcome-in-Done : goal.returns-in_ok-outcome-in-Done
+returns-in_ok-outcome-in-Done c =
     let store = c.args.self.now in
     let number = number_for (id_meant c.args.id) c.args.index in
     let done : seen (notes_kept store.entries.items) number ≡ done_before c.in-Done.time.0 c.in-Done.reply.now =
     sym (store.noted number) ∙ ap (λ s. seen_in store.book (number_meant s)) (sym c.own_statement.ensures) ∙ sym c.in-Done.ensures in
     sym (look_done store.shard.0 number store.entries.items (zero_from store.entries.items store.zero) refl
-    (record { time = c.in-Done.time; outcome = c.of.result }) c.in-Done.reply.now done (λ k is. c.of.ensures k.1.outcome is))
+    (record { time = c.in-Done.time; outcome = c.in_ok-outcome-in-Done.outcome }) c.in-Done.reply.now done (λ k is. c.in_ok-outcome-in-Done.ensures k.1.outcome is))
 
 pub returns-in-Older : goal.returns-in-Older
 returns-in-Older c =

@@ -1,22 +1,17 @@
-use Rattle.std.proofs.Common.{◌≡◌, ◌+◌, ◌++◌, ◌∷◌, ℕ, List, [], refl, sym, ap, subst, ◌∙◌, append-nil, arith}
-use Rattle.std.specs.Prelude.{Some, false, map}
-use Rattle.std.specs.Arc.{arc_value}
-use Rattle.std.specs.List.{list_any}
+use Rattle.std.proofs.Common.{◌≡◌, ◌+◌, ◌++◌, ◌∷◌, ℕ, List, [], refl, sym, ap, subst, ◌∙◌, append-nil, arith, rules}
+use Rattle.std.specs.Prelude.{Some, map}
 use Rattle.std.proofs.lemmas.List.{map-append}
-use Rattle.bson_values.specs.Tree.{Datum}
-use Rattle.bson_values.specs.View.{datum_of}
-use Rattle.value_compare.specs.Keys.{valid_key}
-use Rattle.value_compare.specs.Order.{same_value}
 use Rattle.cluster_base.specs.declared.identity.RequestId.{RequestId}
 use Rattle.node_model.specs.Exchanges.{number_for}
-use Rattle.node_model.specs.History.{insert_operation, effect, document_left}
 use Rattle.node_traits.specs.Ids.{id_meant}
 use Rattle.shard_store.proofs.Following.{again, next_from, own_from, served_next}
-use Rattle.shard_store.specs.Entries.{entry_meant}
+use Rattle.shard_store.proofs.Lists.{none_passes}
+use Rattle.shard_store.specs.Entries.{entry_meant, operation_of}
 use Rattle.shard_store.specs.Outcomes.{done_meant}
-use Rattle.shard_store.specs.Plans.{AreNext, IsServed, left_for_later, made_by, planned_in, time_of}
+use Rattle.shard_store.specs.Plans.{AreNext, IsEffect, IsServed, left_for_later, made_by, time_of}
 use Rattle.shard_store.specs.Stores.{entries_of, last_of, shard_of}
 use Rattle.shard_store.specs.declared.entry.Planned.{Planned}
+use Rattle.shard_store.specs.declared.outcome.EntryResult.{EntryResult}
 use Rattle.shard_store.proofs.store.ShardStore.serve.Goals as goal
 
 pub returns-in-Some-clause-served : goal.returns-in-Some-clause-served
@@ -24,8 +19,8 @@ returns-in-Some-clause-served c = (
   [],
   sym (append-nil (made_by (shard_of c.args.self.now) c.args.namespace.now c.args.plan.now)),
   again (shard_of c.args.self.now) c.args.namespace.now (entries_of c.args.self.now) (made_by (shard_of c.args.self.now) c.args.namespace.now c.args.plan.now)
-      (time_of c.args.plan.now) (record { number = number_for (id_meant c.args.plan.now.id) c.args.index; operation = insert_operation (arc_value c.args.document.now) })
-      (done_meant c.args.index c.in-Some.told) c.in-Some.ensures,
+      (time_of c.args.plan.now) (record { number = number_for (id_meant c.args.plan.now.id) c.args.index; operation = operation_of c.args.words })
+      (done_meant c.args.index c.in-Some.told) (search rules),
 )
 
 pub returns-then-index-plan-clause-served : goal.returns-then-index-plan-clause-served
@@ -34,29 +29,30 @@ returns-then-index-plan-clause-served c = ([], sym (append-nil (made_by (shard_o
 pub returns-then-has_key-clause-served : goal.returns-then-has_key-clause-served
 returns-then-has_key-clause-served c = ([], sym (append-nil (made_by (shard_of c.args.self.now) c.args.namespace.now c.args.plan.now)), left_for_later)
 
+pub returns-then-has_key-clause-first : goal.returns-then-has_key-clause-first
+returns-then-has_key-clause-first c = λ none.
+    absurd (none_passes _ _ _ (c.has_key.ensures (entries_of c.args.self.now) (last_of c.args.self.now) c.args.namespace.now c.requires.plan) c.if-has_key.true none)
+
 pub push-requires-clause-key : goal.push-requires-clause-key
 push-requires-clause-key c =
-    let none : list_any (λ (p : Planned). same_value p.key c.in-Ok.key) (planned_in c.args.plan.now) ≡ false =
-    sym (c.has_key.ensures (entries_of c.args.self.now) (last_of c.args.self.now) c.args.namespace.now c.requires.plan) ∙ c.if-has_key.false in
-    subst (λ (k : Datum). list_any (λ (p : Planned). same_value p.key k) (planned_in c.args.plan.now) ≡ false) (sym c.key.view_is) none
+    sym (c.has_key.ensures (entries_of c.args.self.now) (last_of c.args.self.now) c.args.namespace.now c.requires.plan) ∙ c.if-has_key.false
 
 pub returns-clause-plan : goal.returns-clause-plan
 returns-clause-plan c =
     let store = c.args.self.now in
     let name = c.args.namespace.now in
     let plan = c.args.plan.now in
-    let document = arc_value c.args.document.now in
+    let e = c.in_ok-key.field-0 in
     let p : Planned = record {
       statement = c.own_statement.result;
       time = record { 0 = plan.last.0 + 1 };
-      key = datum_of c.key.inside.value;
-      document = c.in_ok-try_clone.field-0;
-      outcome = c.outcome_of-outcome.result;
+      words = c.args.words;
+      key = e.key;
+      left = e.left;
+      outcome = e.outcome;
     } in
-    let next = next_from (entries_of store) (last_of store) name p plan.id c.args.index document c.in-Ok.key (omega (arith, c.requires.plan.before))
-    c.own_statement.ensures c.in_ok-try_clone.ensures c.key.view_is (ap valid_key (sym c.deref.ensures) ∙ c.in-Ok.ensures.key)
-    (c.outcome_of-outcome.ensures ∙ ap (λ d. (effect (insert_operation d) (document_left name (Some c.in-Ok.key) (entries_of store))).1) c.deref-2.ensures)
-    c.in_default.ensures in
+    let does : IsEffect (entries_of store) name (operation_of p.words) p.key p.left p.outcome = c.in_ok-key.ensures in
+    let next = next_from (entries_of store) (last_of store) name p plan.id c.args.index (omega (arith, c.requires.plan.before)) c.own_statement.ensures does (search rules) in
     c.in_ok-push.ensures.plan (entries_of store) (last_of store) name c.requires.plan next (own_from plan.id p.statement c.args.index c.own_statement.ensures)
 
 pub returns-clause-served : goal.returns-clause-served
@@ -64,18 +60,18 @@ returns-clause-served c =
     let store = c.args.self.now in
     let name = c.args.namespace.now in
     let plan = c.args.plan.now in
-    let document = arc_value c.args.document.now in
+    let e = c.in_ok-key.field-0 in
     let p : Planned = record {
       statement = c.own_statement.result;
       time = record { 0 = plan.last.0 + 1 };
-      key = datum_of c.key.inside.value;
-      document = c.in_ok-try_clone.field-0;
-      outcome = c.outcome_of-outcome.result;
+      words = c.args.words;
+      key = e.key;
+      left = e.left;
+      outcome = e.outcome;
     } in
-    let next = next_from (entries_of store) (last_of store) name p plan.id c.args.index document c.in-Ok.key (omega (arith, c.requires.plan.before))
-    c.own_statement.ensures c.in_ok-try_clone.ensures c.key.view_is (ap valid_key (sym c.deref.ensures) ∙ c.in-Ok.ensures.key)
-    (c.outcome_of-outcome.ensures ∙ ap (λ d. (effect (insert_operation d) (document_left name (Some c.in-Ok.key) (entries_of store))).1) c.deref-2.ensures)
-    c.in_default.ensures in
+    let told : EntryResult = record { time = p.time; outcome = c.in_ok-copy.field-0 } in
+    let does : IsEffect (entries_of store) name (operation_of p.words) p.key p.left p.outcome = c.in_ok-key.ensures in
+    let next = next_from (entries_of store) (last_of store) name p plan.id c.args.index (omega (arith, c.requires.plan.before)) c.own_statement.ensures does (search rules) in
     let pushed = c.in_ok-push.ensures.plan (entries_of store) (last_of store) name c.requires.plan next (own_from plan.id p.statement c.args.index c.own_statement.ensures) in
     let all : AreNext (entries_of store) (last_of store) name plan.id (plan.planned.items ++ p ∷ []) =
     subst (λ (l : List Planned). AreNext (entries_of store) (last_of store) name plan.id l) c.in_ok-push.ensures.planned
@@ -85,9 +81,9 @@ returns-clause-served c =
           ∙ map-append (entry_meant (shard_of store) name) plan.planned.items (p ∷ []),
       subst
           (λ (t : ℕ). IsServed (shard_of store) name (entries_of store ++ made_by (shard_of store) name plan) (time_of plan)
-          (record { number = number_for (id_meant plan.id) c.args.index; operation = insert_operation document })
-          (Some (done_meant c.args.index (record { time = p.time; outcome = p.outcome }))) (entry_meant (shard_of store) name p ∷ []) t)
+          (record { number = number_for (id_meant plan.id) c.args.index; operation = operation_of p.words })
+          (Some (done_meant c.args.index told)) (entry_meant (shard_of store) name p ∷ []) t)
           (sym c.in_ok-push.ensures.time)
-          (served_next (shard_of store) name (entries_of store) (last_of store) plan.id plan.planned.items p c.args.index (time_of plan) document all next
-          c.own_statement.ensures refl c.in_ok-try_clone.ensures),
+          (served_next (shard_of store) name (entries_of store) (last_of store) plan.id plan.planned.items p c.args.index (time_of plan) (operation_of p.words) told all
+          c.own_statement.ensures refl refl refl c.in_ok-copy.ensures),
     )

@@ -1,0 +1,63 @@
+//! Updates and deletes that clients ask for.
+
+ghost use Rattle.std.specs.Prelude.{◌≡◌, IfOk};
+ghost use Rattle.std.specs.Arc.{arc_value};
+ghost use Rattle.command_model.specs.CommandSizes.{IsKeepable};
+ghost use Rattle.shard_records.specs.Meanings.{operation_meant};
+
+use bson_values::Memory;
+use std::alloc::Global;
+use std::marker::Model;
+use std::sync::Arc;
+use value_compare::OpWords;
+
+/// The words of an update or a delete: a statement under one key, whose documents have the size that those of statements may have (MongoDB
+/// manual, "update", "delete"), so it may be kept. They are shared with whoever else has them.
+#[derive(Drop)]
+pub struct NewChange {
+    words: Arc<OpWords, Global>,
+}
+
+impl Model for NewChange {
+    ghost use Rattle.node_traits.specs.History.{Operation};
+    ghost use Rattle.protocol_model.specs.Code.{operation_code};
+
+    ghost Value = { Operation };
+
+    ghost coded = { operation_code };
+
+    ghost use Rattle.std.specs.Arc.{arc_value};
+    ghost use Rattle.command_model.specs.CommandSizes.{IsKeepable};
+    ghost use Rattle.shard_records.specs.Meanings.{operation_meant};
+
+    ghost view = { λ c. operation_meant (arc_value c.words) };
+
+    ghost invariant = { λ c. IsKeepable (operation_meant (arc_value c.words)) };
+}
+
+impl NewChange {
+    /// The words, to be shared. Fails for want of memory.
+    pub fn of(alloc: Global, words: OpWords) -> Result<NewChange, Memory>
+        requires { IsKeepable (operation_meant words) }
+        ensures { IfOk result (λ new. new ≡ operation_meant words) }
+    {
+        let words = Arc::new(alloc, words)?;
+        Ok(NewChange { words })
+    }
+
+    /// The words that it is, which may be kept.
+    pub fn words(&self) -> &Arc<OpWords, Global>
+        ensures same { operation_meant (arc_value result.now) ≡ self.now }
+        ensures keepable { IsKeepable self.now }
+    {
+        &self.words
+    }
+
+    /// The same words, shared once more. Fails for want of memory.
+    pub fn copy(&self) -> Result<NewChange, Memory>
+        ensures { IfOk result (λ new. new ≡ self.now) }
+    {
+        let words = Arc::try_clone(&self.words)?;
+        Ok(NewChange { words })
+    }
+}
