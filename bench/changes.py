@@ -8,9 +8,11 @@ at 20,000 keys cost 1.3 times those at 2,000 at most, and a look-up among 20,000
 sessions are gone through in the order of their making; a find of a key with 1,000 versions, now and at its oldest time, 1.3 times that
 of a key with one; reading records twice the reading of the documents in them. Tells the same where keys and sessions are gone through
 by a fixed stride, and the bytes of the book for each statement that is noted. Keys are ObjectIds as a driver makes them, and
-identifiers of sessions rise likewise; all are made before the clock runs. Each figure is the least of some rounds. Ends with status 1
-where a wanted bound does not hold. Usage: changes.py [ROUNDS]
+identifiers of sessions rise likewise; all are made before the clock runs. Each figure is the least of some rounds. With $CHANGES_FOLDER
+the program is made in that folder and stays there, so that a later run proves only what has changed. Ends with status 1 where a wanted
+bound does not hold. Usage: changes.py [ROUNDS]
 """
+import contextlib
 import os
 import pathlib
 import shutil
@@ -547,9 +549,12 @@ def program(top, rounds):
     """A repository with the crates that the program stands on, and the program."""
     lines = crates_below(NAMED)
     ignored = shutil.ignore_patterns("out", "must-fail", "more-edits")
+    for name in [line.split(":")[0] for line in lines] + ["measure"]:
+        for part in ("src", "specs", "proofs"):
+            shutil.rmtree(top / "crates" / name / part, ignore_errors=True)
     for line in lines:
         name = line.split(":")[0]
-        shutil.copytree(TOP / "crates" / name, top / "crates" / name, ignore=ignored)
+        shutil.copytree(TOP / "crates" / name, top / "crates" / name, ignore=ignored, dirs_exist_ok=True)
     (top / "crates.txt").write_text("\n".join([*lines, f"measure: {' '.join(NAMED)} byteorder"]) + "\n")
     source = top / "crates" / "measure" / "src"
     source.mkdir(parents=True)
@@ -586,7 +591,8 @@ def figures(told, rounds):
 def main():
     rounds = int(sys.argv[1]) if len(sys.argv) > 1 else 7
     journal = b"".join(map(record, range(RECORDS)))
-    with tempfile.TemporaryDirectory() as folder:
+    kept = os.environ.get("CHANGES_FOLDER")
+    with contextlib.nullcontext(kept) if kept else tempfile.TemporaryDirectory() as folder:
         crate = program(pathlib.Path(folder), rounds)
         subprocess.run(["rt", "run"], cwd=crate, stdin=subprocess.DEVNULL, stdout=subprocess.DEVNULL, check=True)
         built = crate / "out" / "measure"
