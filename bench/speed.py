@@ -3,7 +3,7 @@
 
 Wanted: one link's acknowledged inserts a second are 0.45 times the disk's syncs a second at least; one message of 1,000 documents takes
 at most 1 / 0.8 times as long as one append of as many bytes; an insert among 20,000 costs at most 1.3 times one among 2,000; and the
-program takes 1.5 GB at most for a message of up to 48,000,000 bytes, also of many small fields. Where PostgreSQL stands on the path
+program takes 1.5 GB at most for a message of up to 48,000,000 bytes, also of many small fields. Where PostgreSQL is found
 (`initdb`, `pg_ctl`, `psql`; as another user where this is root) it also tells how long one statement of 1,000 rows takes there, with
 synchronous commit. The program is $CLUSTER, or `cluster` at the top of the repository. Client and program share one processor, so that no
 figure is of how long a sleeping one takes to wake. With $SPEED_SYNC_MS each sync takes so many milliseconds more, here and in the program
@@ -11,6 +11,7 @@ figure is of how long a sleeping one takes to wake. With $SPEED_SYNC_MS each syn
 made, and neither their growth nor PostgreSQL is measured. Each figure is the best of some rounds. Ends with status 1 where a wanted
 bound does not hold. Usage: speed.py [ROUNDS]
 """
+import glob
 import os
 import pathlib
 import shutil
@@ -191,9 +192,15 @@ class Postgres:
         shutil.rmtree(self.folder, ignore_errors=True)
 
 
+def has_postgres():
+    """Whether PostgreSQL's programs are found, on the path or where Debian has them, which is on the path from then on."""
+    os.environ["PATH"] = os.pathsep.join([os.environ["PATH"], *sorted(glob.glob("/usr/lib/postgresql/*/bin"))])
+    return all(shutil.which(word) for word in ("initdb", "pg_ctl", "psql"))
+
+
 def postgres(rounds):
     """The least time of a statement of 1,000 rows there, or none."""
-    if not all(shutil.which(word) for word in ("initdb", "pg_ctl", "psql")):
+    if not has_postgres():
         return None
     server = Postgres()
     try:
@@ -240,4 +247,5 @@ def main():
     sys.exit(0 if all(held) else 1)
 
 
-main()
+if __name__ == "__main__":
+    main()

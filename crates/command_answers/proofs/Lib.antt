@@ -1,3 +1,3 @@
-mod Batches
+mod Arrays
 mod WriteParts
 pub use Rattle.command_model.proofs.SmallAnswers

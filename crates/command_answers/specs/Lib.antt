@@ -1,4 +1,5 @@
 pub mod AnswerMeanings
+pub mod Cursors
 pub mod Errors
 pub mod Kinds
 pub mod Refusals

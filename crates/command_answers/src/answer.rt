@@ -4,8 +4,8 @@ ghost use Rattle.std.specs.Prelude.{◌≡◌, ◌<◌, Some, None, nat_lt, if�
 ghost use Rattle.command_model.specs.CommandLimits.{most_statements};
 
 use crate::refusal::Refusal;
-use bson_values::{Document, Text};
-use cluster_base::Time;
+use bson_values::Document;
+use cluster_base::{Namespace, Time};
 use std::alloc::Global;
 use std::marker::Model;
 use std::sync::Arc;
@@ -67,11 +67,32 @@ pub enum WriteKind {
     Delete,
 }
 
+/// How a client numbers the statements of a write: by a transaction of its session, each with its index (MongoDB manual, "Retryable
+/// Writes").
+#[derive(Clone, Copy, Debug, PartialEq, Eq)]
+pub struct ClientNumber {
+    /// The identifier of the session.
+    pub session: [u8; 16],
+    /// The transaction, `txnNumber`.
+    pub transaction: i64,
+}
+
 /// The key of the document that the statement with this index put in, having met none (MongoDB manual, "update", `upserted`).
 #[derive(Drop)]
 pub struct Upserted {
     pub index: StatementIndex,
     pub key: Arc<Key, Global>,
+}
+
+/// Some of the documents that were read of a collection (MongoDB manual, "Cursor Batches").
+#[derive(Drop)]
+pub struct Batch {
+    /// The cursor that has the others; 0 where there are none.
+    pub cursor: i64,
+    pub namespace: Namespace,
+    pub documents: Vec<Arc<Document, Global>>,
+    /// The time that they were read at.
+    pub time: Time,
 }
 
 /// What a request is answered.
@@ -98,11 +119,19 @@ pub enum Answer {
         errors: Vec<WriteError>,
         time: Time,
     },
-    /// To `find`: the namespace, the documents, and the time that they were read at.
-    Find {
-        namespace: Text,
-        documents: Vec<Document>,
+    /// To `find` and `aggregate`.
+    First(Batch),
+    /// To `getMore`.
+    Next(Batch),
+    /// To `count`: how many documents there were, and the time that was read at.
+    Count {
+        count: u64,
         time: Time,
+    },
+    /// To `killCursors`: the cursors that were closed, and those that were not found.
+    Killed {
+        killed: Vec<i64>,
+        missing: Vec<i64>,
     },
     /// To a request that is refused.
     Refused(Refusal),

@@ -5,14 +5,17 @@ ghost use Rattle.command_model.specs.Answers.{answer_document};
 ghost use Rattle.command_answers.specs.AnswerMeanings.{answer_meant};
 
 use crate::answer::Answer;
-use crate::find::find_document;
+use crate::batches::batch_document;
+use crate::counts::count_document;
+use crate::cursors::killed_document;
 use crate::handshake::{done_answer, hello_answer, legacy_answer};
 use crate::refusal::refusal_document;
 use crate::writes::write_document;
 use bson_values::{Document, Memory};
 use std::alloc::Global;
 
-/// The document of an answer (MongoDB manual, "Command Response"). Fails for want of memory.
+/// The document of an answer (MongoDB manual, "Command Response"). Fails for want of memory, and of a `Count` that is 2^63 or more, as no
+/// number of documents in memory is.
 pub fn write_answer(alloc: Global, answer: &Answer) -> Result<Document, Memory>
     ensures { IfOk result (λ d. d ≡ answer_document (answer_meant answer.now)) }
 {
@@ -28,11 +31,10 @@ pub fn write_answer(alloc: Global, answer: &Answer) -> Result<Document, Memory>
             errors,
             time,
         } => write_document(alloc, *kind, *count, *modified, upserted, errors, *time),
-        Answer::Find {
-            namespace,
-            documents,
-            time,
-        } => find_document(alloc, namespace, documents, *time),
+        Answer::First(batch) => batch_document(alloc, "firstBatch", batch),
+        Answer::Next(batch) => batch_document(alloc, "nextBatch", batch),
+        Answer::Count { count, time } => count_document(alloc, *count, *time),
+        Answer::Killed { killed, missing } => killed_document(alloc, killed, missing),
         Answer::Refused(refusal) => refusal_document(alloc, *refusal),
     }
 }

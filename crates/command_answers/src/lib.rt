@@ -2,13 +2,17 @@
 #![tactic(auto)]
 
 mod answer;
+mod batches;
+mod counts;
+mod cursors;
 mod documents;
-mod find;
 mod handshake;
 mod parts;
 mod refusal;
 mod writes;
 
-pub use answer::{Answer, MOST_STATEMENTS, StatementIndex, Upserted, WriteError, WriteKind};
+pub use answer::{
+    Answer, Batch, ClientNumber, MOST_STATEMENTS, StatementIndex, Upserted, WriteError, WriteKind,
+};
 pub use documents::write_answer;
 pub use refusal::{Evidence, Refusal};

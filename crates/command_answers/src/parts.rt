@@ -1,14 +1,27 @@
 //! Building documents, a field at a time.
 
-ghost use Rattle.std.specs.Prelude.{◌≡◌, IsTrue, OnOk, pos};
+ghost use Rattle.std.specs.Prelude.{◌≡◌, ◌<◌, ◌^◌, IsTrue, OnOk, pos};
 ghost use Rattle.bson_values.specs.Tree.{boolean_value, int32_value, string_value, no_fields, field, joined};
 ghost use Rattle.bson_values.specs.Names.{has_no_zero};
 ghost use Rattle.bson_values.specs.View.{datum_of};
+ghost use Rattle.command_model.specs.AnswerParts as shown;
 ghost use Rattle.command_model.specs.AnswerParts.{ok, operation_time_at};
 
 use bson_values::{Document, Memory, Name, Text, Value};
 use cluster_base::Time;
 use std::alloc::Global;
+
+/// A count, in 64 bits where 32 do not hold it.
+pub(crate) fn count_shown(count: u64) -> Value
+    requires { count < 2 ^ 63 }
+    ensures { datum_of result ≡ shown.count count }
+{
+    if count < 1 << 31 {
+        Value::Int32(count as i32)
+    } else {
+        Value::Int64(count as i64)
+    }
+}
 
 /// Puts a field behind the others. Fails for want of memory.
 pub(crate) fn add(

@@ -13,22 +13,11 @@ ghost use Rattle.command_answers.specs.Refusals.{refusal_meant};
 ghost use Rattle.command_answers.specs.Upserts.{changes_alone, upserted_meant};
 
 use crate::answer::{Upserted, WriteError, WriteKind};
-use crate::parts::{add, add_end, add_number, add_text};
+use crate::parts::{add, add_end, add_number, add_text, count_shown};
 use crate::refusal::add_evidence;
 use bson_values::{Array, Document, Memory, Value};
 use cluster_base::Time;
 use std::alloc::Global;
-
-// A count, in 64 bits where 32 do not hold it.
-fn count_shown(count: u32) -> Value
-    ensures { datum_of result ≡ shown.count count }
-{
-    if count < 1 << 31 {
-        Value::Int32(count as i32)
-    } else {
-        Value::Int64(i64::from(count))
-    }
-}
 
 // The document of one write error.
 fn write_error(alloc: Global, error: &WriteError) -> Result<Document, Memory>
@@ -110,12 +99,13 @@ fn add_changes(
     modified: u32,
     upserted: &[Upserted],
 ) -> Result<(), Memory>
-    ensures { OnOk result (answer.new ≡ joined answer.old (model.changes_shown (kind_meant kind) (changes_alone modified (upserted_meant upserted.now)) no_fields)) }
+    ensures { OnOk result (answer.new
+        ≡ joined answer.old (model.changes_shown (kind_meant kind) (changes_alone modified (upserted_meant upserted.now)) no_fields)) }
 {
     match kind {
         WriteKind::Insert => Ok(()),
         WriteKind::Update => {
-            add(answer, alloc, "nModified", count_shown(modified))?;
+            add(answer, alloc, "nModified", count_shown(u64::from(modified)))?;
             add_upserted(answer, alloc, upserted)
         }
         WriteKind::Delete => Ok(()),
@@ -142,7 +132,7 @@ pub(crate) fn write_document(
     })) }
 {
     let mut answer = Document::new(alloc);
-    add(&mut answer, alloc, "n", count_shown(count))?;
+    add(&mut answer, alloc, "n", count_shown(u64::from(count)))?;
     add_changes(&mut answer, alloc, kind, modified, upserted)?;
     add_errors(&mut answer, alloc, errors)?;
     add_end(&mut answer, alloc, time)?;

@@ -3,6 +3,7 @@ pub mod Passed
 pub mod Inside
 pub mod Judged
 pub mod Rows
+pub mod Int64
 pub mod Taken
 pub mod SmallAnswers
 pub mod AnswerTimes

@@ -3,24 +3,31 @@ use Rattle.std.proofs.Common.{ℕ, ◌≤◌, List, [], ◌∷◌, length, Bool,
 use Rattle.std.specs.List.{AllByRecursion}
 use Rattle.std.specs.Str.{bytes_eq}
 use Rattle.opmsg_model.specs.Tree.{Datum, string_value, document_value, array_value, binary_value, boolean_value, timestamp_value, Fields, no_fields, field, get}
-use Rattle.std.specs.Prelude.{ℤ, pos, Result, Ok, Err}
+use Rattle.std.specs.Prelude.{ℤ, pos, Result, Ok, Err, is_some}
 use Rattle.std.specs.Ordering.{int_eq}
 use Rattle.pipeline_model.specs.Operands.{whole_number}
+use Rattle.pipeline_model.specs.SortKeys.{read_sort}
+use Rattle.pipeline_model.specs.Stages.{as_natural, read_pipeline}
 use Rattle.query_model.specs.Queries.{QueryFault}
+use Rattle.query_model.specs.Reading.{read_query}
 use Rattle.query_model.specs.Writes.{Write}
 use Rattle.history_model.specs.History.{Operation, read_operation}
 use Rattle.value_model.specs.Keys.{is_key}
 use Rattle.opmsg_model.specs.Requests.{Form, msg_form, query_form}
-use Rattle.base_model.specs.Errors.{ErrorCode, bad_value, failed_to_parse, type_mismatch}
+use Rattle.base_model.specs.Errors.{ErrorCode, bad_value, failed_to_parse, invalid_namespace, type_mismatch}
 use Rattle.command_model.specs.Checks.{Verdict, first_of, is_one_of, unless_passes}
-use Rattle.command_model.specs.Fields.{Rule, any_value, boolean_needed, by_rule, check_inner_fields, check_fields, check_required, check_session, common_rules, document_needed, find_rule, names_of, session_id, session_rules, string_needed}
+use Rattle.command_model.specs.Fields.{Rule, any_value, boolean_needed, by_rule, check_inner_fields, check_fields, check_required, check_session, common_rules, document_needed, find_rule, names_of, session_id, session_rules, string_needed, timestamp_needed}
 use Rattle.command_model.specs.Forms.{CommandForm, SequenceRule, Sequences, check_collection, check_command, check_database, check_sequence, check_sequences, database_of}
 use Rattle.command_model.specs.Handshake.{handshake_rules}
 use Rattle.command_model.specs.Statements.{StatementForm, check_key, check_statement, check_statements, check_words, key_asked_by}
 use Rattle.command_model.specs.Update.{update_rules}
 use Rattle.command_model.specs.Delete.{delete_rules, limit_needed}
-use Rattle.command_model.specs.Writes.{WriteKind, insert_kind, update_kind, delete_kind, check_count, check_documents, documents_in, documents_needed, some_needed, statement_form, write_rules}
-use Rattle.command_model.specs.Find.{check_concern, check_filter, check_level, check_time, concern_rules, filter_needed, find_rules, is_snapshot}
+use Rattle.command_model.specs.Writes.{WriteKind, insert_kind, update_kind, delete_kind, check_count, check_documents, documents_in, documents_needed, session_needed, some_needed, statement_form, whole_needed, write_rules}
+use Rattle.command_model.specs.Reading.{check_concern, check_level, concern_rules, may_name_time, natural_needed, unless_faulty}
+use Rattle.command_model.specs.Find.{find_rules, read_shown}
+use Rattle.command_model.specs.Aggregate.{aggregate_rules, cursor_rules, pipeline_needed}
+use Rattle.command_model.specs.Count.{count_rules}
+use Rattle.command_model.specs.Cursors.{are_whole_numbers, check_cursor, cursors_needed, is_open_database, kill_rules, more_rules}
 use Rattle.command_model.specs.Command.{Command}
 
 abbrev pub IsShort : Verdict → Type 0
@@ -61,6 +68,10 @@ fields_short unlisted rules given (field name value ms) none short =
 inner_fields_short : (rules : List Rule) (ms : Fields) → AreShort rules → IsShort (check_inner_fields rules ms)
 inner_fields_short rules ms short = fields_short (Some failed_to_parse) rules [] ms (omega arith) short
 
+pub collection_short : (database : List ℕ) (value : Datum) → IsShort (check_collection database value)
+collection_short database (string_value s) = unless_short _ _ (omega arith)
+collection_short database value = omega arith
+
 text_short : (value : Datum) → IsShort (string_needed value)
 text_short (string_value s) = tt
 text_short value = omega arith
@@ -80,7 +91,7 @@ session_id_short : (value : Datum) → IsShort (session_id value)
 session_id_short (binary_value subtype content) = unless_short _ bad_value (omega arith)
 session_id_short value = omega arith
 
-required_short : (name : List ℕ) (ms : Fields) → IsShort (check_required name ms)
+pub required_short : (name : List ℕ) (ms : Fields) → IsShort (check_required name ms)
 required_short name ms = by_found (get name ms)
   where
     by_found : (o : Option Datum) → IsShort (elim o [ None ↦ Some failed_to_parse | Some value ↦ None ])
@@ -106,43 +117,115 @@ documents_short : (value : Datum) → IsShort (documents_needed value)
 documents_short (array_value ds) = check_documents_short (documents_in ds)
 documents_short value = omega arith
 
+whole_short : (value : Datum) → IsShort (whole_needed value)
+whole_short value = by_number (whole_number value)
+  where
+    by_number : (o : Option ℤ) → IsShort (elim o [ None ↦ Some type_mismatch | Some n ↦ None ])
+    by_number None = omega arith
+    by_number (Some n) = tt
+
 pub write_short : (form : StatementForm) → AreShort (write_rules form)
-write_short form = (documents_short, (boolean_short, (document_short (λ ms. None) (λ ms. tt), (boolean_short, common_short))))
+write_short form = (documents_short, (boolean_short, (document_short (λ ms. None) (λ ms. tt), (boolean_short, (whole_short, common_short)))))
+
+session_needed_short : (document : Fields) → IsShort (session_needed document)
+session_needed_short document = by_value (get (codes "txnNumber") document)
+  where
+    by_value : (o : Option Datum) → IsShort (elim o [ None ↦ None | Some value ↦ check_required (codes "lsid") document ])
+    by_value None = tt
+    by_value (Some value) = required_short (codes "lsid") document
 
 level_short : (value : Datum) → IsShort (check_level value)
 level_short (string_value s) = unless_short _ bad_value (omega arith)
 level_short value = omega arith
 
-time_short : (snapshot : Bool) (value : Datum) → IsShort (check_time snapshot value)
-time_short snapshot (timestamp_value n) = unless_short snapshot bad_value (omega arith)
-time_short snapshot value = omega arith
+time_short : (value : Datum) → IsShort (timestamp_needed value)
+time_short (timestamp_value n) = tt
+time_short value = omega arith
+
+named_time_short : (o : Option Datum) (b : Bool) → IsShort (elim o [ None ↦ None | Some value ↦ unless_passes b bad_value ])
+named_time_short None b = tt
+named_time_short (Some value) b = unless_short b bad_value (omega arith)
 
 concern_short : (ms : Fields) → IsShort (check_concern ms)
-concern_short ms = inner_fields_short (concern_rules ms) ms (level_short, (time_short (is_snapshot (get (codes "level") ms)), tt))
+concern_short ms =
+    first_short (check_inner_fields concern_rules ms) _ (inner_fields_short concern_rules ms (level_short, (time_short, (time_short, tt))))
+    (first_short _ [] (named_time_short (get (codes "atClusterTime") ms) (may_name_time ms)) tt)
 
-filter_short : (ms : Fields) → IsShort (check_filter ms)
-filter_short (field name value no_fields) = unless_short _ bad_value (omega arith)
-filter_short ms = omega arith
+read_concern_short : (value : Datum) → IsShort (document_needed check_concern value)
+read_concern_short value = document_short check_concern concern_short value
+
+words_read_short : {A : Type 0} (read : Result A QueryFault) → IsShort (unless_faulty read)
+words_read_short (Ok x) = tt
+words_read_short (Err fault) = omega arith
+
+words_needed_short : {A : Type 0} (read : Fields → Result A QueryFault) (value : Datum) → IsShort (document_needed (λ ms. unless_faulty (read ms)) value)
+words_needed_short read value = document_short (λ ms. unless_faulty (read ms)) (λ ms. words_read_short (read ms)) value
+
+natural_short : (value : Datum) → IsShort (natural_needed value)
+natural_short value = by_number (whole_number value)
+  where
+    by_number : (o : Option ℤ) → IsShort (elim o [ None ↦ Some type_mismatch | Some n ↦ unless_faulty (as_natural n) ])
+    by_number None = omega arith
+    by_number (Some n) = words_read_short (as_natural n)
 
 pub find_short : AreShort find_rules
-find_short = (document_short check_filter filter_short, (document_short check_concern concern_short, common_short))
+find_short = (
+  words_needed_short read_query,
+  (
+    words_needed_short read_sort,
+    (
+      words_needed_short read_shown,
+      (natural_short, (natural_short, (natural_short, (boolean_short, (boolean_short, (boolean_short, (boolean_short, (read_concern_short, common_short)))))))),
+    ),
+  ),
+)
+
+pipeline_short : (value : Datum) → IsShort (pipeline_needed value)
+pipeline_short (array_value stages) = words_read_short (read_pipeline stages)
+pipeline_short value = omega arith
+
+cursor_words_short : (ms : Fields) → IsShort (check_inner_fields cursor_rules ms)
+cursor_words_short ms = inner_fields_short cursor_rules ms (natural_short, tt)
+
+pub aggregate_short : AreShort aggregate_rules
+aggregate_short = (pipeline_short, (document_short (check_inner_fields cursor_rules) cursor_words_short, (read_concern_short, (boolean_short, common_short))))
+
+pub count_rules_short : AreShort count_rules
+count_rules_short = (words_needed_short read_query, (natural_short, (natural_short, (read_concern_short, common_short))))
+
+pub more_short : (database : List ℕ) → AreShort (more_rules database)
+more_short database = (collection_short database, (natural_short, common_short))
+
+cursors_short : (value : Datum) → IsShort (cursors_needed value)
+cursors_short (array_value values) = unless_short (are_whole_numbers values) type_mismatch (omega arith)
+cursors_short value = omega arith
+
+pub kill_short : (database : List ℕ) → AreShort (kill_rules database)
+kill_short database = (cursors_short, common_short)
 
 pub handshake_short : AreShort handshake_rules
 handshake_short = (text_short, (boolean_short, tt))
 
 -- the other parts of forms
 
-pub collection_short : (database : List ℕ) (value : Datum) → IsShort (check_collection database value)
-collection_short database (string_value s) = unless_short _ _ (omega arith)
-collection_short database value = omega arith
+pub cursor_number_short : (database : List ℕ) (value : Datum) → IsShort (check_cursor database value)
+cursor_number_short database value = by_test (is_some (whole_number value))
+  where
+    by_test : (b : Bool) → IsShort (if b then unless_passes (is_open_database database) invalid_namespace else Some type_mismatch)
+    by_test true = unless_short (is_open_database database) invalid_namespace (omega arith)
+    by_test false = omega arith
 
 pub some_short : (o : Option (List Fields)) → IsShort (some_needed o)
 some_short None = omega arith
 some_short (Some documents) = tt
 
-pub filter_needed_short : (o : Option Datum) → IsShort (filter_needed o)
-filter_needed_short None = omega arith
-filter_needed_short (Some value) = tt
+pub write_needed_short : (o : Option (List Fields)) (document : Fields) → IsShort (first_of (some_needed o ∷ session_needed document ∷ []))
+write_needed_short o document =
+    first_short (some_needed o) (session_needed document ∷ []) (some_short o) (first_short (session_needed document) [] (session_needed_short document) tt)
+
+pub two_needed_short : (first second : List ℕ) (document : Fields) → IsShort (first_of (check_required first document ∷ check_required second document ∷ []))
+two_needed_short first second document =
+    first_short (check_required first document) _ (required_short first document) (first_short (check_required second document) [] (required_short second document) tt)
 
 -- statements
 
@@ -170,8 +253,7 @@ any_document_short value = document_short (λ ms. None) (λ ms. tt) value
 two_required_short : (rules : List Rule) (first second : List ℕ) (statement : Fields) → AreShort rules →
     IsShort (first_of (check_inner_fields rules statement ∷ check_required first statement ∷ check_required second statement ∷ []))
 two_required_short rules first second statement short =
-    first_short (check_inner_fields rules statement) _ (inner_fields_short rules statement short)
-    (first_short (check_required first statement) _ (required_short first statement) (first_short (check_required second statement) [] (required_short second statement) tt))
+    first_short (check_inner_fields rules statement) _ (inner_fields_short rules statement short) (two_needed_short first second statement)
 
 fields_of_statement_short : (kind : WriteKind) (statement : Fields) → IsShort ((statement_form kind).check statement)
 fields_of_statement_short insert_kind statement = tt
@@ -200,7 +282,7 @@ documents_sequence_short identifier = count_short
 -- each check of the form tells short errors
 pub record IsShortForm (form : CommandForm Command) : Type 0 where
   pub own_check : (database : List ℕ) (value : Datum) → IsShort (form.check_own database value)
-  pub each_rule : AreShort form.rules
+  pub each_rule : (database : List ℕ) → AreShort (form.rules database)
   pub others : IsShort form.unlisted
   pub sequence_rule : IsShortSequence form.sequence
   pub needed : (document : Fields) (sequences : Sequences) → IsShort (form.check_needed document sequences)
@@ -228,7 +310,8 @@ pub command_short : (form : CommandForm Command) (sent : Form) (own : List ℕ) 
 command_short form sent own value others sequences short =
     first_short (check_database sent (get (codes "$db") (field own value others))) _ (database_short sent (get (codes "$db") (field own value others)))
     (first_short (form.check_own (database_of sent (field own value others)) value) _ (short.own_check (database_of sent (field own value others)) value)
-    (first_short (check_fields form.unlisted form.rules (own ∷ []) others) _ (fields_short form.unlisted form.rules (own ∷ []) others short.others short.each_rule)
+    (first_short (check_fields form.unlisted (form.rules (database_of sent (field own value others))) (own ∷ []) others) _
+    (fields_short form.unlisted (form.rules (database_of sent (field own value others))) (own ∷ []) others short.others (short.each_rule (database_of sent (field own value others))))
     (first_short (check_sequences form.sequence (own ∷ names_of others) sequences) _ (sequences_short form.sequence (own ∷ names_of others) sequences short.sequence_rule)
     (first_short (form.check_needed (field own value others) sequences) _ (short.needed (field own value others) sequences)
     (first_short (form.check_last (field own value others) sequences) [] (short.last (field own value others) sequences) tt)))))

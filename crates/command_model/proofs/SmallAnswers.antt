@@ -1,20 +1,26 @@
 -- The documents of small answers are small.
-use Rattle.std.proofs.Common.{◌≡◌, ℕ, ◌+◌, ◌*◌, ◌<◌, ◌≤◌, ◌^◌, List, [], ◌∷◌, length, refl, Bool, true, false, nat_lt, Option, Some, None, if◌then◌else◌, codes, pos, arith, subst}
+use Rattle.std.proofs.Common.{◌≡◌, ℕ, ◌+◌, ◌*◌, ◌<◌, ◌≤◌, ◌^◌, List, [], ◌∷◌, length, refl, Bool, true, false, nat_lt, Option, Some, None, if◌then◌else◌, codes, pos, arith, subst, inl, inr}
+use Rattle.std.specs.Prelude.{ℤ}
 use Rattle.std.specs.List.{AllByRecursion}
+use Rattle.std.proofs.lemmas.List.Sums.{sum_by-cons}
 use Rattle.std.proofs.lemmas.Fmt.{length-decimal-le}
 use Rattle.opmsg_model.specs.Tree.{string_value, document_value, array_value, int32_value, int64_value, timestamp_value, Items, no_items, Fields, no_fields, field, value_depth, array_depth, document_depth}
 use Rattle.opmsg_model.specs.Spelling.{written, written_value, written_items, written_fields}
-use Rattle.opmsg_model.specs.MessageSizes.{IsSmall, IsWithin}
+use Rattle.opmsg_model.specs.MessageSizes.{IsWithin}
 use Rattle.base_model.specs.Refusals.{Evidence, Refusal, evidence_document, no_evidence, place_evidence, greatest_evidence, cursor_evidence, moments_evidence, disk_evidence, steps_evidence, node_evidence, number_evidence, oldest_evidence, bytes_evidence}
 use Rattle.base_model.specs.ReplyParts.{evidence_shown, refusal_reply, shown_if, write_error}
 use Rattle.command_model.specs.AnswerParts.{count, document_items, number, ok, operation_time_at}
 use Rattle.command_model.specs.Writes.{WriteKind, insert_kind, update_kind, delete_kind, WriteError, Upserted, WriteSummary, write_error_items, write_errors_shown, upserted_items, upserted_shown, changes_shown}
-use Rattle.command_model.specs.Find.{cursor}
-use Rattle.command_model.specs.Answers.{Answer, hello_answer, legacy_answer, done_answer, write_answer, find_answer, refusal_answer, answer_document}
-use Rattle.command_model.specs.CommandSizes.{IsSmallAnswer, IsSmallError, IsSmallRefusal, IsSmallSummary, keys_length}
+use Rattle.command_model.specs.Cursors.{Batch, cursor_shown, batch_document, number_items, killed_document}
+use Rattle.command_model.specs.Count.{count_document}
+use Rattle.command_model.specs.Answers.{Answer, hello_answer, legacy_answer, done_answer, write_answer, first_answer, next_answer, count_answer, killed_answer, refusal_answer, answer_document}
+use Rattle.command_model.specs.CommandSizes.{IsSmallAnswer, IsSmallBatch, IsSmallError, IsSmallRefusal, IsSmallSummary, keys_length}
+use Rattle.history_model.proofs.Lists.{all_weaken}
 use Rattle.opmsg_model.proofs.Lengths.{length-framed, length-item, length-field, length-string}
-use Rattle.opmsg_model.specs.Limits.{most_bytes_written, most_depth_written}
-use Rattle.command_model.specs.CommandLimits.{most_bytes_upserted, most_statements}
+use Rattle.opmsg_model.specs.Limits.{most_bytes_kept, most_bytes_written, most_depth_written}
+use Rattle.pipeline_model.specs.Lengths.{document_length, documents_length}
+use Rattle.pipeline_model.specs.Batches as batches
+use Rattle.command_model.specs.CommandLimits.{most_bytes_upserted, most_cursors, most_statements}
 
 hello_small : (moment : ℕ) → IsWithin most_depth_written most_bytes_written (answer_document (hello_answer moment))
 hello_small moment = (omega arith, omega arith)
@@ -165,42 +171,107 @@ write_small kind told small =
       omega (arith, counted.1, behind_small.1, length-framed (written_fields (field (codes "n") (count told.count) behind)), length-field (codes "n") (count told.count) behind),
     )
 
--- at most one small document
-batch_small : (documents : List Fields) → length documents ≤ 1 → AllByRecursion IsSmall documents → (array_depth (document_items documents) ≤ 101) × (length (written_items 0 (document_items documents)) ≤ 240000010)
-batch_small [] few all = (omega arith, omega arith)
-batch_small (document ∷ []) few all =
-    (omega (arith, all.0.0), omega (arith, all.0.1, length-decimal-le 1 0 (omega arith) (omega arith) (omega arith), length-item 0 (document_value document) no_items))
-batch_small (document ∷ another ∷ documents) few all = absurd (omega arith)
-
-cursor_small : (namespace : List ℕ) (documents : List Fields) (time : ℕ) → length namespace ≤ 255 → length documents ≤ 1 → AllByRecursion IsSmall documents → IsWithin 102 240001000 (cursor namespace documents time)
-cursor_small namespace documents time named few all =
-    let batch = batch_small documents few all in
-    let shown : Items = document_items documents in
-    let ending : Fields = field (codes "atClusterTime") (timestamp_value time) no_fields in
-    let behind : Fields = field (codes "firstBatch") (array_value shown) ending in
-    let from_name : Fields = field (codes "ns") (string_value namespace) behind in (
-      omega (arith, batch.0),
+-- documents of few levels, from an index on that has at most seven digits
+items_within : (i depth : ℕ) (documents : List Fields) → i + length documents < 10 ^ 7 → AllByRecursion (λ document. document_depth document ≤ depth) documents →
+    (array_depth (document_items documents) ≤ depth + 1) × (length (written_items i (document_items documents)) ≤ documents_length documents + 9 * length documents)
+items_within i depth [] few low = (omega arith, omega arith)
+items_within i depth (document ∷ documents) few low =
+    let others = items_within (i + 1) depth documents (omega arith) low.1 in (
+      omega (arith, low.0, others.0),
       omega (
         arith,
-        named,
-        batch.1,
-        length-framed (written_items 0 shown),
-        length-string namespace,
-        length-field (codes "atClusterTime") (timestamp_value time) no_fields,
-        length-field (codes "firstBatch") (array_value shown) ending,
-        length-field (codes "ns") (string_value namespace) behind,
-        length-field (codes "id") (int64_value (pos 0)) from_name,
-        length-framed (written_fields (field (codes "id") (int64_value (pos 0)) from_name)),
+        others.1,
+        sum_by-cons document_length document documents,
+        length-decimal-le 7 i (omega arith) (omega arith) (omega arith),
+        length-item i (document_value document) (document_items documents),
       ),
     )
 
-find_small : (namespace : List ℕ) (documents : List Fields) (time : ℕ) → length namespace ≤ 255 → length documents ≤ 1 → AllByRecursion IsSmall documents → IsWithin most_depth_written most_bytes_written (answer_document (find_answer namespace documents time))
-find_small namespace documents time named few all =
-    let shown : Fields = cursor namespace documents time in
-    let inner = cursor_small namespace documents time named few all in
-    let behind : Fields = ok (operation_time_at time) in (
+-- a document has five bytes at least
+five_each : (documents : List Fields) → 5 * length documents ≤ documents_length documents
+five_each [] = omega arith
+five_each (document ∷ documents) = omega (arith, five_each documents, sum_by-cons document_length document documents, length-framed (written_fields document))
+
+-- a batch has few bytes, also where it is one document
+bytes_of_batch : (documents : List Fields) → batches.IsSmall documents → AllByRecursion (IsWithin 101 most_bytes_kept) documents → documents_length documents ≤ most_bytes_kept
+bytes_of_batch documents (inr few) all = few
+bytes_of_batch [] (inl one) all = omega arith
+bytes_of_batch (document ∷ []) (inl one) all = omega (arith, all.0.1)
+bytes_of_batch (document ∷ another ∷ documents) (inl one) all = absurd (omega arith)
+
+items_of_batch : (documents : List Fields) → batches.IsSmall documents → AllByRecursion (IsWithin 101 most_bytes_kept) documents →
+    (array_depth (document_items documents) ≤ 102) × (length (written_items 0 (document_items documents)) ≤ 50000000)
+items_of_batch documents small all =
+    let bytes = bytes_of_batch documents small all in
+    let number = five_each documents in
+    let items = items_within 0 101 documents (omega (arith, bytes, number)) (all_weaken (IsWithin 101 most_bytes_kept) (λ document. document_depth document ≤ 101) documents (λ document within. within.0) all) in
+    (items.0, omega (arith, bytes, number, items.1))
+
+cursor_small : (name : List ℕ) (batch : Batch) → length name ≤ 100 → IsSmallBatch batch → IsWithin 103 50001000 (cursor_shown name batch)
+cursor_small name batch short small =
+    let items = items_of_batch batch.documents small.bytes small.each in
+    let shown : Items = document_items batch.documents in
+    let ending : Fields = field (codes "atClusterTime") (timestamp_value batch.time) no_fields in
+    let behind : Fields = field name (array_value shown) ending in
+    let from_name : Fields = field (codes "ns") (string_value batch.namespace) behind in (
+      omega (arith, items.0),
+      omega (
+        arith,
+        short,
+        small.name,
+        items.1,
+        length-framed (written_items 0 shown),
+        length-string batch.namespace,
+        length-field (codes "atClusterTime") (timestamp_value batch.time) no_fields,
+        length-field name (array_value shown) ending,
+        length-field (codes "ns") (string_value batch.namespace) behind,
+        length-field (codes "id") (int64_value batch.cursor) from_name,
+        length-framed (written_fields (field (codes "id") (int64_value batch.cursor) from_name)),
+      ),
+    )
+
+batch_small : (name : List ℕ) (batch : Batch) → length name ≤ 100 → IsSmallBatch batch → IsWithin most_depth_written most_bytes_written (batch_document name batch)
+batch_small name batch short small =
+    let shown : Fields = cursor_shown name batch in
+    let inner = cursor_small name batch short small in
+    let behind : Fields = ok (operation_time_at batch.time) in (
       omega (arith, inner.0),
       omega (arith, inner.1, length-field (codes "cursor") (document_value shown) behind, length-framed (written_fields (field (codes "cursor") (document_value shown) behind))),
+    )
+
+count_document_small : (n time : ℕ) → IsWithin most_depth_written most_bytes_written (count_document n time)
+count_document_small n time =
+    let counted = count_small n in
+    let behind : Fields = field (codes "atClusterTime") (timestamp_value time) (ok (operation_time_at time)) in
+    (omega (arith, counted.0), omega (arith, counted.1, length-field (codes "n") (count n) behind, length-framed (written_fields (field (codes "n") (count n) behind))))
+
+-- numbers, from an index on that has at most seven digits
+numbers_small : (i : ℕ) (numbers : List ℤ) → i + length numbers < 10 ^ 7 → (array_depth (number_items numbers) ≤ 1) × (length (written_items i (number_items numbers)) ≤ 17 * length numbers)
+numbers_small i [] few = (omega arith, omega arith)
+numbers_small i (n ∷ numbers) few =
+    let others = numbers_small (i + 1) numbers (omega arith) in (
+      omega (arith, others.0),
+      omega (arith, others.1, length-decimal-le 7 i (omega arith) (omega arith) (omega arith), length-item i (int64_value n) (number_items numbers)),
+    )
+
+killed_small : (killed missing : List ℤ) → length killed + length missing ≤ most_cursors → IsWithin most_depth_written most_bytes_written (killed_document killed missing)
+killed_small killed missing few =
+    let closed = numbers_small 0 killed (omega (arith, few)) in
+    let others = numbers_small 0 missing (omega (arith, few)) in
+    let ending : Fields = field (codes "cursorsAlive") (array_value no_items) (field (codes "cursorsUnknown") (array_value no_items) (ok no_fields)) in
+    let behind : Fields = field (codes "cursorsNotFound") (array_value (number_items missing)) ending in (
+      omega (arith, closed.0, others.0),
+      omega (
+        arith,
+        few,
+        closed.1,
+        others.1,
+        length-framed (written_items 0 (number_items missing)),
+        length-field (codes "cursorsNotFound") (array_value (number_items missing)) ending,
+        length-framed (written_items 0 (number_items killed)),
+        length-field (codes "cursorsKilled") (array_value (number_items killed)) behind,
+        length-framed (written_fields (field (codes "cursorsKilled") (array_value (number_items killed)) behind)),
+      ),
     )
 
 refusal_small : (refusal : Refusal) → IsSmallRefusal refusal → IsWithin most_depth_written most_bytes_written (refusal_reply refusal)
@@ -230,5 +301,8 @@ answer_small (hello_answer moment) small = hello_small moment
 answer_small (legacy_answer moment shown) small = legacy_small moment shown
 answer_small done_answer small = done_small
 answer_small (write_answer kind told) small = write_small kind told small
-answer_small (find_answer namespace documents time) (named, few, all) = find_small namespace documents time named few all
+answer_small (first_answer batch) small = batch_small (codes "firstBatch") batch (omega arith) small
+answer_small (next_answer batch) small = batch_small (codes "nextBatch") batch (omega arith) small
+answer_small (count_answer n time) small = count_document_small n time
+answer_small (killed_answer killed missing) few = killed_small killed missing few
 answer_small (refusal_answer refusal) small = refusal_small refusal small

@@ -1,6 +1,6 @@
 -- What a small request asks for is small, and a write command has statements.
 use Rattle.std.proofs.Common.{◌≡◌, ◌≢◌, ℕ, ◌≤◌, List, [], ◌∷◌, length, refl, false, Option, Some, None, Ok, Err, codes, arith, subst, ◌∙◌, sym}
-use Rattle.std.specs.Prelude.{Result, map}
+use Rattle.std.specs.Prelude.{Result, drop, map}
 use Rattle.std.specs.Str.{bytes_eq}
 use Rattle.std.specs.List.{AllByRecursion}
 use Rattle.opmsg_model.specs.Tree.{Datum, array_value, Fields, no_fields, field, get}
@@ -9,20 +9,25 @@ use Rattle.opmsg_model.specs.Requests.{Form, Body, read_body, faulty_body, Reque
 use Rattle.opmsg_model.specs.MessageSizes.{IsSmall, IsSmallBody}
 use Rattle.base_model.specs.Errors.{failed_to_parse}
 use Rattle.base_model.specs.Refusals.{Refusal}
-use Rattle.command_model.specs.Checks.{Verdict, is_one_of}
+use Rattle.command_model.specs.Checks.{Verdict, first_of, is_one_of}
 use Rattle.command_model.specs.Fields.{by_rule, check_fields, find_rule, names_of}
 use Rattle.command_model.specs.Forms.{CommandForm, SequenceRule, Sequences, check_collection, check_command, check_database, check_sequence, check_sequences, command_by, database_of, made_into}
 use Rattle.command_model.specs.Handshake.{handshake_form, legacy_of}
 use Rattle.command_model.specs.Statements.{StatementForm, check_statements}
-use Rattle.command_model.specs.Writes.{WriteKind, insert_kind, update_kind, delete_kind, WriteCommand, check_count, check_documents, documents_asked, documents_needed, documents_of_value, or_documents, some_needed, statement_form, write_form, write_rules}
-use Rattle.command_model.specs.Find.{find_form}
-use Rattle.command_model.specs.Command.{Command, hello_command, legacy_command, ping_command, end_sessions_command, write_command, find_command, rows, form_of, by_form, by_verdict, command_asked, command_in, command_of, or_refusal}
+use Rattle.command_model.specs.Writes.{WriteKind, insert_kind, update_kind, delete_kind, WriteCommand, check_count, check_documents, documents_asked, documents_needed, documents_of_value, or_documents, session_needed, some_needed, statement_form, write_form, write_rules}
+use Rattle.command_model.specs.Reading.{Reading}
+use Rattle.command_model.specs.Find.{Find, find_form}
+use Rattle.command_model.specs.Aggregate.{aggregate_form}
+use Rattle.command_model.specs.Count.{count_form}
+use Rattle.command_model.specs.Cursors.{more_form, kill_form}
+use Rattle.command_model.specs.Command.{Command, hello_command, legacy_command, ping_command, end_sessions_command, write_command, find_command, count_command, more_command, kill_command, legacy_form, rows, form_of, by_form, by_verdict, command_asked, command_in, command_of, or_refusal}
 use Rattle.command_model.specs.CommandSizes.{IsKeepable, IsSmallCommand, IsTaken}
 use Rattle.opmsg_model.proofs.Lengths.{length-framed}
-use Rattle.command_model.proofs.ShortErrors.{IsShort, IsShortForm, collection_short, command_short, documents_sequence_short, filter_needed_short, find_short, handshake_short, some_short, statements_short, write_short}
+use Rattle.command_model.proofs.ShortErrors.{IsShort, IsShortForm, collection_short, command_short, aggregate_short, count_rules_short, cursor_number_short, documents_sequence_short, find_short, handshake_short, kill_short, more_short, required_short, statements_short, two_needed_short, write_needed_short, write_short}
 use Rattle.command_model.proofs.Passed.{few_documents, field_passed, passed_else, passed_last, passed_parts, some_counted}
 use Rattle.command_model.proofs.Judged.{HasKey, keepable, keys_passed}
 use Rattle.command_model.proofs.Inside.{got_inside, items_small}
+use Rattle.command_model.proofs.Int64.{HaveInt64, numbers_of_find, numbers_of_pipeline, numbers_of_count}
 use Rattle.command_model.proofs.Rows.{found_row}
 use Rattle.command_model.specs.CommandLimits.{most_statements}
 
@@ -37,6 +42,21 @@ HasStatements ping_command = Unit {0}
 HasStatements end_sessions_command = Unit {0}
 HasStatements (write_command write) = (write.operations ≢ []) × AllByRecursion HasKey write.operations
 HasStatements (find_command find) = Unit {0}
+HasStatements (count_command reading) = Unit {0}
+HasStatements (more_command more) = Unit {0}
+HasStatements (kill_command kill) = Unit {0}
+
+-- how many documents a command passes over or keeps is a number that a message can have
+abbrev HasNumbers : Command → Type 0
+HasNumbers hello_command = Unit {0}
+HasNumbers (legacy_command legacy) = Unit {0}
+HasNumbers ping_command = Unit {0}
+HasNumbers end_sessions_command = Unit {0}
+HasNumbers (write_command write) = Unit {0}
+HasNumbers (find_command find) = HaveInt64 find.reading.stages
+HasNumbers (count_command reading) = HaveInt64 reading.stages
+HasNumbers (more_command more) = Unit {0}
+HasNumbers (kill_command kill) = Unit {0}
 
 -- a command of that name and form that passes has statements, and is as small as its request
 record IsSound (name : List ℕ) (form : CommandForm Command) : Type 0 where
@@ -44,6 +64,7 @@ record IsSound (name : List ℕ) (form : CommandForm Command) : Type 0 where
   some : (sent : Form) (value : Datum) (others : Fields) (sequences : Sequences) → check_command form sent name value others sequences ≡ None → HasStatements (command_by form sent name value others sequences)
   small : (sent : Form) (value : Datum) (others : Fields) (sequences : Sequences) → IsSmall (field name value others) → AreSmall sequences → check_command form sent name value others sequences ≡ None →
       IsSmallCommand (command_by form sent name value others sequences)
+  numbers : (sent : Form) (value : Datum) (others : Fields) (sequences : Sequences) → HasNumbers (command_by form sent name value others sequences)
 
 -- the statements of a write command are counted
 
@@ -125,11 +146,11 @@ write_passes kind sent value others sequences passed =
     let second = passed_parts (check_collection (database_of sent document) value) _ first.1 in
     let third = passed_parts (check_fields (Some failed_to_parse) (write_rules form) (own ∷ []) others) _ second.1 in
     let fourth = passed_parts (check_sequences (counting form.identifier) (own ∷ names_of others) sequences) _ third.1 in
-    let fifth = passed_parts (some_needed (documents_asked form document sequences)) _ fourth.1 in
+    let fifth = passed_parts (first_of (some_needed (documents_asked form document sequences) ∷ session_needed document ∷ [])) _ fourth.1 in
     record {
       counted = λ documents is. counted_asked form.identifier (get form.identifier document) (own ∷ names_of others) sequences documents
           (λ d got. sym (statements_rule kind d) ∙ field_passed (write_rules form) (own ∷ []) others form.identifier d third.0 (sym (behind_own own form.identifier value others (names_differ kind)) ∙ got)) fourth.0 is;
-      needed = fifth.0;
+      needed = (passed_parts (some_needed (documents_asked form document sequences)) _ fifth.0).0;
       judged = passed_last (check_statements form (or_documents (documents_asked form document sequences))) fifth.1;
     }
 
@@ -153,10 +174,10 @@ write_sound : (kind : WriteKind) → IsSound (name_of_kind kind) (form_of_kind k
 write_sound kind = record {
   short = record {
     own_check = collection_short;
-    each_rule = write_short (statement_form kind);
+    each_rule = λ database. write_short (statement_form kind);
     others = omega arith;
     sequence_rule = documents_sequence_short (statement_form kind).identifier;
-    needed = λ document sequences. some_short (documents_asked (statement_form kind) document sequences);
+    needed = λ document sequences. write_needed_short (documents_asked (statement_form kind) document sequences) document;
     last = λ document sequences. statements_short kind (or_documents (documents_asked (statement_form kind) document sequences));
   };
   some = λ sent value others sequences passed.
@@ -169,50 +190,123 @@ write_sound kind = record {
       let passes = write_passes kind sent value others sequences passed in
       small_of kind (documents_asked form document sequences) passes.counted
       (λ documents is. small_asked form.identifier (get form.identifier document) document sequences documents small all refl is) passes.judged;
+  numbers = λ sent value others sequences. tt;
 }
 
 find_sound : IsSound (codes "find") (made_into find_command find_form)
 find_sound = record {
   short = record {
     own_check = collection_short;
-    each_rule = find_short;
+    each_rule = λ database. find_short;
     others = omega arith;
     sequence_rule = tt;
-    needed = λ document sequences. filter_needed_short (get (codes "filter") document);
+    needed = λ document sequences. tt;
     last = λ document sequences. tt;
   };
   some = λ sent value others sequences passed. tt;
   small = λ sent value others sequences small all passed. tt;
+  numbers = λ sent value others sequences. numbers_of_find (field (codes "find") value others);
+}
+
+aggregate_sound : IsSound (codes "aggregate") (made_into find_command aggregate_form)
+aggregate_sound = record {
+  short = record {
+    own_check = collection_short;
+    each_rule = λ database. aggregate_short;
+    others = omega arith;
+    sequence_rule = tt;
+    needed = λ document sequences. two_needed_short (codes "pipeline") (codes "cursor") document;
+    last = λ document sequences. tt;
+  };
+  some = λ sent value others sequences passed. tt;
+  small = λ sent value others sequences small all passed. tt;
+  numbers = λ sent value others sequences. numbers_of_pipeline (get (codes "pipeline") (field (codes "aggregate") value others));
+}
+
+count_sound : IsSound (codes "count") (made_into count_command count_form)
+count_sound = record {
+  short = record {
+    own_check = collection_short;
+    each_rule = λ database. count_rules_short;
+    others = omega arith;
+    sequence_rule = tt;
+    needed = λ document sequences. tt;
+    last = λ document sequences. tt;
+  };
+  some = λ sent value others sequences passed. tt;
+  small = λ sent value others sequences small all passed. tt;
+  numbers = λ sent value others sequences. numbers_of_count (field (codes "count") value others);
+}
+
+more_sound : IsSound (codes "getMore") (made_into more_command more_form)
+more_sound = record {
+  short = record {
+    own_check = cursor_number_short;
+    each_rule = more_short;
+    others = omega arith;
+    sequence_rule = tt;
+    needed = λ document sequences. required_short (codes "collection") document;
+    last = λ document sequences. tt;
+  };
+  some = λ sent value others sequences passed. tt;
+  small = λ sent value others sequences small all passed. tt;
+  numbers = λ sent value others sequences. tt;
+}
+
+kill_sound : IsSound (codes "killCursors") (made_into kill_command kill_form)
+kill_sound = record {
+  short = record {
+    own_check = collection_short;
+    each_rule = kill_short;
+    others = omega arith;
+    sequence_rule = tt;
+    needed = λ document sequences. required_short (codes "cursors") document;
+    last = λ document sequences. tt;
+  };
+  some = λ sent value others sequences passed. tt;
+  small = λ sent value others sequences small all passed. tt;
+  numbers = λ sent value others sequences. tt;
 }
 
 -- the commands that look at two fields alone
 handshake_is_short : (command : Fields → Command) → IsShortForm (handshake_form command)
 handshake_is_short command = record {
   own_check = λ database value. tt;
-  each_rule = handshake_short;
+  each_rule = λ database. handshake_short;
   others = tt;
   sequence_rule = tt;
   needed = λ document sequences. tt;
   last = λ document sequences. tt;
 }
 
-handshake_sound : (name : List ℕ) (command : Fields → Command) → ((ms : Fields) → HasStatements (command ms)) → ((ms : Fields) → IsSmallCommand (command ms)) → IsSound name (handshake_form command)
-handshake_sound name command some small = record {
+handshake_sound : (name : List ℕ) (command : Fields → Command) → ((ms : Fields) → HasStatements (command ms)) → ((ms : Fields) → IsSmallCommand (command ms)) → ((ms : Fields) → HasNumbers (command ms)) →
+    IsSound name (handshake_form command)
+handshake_sound name command some small numbers = record {
   short = handshake_is_short command;
   some = λ sent value others sequences passed. some (field name value others);
   small = λ sent value others sequences document_small all passed. small (field name value others);
+  numbers = λ sent value others sequences. numbers (field name value others);
 }
+
+legacy_sound : (name : List ℕ) → IsSound name legacy_form
+legacy_sound name = handshake_sound name (λ document. legacy_command (legacy_of document)) (λ ms. tt) (λ ms. tt) (λ ms. tt)
+
+reads_sound : AllByRecursion (λ row. IsSound row.name row.form) (drop 8 rows)
+reads_sound = (find_sound, (aggregate_sound, (count_sound, (more_sound, (kill_sound, tt)))))
+
+writes_sound : AllByRecursion (λ row. IsSound row.name row.form) (drop 5 rows)
+writes_sound = (write_sound insert_kind, (write_sound update_kind, (write_sound delete_kind, reads_sound)))
 
 all_sound : AllByRecursion (λ row. IsSound row.name row.form) rows
 all_sound = (
-  handshake_sound (codes "hello") (λ document. hello_command) (λ ms. tt) (λ ms. tt),
+  handshake_sound (codes "hello") (λ document. hello_command) (λ ms. tt) (λ ms. tt) (λ ms. tt),
   (
-    handshake_sound (codes "isMaster") (λ document. legacy_command (legacy_of document)) (λ ms. tt) (λ ms. tt),
+    legacy_sound (codes "isMaster"),
     (
-      handshake_sound (codes "ismaster") (λ document. legacy_command (legacy_of document)) (λ ms. tt) (λ ms. tt),
+      legacy_sound (codes "ismaster"),
       (
-        handshake_sound (codes "ping") (λ document. ping_command) (λ ms. tt) (λ ms. tt),
-        (handshake_sound (codes "endSessions") (λ document. end_sessions_command) (λ ms. tt) (λ ms. tt), (write_sound insert_kind, (write_sound update_kind, (write_sound delete_kind, (find_sound, tt))))),
+        handshake_sound (codes "ping") (λ document. ping_command) (λ ms. tt) (λ ms. tt) (λ ms. tt),
+        (handshake_sound (codes "endSessions") (λ document. end_sessions_command) (λ ms. tt) (λ ms. tt) (λ ms. tt), writes_sound),
       ),
     ),
   ),
@@ -244,28 +338,49 @@ body_taken sent (faulty_body fault place) small = omega arith
 pub command_taken : (request : Request) → IsSmallBody request.body → IsTaken (command_of request)
 command_taken request small = body_taken request.form request.body small
 
--- a write command has statements
+-- what holds of each command that passes holds of what a request asks for
 
-abbrev HaveStatements : Result Command Refusal → Type 0
-HaveStatements (Ok command) = HasStatements command
-HaveStatements (Err refusal) = Unit {0}
+abbrev IfAsked : (Command → Type 0) → Result Command Refusal → Type 0
+IfAsked P (Ok command) = P command
+IfAsked P (Err refusal) = Unit {0}
 
-by_verdict_some : (v : Verdict) (command : Command) → (v ≡ None → HasStatements command) → HaveStatements (or_refusal (by_verdict v command))
-by_verdict_some None command some = some refl
-by_verdict_some (Some error) command some = tt
+abbrev OfForms : (Command → Type 0) → Type 0
+OfForms P =
+    (own : List ℕ) (form : CommandForm Command) (sent : Form) (value : Datum) (others : Fields) (sequences : Sequences) → form_of own ≡ Some form →
+    check_command form sent own value others sequences ≡ None → P (command_by form sent own value others sequences)
 
-by_form_some : (form : Option (CommandForm Command)) (sent : Form) (own : List ℕ) (value : Datum) (others : Fields) (sequences : Sequences) → form_of own ≡ form → HaveStatements (or_refusal (by_form form sent own value others sequences))
-by_form_some None sent own value others sequences found = tt
-by_form_some (Some form) sent own value others sequences found =
-    by_verdict_some (check_command form sent own value others sequences) (command_by form sent own value others sequences) (λ passed. (sound_of own form found).some sent value others sequences passed)
+module _ (P : Command → Type 0) (of_forms : OfForms P) where
+  by_verdict_has : (v : Verdict) (command : Command) → (v ≡ None → P command) → IfAsked P (or_refusal (by_verdict v command))
+  by_verdict_has None command has = has refl
+  by_verdict_has (Some error) command has = tt
 
-body_some : (sent : Form) (body : Body) → HaveStatements (command_in sent body)
-body_some sent (read_body no_fields sequences) = tt
-body_some sent (read_body (field own value others) sequences) = by_form_some (form_of own) sent own value others sequences refl
-body_some sent (faulty_body fault place) = tt
+  by_form_has : (form : Option (CommandForm Command)) (sent : Form) (own : List ℕ) (value : Datum) (others : Fields) (sequences : Sequences) → form_of own ≡ form → IfAsked P (or_refusal (by_form form sent own value others sequences))
+  by_form_has None sent own value others sequences found = tt
+  by_form_has (Some form) sent own value others sequences found =
+      by_verdict_has (check_command form sent own value others sequences) (command_by form sent own value others sequences) (of_forms own form sent value others sequences found)
+
+  body_has : (sent : Form) (body : Body) → IfAsked P (command_in sent body)
+  body_has sent (read_body no_fields sequences) = tt
+  body_has sent (read_body (field own value others) sequences) = by_form_has (form_of own) sent own value others sequences refl
+  body_has sent (faulty_body fault place) = tt
+
+  asked_has : (request : Request) (command : Command) → command_of request ≡ Ok command → P command
+  asked_has request command is = subst (IfAsked P) is (body_has request.form request.body)
+
+has_statements : OfForms HasStatements
+has_statements own form sent value others sequences found passed = (sound_of own form found).some sent value others sequences passed
 
 pub some_operations : (request : Request) (write : WriteCommand) → command_of request ≡ Ok (write_command write) → write.operations ≢ []
-some_operations request write is = (subst HaveStatements is (body_some request.form request.body)).0
+some_operations request write is = (asked_has HasStatements has_statements request (write_command write) is).0
 
 pub operations_with_keys : (request : Request) (write : WriteCommand) → command_of request ≡ Ok (write_command write) → AllByRecursion HasKey write.operations
-operations_with_keys request write is = (subst HaveStatements is (body_some request.form request.body)).1
+operations_with_keys request write is = (asked_has HasStatements has_statements request (write_command write) is).1
+
+has_numbers : OfForms HasNumbers
+has_numbers own form sent value others sequences found passed = (sound_of own form found).numbers sent value others sequences
+
+pub int64_of_find : (request : Request) (find : Find) → command_of request ≡ Ok (find_command find) → HaveInt64 find.reading.stages
+int64_of_find request find is = asked_has HasNumbers has_numbers request (find_command find) is
+
+pub int64_of_count : (request : Request) (reading : Reading) → command_of request ≡ Ok (count_command reading) → HaveInt64 reading.stages
+int64_of_count request reading is = asked_has HasNumbers has_numbers request (count_command reading) is

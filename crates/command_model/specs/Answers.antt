@@ -1,11 +1,12 @@
 -- The documents that answer commands.
-use Rattle.std.specs.Prelude.{ℕ, List, Bool}
+use Rattle.std.specs.Prelude.{ℕ, ℤ, List, Bool, codes}
 use Rattle.opmsg_model.specs.Tree.{Fields}
 use Rattle.base_model.specs.Refusals.{Refusal}
 use Rattle.base_model.specs.ReplyParts.{refusal_reply}
 use Rattle.command_model.specs.Handshake.{hello_document, legacy_document, done_document}
 use Rattle.command_model.specs.Writes.{WriteKind, WriteSummary, write_document}
-use Rattle.command_model.specs.Find.{find_document}
+use Rattle.command_model.specs.Count.{count_document}
+use Rattle.command_model.specs.Cursors.{Batch, batch_document, killed_document}
 
 pub data Answer : Type 0 where
   -- the router's last moment
@@ -16,8 +17,13 @@ pub data Answer : Type 0 where
   done_answer : Answer
   -- what its statements are told together
   write_answer : WriteKind → WriteSummary → Answer
-  -- the namespace, the documents, and the time that they were read at
-  find_answer : List ℕ → List Fields → ℕ → Answer
+  -- to `find` and `aggregate`, and to `getMore`
+  first_answer : Batch → Answer
+  next_answer : Batch → Answer
+  -- how many documents there were, and the time that was read at
+  count_answer : ℕ → ℕ → Answer
+  -- the cursors that were closed, and those that were not found
+  killed_answer : (killed missing : List ℤ) → Answer
   refusal_answer : Refusal → Answer
 
 -- the document of an answer
@@ -26,5 +32,8 @@ answer_document (hello_answer moment) = hello_document moment
 answer_document (legacy_answer moment shown) = legacy_document moment shown
 answer_document done_answer = done_document
 answer_document (write_answer kind told) = write_document kind told
-answer_document (find_answer namespace documents time) = find_document namespace documents time
+answer_document (first_answer batch) = batch_document (codes "firstBatch") batch
+answer_document (next_answer batch) = batch_document (codes "nextBatch") batch
+answer_document (count_answer n time) = count_document n time
+answer_document (killed_answer killed missing) = killed_document killed missing
 answer_document (refusal_answer refusal) = refusal_reply refusal

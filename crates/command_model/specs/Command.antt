@@ -10,7 +10,11 @@ use Rattle.command_model.specs.Checks.{Verdict}
 use Rattle.command_model.specs.Forms.{CommandForm, Sequences, check_command, command_by, made_into}
 use Rattle.command_model.specs.Handshake.{Legacy, handshake_form, legacy_of}
 use Rattle.command_model.specs.Writes.{WriteCommand, insert_kind, update_kind, delete_kind, write_form}
+use Rattle.command_model.specs.Reading.{Reading}
 use Rattle.command_model.specs.Find.{Find, find_form}
+use Rattle.command_model.specs.Aggregate.{aggregate_form}
+use Rattle.command_model.specs.Count.{count_form}
+use Rattle.command_model.specs.Cursors.{GetMore, more_form, KillCursors, kill_form}
 
 pub data Command : Type 0 where
   hello_command : Command
@@ -19,7 +23,11 @@ pub data Command : Type 0 where
   ping_command : Command
   end_sessions_command : Command
   write_command : WriteCommand → Command
+  -- `find` and `aggregate`
   find_command : Find → Command
+  count_command : Reading → Command
+  more_command : GetMore → Command
+  kill_command : KillCursors → Command
 
 pub record Row : Type 0 where
   pub name : List ℕ
@@ -39,6 +47,10 @@ rows =
     ∷ record { name = codes "update"; form = made_into write_command (write_form update_kind) }
     ∷ record { name = codes "delete"; form = made_into write_command (write_form delete_kind) }
     ∷ record { name = codes "find"; form = made_into find_command find_form }
+    ∷ record { name = codes "aggregate"; form = made_into find_command aggregate_form }
+    ∷ record { name = codes "count"; form = made_into count_command count_form }
+    ∷ record { name = codes "getMore"; form = made_into more_command more_form }
+    ∷ record { name = codes "killCursors"; form = made_into kill_command kill_form }
     ∷ []
 
 abbrev pub find_form_in : List ℕ → List Row → Option (CommandForm Command)

@@ -1,18 +1,21 @@
 -- How large the documents of commands and answers are. A message has at most 48,000,000 bytes, and a write at most 100,000
 -- statements (MongoDB manual, "MongoDB Limits and Thresholds").
-use Rattle.std.specs.Prelude.{◌≡◌, ◌<◌, ◌≤◌, ◌+◌, ℕ, List, [], ◌∷◌, length, Some, Result, Ok, Err}
+use Rattle.std.specs.Prelude.{◌≡◌, ◌<◌, ◌≤◌, ◌+◌, ◌^◌, ℕ, List, [], ◌∷◌, length, Some, Result, Ok, Err}
 use Rattle.std.specs.List.{AllByRecursion}
 use Rattle.opmsg_model.specs.Tree.{Datum, value_depth}
-use Rattle.opmsg_model.specs.MessageSizes.{IsSmall}
+use Rattle.opmsg_model.specs.MessageSizes.{IsSmall, IsWithin}
 use Rattle.base_model.specs.Refusals.{Refusal}
 use Rattle.opmsg_model.specs.Spelling.{written_value}
 use Rattle.query_model.specs.Writes.{Write}
 use Rattle.query_model.specs.Effects.{write_key}
 use Rattle.history_model.specs.History.{Operation, insert_operation, update_operation, delete_operation, read_operation}
 use Rattle.command_model.specs.Writes.{Upserted, WriteCommand, WriteError, WriteSummary}
-use Rattle.command_model.specs.Answers.{Answer, hello_answer, legacy_answer, done_answer, write_answer, find_answer, refusal_answer}
-use Rattle.command_model.specs.Command.{Command, hello_command, legacy_command, ping_command, end_sessions_command, write_command, find_command}
-use Rattle.command_model.specs.CommandLimits.{most_statements, most_bytes_upserted}
+use Rattle.command_model.specs.Answers.{Answer, hello_answer, legacy_answer, done_answer, write_answer, first_answer, next_answer, count_answer, killed_answer, refusal_answer}
+use Rattle.command_model.specs.Command.{Command, hello_command, legacy_command, ping_command, end_sessions_command, write_command, find_command, count_command, more_command, kill_command}
+use Rattle.command_model.specs.CommandLimits.{most_statements, most_bytes_upserted, most_cursors}
+use Rattle.command_model.specs.Cursors.{Batch}
+use Rattle.pipeline_model.specs.Batches as batches
+use Rattle.opmsg_model.specs.Limits.{most_bytes_kept}
 
 -- the documents of an operation are small
 abbrev pub AreSmallWords : Operation → Type 0
@@ -39,6 +42,9 @@ IsSmallCommand ping_command = Unit {0}
 IsSmallCommand end_sessions_command = Unit {0}
 IsSmallCommand (write_command command) = IsSmallWrite command
 IsSmallCommand (find_command find) = Unit {0}
+IsSmallCommand (count_command reading) = Unit {0}
+IsSmallCommand (more_command more) = Unit {0}
+IsSmallCommand (kill_command kill) = Unit {0}
 
 -- the error's name is short; evidence always is
 abbrev pub IsSmallRefusal : Refusal → Type 0
@@ -66,11 +72,20 @@ pub record IsSmallSummary (told : WriteSummary) : Type 0 where
   pub flat : AllByRecursion (λ (u : Upserted). (u.index < most_statements) × (value_depth u.key ≡ 0)) told.upserted
   pub short_keys : keys_length told.upserted ≤ most_bytes_upserted
 
+-- a batch of few bytes, or of one document, as documents are kept or made of such
+pub record IsSmallBatch (batch : Batch) : Type 0 where
+  pub name : length batch.namespace ≤ 255
+  pub bytes : batches.IsSmall batch.documents
+  pub each : AllByRecursion (IsWithin 101 most_bytes_kept) batch.documents
+
 -- an answer to such
 abbrev pub IsSmallAnswer : Answer → Type 0
 IsSmallAnswer (hello_answer moment) = Unit {0}
 IsSmallAnswer (legacy_answer moment shown) = Unit {0}
 IsSmallAnswer done_answer = Unit {0}
 IsSmallAnswer (write_answer kind told) = IsSmallSummary told
-IsSmallAnswer (find_answer namespace documents time) = (length namespace ≤ 255) × (length documents ≤ 1) × AllByRecursion IsSmall documents
+IsSmallAnswer (first_answer batch) = IsSmallBatch batch
+IsSmallAnswer (next_answer batch) = IsSmallBatch batch
+IsSmallAnswer (count_answer n time) = n < 2 ^ 63
+IsSmallAnswer (killed_answer killed missing) = length killed + length missing ≤ most_cursors
 IsSmallAnswer (refusal_answer refusal) = IsSmallRefusal refusal

@@ -22,8 +22,8 @@ pub record SequenceRule : Type 0 where
 pub record CommandForm (C : Type 0) : Type 0 where
   -- of the database, the value of the command's own field
   pub check_own : (database : List ℕ) → Datum → Verdict
-  -- the fields behind it, and what is told of one that has no rule
-  pub rules : List Rule
+  -- the fields behind it, of the database, and what is told of one that has no rule
+  pub rules : (database : List ℕ) → List Rule
   pub unlisted : Verdict
   pub sequence : Option SequenceRule
   -- of the whole document and the sequences: what is needed, and what is judged last
@@ -69,7 +69,7 @@ check_command form sent own value others sequences =
     first_of
     (check_database sent (get (codes "$db") (field own value others))
     ∷ form.check_own (database_of sent (field own value others)) value
-    ∷ check_fields form.unlisted form.rules (own ∷ []) others
+    ∷ check_fields form.unlisted (form.rules (database_of sent (field own value others))) (own ∷ []) others
     ∷ check_sequences form.sequence (own ∷ names_of others) sequences
     ∷ form.check_needed (field own value others) sequences
     ∷ form.check_last (field own value others) sequences

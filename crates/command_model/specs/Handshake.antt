@@ -19,7 +19,7 @@ handshake_rules = record { name = codes "$db"; check = string_needed } ∷ recor
 abbrev pub handshake_form : {C : Type 0} → (Fields → C) → CommandForm C
 handshake_form command = record {
   check_own = any_own;
-  rules = handshake_rules;
+  rules = λ database. handshake_rules;
   unlisted = None;
   sequence = None;
   check_needed = nothing_judged;

@@ -1,6 +1,7 @@
 -- Requests to try the definitions on.
 use Rattle.std.specs.Prelude.{ℕ, List, [], ◌∷◌, codes, false, pos}
 use Rattle.opmsg_model.specs.Tree.{Datum, string_value, document_value, array_value, int32_value, Fields, no_fields, field, no_items, item}
+use Rattle.query_model.specs.Queries.{Query, no_clauses, clause, path_clause, no_tests, test, eq_test}
 use Rattle.opmsg_model.specs.Requests.{Body, Form, Request, msg_form, read_body}
 
 -- the request with this body, of some message
@@ -77,3 +78,7 @@ update_two first second =
 -- {_id: 1, "a.b": 1}
 abbrev pub dotted : Fields
 dotted = field (codes "_id") number_one (field (codes "a.b") number_one no_fields)
+
+-- the query that {_id: 1} is
+abbrev pub id_is_one : Query
+id_is_one = clause (path_clause (codes "_id" ∷ []) (test (eq_test number_one) no_tests)) no_clauses

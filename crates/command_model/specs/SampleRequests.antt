@@ -8,7 +8,7 @@ use Rattle.opmsg_model.specs.Sections.{body_section}
 use Rattle.opmsg_model.specs.SampleDocuments.{nested}
 use Rattle.base_model.specs.Times.{timestamp}
 use Rattle.command_model.specs.AnswerParts.{document_items}
-use Rattle.command_model.specs.Answers.{find_answer, answer_document}
+use Rattle.command_model.specs.Answers.{first_answer, answer_document}
 
 -- {_id: key}
 abbrev pub with_id : Datum → Fields
@@ -72,7 +72,7 @@ faulty fault place = record (request 1 false no_fields) { body = faulty_body fau
 
 -- {cursor: {.., firstBatch: [..], atClusterTime: Timestamp(1000, ..)}, ok: 1, operationTime: Timestamp(1000, ..)}
 abbrev pub shown : List Fields → ℕ → Fields
-shown documents counter = answer_document (find_answer (codes "d.c") documents (timestamp 1000 counter))
+shown documents counter = answer_document (first_answer (record { cursor = pos 0; namespace = codes "d.c"; documents = documents; time = timestamp 1000 counter }))
 
 -- {_id: 5}, {_id: 5L} and {_id: 6}
 abbrev pub three : List Fields

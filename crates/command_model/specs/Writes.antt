@@ -1,14 +1,16 @@
 -- Write commands: `insert`, `update` and `delete` (MongoDB manual, "insert", "update", "delete"; the order of refusals and of the
 -- answer's fields is own).
-use Rattle.std.specs.Prelude.{ℕ, List, [], ◌∷◌, length, map, Bool, true, ◌&&◌, Option, Some, None, nat_le, codes}
-use Rattle.opmsg_model.specs.Tree.{Datum, document_value, array_value, Items, no_items, item, Fields, no_fields, field, get}
+use Rattle.std.specs.Prelude.{ℕ, ℤ, pos, List, [], ◌∷◌, length, map, Bool, true, ◌&&◌, Option, Some, None, nat_le, codes}
+use Rattle.opmsg_model.specs.Tree.{Datum, document_value, array_value, binary_value, Items, no_items, item, Fields, no_fields, field, get}
+use Rattle.std.specs.Option.{unwrap_or}
+use Rattle.pipeline_model.specs.Operands.{whole_number}
 use Rattle.history_model.specs.History.{Operation}
 use Rattle.base_model.specs.Errors.{bad_value, failed_to_parse, type_mismatch}
 use Rattle.base_model.specs.Refusals.{Refusal}
 use Rattle.base_model.specs.Names.{full_name}
 use Rattle.base_model.specs.ReplyParts.{write_error}
-use Rattle.command_model.specs.Checks.{Verdict, unless_passes}
-use Rattle.command_model.specs.Fields.{Rule, boolean_needed, boolean_or, common_rules, document_needed}
+use Rattle.command_model.specs.Checks.{Verdict, first_of, unless_passes}
+use Rattle.command_model.specs.Fields.{Rule, boolean_needed, boolean_or, check_required, common_rules, document_needed}
 use Rattle.command_model.specs.Forms.{CommandForm, Sequences, check_collection, string_or}
 use Rattle.command_model.specs.AnswerParts.{count, number, ok, operation_time_at}
 use Rattle.command_model.specs.CommandLimits.{most_statements}
@@ -27,12 +29,18 @@ statement_form insert_kind = insert_statements
 statement_form update_kind = update_statements
 statement_form delete_kind = delete_statements
 
--- to do these in a collection, in order; `ordered`: the first error ends it
+-- how a client numbers the statements of a command: by the 16 bytes of its session and a transaction, each with its index from 0
+pub record ClientNumber : Type 0 where
+  pub session : List ℕ
+  pub transaction : ℤ
+
+-- to do these in a collection, in order; `ordered`: the first error ends it; `number`: the client's, if it gives one
 pub record WriteCommand : Type 0 where
   pub kind : WriteKind
   pub namespace : List ℕ
   pub operations : List Operation
   pub ordered : Bool
+  pub number : Option ClientNumber
 
 -- the values of an array that are documents; none if one is no document
 abbrev pub documents_in : Items → Option (List Fields)
@@ -55,12 +63,36 @@ abbrev pub documents_needed : Datum → Verdict
 documents_needed (array_value ds) = check_documents (documents_in ds)
 documents_needed value = Some type_mismatch
 
+-- a whole number, also below 0
+abbrev pub whole_needed : Datum → Verdict
+whole_needed value = elim (whole_number value) [ None ↦ Some type_mismatch | Some n ↦ None ]
+
+-- a transaction's number is one of a session
+abbrev pub session_needed : Fields → Verdict
+session_needed document = elim (get (codes "txnNumber") document) [ None ↦ None | Some value ↦ check_required (codes "lsid") document ]
+
+abbrev pub session_bytes : Option Datum → List ℕ
+session_bytes (Some (binary_value subtype content)) = content
+session_bytes value = []
+
+abbrev pub session_in : Option Datum → List ℕ
+session_in (Some (document_value ms)) = session_bytes (get (codes "id") ms)
+session_in value = []
+
+-- the session without a transaction numbers nothing
+abbrev pub number_given : Fields → Option ClientNumber
+number_given document = elim (get (codes "txnNumber") document) [
+  | None ↦ None
+  | Some value ↦ Some (record { session = session_in (get (codes "lsid") document); transaction = unwrap_or (whole_number value) (pos 0) })
+]
+
 abbrev pub write_rules : StatementForm → List Rule
 write_rules form =
     record { name = form.identifier; check = documents_needed }
     ∷ record { name = codes "ordered"; check = boolean_needed }
     ∷ record { name = codes "writeConcern"; check = document_needed (λ ms. None) }
     ∷ record { name = codes "bypassDocumentValidation"; check = boolean_needed }
+    ∷ record { name = codes "txnNumber"; check = whole_needed }
     ∷ common_rules
 
 abbrev pub documents_of_value : Datum → Option (List Fields)
@@ -85,16 +117,17 @@ or_documents (Some documents) = documents
 abbrev pub write_form : WriteKind → CommandForm WriteCommand
 write_form kind = record {
   check_own = check_collection;
-  rules = write_rules (statement_form kind);
+  rules = λ database. write_rules (statement_form kind);
   unlisted = Some failed_to_parse;
   sequence = Some (record { identifier = (statement_form kind).identifier; check = check_count });
-  check_needed = λ document sequences. some_needed (documents_asked (statement_form kind) document sequences);
+  check_needed = λ document sequences. first_of (some_needed (documents_asked (statement_form kind) document sequences) ∷ session_needed document ∷ []);
   check_last = λ document sequences. check_statements (statement_form kind) (or_documents (documents_asked (statement_form kind) document sequences));
   command = λ database own document sequences. record {
     kind = kind;
     namespace = full_name database (string_or [] (Some own));
     operations = map (statement_form kind).operation (or_documents (documents_asked (statement_form kind) document sequences));
     ordered = boolean_or true (get (codes "ordered") document);
+    number = number_given document;
   };
 }
 

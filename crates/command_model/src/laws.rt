@@ -1,12 +1,16 @@
 //! The laws between the definitions.
 
-ghost use Rattle.std.specs.Prelude.{◌≡◌, Some};
+ghost use Rattle.std.specs.Prelude.{◌≡◌, Some, Ok, true};
+ghost use Rattle.std.specs.List.{list_all};
 ghost use Rattle.opmsg_model.specs.Tree.{Fields};
 ghost use Rattle.opmsg_model.specs.Requests.{Request};
 ghost use Rattle.opmsg_model.specs.MessageSizes.{IsSmallBody, IsWithin};
 ghost use Rattle.base_model.specs.Refusals.{Evidence, evidence_document};
+ghost use Rattle.pipeline_model.specs.Stages.{has_int64};
 ghost use Rattle.command_model.specs.Answers.{Answer, answer_document};
-ghost use Rattle.command_model.specs.Command.{command_of};
+ghost use Rattle.command_model.specs.Command.{command_of, count_command, find_command};
+ghost use Rattle.command_model.specs.Find.{Find};
+ghost use Rattle.command_model.specs.Reading.{Reading};
 ghost use Rattle.command_model.specs.CommandSizes.{IsSmallAnswer, IsTaken};
 ghost use Rattle.opmsg_model.specs.Limits.{most_bytes_written, most_depth_written};
 
@@ -27,4 +31,11 @@ pub fn evidence_is_small()
 #[tactic(auto, using(crate::proofs::SmallAnswers::answer_small))]
 pub fn answers_are_small()
     ensures { (answer : Answer) → IsSmallAnswer answer → IsWithin most_depth_written most_bytes_written (answer_document answer) }
+{}
+
+/// How many documents a command passes over or keeps is a number that a message can have.
+#[tactic(auto, using(crate::proofs::Taken::int64_of_find, crate::proofs::Taken::int64_of_count))]
+pub fn numbers_are_small()
+    ensures find { (request : Request) (find : Find) → command_of request ≡ Ok (find_command find) → list_all has_int64 find.reading.stages ≡ true }
+    ensures count { (request : Request) (reading : Reading) → command_of request ≡ Ok (count_command reading) → list_all has_int64 reading.stages ≡ true }
 {}

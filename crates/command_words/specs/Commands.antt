@@ -1,25 +1,29 @@
 -- What the program's commands are.
-use Rattle.std.specs.Prelude.{◌≡◌, map, Result, Ok, Err}
+use Rattle.std.specs.Prelude.{◌≡◌, ℕ, map, Option, Result, Ok, Err}
 use Rattle.std.specs.Option.{option_map}
 use Rattle.command_model.specs.Errors.{ErrorCode}
 use Rattle.command_model.specs.Refusals as history
-use Rattle.bson_values.specs.View.{datum_of}
 use Rattle.cluster_base.specs.Codes.{meaning_of}
 use Rattle.cluster_base.specs.declared.time.Time.{Time}
 use Rattle.command_model.specs.Handshake as handshakes
 use Rattle.command_model.specs.Writes as writes
+use Rattle.command_model.specs.Reading as readings
 use Rattle.command_model.specs.Find as finds
+use Rattle.command_model.specs.Cursors as cursors
 use Rattle.command_model.specs.Command as model
 use Rattle.command_words.specs.declared.handshake.Legacy as legacies
 use Rattle.command_words.specs.declared.writes.WriteCommand as program_writes
+use Rattle.command_words.specs.declared.reading.Reading as program_readings
 use Rattle.command_words.specs.declared.find.Find as program_finds
+use Rattle.command_words.specs.declared.get_more.GetMore as program_mores
+use Rattle.command_words.specs.declared.kill_cursors.KillCursors as program_kills
 use Rattle.command_words.specs.declared.command.Command.{Command}
-use Rattle.command_words.specs.declared.command.Command.TheVariants.{Hello, Legacy, Ping, EndSessions, Write, Find}
+use Rattle.command_words.specs.declared.command.Command.TheVariants.{Hello, Legacy, Ping, EndSessions, Write, Find, Count, GetMore, KillCursors}
 use Rattle.command_words.specs.declared.fault.CommandFault.{CommandFault}
 use Rattle.command_words.specs.declared.fault.CommandFault.TheVariants as faults
 use Rattle.command_words.specs.declared.fault.CheckFault.{CheckFault}
 use Rattle.command_words.specs.declared.fault.CheckFault.TheVariants.{Refused, Memory}
-use Rattle.command_answers.specs.Kinds.{kind_meant}
+use Rattle.command_answers.specs.Kinds.{given_meant, kind_meant}
 use Rattle.command_answers.specs.Refusals.{refusal_meant}
 use Rattle.shard_records.specs.Meanings.{operation_meant}
 
@@ -32,10 +36,23 @@ write_meant write = record {
   namespace = write.namespace;
   operations = map operation_meant write.operations.items;
   ordered = write.ordered;
+  number = given_meant write.number;
 }
 
+abbrev pub time_meant : Option Time → Option ℕ
+time_meant time = option_map (λ (t : Time). t.0) time
+
+abbrev pub reading_meant : program_readings.Reading → readings.Reading
+reading_meant reading = record { namespace = reading.namespace; stages = reading.pipeline; at = time_meant reading.at; after = time_meant reading.after }
+
 abbrev pub find_meant : program_finds.Find → finds.Find
-find_meant find = record { namespace = find.namespace; key = datum_of find.key; at = option_map (λ (t : Time). t.0) find.at }
+find_meant find = record { reading = reading_meant find.reading; batches = record { size = find.batches.size; single = find.batches.single } }
+
+abbrev pub more_meant : program_mores.GetMore → cursors.GetMore
+more_meant more = record { namespace = more.namespace; cursor = more.cursor; size = more.size }
+
+abbrev pub kill_meant : program_kills.KillCursors → cursors.KillCursors
+kill_meant kill = record { namespace = kill.namespace; cursors = kill.cursors.items }
 
 abbrev pub command_meant : Command → model.Command
 command_meant Hello = model.hello_command
@@ -44,6 +61,9 @@ command_meant Ping = model.ping_command
 command_meant EndSessions = model.end_sessions_command
 command_meant (Write write) = model.write_command (write_meant write)
 command_meant (Find find) = model.find_command (find_meant find)
+command_meant (Count reading) = model.count_command (reading_meant reading)
+command_meant (GetMore more) = model.more_command (more_meant more)
+command_meant (KillCursors kill) = model.kill_command (kill_meant kill)
 
 -- the program gives the command or the error that the checks tell; want of memory is free
 abbrev pub Tells : Result Command CheckFault → Result model.Command ErrorCode → Type 0

@@ -5,8 +5,8 @@ use Rattle.command_model.specs.Errors.{ErrorCode}
 use Rattle.cluster_base.specs.Codes.{meaning_of}
 use Rattle.command_model.specs.Forms.{Sequences}
 use Rattle.command_model.specs.Statements.{check_statements}
-use Rattle.command_model.specs.Writes.{WriteKind, documents_asked, or_documents, statement_form}
-use Rattle.command_answers.specs.Kinds.{kind_meant}
+use Rattle.command_model.specs.Writes.{ClientNumber, WriteKind, documents_asked, or_documents, statement_form}
+use Rattle.command_answers.specs.Kinds.{given_meant, kind_meant}
 use Rattle.command_model.specs.Command as model
 use Rattle.command_words.specs.Commands.{command_meant}
 use Rattle.command_words.specs.declared.draft.Draft.{Draft}
@@ -15,16 +15,23 @@ use Rattle.command_words.specs.declared.fault.CheckFault.{CheckFault}
 use Rattle.command_words.specs.declared.fault.CheckFault.TheVariants.{Refused, Memory}
 
 -- the write of these statements, unless one of them is refused
-abbrev pub judged : WriteKind → List ℕ → Bool → List Fields → Result model.Command ErrorCode
-judged kind namespace ordered statements =
+abbrev pub judged : WriteKind → List ℕ → Bool → Option ClientNumber → List Fields → Result model.Command ErrorCode
+judged kind namespace ordered number statements =
     model.by_verdict (check_statements (statement_form kind) statements)
-    (model.write_command (record { kind = kind; namespace = namespace; operations = map (statement_form kind).operation statements; ordered = ordered }))
+    (model.write_command (record {
+      kind = kind;
+      namespace = namespace;
+      operations = map (statement_form kind).operation statements;
+      ordered = ordered;
+      number = number;
+    }))
 
 -- the program gives what the checks tell, but that the statements of a write are still to be put in and judged
 abbrev pub Drafts : Fields → Sequences → Result Draft CheckFault → Result model.Command ErrorCode → Type 0
 Drafts document sequences (Ok (Whole command)) told = told ≡ Ok (command_meant command)
 Drafts document sequences (Ok (Write draft)) told =
-    told ≡ judged (kind_meant draft.kind) draft.namespace draft.ordered (or_documents (documents_asked (statement_form (kind_meant draft.kind)) document sequences))
+    told ≡ judged (kind_meant draft.kind) draft.namespace draft.ordered (given_meant draft.number)
+    (or_documents (documents_asked (statement_form (kind_meant draft.kind)) document sequences))
 Drafts document sequences (Err (Refused code)) told = told ≡ Err (meaning_of code)
 Drafts document sequences (Err Memory) told = Unit {0}
 

@@ -1,14 +1,29 @@
 -- What the program's rows are.
+use Rattle.std.specs.Prelude.{◌≡◌, ℕ, List, Option, Some, codes}
 use Rattle.command_model.specs.Forms.{CommandForm, made_into}
 use Rattle.command_model.specs.Writes.{write_form}
 use Rattle.command_answers.specs.Kinds.{kind_meant}
 use Rattle.command_model.specs.Find.{find_form}
-use Rattle.command_model.specs.Command.{Command, write_command, find_command}
+use Rattle.command_model.specs.Aggregate.{aggregate_form}
+use Rattle.command_model.specs.Count.{count_form}
+use Rattle.command_model.specs.Cursors.{more_form, kill_form}
+use Rattle.command_model.specs.Command.{Command, write_command, find_command, count_command, more_command, kill_command}
 use Rattle.command_words.specs.declared.command.AnyForm.{AnyForm}
-use Rattle.command_words.specs.declared.command.AnyForm.TheVariants.{Handshake, Write, Find}
+use Rattle.command_words.specs.declared.command.AnyForm.TheVariants.{Handshake, Write, Find, Aggregate, Count, GetMore, KillCursors}
 use Rattle.command_words.specs.Handshakes.{handshake_meant}
+use Rattle.command_words.specs.Sessions.{name_meant}
 
 abbrev pub row_meant : AnyForm → CommandForm Command
 row_meant (Handshake form) = handshake_meant form
 row_meant (Write form) = made_into write_command (write_form (kind_meant form.kind))
 row_meant (Find form) = made_into find_command find_form
+row_meant (Aggregate form) = made_into find_command aggregate_form
+row_meant (Count form) = made_into count_command count_form
+row_meant (GetMore form) = made_into more_command more_form
+row_meant (KillCursors form) = made_into kill_command kill_form
+
+-- the name of a row, where it is looked at
+abbrev pub IsRowNamed : Option AnyForm → List ℕ → Type 0
+IsRowNamed (Some (Write form)) name = name ≡ name_meant form.kind
+IsRowNamed (Some (GetMore form)) name = name ≡ codes "getMore"
+IsRowNamed form name = Unit {0}

@@ -7,8 +7,13 @@ ghost use Rattle.cluster_base.specs.Codes.{meaning_of};
 ghost use Rattle.command_model.specs.Checks as checks;
 ghost use Rattle.command_model.specs.Forms as forms;
 ghost use Rattle.command_model.specs.Fields as fields;
-ghost use Rattle.command_words.specs.Verdicts.{verdict_meant};
+ghost use Rattle.command_model.specs.Reading as reading;
+ghost use Rattle.pipeline_model.specs.Operands.{whole_number};
+ghost use Rattle.pipeline_model.specs.Stages.{as_natural, read_natural};
+ghost use Rattle.command_words.specs.Numbers.{if_read};
+ghost use Rattle.command_words.specs.Verdicts.{ReadsBy, verdict_meant};
 
+use crate::fault::CheckFault;
 use bson_values::{Document, Value};
 use cluster_base::Code;
 
@@ -20,6 +25,16 @@ pub(crate) fn unless_passes(passes: bool, code: Code) -> Option<Code>
     ensures { verdict_meant result ≡ checks.unless_passes passes (meaning_of code) }
 {
     if passes { None } else { Some(code) }
+}
+
+/// No error, or the error that a check tells.
+pub(crate) fn passed(verdict: Option<Code>) -> Result<(), CheckFault>
+    ensures { ReadsBy (λ read. Unit {0}) result (verdict_meant verdict) }
+{
+    match verdict {
+        Some(code) => Err(CheckFault::Refused(code)),
+        None => Ok(()),
+    }
 }
 
 pub(crate) fn boolean_needed(value: &Value) -> Option<Code>
@@ -93,5 +108,66 @@ pub(crate) fn boolean_or(other: bool, document: &Document, name: &str) -> bool
             _ => other,
         },
         None => other,
+    }
+}
+
+pub(crate) fn timestamp_needed(value: &Value) -> Option<Code>
+    ensures { verdict_meant result ≡ fields.timestamp_needed (datum_of value.now) }
+{
+    match value {
+        Value::Timestamp(_) => None,
+        _ => Some(Code::TypeMismatch),
+    }
+}
+
+/// The whole number that a value is.
+pub(crate) fn whole_number(value: &Value) -> Option<i64>
+    ensures { result ≡ whole_number (datum_of value.now) }
+{
+    match value {
+        Value::Int32(number) => Some(i64::from(*number)),
+        Value::Int64(number) => Some(*number),
+        _ => None,
+    }
+}
+
+// The number, where it is not negative.
+fn natural_of(number: i64) -> Option<u64>
+    ensures { result ≡ if_read (as_natural number) }
+{
+    if number < 0 {
+        None
+    } else {
+        Some(number as u64)
+    }
+}
+
+/// A whole number that is not negative.
+pub(crate) fn natural_needed(value: &Value) -> Option<Code>
+    ensures { verdict_meant result ≡ reading.natural_needed (datum_of value.now) }
+{
+    match whole_number(value) {
+        Some(number) => unless_passes(natural_of(number).is_some(), Code::BadValue),
+        None => Some(Code::TypeMismatch),
+    }
+}
+
+// The number that a value is, where it is whole and not negative.
+fn natural_in(value: &Value) -> Option<u64>
+    ensures { result ≡ if_read (read_natural (datum_of value.now)) }
+{
+    match whole_number(value) {
+        Some(number) => natural_of(number),
+        None => None,
+    }
+}
+
+/// The number of a field, where it is there.
+pub(crate) fn number_given(document: &Document, name: &str) -> Option<u64>
+    ensures { result ≡ reading.number_given name.now document.now }
+{
+    match document.get(name) {
+        Some(value) => natural_in(value),
+        None => None,
     }
 }

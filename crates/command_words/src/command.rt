@@ -1,7 +1,7 @@
 //! Commands: what requests ask for.
 
-ghost use Rattle.std.specs.Prelude.{◌≡◌, ℕ, Result};
-ghost use Rattle.std.specs.Option.{option_map};
+ghost use Rattle.std.specs.Prelude.{◌≡◌, ℕ, Result, drop};
+ghost use Rattle.std.specs.Option.{option_map, option_or};
 ghost use Rattle.bson_values.specs.Faults.{Fault};
 ghost use Rattle.command_model.specs.Errors.{ErrorCode};
 ghost use Rattle.command_model.specs.Refusals.{no_document_at};
@@ -13,15 +13,22 @@ ghost use Rattle.command_model.specs.Command as model;
 ghost use Rattle.command_words.specs.Commands.{Answers, Tells};
 ghost use Rattle.command_answers.specs.Refusals.{refusal_meant};
 ghost use Rattle.command_words.specs.Drafts.{Drafts};
-ghost use Rattle.command_words.specs.Rows.{row_meant};
+ghost use Rattle.command_words.specs.Handshakes.{handshake_meant};
+ghost use Rattle.command_words.specs.Rows.{IsRowNamed, row_meant};
+ghost use Rattle.command_words.specs.declared.command.AnyForm.TheVariants.{Write};
 
+use crate::aggregate::AggregateForm;
 use crate::copies::documents_or_none;
+use crate::count::CountForm;
 use crate::documents::documents_moved;
 use crate::draft::Draft;
 use crate::fault::{CheckFault, CommandFault};
 use crate::find::{Find, FindForm};
 use crate::forms::read_by;
+use crate::get_more::{GetMore, MoreForm};
 use crate::handshake::{HandshakeForm, Legacy};
+use crate::kill_cursors::{KillCursors, KillForm};
+use crate::reading::Reading;
 use crate::writes::{WriteCommand, WriteForm};
 use bson_values::{BsonFault, Document};
 use cluster_base::Code;
@@ -39,7 +46,11 @@ pub enum Command {
     EndSessions,
     /// `insert`, `update` and `delete`.
     Write(WriteCommand),
+    /// `find` and `aggregate`.
     Find(Find),
+    Count(Reading),
+    GetMore(GetMore),
+    KillCursors(KillCursors),
 }
 
 /// The forms that there are.
@@ -48,39 +59,86 @@ pub(crate) enum AnyForm {
     Handshake(HandshakeForm),
     Write(WriteForm),
     Find(FindForm),
+    Aggregate(AggregateForm),
+    Count(CountForm),
+    GetMore(MoreForm),
+    KillCursors(KillForm),
+}
+
+// The form of the handshake of that name.
+fn handshake_named(name: &str) -> Option<HandshakeForm>
+    ensures { option_or (option_map handshake_meant result) (model.find_form_in name.now (drop 5 model.rows)) ≡ model.form_of name.now }
+{
+    if "hello" == name {
+        Some(HandshakeForm::Hello)
+    } else if "isMaster" == name {
+        Some(HandshakeForm::Legacy)
+    } else if "ismaster" == name {
+        Some(HandshakeForm::Legacy)
+    } else if "ping" == name {
+        Some(HandshakeForm::Ping)
+    } else if "endSessions" == name {
+        Some(HandshakeForm::EndSessions)
+    } else {
+        None
+    }
+}
+
+// The form of the write of that name.
+fn write_named(name: &str) -> Option<WriteForm>
+    ensures found { option_or (option_map (λ form. row_meant (Write form)) result) (model.find_form_in name.now (drop 8 model.rows))
+        ≡ model.find_form_in name.now (drop 5 model.rows) }
+    ensures named { IsRowNamed (option_map (λ form. Write form) result) name.now }
+{
+    if "insert" == name {
+        Some(WriteForm {
+            kind: WriteKind::Insert,
+        })
+    } else if "update" == name {
+        Some(WriteForm {
+            kind: WriteKind::Update,
+        })
+    } else if "delete" == name {
+        Some(WriteForm {
+            kind: WriteKind::Delete,
+        })
+    } else {
+        None
+    }
+}
+
+// The form of the reading command of that name.
+fn read_named(name: &str) -> Option<AnyForm>
+    ensures found { option_map row_meant result ≡ model.find_form_in name.now (drop 8 model.rows) }
+    ensures named { IsRowNamed result name.now }
+{
+    if "find" == name {
+        Some(AnyForm::Find(FindForm))
+    } else if "aggregate" == name {
+        Some(AnyForm::Aggregate(AggregateForm))
+    } else if "count" == name {
+        Some(AnyForm::Count(CountForm))
+    } else if "getMore" == name {
+        Some(AnyForm::GetMore(MoreForm))
+    } else if "killCursors" == name {
+        Some(AnyForm::KillCursors(KillForm))
+    } else {
+        None
+    }
 }
 
 // The form of the command of that name.
 fn form_of(name: &str) -> Option<AnyForm>
-    ensures { option_map row_meant result ≡ model.form_of name.now }
+    ensures found { option_map row_meant result ≡ model.form_of name.now }
+    ensures named { IsRowNamed result name.now }
 {
-    if "hello" == name {
-        Some(AnyForm::Handshake(HandshakeForm::Hello))
-    } else if "isMaster" == name {
-        Some(AnyForm::Handshake(HandshakeForm::Legacy))
-    } else if "ismaster" == name {
-        Some(AnyForm::Handshake(HandshakeForm::Legacy))
-    } else if "ping" == name {
-        Some(AnyForm::Handshake(HandshakeForm::Ping))
-    } else if "endSessions" == name {
-        Some(AnyForm::Handshake(HandshakeForm::EndSessions))
-    } else if "insert" == name {
-        Some(AnyForm::Write(WriteForm {
-            kind: WriteKind::Insert,
-        }))
-    } else if "update" == name {
-        Some(AnyForm::Write(WriteForm {
-            kind: WriteKind::Update,
-        }))
-    } else if "delete" == name {
-        Some(AnyForm::Write(WriteForm {
-            kind: WriteKind::Delete,
-        }))
-    } else if "find" == name {
-        Some(AnyForm::Find(FindForm))
-    } else {
-        None
+    if let Some(form) = handshake_named(name) {
+        return Some(AnyForm::Handshake(form));
     }
+    if let Some(form) = write_named(name) {
+        return Some(AnyForm::Write(form));
+    }
+    read_named(name)
 }
 
 // What the document of a body and document sequences ask for, by the form of their request; but for the statements of a write.
@@ -102,6 +160,10 @@ fn draft_of(
         AnyForm::Handshake(form) => read_by(&form, alloc, sent, &own.value, document, sequences),
         AnyForm::Write(form) => read_by(&form, alloc, sent, &own.value, document, sequences),
         AnyForm::Find(form) => read_by(&form, alloc, sent, &own.value, document, sequences),
+        AnyForm::Aggregate(form) => read_by(&form, alloc, sent, &own.value, document, sequences),
+        AnyForm::Count(form) => read_by(&form, alloc, sent, &own.value, document, sequences),
+        AnyForm::GetMore(form) => read_by(&form, alloc, sent, &own.value, document, sequences),
+        AnyForm::KillCursors(form) => read_by(&form, alloc, sent, &own.value, document, sequences),
     }
 }
 
@@ -188,15 +250,8 @@ impl Command {
         }
     }
 
-    /// The same of a request that is given away: the documents of a write's statements are moved into the command, and none is copied. The
-    /// request's own bytes are let go.
-    pub fn take(alloc: Global, request: Request) -> Result<Command, CommandFault>
-        ensures { (meant : wire.Request) → IsMeant request meant → Answers result (model.command_of meant) }
-    {
-        Command::take_body(alloc, request.form, request.body)
-    }
-
-    /// The same of what the documents of a request are; the caller keeps the rest of it.
+    /// The same of what the documents of a request are, which are given away: those of a write's statements are moved into the command, and none
+    /// is copied. The caller keeps the rest of the request.
     pub fn take_body(alloc: Global, sent: Form, body: Body) -> Result<Command, CommandFault>
         ensures { (meant : wire.Body) → IsBody body meant → Answers result (model.command_in (form_meant sent) meant) }
     {

@@ -1,7 +1,7 @@
 //! Commands whose statements are still in their request.
 
 ghost use Rattle.std.specs.Prelude.{◌≡◌};
-ghost use Rattle.command_answers.specs.Kinds.{kind_meant};
+ghost use Rattle.command_answers.specs.Kinds.{given_meant, kind_meant};
 ghost use Rattle.command_words.specs.Commands.{Tells};
 ghost use Rattle.command_words.specs.Drafts.{judged};
 
@@ -11,7 +11,7 @@ use crate::statements::operations_of;
 use crate::writes::WriteCommand;
 use bson_values::Document;
 use cluster_base::Namespace;
-use command_answers::WriteKind;
+use command_answers::{ClientNumber, WriteKind};
 use std::alloc::Global;
 
 /// A write, but for its statements.
@@ -20,6 +20,7 @@ pub(crate) struct WriteDraft {
     pub kind: WriteKind,
     pub namespace: Namespace,
     pub ordered: bool,
+    pub number: Option<ClientNumber>,
 }
 
 /// A command, but for the statements of a write.
@@ -36,7 +37,7 @@ impl WriteDraft {
         alloc: Global,
         statements: Vec<Document>,
     ) -> Result<Command, CheckFault>
-        ensures { Tells result (judged (kind_meant self.kind) self.namespace self.ordered statements.items) }
+        ensures { Tells result (judged (kind_meant self.kind) self.namespace self.ordered (given_meant self.number) statements.items) }
     {
         match operations_of(alloc, self.kind, statements) {
             Ok(operations) => Ok(Command::Write(WriteCommand {
@@ -44,6 +45,7 @@ impl WriteDraft {
                 namespace: self.namespace,
                 operations,
                 ordered: self.ordered,
+                number: self.number,
             })),
             Err(fault) => Err(fault),
         }

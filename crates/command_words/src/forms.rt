@@ -1,6 +1,6 @@
 //! The form of a command, and the one order in which its checks come.
 
-ghost use Rattle.std.specs.Prelude.{◌≡◌, ℕ, List, [], ◌∷◌, Some, codes};
+ghost use Rattle.std.specs.Prelude.{◌≡◌, ℕ, List, [], ◌∷◌, None, Some, codes};
 ghost use Rattle.bson_values.specs.Tree.{Datum, Fields, get, field};
 ghost use Rattle.command_model.specs.Errors.{invalid_namespace};
 ghost use Rattle.command_model.specs.Names.{full_name, is_open_namespace};
@@ -15,7 +15,7 @@ ghost use Rattle.command_words.specs.Drafts.{Drafts};
 ghost use Rattle.command_words.specs.FieldNames.{NamesCollection};
 ghost use Rattle.command_words.specs.Verdicts.{ReadsBy, verdict_meant};
 
-use crate::checks::{string_needed, text_in};
+use crate::checks::{passed, string_needed, text_in};
 use crate::draft::Draft;
 use crate::fault::CheckFault;
 use bson_values::{Document, Value};
@@ -28,19 +28,35 @@ pub(crate) trait CommandForm {
     /// What the command's own field is read as.
     type Own: Drop;
 
+    /// What the fields behind it are read as.
+    type Given: Drop;
+
     // The form.
     ghost form: { Self → model.CommandForm commands.Command };
 
+    // The names that the own field may have.
+    ghost is_name: { Self → List ℕ → Type 0 };
+
     // What was read of a database and the value of the own field.
     ghost is_read: { Self → Self.Own → List ℕ → Datum → Type 0 };
+
+    // What was read of a database and the fields of a document.
+    ghost are_read: { Self → Self.Given → List ℕ → Fields → Type 0 };
 
     /// Reads the command's own field.
     fn read_own(&self, alloc: Global, database: &str, own: &Value) -> Result<Self::Own, CheckFault>
         ensures { ReadsBy (λ x. is_read self.now x database.now (datum_of own.now)) result ((form self.now).check_own database.now (datum_of own.now)) };
 
-    /// Checks the fields behind it.
-    fn check_inner_fields(&self, document: &Document) -> Option<Code>
-        ensures { (own : List ℕ) (value : Datum) (others : Fields) → document.now ≡ field own value others → verdict_meant result ≡ fields.check_fields (form self.now).unlisted (form self.now).rules (own ∷ []) others };
+    /// Reads the fields behind it.
+    fn read_fields(
+        &self,
+        alloc: Global,
+        database: &str,
+        document: &Document,
+    ) -> Result<Self::Given, CheckFault>
+        ensures { (own : List ℕ) (value : Datum) (others : Fields) → is_name self.now own → document.now ≡ field own value others →
+            ReadsBy (λ given. are_read self.now given database.now document.now) result
+            (fields.check_fields (form self.now).unlisted ((form self.now).rules database.now) (own ∷ []) others) };
 
     /// Checks a document sequence; `given`: a field or a sequence of its identifier stands before it.
     fn check_sequence(&self, given: bool, sequence: &Sequence) -> Option<Code>
@@ -55,12 +71,15 @@ pub(crate) trait CommandForm {
         &self,
         alloc: Global,
         own: Self::Own,
+        given: Self::Given,
         value: &Value,
         document: &Document,
         sequences: &[Sequence],
     ) -> Result<Draft, CheckFault>
-        ensures { (database : List ℕ) → is_read self.now own database (datum_of value.now) →
-            Drafts document.now (pairs_of sequences.now) result (commands.by_verdict ((form self.now).check_last document.now (pairs_of sequences.now)) ((form self.now).command database (datum_of value.now) document.now (pairs_of sequences.now))) };
+        ensures { (database : List ℕ) → is_read self.now own database (datum_of value.now) → are_read self.now given database document.now →
+            (form self.now).check_needed document.now (pairs_of sequences.now) ≡ None →
+            Drafts document.now (pairs_of sequences.now) result (commands.by_verdict ((form self.now).check_last document.now (pairs_of sequences.now))
+            ((form self.now).command database (datum_of value.now) document.now (pairs_of sequences.now))) };
 }
 
 // The database has to be named by a text, but in OP_QUERY.
@@ -89,9 +108,14 @@ fn database_of(sent: Form, document: &Document) -> &str
     }
 }
 
-// The namespace that these texts make, if clients may use it.
-fn namespace_of(alloc: Global, database: &str, collection: &str) -> Result<Namespace, CheckFault>
-    ensures { ReadsBy (λ n. n ≡ full_name database.now collection.now) result (unless_passes (is_open_namespace database.now collection.now) invalid_namespace) }
+/// The namespace that these texts make, if clients may use it.
+pub(crate) fn namespace_of(
+    alloc: Global,
+    database: &str,
+    collection: &str,
+) -> Result<Namespace, CheckFault>
+    ensures { ReadsBy (λ n. n ≡ full_name database.now collection.now) result
+        (unless_passes (is_open_namespace database.now collection.now) invalid_namespace) }
 {
     if is_reserved_database(database) {
         return Err(CheckFault::Refused(Code::InvalidNamespace));
@@ -119,7 +143,8 @@ pub(crate) fn collection_of(
 
 // The first sequence.
 fn check_first<F: CommandForm>(form: &F, document: &Document, first: &Sequence) -> Option<Code>
-    ensures { verdict_meant result ≡ model.check_sequence (F.form form.now).sequence (is_one_of first.now.identifier (fields.names_of document.now)) (first.now.identifier, first.now.documents) }
+    ensures { verdict_meant result ≡ model.check_sequence (F.form form.now).sequence
+        (is_one_of first.now.identifier (fields.names_of document.now)) (first.now.identifier, first.now.documents) }
 {
     let given = document.get(first.identifier.as_str()).is_some();
     form.check_sequence(given, first)
@@ -153,21 +178,15 @@ pub(crate) fn read_by<F: CommandForm>(
     document: &Document,
     sequences: &[Sequence],
 ) -> Result<Draft, CheckFault>
-    ensures { (name : List ℕ) (others : Fields) → document.now ≡ field name (datum_of own.now) others →
-        Drafts document.now (pairs_of sequences.now) result (commands.by_form (Some (F.form form.now)) (form_meant sent) name (datum_of own.now) others (pairs_of sequences.now)) }
+    ensures { (name : List ℕ) (others : Fields) → F.is_name form.now name → document.now ≡ field name (datum_of own.now) others →
+        Drafts document.now (pairs_of sequences.now) result
+        (commands.by_form (Some (F.form form.now)) (form_meant sent) name (datum_of own.now) others (pairs_of sequences.now)) }
 {
-    if let Some(code) = check_database(sent, document) {
-        return Err(CheckFault::Refused(code));
-    }
-    let read = form.read_own(alloc, database_of(sent, document), own)?;
-    if let Some(code) = form.check_inner_fields(document) {
-        return Err(CheckFault::Refused(code));
-    }
-    if let Some(code) = check_sequences(form, document, sequences) {
-        return Err(CheckFault::Refused(code));
-    }
-    if let Some(code) = form.check_needed(document, sequences) {
-        return Err(CheckFault::Refused(code));
-    }
-    form.finish(alloc, read, own, document, sequences)
+    passed(check_database(sent, document))?;
+    let database = database_of(sent, document);
+    let read = form.read_own(alloc, database, own)?;
+    let given = form.read_fields(alloc, database, document)?;
+    passed(check_sequences(form, document, sequences))?;
+    passed(form.check_needed(document, sequences))?;
+    form.finish(alloc, read, given, own, document, sequences)
 }

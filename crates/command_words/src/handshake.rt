@@ -6,7 +6,7 @@ ghost use Rattle.bson_values.specs.View.{datum_of};
 ghost use Rattle.command_model.specs.Handshake.{handshake_rules};
 ghost use Rattle.command_words.specs.Handshakes.{handshake_meant};
 
-use crate::checks::{boolean_needed, boolean_or, string_needed};
+use crate::checks::{boolean_needed, boolean_or, passed, string_needed};
 use crate::command::Command;
 use crate::draft::Draft;
 use crate::fault::CheckFault;
@@ -55,16 +55,27 @@ impl Rules for HandshakeForm {
 impl CommandForm for HandshakeForm {
     type Own = ();
 
+    type Given = ();
+
     ghost form = { handshake_meant };
 
+    ghost is_name = { λ _ name. Unit {0} };
+
     ghost is_read = { λ _ read database value. Unit {0} };
+
+    ghost are_read = { λ _ given database document. Unit {0} };
 
     fn read_own(&self, _alloc: Global, _database: &str, _own: &Value) -> Result<(), CheckFault> {
         Ok(())
     }
 
-    fn check_inner_fields(&self, document: &Document) -> Option<Code> {
-        check_behind_own(self, document)
+    fn read_fields(
+        &self,
+        _alloc: Global,
+        _database: &str,
+        document: &Document,
+    ) -> Result<(), CheckFault> {
+        passed(check_behind_own(self, document))
     }
 
     fn check_sequence(&self, _given: bool, _sequence: &Sequence) -> Option<Code> {
@@ -79,6 +90,7 @@ impl CommandForm for HandshakeForm {
         &self,
         _alloc: Global,
         _own: (),
+        _given: (),
         _value: &Value,
         document: &Document,
         _sequences: &[Sequence],

@@ -1,21 +1,31 @@
 //! Commands as values: what a request asks for.
 #![tactic(auto)]
 
+mod aggregate;
 mod checks;
 mod command;
+mod concern;
 mod copies;
+mod count;
 mod documents;
 mod draft;
 mod fault;
 mod find;
 mod forms;
+mod get_more;
 mod handshake;
+mod kill_cursors;
+mod reading;
 mod rules;
 mod statements;
+mod words;
 mod writes;
 
 pub use command::Command;
 pub use fault::CommandFault;
 pub use find::Find;
+pub use get_more::GetMore;
 pub use handshake::Legacy;
+pub use kill_cursors::KillCursors;
+pub use reading::{Batches, Reading};
 pub use writes::WriteCommand;

@@ -48,7 +48,8 @@ fn is_given(given: &[Field], name: &str) -> bool
 
 // One field, behind those that are given.
 fn check_field<R: Rules>(rules: &R, given: &[Field], field: &Field) -> Option<Code>
-    ensures { verdict_meant result ≡ by_rule (R.unlisted_verdict rules.now) (find_rule field.now.name (R.rules rules.now)) (list_any (λ m. bytes_eq m.name field.now.name) given.now) (datum_of field.now.value) }
+    ensures { verdict_meant result ≡ by_rule (R.unlisted_verdict rules.now) (find_rule field.now.name (R.rules rules.now))
+        (list_any (λ m. bytes_eq m.name field.now.name) given.now) (datum_of field.now.value) }
 {
     let name = field.name.as_str();
     match rules.ruling(name, &field.value) {
@@ -65,7 +66,8 @@ fn check_field<R: Rules>(rules: &R, given: &[Field], field: &Field) -> Option<Co
 
 /// The fields from an index on, behind those before it.
 pub(crate) fn check_fields<R: Rules>(rules: &R, fields: &[Field], from: usize) -> Option<Code>
-    ensures { verdict_meant result ≡ model.check_fields (R.unlisted_verdict rules.now) (R.rules rules.now) (names_given [] (take from fields.now)) (fields_of (drop from fields.now)) }
+    ensures { verdict_meant result ≡ model.check_fields (R.unlisted_verdict rules.now) (R.rules rules.now)
+        (names_given [] (take from fields.now)) (fields_of (drop from fields.now)) }
 {
     for i in from..fields.len() {
         if let Some(code) = check_field(rules, &fields[..i], &fields[i]) {
@@ -77,7 +79,8 @@ pub(crate) fn check_fields<R: Rules>(rules: &R, fields: &[Field], from: usize) -
 
 /// The fields of a command behind its own.
 pub(crate) fn check_behind_own<R: Rules>(rules: &R, document: &Document) -> Option<Code>
-    ensures { (own : List ℕ) (value : Datum) (others : Fields) → document.now ≡ field own value others → verdict_meant result ≡ model.check_fields (R.unlisted_verdict rules.now) (R.rules rules.now) (own ∷ []) others }
+    ensures { (own : List ℕ) (value : Datum) (others : Fields) → document.now ≡ field own value others →
+        verdict_meant result ≡ model.check_fields (R.unlisted_verdict rules.now) (R.rules rules.now) (own ∷ []) others }
 {
     check_fields(rules, document.fields(), 1)
 }

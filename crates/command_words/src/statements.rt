@@ -250,7 +250,8 @@ fn check_words(alloc: Global, words: &OpWords) -> Result<(), CheckFault>
 
 // The words of a statement that passes. Fails with its first error, and for want of memory.
 fn statement_of(alloc: Global, kind: WriteKind, statement: Document) -> Result<OpWords, CheckFault>
-    ensures { ReadsBy (λ words. operation_meant words ≡ (statement_form (kind_meant kind)).operation statement) result (model.check_statement (statement_form (kind_meant kind)) statement) }
+    ensures { ReadsBy (λ words. operation_meant words ≡ (statement_form (kind_meant kind)).operation statement) result
+        (model.check_statement (statement_form (kind_meant kind)) statement) }
 {
     if let Some(code) = check_form(kind, &statement) {
         return Err(CheckFault::Refused(code));
@@ -271,7 +272,8 @@ pub(crate) fn operations_of(
     kind: WriteKind,
     statements: Vec<Document>,
 ) -> Result<Vec<OpWords>, CheckFault>
-    ensures { ReadsBy (λ operations. map operation_meant operations.items ≡ map (statement_form (kind_meant kind)).operation statements.items) result (model.check_statements (statement_form (kind_meant kind)) statements.items) }
+    ensures { ReadsBy (λ operations. map operation_meant operations.items ≡ map (statement_form (kind_meant kind)).operation statements.items) result
+        (model.check_statements (statement_form (kind_meant kind)) statements.items) }
 {
     let mut operations = Vec::new(alloc);
     for statement in statements {

@@ -1,9 +1,10 @@
 -- How far a batch goes, document by document.
-use Rattle.std.proofs.Common.{◌≡◌, ℕ, ◌+◌, ◌<◌, ◌≤◌, ◌-◌, ◌^◌, ◌⊎◌, inl, inr, ⊎_elim, List, ◌++◌, length, map, take, drop, get_or, Result, Ok, Err, refl, sym, ap, ◌∙◌, subst, arith}
+use Rattle.std.proofs.Common.{◌≡◌, ℕ, suc, ◌+◌, [], ◌∷◌, ◌<◌, ◌≤◌, ◌-◌, ◌^◌, ◌⊎◌, inl, inr, ⊎_elim, List, ◌++◌, length, map, take, drop, get_or, Result, Ok, Err, refl, sym, ap, ◌∙◌, subst, add-one, arith}
 use Rattle.std.specs.Prelude.{Bool, true, false, ◌&&◌, min, Option, Some, None, IfOk, OnOk, nat_lt}
 use Rattle.std.proofs.lemmas.Bool.{cases_lt, leb-true, ltb-true, lt-ltb}
-use Rattle.std.proofs.lemmas.List.{length-take-le, take-take, take-map, drop-map, length-map}
-use Rattle.std.proofs.Math.Seq.{take-append_seam, drop-append_seam}
+use Rattle.std.proofs.lemmas.List.{length-take-le, take-take, take-map, drop-map, length-map, map-append}
+use Rattle.std.proofs.Math.ListN.{get_or-map}
+use Rattle.std.proofs.Math.Seq.{take-append_seam, take-suc, drop-append_seam}
 use Rattle.std.proofs.lemmas.List.Sums.{sum_by-take-le, sum_by_more}
 use Rattle.std.proofs.lemmas.Bool.Decides.{leb_tells}
 use Rattle.bson_values.specs.Tree.{Fields}
@@ -101,20 +102,34 @@ front_is {A = A} xs ys zs n e l = sym (take-append_seam xs ys) ∙ ap (λ (z : L
 pub rest_is : {A : Type 0} (xs ys zs : List A) (n : ℕ) → xs ++ ys ≡ zs → length xs ≡ n → ys ≡ drop n zs
 rest_is {A = A} xs ys zs n e l = sym (drop-append_seam xs ys) ∙ ap (λ (z : List A). drop (length xs) z) e ∙ ap (λ k. drop k zs) l
 
--- what a call took out, where it found memory
-module _ {V E X : Type 0} (see : X → Fields) (items_of : V → List X) where
-  pub batch_of : (r : Result V E) (size : Option ℕ) (items : List X) (n : ℕ) → IsLongest size (map see items) n → IfOk r (λ b. items_of b ≡ take n items) →
-      IfOk r (λ b. IsBatch size (map see items) (map see (items_of b)))
-  batch_of (Ok b) size items n h e =
-      subst (λ (l : List Fields). IsBatch size (map see items) l) (take-map see n items ∙ ap (λ (l : List X). map see l) (sym e))
-      (is_batch size (map see items) n h)
-  batch_of (Err e) size items n h k = tt
+-- what is taken in front, as it is seen
+module _ {X : Type 0} (see : X → Fields) where
+  pub taken_batch : (size : Option ℕ) (items docs front : List X) (n : ℕ) → items ≡ docs → IsLongest size (map see items) n → front ≡ take n items →
+      IsBatch size (map see docs) (map see front)
+  taken_batch size items docs front n same h e =
+      subst (λ (l : List X). IsBatch size (map see l) (map see front)) same
+      (subst (λ (l : List Fields). IsBatch size (map see items) l) (take-map see n items ∙ ap (λ (l : List X). map see l) (sym e))
+      (is_batch size (map see items) n h))
 
-  pub rest_of : (r : Result V E) (size : Option ℕ) (items after : List X) (n : ℕ) → IsLongest size (map see items) n →
-      IfOk r (λ b. items_of b ≡ take n items) → OnOk r (after ≡ drop n items) → IfOk r (λ b. map see after ≡ drop (length (map see (items_of b))) (map see items))
-  rest_of (Ok b) size items after n h e k =
+  pub taken_rest : (size : Option ℕ) (items docs front after : List X) (n : ℕ) → items ≡ docs → IsLongest size (map see items) n → front ≡ take n items →
+      after ≡ drop n items → map see after ≡ drop (length (map see front)) (map see docs)
+  taken_rest size items docs front after n same h e k =
       let within : n ≤ length items = omega (arith, h.may.there, length-map items see) in
-      let long : length (map see (items_of b)) ≡ n =
-      length-map (items_of b) see ∙ ap (λ (l : List X). length l) e ∙ length-take-le n items within in
+      let long : length (map see front) ≡ n = length-map front see ∙ ap (λ (l : List X). length l) e ∙ length-take-le n items within in
       ap (λ (l : List X). map see l) k ∙ sym (drop-map see n items) ∙ ap (λ m. drop m (map see items)) (sym long)
-  rest_of (Err e) size items after n h f k = tt
+      ∙ ap (λ (l : List X). drop (length (map see front)) (map see l)) same
+
+  -- one more that is shared
+  pub one_more : (items front new : List X) (place : ℕ) (there shared : X) → place < length items → there ≡ get_or items place there → see shared ≡ see there →
+      new ≡ front ++ shared ∷ [] → map see front ≡ take place (map see items) → map see new ≡ take (place + 1) (map see items)
+  one_more items front new place there shared inside is same grown so_far =
+      let within : place < length (map see items) = omega (arith, inside, length-map items see) in
+      let seen : see shared ≡ get_or (map see items) place (see there) = same ∙ ap see is ∙ sym (get_or-map see items place there) in
+      ap (λ (l : List X). map see l) grown ∙ map-append see front (shared ∷ []) ∙ ap (λ (l : List Fields). l ++ see shared ∷ []) so_far
+      ∙ ap (λ (d : Fields). take place (map see items) ++ d ∷ []) seen ∙ sym (rw add-one (take-suc (map see items) place (see there) within))
+
+-- the batch that is shared, where there was memory
+pub shared_batch : {V E : Type 0} (seen : V → List Fields) (r : Result V E) (size : Option ℕ) (docs : List Fields) (n : ℕ) → IsLongest size docs n →
+    IfOk r (λ b. seen b ≡ take n docs) → IfOk r (λ b. IsBatch size docs (seen b))
+shared_batch seen (Ok b) size docs n h e = subst (λ (l : List Fields). IsBatch size docs l) (sym e) (is_batch size docs n h)
+shared_batch seen (Err e) size docs n h k = tt

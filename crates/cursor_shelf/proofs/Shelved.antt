@@ -1,6 +1,6 @@
 -- What the shelf has under an id, and what a change leaves of it.
 use Rattle.std.proofs.Common.{◌≡◌, ◌≢◌, ℕ, ℤ, List, [], ◌∷◌, length, Result, Err, refl, sym, ap, ◌∙◌, subst, arith, Ordering, Less, Equal, Greater}
-use Rattle.std.specs.Prelude.{Bool, true, false, Option, Some, None, is_some, ◌==◌, if◌then◌else◌}
+use Rattle.std.specs.Prelude.{Bool, true, false, Option, Some, None, is_some, option_map, ◌==◌, if◌then◌else◌}
 use Rattle.std.specs.BTreeMap.{BTreeMap, get_by, is_at}
 use Rattle.std.specs.Ordering.{int_cmp, is_eq}
 use Rattle.std.specs.Str.{bytes_eq}
@@ -39,39 +39,38 @@ at_id m k id o same is = sym (subst (λ (i : ℤ). o ≡ get_by (int_cmp i) m) s
 pub apart_from : (k i id : ℤ) → k ≡ id → i ≢ id → is_at (int_cmp k) i ≡ false
 apart_from k i id same other = subst (λ (j : ℤ). is_at (int_cmp j) i ≡ false) (sym same) (apart i id other)
 
-pub none_at : (shelf : Shelf) (k id : ℤ) (namespace : List ℕ) (b : Bool) → k ≡ id → b ≡ is_some (cursor_under shelf k namespace) → b ≡ false →
-    cursor_under shelf id namespace ≡ None
-none_at shelf k id namespace b same e none =
-    subst (λ (j : ℤ). cursor_under shelf j namespace ≡ None) same (none_is (cursor_under shelf k namespace) b e none)
+-- the cursor that is under an id, where it is of the namespace or not
+pub found_under : (namespace : List ℕ) (o : Option OpenCursor) (cursor : OpenCursor) (b : Bool) → o ≡ Some cursor → b ≡ bytes_eq cursor.namespace namespace → b ≡ true →
+    Some cursor ≡ under namespace o
+found_under namespace o cursor b is e own = rw (is, sym e ∙ own) refl
 
-pub never_at : {A : Type 0} (shelf : Shelf) (k id : ℤ) (namespace : List ℕ) (b : Bool) → k ≡ id → b ≡ is_some (cursor_under shelf k namespace) → b ≡ true →
-    cursor_under shelf id namespace ≡ None → A
-never_at shelf k id namespace b same e some none =
-    never_none (cursor_under shelf k namespace) b e some (subst (λ (j : ℤ). cursor_under shelf j namespace ≡ None) (sym same) none)
+pub found_other : (namespace : List ℕ) (o : Option OpenCursor) (cursor : OpenCursor) (b : Bool) → o ≡ Some cursor → b ≡ bytes_eq cursor.namespace namespace → b ≡ false →
+    None ≡ under namespace o
+found_other namespace o cursor b is e other = rw (is, sym e ∙ other) refl
 
-pub has_some : (namespace : List ℕ) (o : Option OpenCursor) (cursor : OpenCursor) (b : Bool) → o ≡ Some cursor → b ≡ bytes_eq cursor.namespace namespace →
-    b ≡ is_some (under namespace o)
-has_some namespace o cursor b is e = rw is (e ∙ sym (some_if (bytes_eq cursor.namespace namespace) cursor))
+pub found_none : (namespace : List ℕ) (o : Option OpenCursor) → o ≡ None → None ≡ under namespace o
+found_none namespace o is = rw is refl
 
-pub has_none : (namespace : List ℕ) (o : Option OpenCursor) → o ≡ None → false ≡ is_some (under namespace o)
-has_none namespace o is = rw is refl
+-- the same under an id that was read back from its bits
+pub same_under : (shelf : Shelf) (k id : ℤ) (namespace : List ℕ) (o : Option OpenCursor) → k ≡ id → o ≡ cursor_under shelf k namespace → cursor_under shelf id namespace ≡ o
+same_under shelf k id namespace o same is = sym (subst (λ (i : ℤ). o ≡ cursor_under shelf i namespace) same is)
 
-if_some : (b : Bool) (k c : OpenCursor) → (if b then Some k else None) ≡ Some c → k ≡ c
-if_some true k c e = cc
-if_some false k c e = absurd cc
+pub the_same : (o : Option OpenCursor) (k c : OpenCursor) → o ≡ Some k → o ≡ Some c → k ≡ c
+the_same o k c e f = cc
 
--- the cursor that is found is the one under the namespace
-pub is_the : (namespace : List ℕ) (o : Option OpenCursor) (k c : OpenCursor) → o ≡ Some k → under namespace o ≡ Some c → k ≡ c
-is_the namespace o k c found e = if_some (bytes_eq k.namespace namespace) k c (sym (ap (λ (p : Option OpenCursor). under namespace p) found) ∙ e)
+pub some_mapped : {A : Type 0} (f : A → OpenCursor) (o : Option A) → is_some o ≡ is_some (option_map f o)
+some_mapped f None = refl
+some_mapped f (Some a) = refl
+
+pub same_test : (a b c d : ℕ) → a ≡ c → b ≡ d → (a == b) ≡ (c == d)
+same_test a b c d e f = rw (e, f) refl
+
+pub found_never : {A : Type 0} (o : Option OpenCursor) (c : OpenCursor) → o ≡ Some c → o ≡ None → A
+found_never o c some none = absurd cc
 
 none_left : (c : OpenCursor) (rest : List Fields) → (length rest == 0) ≡ true → None ≡ left_with c rest
 none_left c [] e = refl
 none_left c (document ∷ rest) e = absurd (omega (arith, eqb-true (length (document ∷ rest)) 0 e))
-
--- the shelf has no cursor any more where no document is left
-pub gone : (o : Option OpenCursor) (c : OpenCursor) (left rest : List Fields) (b : Bool) → o ≡ None → left ≡ rest → b ≡ (length left == 0) → b ≡ true → o ≡ left_with c rest
-gone o c left rest b none same done is =
-    none ∙ none_left c rest (ap (λ (l : List Fields). length l == 0) (sym same) ∙ sym done ∙ is)
 
 pub memory_alone : {A B : Type 0} (r : Result A ShelfFault) (e : ShelfFault) → r ≡ Err e → e ≡ faults.Memory → r ≡ Err faults.NotFound → B
 memory_alone r e is memory not_found = absurd cc

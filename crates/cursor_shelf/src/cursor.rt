@@ -15,6 +15,15 @@ use std::collections::VecDeque;
 use std::marker::Model;
 use std::sync::Arc;
 
+/// The first batch of documents.
+#[derive(Drop)]
+pub struct FirstBatch {
+    /// The documents, in order.
+    pub documents: Vec<Arc<Document, Global>>,
+    /// Those that remain.
+    pub rest: VecDeque<Arc<Document, Global>>,
+}
+
 /// An open cursor.
 #[derive(Drop)]
 pub(crate) struct Cursor {
@@ -36,19 +45,26 @@ impl Model for Cursor {
 }
 
 impl Cursor {
-    /// A cursor on the documents, which were read in the namespace at the time.
+    /// A cursor on the documents that remain of those that were read in the namespace at the time.
     pub(crate) fn new(
         namespace: Namespace,
         time: Time,
-        documents: Vec<Arc<Document, Global>>,
+        remaining: VecDeque<Arc<Document, Global>>,
     ) -> Cursor
-        ensures { result ≡ record { namespace = namespace; time = time.0; remaining = map arc_value documents.items } }
+        ensures { result ≡ record { namespace = namespace; time = time.0; remaining = map arc_value remaining.items } }
     {
         Cursor {
             namespace,
             time,
-            remaining: VecDeque::from(documents),
+            remaining,
         }
+    }
+
+    /// From now on it is on these documents. Takes no memory.
+    pub(crate) fn fill(&mut self, remaining: VecDeque<Arc<Document, Global>>)
+        ensures { self.new ≡ record { namespace = self.old.namespace; time = self.old.time; remaining = map arc_value remaining.items } }
+    {
+        self.remaining = remaining;
     }
 
     /// Whether its documents are of that namespace.
@@ -65,27 +81,30 @@ impl Cursor {
         self.time
     }
 
-    /// Whether no document is left.
-    pub(crate) fn is_done(&self) -> bool
-        ensures { result ≡ (length self.now.remaining == 0) }
+    /// How many documents remain.
+    pub(crate) fn count(&self) -> usize
+        ensures { result ≡ length self.now.remaining }
     {
-        self.remaining.is_empty()
+        self.remaining.len()
     }
 
-    /// Takes out the next batch. Fails for want of memory, and then changes nothing.
-    pub(crate) fn take(
-        &mut self,
+    /// The documents of the next batch, shared. Fails for want of memory.
+    pub(crate) fn next(
+        &self,
         alloc: Global,
         size: Option<u64>,
     ) -> Result<Vec<Arc<Document, Global>>, Memory>
-        ensures batch { IfOk result (λ b. IsBatch size self.old.remaining (map arc_value b.items)) }
-        ensures remaining { IfOk result (λ b. self.new.remaining ≡ drop (length (map arc_value b.items)) self.old.remaining) }
-        ensures namespace { self.new.namespace ≡ self.old.namespace }
-        ensures time { self.new.time ≡ self.old.time }
-        ensures err { OnErr result (self.new ≡ self.old) }
+        ensures { IfOk result (λ b. IsBatch size self.now.remaining (map arc_value b.items)) }
     {
         let count = batch_length(&self.remaining, size);
-        take_front(alloc, &mut self.remaining, count)
+        share_front(alloc, &self.remaining, count)
+    }
+
+    /// Takes out the first documents, so many, or all. Takes no memory.
+    pub(crate) fn advance(&mut self, count: usize)
+        ensures { self.new ≡ record { namespace = self.old.namespace; time = self.old.time; remaining = drop count self.old.remaining } }
+    {
+        drop_front(&mut self.remaining, count);
     }
 }
 
@@ -134,7 +153,7 @@ fn put(front: &mut Vec<Arc<Document, Global>>, document: Arc<Document, Global>)
     let _ = front.push(document);
 }
 
-// Takes out the first documents, so many. Fails for want of memory, and then changes nothing.
+// Takes out the first documents, so many. Fails for want of memory.
 #[tactic(auto, using(crate::proofs::Longest::front_is, crate::proofs::Longest::rest_is))]
 fn take_front(
     alloc: Global,
@@ -144,7 +163,6 @@ fn take_front(
     requires { count ≤ length remaining.old.items }
     ensures front { IfOk result (λ b. b.items ≡ take count remaining.old.items) }
     ensures rest { OnOk result (remaining.new.items ≡ drop count remaining.old.items) }
-    ensures err { OnErr result (remaining.new.items ≡ remaining.old.items) }
 {
     let mut front = Vec::with_capacity(alloc, count)?;
     for _ in 0..count {
@@ -153,4 +171,48 @@ fn take_front(
         }
     }
     Ok(front)
+}
+
+// The first documents, so many, each shared once more. Fails for want of memory.
+fn share_front(
+    alloc: Global,
+    remaining: &VecDeque<Arc<Document, Global>>,
+    count: usize,
+) -> Result<Vec<Arc<Document, Global>>, Memory>
+    requires { count ≤ length remaining.now.items }
+    ensures { IfOk result (λ b. map arc_value b.items ≡ take count (map arc_value remaining.now.items)) }
+{
+    let mut front = Vec::with_capacity(alloc, count)?;
+    for place in 0..count {
+        let shared = Arc::try_clone(&remaining[place])?;
+        front.push(shared)?;
+    }
+    Ok(front)
+}
+
+// Takes out the first documents, so many, or all.
+fn drop_front(remaining: &mut VecDeque<Arc<Document, Global>>, count: usize)
+    ensures { remaining.new.items ≡ drop count remaining.old.items }
+{
+    for _ in 0..count {
+        if remaining.pop_front().is_none() {
+            return;
+        }
+    }
+}
+
+/// The first batch of documents, and those that remain: as many in front as the size, if one is given, and 16,777,216 bytes allow, or
+/// one (MongoDB manual, "Cursor Batches"). Fails for want of memory.
+pub fn first_batch(
+    alloc: Global,
+    size: Option<u64>,
+    documents: Vec<Arc<Document, Global>>,
+) -> Result<FirstBatch, Memory>
+    ensures batch { IfOk result (λ b. IsBatch size (map arc_value documents.items) (map arc_value b.documents.items)) }
+    ensures rest { IfOk result (λ b. map arc_value b.rest.items ≡ drop (length (map arc_value b.documents.items)) (map arc_value documents.items)) }
+{
+    let mut rest = VecDeque::from(documents);
+    let count = batch_length(&rest, size);
+    let documents = take_front(alloc, &mut rest, count)?;
+    Ok(FirstBatch { documents, rest })
 }

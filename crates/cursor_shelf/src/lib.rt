@@ -4,4 +4,5 @@
 mod cursor;
 mod shelf;
 
+pub use cursor::{FirstBatch, first_batch};
 pub use shelf::{Batch, Shelf, ShelfFault};

@@ -1,9 +1,9 @@
 //! The shelf: cursors by their ids.
 #![tactic(auto, unfolding(crate::specs::Shelves::cursor_in))]
 
-ghost use Rattle.std.specs.Prelude.{◌≡◌, ◌≢◌, ◌↔◌, ℤ, Err, IfOk, None, OnErr, OnOk, Some, drop, false, is_some, length, map, true};
+ghost use Rattle.std.specs.Prelude.{◌≡◌, ◌≢◌, ◌↔◌, ℤ, Err, IfOk, None, OnErr, OnOk, Some, drop, false, is_some, length, map, option_map, true, ◌==◌};
 ghost use Rattle.std.specs.Arc.{arc_value};
-ghost use Rattle.cursor_shelf.specs.Cursors.{OpenCursor, left_with, told_id};
+ghost use Rattle.cursor_shelf.specs.Cursors.{OpenCursor, left_with};
 ghost use Rattle.cursor_shelf.specs.declared.shelf.ShelfFault.TheVariants.{NotFound};
 ghost use Rattle.pipeline_model.specs.Batches.{IsBatch};
 
@@ -11,7 +11,7 @@ use crate::cursor::Cursor;
 use bson_values::{Document, Memory};
 use cluster_base::{Namespace, Time};
 use std::alloc::Global;
-use std::collections::BTreeMap;
+use std::collections::{BTreeMap, VecDeque};
 use std::sync::Arc;
 
 /// The next documents of a cursor.
@@ -19,8 +19,8 @@ use std::sync::Arc;
 pub struct Batch {
     /// The documents, in order, shared with whoever else has them.
     pub documents: Vec<Arc<Document, Global>>,
-    /// The id under which the rest is asked for; 0 where none remain.
-    pub id: i64,
+    /// Whether none remain behind them.
+    pub is_last: bool,
     /// The time at which the documents were read.
     pub time: Time,
 }
@@ -71,7 +71,7 @@ impl Shelf {
         id: i64,
         namespace: Namespace,
         time: Time,
-        rest: Vec<Arc<Document, Global>>,
+        rest: VecDeque<Arc<Document, Global>>,
     ) -> Result<(), Memory>
         ensures put { OnOk result (cursor_in self.new id ≡ Some (record { namespace = namespace; time = time.0; remaining = map arc_value rest.items })) }
         ensures others { (i : ℤ) → i ≢ id → cursor_in self.new i ≡ cursor_in self.old i }
@@ -82,69 +82,88 @@ impl Shelf {
         Ok(())
     }
 
+    /// From now on the cursor of that id is on these documents, if there is one. Takes no memory.
+    pub fn fill(&mut self, id: i64, rest: VecDeque<Arc<Document, Global>>)
+        ensures filled { (c : OpenCursor) → cursor_in self.old id ≡ Some c →
+            cursor_in self.new id ≡ Some (record { namespace = c.namespace; time = c.time; remaining = map arc_value rest.items }) }
+        ensures others { (i : ℤ) → i ≢ id → cursor_in self.new i ≡ cursor_in self.old i }
+    {
+        if let Some(cursor) = self.cursors.get_mut(&id) {
+            cursor.fill(rest);
+        }
+    }
+
     /// The next batch of the cursor of that id, if it is open on the namespace: as many of its documents as the size, if one is
-    /// given, and 16,777,216 bytes allow, or one. They are taken out; a cursor without documents is closed (MongoDB manual,
-    /// "Cursor Batches"). Fails with `NotFound` where there is no such cursor, and for want of memory; it then changes nothing.
-    pub fn batch(
-        &mut self,
+    /// given, and 16,777,216 bytes allow, or one (MongoDB manual, "Cursor Batches"). The documents are shared, and stay on the cursor
+    /// until it is advanced. Fails with `NotFound` where there is no such cursor, and for want of memory.
+    pub fn next(
+        &self,
         id: i64,
         namespace: &Namespace,
         size: Option<u64>,
     ) -> Result<Batch, ShelfFault>
-        ensures documents { IfOk result (λ b. (c : OpenCursor) → cursor_under self.old id namespace.now ≡ Some c → IsBatch size c.remaining (map arc_value b.documents.items)) }
-        ensures rest { IfOk result (λ b. (c : OpenCursor) → cursor_under self.old id namespace.now ≡ Some c →
-            cursor_in self.new id ≡ left_with c (drop (length (map arc_value b.documents.items)) c.remaining)) }
-        ensures time { IfOk result (λ b. (c : OpenCursor) → cursor_under self.old id namespace.now ≡ Some c → b.time.0 ≡ c.time) }
-        ensures id { IfOk result (λ b. b.id ≡ told_id id (cursor_in self.new id)) }
-        ensures others { (i : ℤ) → i ≢ id → cursor_in self.new i ≡ cursor_in self.old i }
-        ensures not_found { (result ≡ Err NotFound) ↔ (cursor_under self.old id namespace.now ≡ None) }
-        ensures err { OnErr result (cursor_in self.new id ≡ cursor_in self.old id) }
+        ensures documents { IfOk result (λ b. (c : OpenCursor) → cursor_under self.now id namespace.now ≡ Some c → IsBatch size c.remaining (map arc_value b.documents.items)) }
+        ensures time { IfOk result (λ b. (c : OpenCursor) → cursor_under self.now id namespace.now ≡ Some c → b.time.0 ≡ c.time) }
+        ensures last { IfOk result (λ b. (c : OpenCursor) → cursor_under self.now id namespace.now ≡ Some c →
+            b.is_last ≡ (length c.remaining == length (map arc_value b.documents.items))) }
+        ensures found { IfOk result (λ b. is_some (cursor_under self.now id namespace.now) ≡ true) }
+        ensures not_found { (result ≡ Err NotFound) ↔ (cursor_under self.now id namespace.now ≡ None) }
     {
-        if !self.has(id, namespace) {
-            return Err(ShelfFault::NotFound);
-        }
-        let alloc = self.alloc;
-        let Some(cursor) = self.cursors.get_mut(&id) else {
+        let Some(cursor) = self.find(id, namespace) else {
             return Err(ShelfFault::NotFound);
         };
-        let documents = cursor.take(alloc, size)?;
-        let time = cursor.time();
-        if !cursor.is_done() {
-            return Ok(Batch {
-                documents,
-                id,
-                time,
-            });
-        }
-        self.cursors.remove(&id);
+        let documents = cursor.next(self.alloc, size)?;
         Ok(Batch {
+            is_last: cursor.count() == documents.len(),
             documents,
-            id: 0,
-            time,
+            time: cursor.time(),
         })
     }
 
-    /// Closes the cursor of that id, if it is open on the namespace, and tells whether it was. Takes no memory.
-    pub fn kill(&mut self, id: i64, namespace: &Namespace) -> bool
-        ensures found { result ≡ is_some (cursor_under self.old id namespace.now) }
-        ensures closed { result ≡ true → cursor_in self.new id ≡ None }
-        ensures none { result ≡ false → cursor_in self.new id ≡ cursor_in self.old id }
+    /// Takes out the first documents, so many, of the cursor of that id, if there is one. A cursor without documents is closed. Takes no
+    /// memory.
+    pub fn advance(&mut self, id: i64, count: usize)
+        ensures rest { (c : OpenCursor) → cursor_in self.old id ≡ Some c → cursor_in self.new id ≡ left_with c (drop count c.remaining) }
+        ensures none { cursor_in self.old id ≡ None → cursor_in self.new id ≡ None }
         ensures others { (i : ℤ) → i ≢ id → cursor_in self.new i ≡ cursor_in self.old i }
     {
-        let found = self.has(id, namespace);
-        if found {
+        let Some(cursor) = self.cursors.get_mut(&id) else {
+            return;
+        };
+        cursor.advance(count);
+        if cursor.count() == 0 {
             self.cursors.remove(&id);
         }
-        found
     }
 
-    // Whether the cursor of that id is open on the namespace.
-    fn has(&self, id: i64, namespace: &Namespace) -> bool
-        ensures { result ≡ is_some (cursor_under self.now id namespace.now) }
+    /// Closes the cursor of that id, if there is one. Takes no memory.
+    pub fn close(&mut self, id: i64)
+        ensures closed { cursor_in self.new id ≡ None }
+        ensures others { (i : ℤ) → i ≢ id → cursor_in self.new i ≡ cursor_in self.old i }
+    {
+        self.cursors.remove(&id);
+    }
+
+    // The cursor of that id, if it is open on the namespace.
+    fn find(&self, id: i64, namespace: &Namespace) -> Option<&Cursor>
+        ensures { option_map (λ c. c.now) result ≡ cursor_under self.now id namespace.now }
     {
         match self.cursors.get(&id) {
-            Some(cursor) => cursor.is_of(namespace),
-            None => false,
+            Some(cursor) => {
+                if cursor.is_of(namespace) {
+                    Some(cursor)
+                } else {
+                    None
+                }
+            }
+            None => None,
         }
+    }
+
+    /// Whether the cursor of that id is open on the namespace.
+    pub fn has(&self, id: i64, namespace: &Namespace) -> bool
+        ensures { result ≡ is_some (cursor_under self.now id namespace.now) }
+    {
+        self.find(id, namespace).is_some()
     }
 }

@@ -1,8 +1,8 @@
 pub mod Code
-pub mod Kept
+pub mod GroupParts
 pub mod PartReading
 pub mod Rows
-pub mod Shown
+pub mod ShowResults
 pub mod Sizes
 pub mod View
 pub use Rattle.field_paths.specs.ReadFaults

@@ -1,18 +1,18 @@
 //! Groups: a row of each key, while documents and rows of parts come.
-#![tactic(auto, unfolding(crate::specs::Kept::spec_in, crate::specs::Kept::rows_in, crate::specs::Kept::documents_in))]
+#![tactic(auto, unfolding(crate::specs::GroupParts::spec_in, crate::specs::GroupParts::rows_in, crate::specs::GroupParts::documents_in))]
 
 ghost use Rattle.std.specs.Prelude.{◌≡◌, ◌+◌, ◌++◌, ◌∷◌, [], IfOk, List, OnOk, map};
 ghost use Rattle.std.specs.Arc.{arc_value};
 ghost use Rattle.pipeline_model.specs.Groups.{IsJoined, PartialRow, documents_of, own_row};
-ghost use Rattle.group_accum.specs.Shown.{Shows};
+ghost use Rattle.group_accum.specs.ShowResults.{Shows};
 ghost use Rattle.group_accum.specs.View.{cell_of};
 
 use crate::absorb::{Cell, absorb_row, empty_row};
+use crate::documents::shown_row;
 use crate::fault::GroupFault;
 use crate::key::GroupKey;
 use crate::own::own_row;
 use crate::partials::{DOCUMENTS_OF_PART, PartialList};
-use crate::shown::shown_row;
 use crate::spec::GroupSpec;
 use bson_values::{Document, Memory};
 use std::alloc::Global;
@@ -33,7 +33,7 @@ pub struct Groups {
 }
 
 impl Groups {
-    ghost use Rattle.group_accum.specs.Kept.{documents_in, rows_in, spec_in};
+    ghost use Rattle.group_accum.specs.GroupParts.{documents_in, rows_in, spec_in};
 
     /// No group yet.
     pub fn new(alloc: Global, spec: Arc<GroupSpec, Global>) -> Groups

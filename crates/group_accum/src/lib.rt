@@ -2,6 +2,8 @@
 #![tactic(auto)]
 
 mod absorb;
+mod copies;
+mod documents;
 mod fault;
 mod groups;
 mod key;
@@ -9,7 +11,6 @@ mod laws;
 mod own;
 mod parser;
 mod partials;
-mod shown;
 mod sizes;
 mod spec;
 

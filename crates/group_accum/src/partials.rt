@@ -1,12 +1,14 @@
 //! The rows of one part of the documents, on their way to where the parts are joined.
 
-ghost use Rattle.std.specs.Prelude.{◌≡◌, sum_by};
+ghost use Rattle.std.specs.Prelude.{◌≡◌, IfOk, sum_by};
 ghost use Rattle.pipeline_model.specs.Lengths.{row_length};
 ghost use Rattle.group_accum.specs.Sizes.{capped};
 
 use crate::absorb::Cell;
 use crate::key::GroupKey;
 use crate::sizes::rows_size;
+use bson_values::Memory;
+use std::clone::Clone;
 use std::collections::BTreeMap;
 use std::marker::Model;
 
@@ -41,5 +43,16 @@ impl PartialList {
         ensures { result ≡ capped (sum_by row_length self.now.rows) }
     {
         rows_size(&self.rows)
+    }
+
+    /// The same rows once more. Fails for want of memory.
+    pub fn copy(&self) -> Result<PartialList, Memory>
+        ensures { IfOk result (λ copy. copy ≡ self.now) }
+    {
+        let rows = self.rows.clone()?;
+        Ok(PartialList {
+            rows,
+            documents: self.documents,
+        })
     }
 }

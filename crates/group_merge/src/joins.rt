@@ -2,7 +2,7 @@
 
 ghost use Rattle.std.specs.Prelude.{◌≡◌, ◌<◌, ◌^◌, ◌++◌, IfOk, List, OnOk, flat_map, map, sum_by};
 ghost use Rattle.std.specs.Arc.{arc_value};
-ghost use Rattle.group_accum.specs.Kept.{rows_in, spec_in};
+ghost use Rattle.group_accum.specs.GroupParts.{rows_in, spec_in};
 ghost use Rattle.pipeline_model.specs.Groups.{IsJoined, PartialRow};
 ghost use Rattle.pipeline_model.specs.Halves.{count_in_part, documents_in_part, partials_in_part};
 ghost use Rattle.pipeline_eval.specs.Rows.{rows_of};

@@ -1,172 +1,418 @@
 -- What was told stays right, whatever is written later.
-use Rattle.std.proofs.Common.{◌≡◌, ◌⊎◌, inl, inr, ℕ, ◌+◌, ◌<◌, ◌≤◌, List, [], ◌∷◌, ◌++◌, refl, sym, ap, subst, ◌∙◌, arith, append-nil, Bool}
-use Rattle.std.specs.Prelude.{Option, Some, None, true, false, map, filter, nat_le, ◌&&◌, if◌then◌else◌}
+use Rattle.std.proofs.Common.{◌≡◌, ◌≢◌, ◌⊎◌, inl, inr, ℕ, ◌+◌, ◌<◌, ◌≤◌, List, [], ◌∷◌, ◌++◌, refl, sym, ap, subst, ◌∙◌, arith, append-nil, Bool}
+use Rattle.std.specs.Prelude.{Option, Some, None, Result, Ok, true, false, map, int_lt, IsPermutation}
 use Rattle.std.specs.List.{AllByRecursion}
-use Rattle.std.proofs.lemmas.Bool.{leb-true}
-use Rattle.std.proofs.lemmas.Slice.Eq.{bytes_eq-Decides}
-use Rattle.std.specs.Str.{bytes_eq}
-use Rattle.history_model.proofs.Lists.{all_weaken, all_at, in_prefix}
-use Rattle.node_model.specs.Tree.{Datum, Fields}
-use Rattle.node_model.specs.Keys.{range_span}
-use Rattle.value_model.specs.Order.{same_value}
-use Rattle.value_model.proofs.Spans.{same_inside}
-use Rattle.node_model.specs.Writes.{WriteCommand}
-use Rattle.node_model.specs.Find.{Find}
-use Rattle.node_model.specs.Answers.{find_answer, answer_document}
-use Rattle.node_model.specs.Catalogue.{Creation}
-use Rattle.node_model.specs.Tables.{Chunk, first_chunk, first_table, first_shard, owner_among, owner_at}
-use Rattle.node_model.specs.History.{Operation, Entry, key_written, same_key, writes_to, effect, document_after, document_left, document_at}
-use Rattle.node_model.specs.Exchanges.{RequestId, Asked, Answered, entries_by}
-use Rattle.node_model.specs.Outcomes.{done_of, answer_of}
-use Rattle.node_model.specs.Right.{found, ends, AreStatements, AreAll, IsPart, IsWhole, time_read, IsRight, right_write, right_find, right_ahead, right_hello, right_legacy, right_ping, right_end_sessions, right_refusal}
-use Rattle.node_model.specs.OneHistory.{StandsInPart, IsPlaced}
+use Rattle.std.specs.Option.{unwrap_or}
+use Rattle.history_model.proofs.Lists.{all_at, in_prefix, in_append, in_back, in_cons, in_none}
+use Rattle.reply_model.proofs.Statements.{on_first}
+use Rattle.node_model.specs.Writes.{ClientNumber, WriteCommand}
+use Rattle.node_model.specs.Refusals.{Refusal}
+use Rattle.node_model.specs.ReplyParts.{operation_time}
+use Rattle.node_model.specs.Command.{Command, write_command, command_of}
+use Rattle.node_model.specs.Reading.{Reading}
+use Rattle.node_model.specs.Answers.{answer_document}
+use Rattle.node_model.specs.Cursors.{Cursor}
+use Rattle.node_model.specs.Tables.{first_shard}
+use Rattle.node_model.specs.Documents.{documents_at}
+use Rattle.node_model.specs.Runs.{Outcome, Allows}
+use Rattle.node_model.specs.History.{StatementNumber, Operation, Entry, IsIn}
+use Rattle.node_model.specs.Exchanges.{RequestId, Asked, Answered, number_for, entries_by}
+use Rattle.node_model.specs.Outcomes.{StatementAnswer, was_done, was_refused, Done, done_of, time_of, answer_of}
+use Rattle.node_model.specs.Outcomes.{later as greatest}
+use Rattle.node_model.specs.Reads.{MayGive, IsExcess, excess_answer, excess_half, IsAhead, owned_by}
+use Rattle.node_model.specs.Right.{ends, MayBeTold, told_own, told_other, told_older, AreTold, AreStatements, AreAll, IsPart, IsWhole, Reads, find_reads}
+use Rattle.node_model.specs.Right.{count_reads, IsReadRefused, refused_overflow, refused_excess, refused_ahead}
+use Rattle.node_model.specs.Right.{IsRight, right_write, right_find, right_count, right_refused_read, right_more, right_no_cursor, right_kill, right_hello}
+use Rattle.node_model.specs.Right.{right_legacy, right_ping}
+use Rattle.node_model.specs.Right.{right_end_sessions, right_refusal}
+use Rattle.node_model.specs.OneHistory.{StandsInPart, IsPlaced, KeepsNumbers, AreNumbered}
 use Rattle.node_laws.proofs.Views.{View, entries_in, creations_in, Later}
-use Rattle.node_laws.proofs.Facts.{NoneBegan, HasNoOwner, IsSettled, AnswerFits}
-use Rattle.node_laws.proofs.Lists.{all_behind}
-use Rattle.node_laws.proofs.Growth.{more_entries, entries_by_longer, began_grows}
+use Rattle.node_laws.proofs.Facts.{IsFixed, IsRefusalFixed, IsSettled, AnswersFit, no_answer, one_answer, IsToldOf, NeighboursFit}
+use Rattle.node_laws.proofs.KeptDocuments.{AreOwned, all_owned, owned_same}
+use Rattle.node_laws.proofs.SeenStatements.{true_false}
+use Rattle.node_laws.proofs.Growth.{MoreOf, more_entries, entry_stays, creation_stays, entries_by_longer, began_grows, documents_stay}
+use Rattle.node_laws.proofs.AnswerTimes.{IsBelow, AreBelow, greatest_below, time_shown}
 
 -- behind all statements no entry of them follows
-nothing_follows : (id : RequestId) (namespace : List ℕ) (ordered : Bool) (index : ℕ) (operations : List Operation) (es more : List Entry) → AreStatements id namespace ordered index operations (es ++ more) → AreAll ordered operations (map done_of es) → more ≡ []
+nothing_follows : (id : RequestId) (namespace : List ℕ) (ordered : Bool) (index : ℕ) (operations : List Operation) (es more : List Entry)
+    → AreStatements id namespace ordered index operations (es ++ more) → AreAll ordered operations (map done_of es) → more ≡ []
 nothing_follows id namespace ordered index [] [] [] each all = refl
 nothing_follows id namespace ordered index [] [] (e ∷ more) each all = absurd each
 nothing_follows id namespace ordered index [] (e ∷ es) more each all = absurd each
 nothing_follows id namespace ordered index (d ∷ operations) [] more each all = absurd all
-nothing_follows id namespace ordered index (d ∷ operations) (e ∷ es) more each all = by_end (ends ordered (done_of e)) refl all (λ others. nothing_follows id namespace ordered (index + 1) operations es more each.2 others)
+nothing_follows id namespace ordered index (d ∷ operations) (e ∷ es) more each all = by_end (ends ordered (done_of e)) refl all
+    (λ others. nothing_follows id namespace ordered (index + 1) operations es more each.2 others)
   where
     no_front : (xs ys : List Entry) → xs ++ ys ≡ [] → ys ≡ []
     no_front [] ys h = h
     no_front (x ∷ xs) ys h = absurd (cc)
 
-    by_end : (t : Bool) → ends ordered (done_of e) ≡ t → (elim t as (λ b. Type 0) [ true ↦ map done_of es ≡ [] | false ↦ AreAll ordered operations (map done_of es) ]) → (AreAll ordered operations (map done_of es) → more ≡ []) → more ≡ []
+    by_end : (t : Bool) → ends ordered (done_of e) ≡ t
+        → (elim t as (λ b. Type 0) [ true ↦ map done_of es ≡ [] | false ↦ AreAll ordered operations (map done_of es) ])
+        → (AreAll ordered operations (map done_of es) → more ≡ []) → more ≡ []
     by_end true h last later = no_front es more (each.1 h)
     by_end false h others later = later others
 
-whole_stays : (history more : List Entry) (id : RequestId) (write : WriteCommand) → IsPart (history ++ more) id write → IsWhole history id write → entries_by id (history ++ more) ≡ entries_by id history
+whole_stays : (history more : List Entry) (id : RequestId) (write : WriteCommand) → IsPart (history ++ more) id write → IsWhole history id write
+    → entries_by id (history ++ more) ≡ entries_by id history
 whole_stays history more id write part whole =
     let longer = entries_by_longer id history more in
-    let none : entries_by id more ≡ [] = nothing_follows id write.namespace write.ordered 0 write.operations (entries_by id history) (entries_by id more) (subst (λ l. AreStatements id write.namespace write.ordered 0 write.operations l) longer part) whole.all in
+    let none : entries_by id more ≡ [] = nothing_follows id write.namespace write.ordered 0 write.operations (entries_by id history) (entries_by id more)
+    (subst (λ l. AreStatements id write.namespace write.ordered 0 write.operations l) longer part) whole.all in
     longer ∙ ap (λ l. entries_by id history ++ l) none ∙ append-nil (entries_by id history)
-
--- an entry counts at a time under a key only where it is not above the time and writes the key
-abbrev pub Counts : (namespace : List ℕ) → Option Datum → (time : ℕ) → Entry → Type 0
-Counts namespace key time e = (e.time ≤ time) × (writes_to namespace key e ≡ true)
-
-after_none : (namespace : List ℕ) (key : Option Datum) (time : ℕ) (before : Option Fields) (more : List Entry) → AllByRecursion (λ e. ¬ Counts namespace key time e) more → document_after namespace key before (filter (λ (e : Entry). nat_le e.time time) more) ≡ before
-after_none namespace key time before [] all = refl
-after_none namespace key time before (e ∷ more) all = by_time (nat_le e.time time) refl (after_none namespace key time before more all.1)
-  where
-    by_key : (t : Bool) → writes_to namespace key e ≡ t → nat_le e.time time ≡ true → document_after namespace key before (filter (λ (d : Entry). nat_le d.time time) more) ≡ before → document_after namespace key (if t then (effect e.operation before).0 else before) (filter (λ (d : Entry). nat_le d.time time) more) ≡ before
-    by_key true h g later = absurd (all.0 (leb-true _ _ g, h))
-    by_key false h g later = later
-
-    by_time : (t : Bool) → nat_le e.time time ≡ t → document_after namespace key before (filter (λ (d : Entry). nat_le d.time time) more) ≡ before → document_after namespace key before (if t then e ∷ filter (λ (d : Entry). nat_le d.time time) more else filter (λ (d : Entry). nat_le d.time time) more) ≡ before
-    by_time true g later = by_key (writes_to namespace key e) refl g later
-    by_time false g later = later
-
-after_joined : (namespace : List ℕ) (key : Option Datum) (before : Option Fields) (xs ys : List Entry) → document_after namespace key before (xs ++ ys) ≡ document_after namespace key (document_after namespace key before xs) ys
-after_joined namespace key before [] ys = refl
-after_joined namespace key before (x ∷ xs) ys = after_joined namespace key (if writes_to namespace key x then (effect x.operation before).0 else before) xs ys
-
-filter_joined : (P : Entry → Bool) (xs ys : List Entry) → filter P (xs ++ ys) ≡ filter P xs ++ filter P ys
-filter_joined P [] ys = refl
-filter_joined P (x ∷ xs) ys = by_test (P x) (filter_joined P xs ys)
-  where
-    by_test : (t : Bool) → filter P (xs ++ ys) ≡ filter P xs ++ filter P ys → (if t then x ∷ filter P (xs ++ ys) else filter P (xs ++ ys)) ≡ (if t then x ∷ filter P xs else filter P xs) ++ filter P ys
-    by_test true h = ap (λ l. x ∷ l) h
-    by_test false h = h
-
-pub unchanged : (namespace : List ℕ) (key : Option Datum) (time : ℕ) (history more : List Entry) → AllByRecursion (λ e. ¬ Counts namespace key time e) more → document_at (history ++ more) namespace key time ≡ document_at history namespace key time
-unchanged namespace key time history more all =
-    ap (λ l. document_left namespace key l) (filter_joined (λ (e : Entry). nat_le e.time time) history more)
-    ∙ after_joined namespace key None (filter (λ (e : Entry). nat_le e.time time) history) (filter (λ (e : Entry). nat_le e.time time) more)
-    ∙ after_none namespace key time (document_at history namespace key time) more all
-
--- the owner in a chunk at a time, where there is a chunk
-abbrev pub owner_in : ℕ → Option Chunk → Option ℕ
-owner_in time found = elim found [ None ↦ None | Some c ↦ owner_among time c.owners ]
-
-both_parts : (a b : Bool) → (a && b) ≡ true → (a ≡ true) × (b ≡ true)
-both_parts true true h = (refl, refl)
-both_parts true false h = absurd (cc)
-both_parts false b h = absurd (cc)
 
 pub some_none : {X : Type 0} {x : X} → Some x ≡ None → ⊥
 some_none e = cc
 
--- what writes to a key of a namespace is of that namespace, and under that key
-pub written_name : (namespace : List ℕ) (key : Option Datum) (e : Entry) → writes_to namespace key e ≡ true → e.namespace ≡ namespace
-written_name namespace key e h = (bytes_eq-Decides e.namespace namespace).0 (both_parts (bytes_eq e.namespace namespace) (same_key (key_written e.operation) key) h).0
+-- REQUESTS THAT DO NOT WRITE
 
-pub written_key : (namespace : List ℕ) (own key : Datum) (e : Entry) → key_written e.operation ≡ Some own → writes_to namespace (Some key) e ≡ true → same_value own key ≡ true
-written_key namespace own key e writes h = sym (ap (λ k. same_key k (Some key)) writes) ∙ (both_parts (bytes_eq e.namespace namespace) (same_key (key_written e.operation) (Some key)) h).1
+abbrev pub IsNoWrite : Result Command Refusal → Type 0
+IsNoWrite command = (write : WriteCommand) → command ≢ Ok (write_command write)
 
-pub same_owner : (c : Creation) (a b : Datum) (time : ℕ) → same_value a b ≡ true → owner_at (first_table c) a time ≡ owner_at (first_table c) b time
-same_owner c a b time same = ap (λ (t : Bool). owner_in time (if t then Some (first_chunk c) else None)) (same_inside (range_span (first_chunk c).range) a b same)
+reads_not : (command : Result Command Refusal) (read : Reading) → Reads command read → IsNoWrite command
+reads_not _ _ (find_reads find) write e = cc
+reads_not _ _ (count_reads read) write e = cc
 
--- An entry that is behind what a read saw counts nothing for it: it is above the read's time, or its collection is, or no shard has its
--- key.
-counts_nothing : (v w : View) (a : Asked) (find : Find) (more : List Entry) → Later v w
-    → (time_read a find ≤ v.bound first_shard) ⊎ (NoneBegan v find.namespace (time_read a find) ⊎ HasNoOwner find.key)
-    → AllByRecursion (λ (e : Entry). v.bound first_shard < e.time) more → AllByRecursion (IsPlaced (creations_in w)) more
-    → AllByRecursion (λ e. ¬ Counts find.namespace (Some find.key) (time_read a find) e) more
-counts_nothing v w a find more later (inl settled) above placed = all_weaken (λ (e : Entry). v.bound first_shard < e.time) (λ e. ¬ Counts find.namespace (Some find.key) (time_read a find) e) more (λ e h counts. let l = counts.0 in omega arith) above
-counts_nothing v w a find more later (inr (inl none)) above placed =
-    let began : NoneBegan w find.namespace (time_read a find) = began_grows v w find.namespace (time_read a find) later none in
-    all_weaken (IsPlaced (creations_in w)) (λ e. ¬ Counts find.namespace (Some find.key) (time_read a find) e) more
-    (λ e p counts. let name : p.creation.namespace ≡ find.namespace = p.name ∙ written_name find.namespace (Some find.key) e counts.1 in
-    let after : time_read a find < p.creation.at = all_at (λ (c : Creation). c.namespace ≡ find.namespace → time_read a find < c.at) p.creation (creations_in w) began.1 p.begun name in
-    let before = p.before in let l = counts.0 in omega arith) placed
-counts_nothing v w a find more later (inr (inr alone)) above placed =
-    all_weaken (IsPlaced (creations_in w)) (λ e. ¬ Counts find.namespace (Some find.key) (time_read a find) e) more
-    (λ e p counts. let same : same_value p.key find.key ≡ true = written_key find.namespace p.key find.key e p.writes counts.1 in
-    some_none (sym p.owner ∙ same_owner p.creation p.key find.key e.time same ∙ alone p.creation e.time)) placed
+other_command : (command other : Result Command Refusal) → command ≡ other → IsNoWrite other → IsNoWrite command
+other_command command other same not write e = not write (sym same ∙ e)
 
-find_stays : (v w : View) (a : Asked) (find : Find) → Later v w
-    → (time_read a find ≤ v.bound first_shard) ⊎ (NoneBegan v find.namespace (time_read a find) ⊎ HasNoOwner find.key)
-    → AllByRecursion (IsPlaced (creations_in w)) (entries_in w first_shard)
-    → document_at (entries_in w first_shard) find.namespace (Some find.key) (time_read a find) ≡ document_at (entries_in v first_shard) find.namespace (Some find.key) (time_read a find)
-find_stays v w a find later settled placed =
+-- WHAT GROWS
+
+-- a later view, where more is asked and told in a step
+pub record Grows (v w : View) (asked more : List Asked) (answered news : List Answered) (now : ℕ) : Type 0 where
+  pub later : Later v w
+  pub before : NeighboursFit v asked
+  pub after : NeighboursFit w (asked ++ more)
+  pub came : AllByRecursion (λ (a : Asked). a.came < now + 1) asked
+  pub steps : AllByRecursion (λ (t : Answered). t.step ≡ now) news
+
+-- WHAT WRITES ARE TOLD
+
+-- the entries of a write that was told whole are all that it makes
+closed_write : (v w : View) (asked more : List Asked) (a : Asked) (write : WriteCommand) → Later v w → NeighboursFit w (asked ++ more) → IsIn a asked
+    → command_of a.request ≡ Ok (write_command write) → write.number ≡ None → IsWhole (entries_in v first_shard) a.id write
+    → entries_by a.id (entries_in w first_shard) ≡ entries_by a.id (entries_in v first_shard)
+closed_write v w asked more a write later after taken asks own whole =
     let m = more_entries v w first_shard later in
-    let behind : AllByRecursion (IsPlaced (creations_in w)) m.more = all_behind (IsPlaced (creations_in w)) (entries_in v first_shard) m.more (subst (λ l. AllByRecursion (IsPlaced (creations_in w)) l) m.same placed) in
-    ap (λ l. document_at l find.namespace (Some find.key) (time_read a find)) m.same
-    ∙ unchanged find.namespace (Some find.key) (time_read a find) (entries_in v first_shard) m.more (counts_nothing v w a find m.more later settled m.above behind)
+    let part = all_at (StandsInPart (entries_in w first_shard)) a (asked ++ more) after.parts (in_prefix a asked more taken) write asks own in
+    ap (λ l. entries_by a.id l) m.same ∙ whole_stays (entries_in v first_shard) m.more a.id write (subst (λ l. IsPart l a.id write) m.same part) whole
 
-right_stays : (v w : View) (a : Asked) (t : Answered) → Later v w → StandsInPart (entries_in w first_shard) a → AllByRecursion (IsPlaced (creations_in w)) (entries_in w first_shard) → IsSettled v a t → IsRight (entries_in v first_shard) a t → IsRight (entries_in w first_shard) a t
-right_stays v w a t later part placed settled (right_write write asks whole told) =
-    let m = more_entries v w first_shard later in
-    let same : entries_by a.id (entries_in w first_shard) ≡ entries_by a.id (entries_in v first_shard) = ap (λ l. entries_by a.id l) m.same ∙ whole_stays (entries_in v first_shard) m.more a.id write (subst (λ l. IsPart l a.id write) m.same (part write asks)) whole in
-    right_write write asks (record { part = part write asks; all = subst (λ l. AreAll write.ordered write.operations (map done_of l)) (sym same) whole.all }) (told ∙ ap (λ l. answer_document (answer_of write.kind (map done_of l))) (sym same))
-right_stays v w a t later part placed settled (right_find find asks reached told) =
-    right_find find asks reached (told ∙ ap (λ d. answer_document (find_answer find.namespace (found d) (time_read a find))) (sym (find_stays v w a find later (settled find asks reached) placed)))
-right_stays v w a t later part placed settled (right_ahead find named asks names ahead told) = right_ahead find named asks names ahead told
-right_stays v w a t later part placed settled (right_hello asks told) = right_hello asks told
-right_stays v w a t later part placed settled (right_legacy legacy asks told) = right_legacy legacy asks told
-right_stays v w a t later part placed settled (right_ping asks told) = right_ping asks told
-right_stays v w a t later part placed settled (right_end_sessions asks told) = right_end_sessions asks told
-right_stays v w a t later part placed settled (right_refusal refusal asks told) = right_refusal refusal asks told
+module _ (old new : List Entry) (asked more : List Asked) (t : Answered) (stays : (d : Entry) → IsIn d old → IsIn d new) where
+  -- what a statement may be told it may be told of more entries and requests
+  may_grow : (given : Option ClientNumber) (number : StatementNumber) (namespace : List ℕ) (operation : Operation) (answer : StatementAnswer)
+      → MayBeTold old asked t given number namespace operation answer → MayBeTold new (asked ++ more) t given number namespace operation answer
+  may_grow given number namespace operation _ (told_own e i is past) = told_own e (stays e i) is past
+  may_grow given number namespace operation _ (told_other e by i some is past had) =
+      told_other e by (stays e i) some is past (record {
+        request = had.request;
+        taken = in_prefix had.request asked more had.taken;
+        sends = had.sends;
+        came = had.came;
+      })
+  may_grow given number namespace operation _ (told_older e by i some is less past had) =
+      told_older e by (stays e i) some is less past
+      (record { request = had.request; taken = in_prefix had.request asked more had.taken; sends = had.sends; came = had.came })
 
-settled_grows : (v w : View) (a : Asked) (t : Answered) → Later v w → IsSettled v a t → IsSettled w a t
-settled_grows v w a t later settled find asks reached = by_case (settled find asks reached)
+  told_grow : (write : WriteCommand) (index : ℕ) (operations : List Operation) (dones : List Done) → AreTold old asked t write index operations dones
+      → AreTold new (asked ++ more) t write index operations dones
+  told_grow write index [] dones told = told
+  told_grow write index (operation ∷ operations) [] told = absurd told
+  told_grow write index (operation ∷ operations) (d ∷ dones) told = (
+    told.0,
+    may_grow write.number (number_for write.number t.id index) write.namespace operation d.answer told.1,
+    by_end (ends write.ordered d) told.2 (λ rest. told_grow write (index + 1) operations dones rest),
+  )
+    where
+      by_end : (b : Bool)
+          → (elim b as (λ x. Type 0) [ true ↦ dones ≡ [] | false ↦ AreTold old asked t write (index + 1) operations dones ])
+          → (AreTold old asked t write (index + 1) operations dones → AreTold new (asked ++ more) t write (index + 1) operations dones)
+          → (elim b as (λ x. Type 0) [ true ↦ dones ≡ [] | false ↦ AreTold new (asked ++ more) t write (index + 1) operations dones ])
+      by_end true none later = none
+      by_end false rest later = later rest
+
+-- TIMES THAT WERE TOLD
+
+may_below : (history : List Entry) (asked : List Asked) (t : Answered) (bound : ℕ) (given : Option ClientNumber) (number : StatementNumber)
+    (namespace : List ℕ) (operation : Operation) (answer : StatementAnswer) → AllByRecursion (λ (e : Entry). e.time ≤ bound) history
+    → MayBeTold history asked t given number namespace operation answer → IsBelow bound answer
+may_below history asked t bound given number namespace operation _ past (told_own e i is at) = all_at (λ (d : Entry). d.time ≤ bound) e history past i
+may_below history asked t bound given number namespace operation _ past (told_other e by i some is at had) =
+    all_at (λ (d : Entry). d.time ≤ bound) e history past i
+may_below history asked t bound given number namespace operation _ past (told_older e by i some is less at had) = tt
+
+told_below : (history : List Entry) (asked : List Asked) (t : Answered) (bound : ℕ) (write : WriteCommand) (index : ℕ) (operations : List Operation)
+    (dones : List Done) → AllByRecursion (λ (e : Entry). e.time ≤ bound) history → AreTold history asked t write index operations dones → AreBelow bound dones
+told_below history asked t bound write index [] dones past told = subst (λ l. AreBelow bound l) (sym told) tt
+told_below history asked t bound write index (operation ∷ operations) [] past told = absurd told
+told_below history asked t bound write index (operation ∷ operations) (d ∷ dones) past told = (
+  may_below history asked t bound write.number (number_for write.number t.id index) write.namespace operation d.answer past told.1,
+  by_end (ends write.ordered d) told.2 (λ rest. told_below history asked t bound write (index + 1) operations dones past rest),
+)
   where
-    by_case : (time_read a find ≤ v.bound first_shard) ⊎ (NoneBegan v find.namespace (time_read a find) ⊎ HasNoOwner find.key) → (time_read a find ≤ w.bound first_shard) ⊎ (NoneBegan w find.namespace (time_read a find) ⊎ HasNoOwner find.key)
-    by_case (inl h) = inl (let le : v.bound first_shard ≤ w.bound first_shard = later.times first_shard in omega arith)
-    by_case (inr (inl h)) = inr (inl (began_grows v w find.namespace (time_read a find) later h))
-    by_case (inr (inr h)) = inr (inr h)
+    by_end : (b : Bool) → (elim b as (λ x. Type 0) [ true ↦ dones ≡ [] | false ↦ AreTold history asked t write (index + 1) operations dones ])
+        → (AreTold history asked t write (index + 1) operations dones → AreBelow bound dones) → AreBelow bound dones
+    by_end true none later = subst (λ l. AreBelow bound l) (sym none) tt
+    by_end false rest later = later rest
 
-pub answer_grows : (v w : View) (asked more : List Asked) (t : Answered) → Later v w → AllByRecursion (StandsInPart (entries_in w first_shard)) asked → AllByRecursion (IsPlaced (creations_in w)) (entries_in w first_shard) → AnswerFits v asked t → AnswerFits w (asked ++ more) t
-answer_grows v w asked more t later parts placed f =
-    let r = f.right in
-    record {
-      right = record {
-        request = r.request;
-        taken = in_prefix r.request asked more r.taken;
-        own = r.own;
-        link = r.link;
-        number = r.number;
-        same = r.same;
-        came = r.came;
-        risen = r.risen;
-        right = right_stays v w r.request t later (all_at (StandsInPart (entries_in w first_shard)) r.request asked parts r.taken) placed f.settled r.right;
-      };
-      settled = settled_grows v w r.request t later f.settled;
-    }
+-- the statements of a request are of one session and transaction
+numbers_beside : (given : Option ClientNumber) (id : RequestId) (i j : ℕ)
+    → ((number_for given id i).session ≡ (number_for given id j).session) × ((number_for given id i).transaction ≡ (number_for given id j).transaction)
+numbers_beside None id i j = (refl, refl)
+numbers_beside (Some by) id i j = (refl, refl)
+
+-- of entries behind one another the later keeps the numbers
+kept_apart : (old more : List Entry) (d e : Entry) → AreNumbered (old ++ more) → IsIn d old → IsIn e more → KeepsNumbers d e
+kept_apart [] more d e numbered i j = absurd (in_none d i)
+kept_apart (c ∷ old) more d e numbered i j = by_place (in_cons d c old i) (λ k. kept_apart old more d e numbered.1 k j)
+  where
+    by_place : (d ≡ c) ⊎ IsIn d old → (IsIn d old → KeepsNumbers d e) → KeepsNumbers d e
+    by_place (inl same) later = subst (λ (x : Entry). KeepsNumbers x e) (sym same) (all_at (KeepsNumbers c) e (old ++ more) numbered.0 (in_back e old more j))
+    by_place (inr k) later = later k
+
+-- what was told was told of entries that stood then
+abbrev pub IsClosed : View → View → Answered → Type 0
+IsClosed v w s = (write : WriteCommand) (index : ℕ) (e : Entry) → IsIn e (entries_in w first_shard) → IsToldOf s write index e
+    → IsIn e (entries_in v first_shard)
+
+write_is : (a b : WriteCommand) (command : Result Command Refusal) → command ≡ Ok (write_command a) → command ≡ Ok (write_command b) → a ≡ b
+write_is a b command e f = cc
+
+module _ (v w : View) (asked more : List Asked) (later : Later v w) (before : NeighboursFit v asked) (after : NeighboursFit w (asked ++ more)) where
+  -- an entry that comes later is of no statement that was told an older one
+  none_later : (t : Answered) (write : WriteCommand) (index : ℕ) (operations : List Operation) (dones : List Done) (e : Entry) (j : ℕ)
+      → AreTold (entries_in v first_shard) asked t write index operations dones → dones ≢ [] → time_of dones ≡ None
+      → IsIn e (entries_in w first_shard) → IsIn e (more_entries v w first_shard later).more → e.number ≡ number_for write.number t.id j → ⊥
+  none_later t write index [] dones e j told some none stands new number = some told
+  none_later t write index (operation ∷ operations) [] e j told some none stands new number = some refl
+  none_later t write index (operation ∷ operations) (d ∷ dones) e j told some none stands new number = by_answer d.answer told.1 none
+    where
+      first : (x : Entry) → IsIn x (entries_in w first_shard) → x.shard ≡ first_shard
+      first x i = on_first (creations_in w) x (all_at (IsPlaced (creations_in w)) x (entries_in w first_shard) after.placed i)
+
+      kept : (x : Entry) → IsIn x (entries_in v first_shard) → KeepsNumbers x e
+      kept x i =
+          kept_apart (entries_in v first_shard) (more_entries v w first_shard later).more x e
+          (subst (λ l. AreNumbered l) (more_entries v w first_shard later).same after.numbers) i new
+
+      by_older : (x : Entry) → IsIn x (entries_in v first_shard) → x.number.session ≡ (number_for write.number t.id index).session
+          → int_lt (number_for write.number t.id index).transaction x.number.transaction ≡ true → ⊥
+      by_older x i session less =
+          let same = numbers_beside write.number t.id index j in
+          let at : e.number.transaction ≡ (number_for write.number t.id index).transaction = ap (λ (n : StatementNumber). n.transaction) number ∙ sym same.1 in
+          let of : x.number.session ≡ e.number.session = session ∙ same.0 ∙ sym (ap (λ (n : StatementNumber). n.session) number) in
+          let not_less : int_lt e.number.transaction x.number.transaction ≡ false =
+          (kept x i).rises (first x (entry_stays v w first_shard x later i) ∙ sym (first e stands)) of in
+          true_false (sym less ∙ ap (λ n. int_lt n x.number.transaction) (sym at) ∙ not_less)
+
+      by_answer : (answer : StatementAnswer)
+          → MayBeTold (entries_in v first_shard) asked t write.number (number_for write.number t.id index) write.namespace operation answer
+          → (elim answer as (λ (x : StatementAnswer). Option ℕ) [
+            | was_done at outcome ↦ Some (greatest at (time_of dones))
+            | was_refused refusal ↦ time_of
+                dones
+          ])
+          ≡ None → ⊥
+      by_answer _ (told_own x i is past) none = absurd (cc)
+      by_answer _ (told_other x by i some is past had) none = absurd (cc)
+      by_answer _ (told_older x by i some session less past had) none = by_older x i session less
+
+  told_closed : (t : Answered) (write : WriteCommand) (dones : List Done) → AreTold (entries_in v first_shard) asked t write 0 write.operations dones
+      → dones ≢ [] → t.document ≡ answer_document (answer_of write.kind t.time dones) → command_of t.request ≡ Ok (write_command write) → IsClosed v w t
+  told_closed t write dones told some document asks other index e stands (same, number, shows) =
+      by_place (in_append e (entries_in v first_shard) m.more (subst (λ l. IsIn e l) m.same stands))
+    where
+      m : MoreOf (λ (x : Entry). x.time) (v.bound first_shard) (entries_in v first_shard) (entries_in w first_shard)
+      m = more_entries v w first_shard later
+
+      one : other ≡ write
+      one = write_is other write (command_of t.request) same asks
+
+      at : Some (unwrap_or (time_of dones) t.time) ≡ Some e.time
+      at = sym (time_shown write.kind t.time dones) ∙ ap (λ d. operation_time (Some d)) (sym document) ∙ shows
+
+      by_time : (time : Option ℕ) → time_of dones ≡ time → Some (unwrap_or time t.time) ≡ Some e.time → IsIn e m.more → ⊥
+      by_time None none shown new =
+          none_later t write 0 write.operations dones e index told some none stands new (number ∙ ap (λ (x : WriteCommand). number_for x.number t.id index) one)
+      by_time (Some time) is shown new =
+          let above : v.bound first_shard < e.time = all_at (λ (x : Entry). v.bound first_shard < x.time) e m.more m.above new in
+          let below : time ≤ v.bound first_shard = greatest_below (v.bound first_shard) dones
+          (told_below (entries_in v first_shard) asked t (v.bound first_shard) write 0 write.operations dones before.past told) time is in
+          let exact : time ≡ e.time = cc in
+          omega arith
+
+      by_place : IsIn e (entries_in v first_shard) ⊎ IsIn e m.more → IsIn e (entries_in v first_shard)
+      by_place (inl i) = i
+      by_place (inr j) = absurd (by_time (time_of dones) refl at j)
+
+  -- a request that does not write is told of no entry
+  other_closed : (t : Answered) → IsNoWrite (command_of t.request) → IsClosed v w t
+  other_closed t not write index e stands told = absurd (not write told.0)
+
+  closed_right : (answered : List Answered) (cursors next : List Cursor) (a : Asked) (t : Answered) → a.request ≡ t.request
+      → (r : IsRight (creations_in v) (entries_in v first_shard) asked answered cursors a t next)
+      → IsSettled v (creations_in v) (entries_in v first_shard) asked answered cursors a t next r → IsClosed v w t
+  closed_right answered cursors _ a t same (right_write write dones c asks may whole begun name past told) settled =
+      told_closed t write dones may settled told (ap (λ q. command_of q) (sym same) ∙ asks)
+  closed_right answered cursors _ a t same (right_find find time documents batch next asks of may small name when shows told) settled =
+      other_closed t (other_command _ _ (ap (λ q. command_of q) (sym same) ∙ asks) (λ write e. cc))
+  closed_right answered cursors _ a t same (right_count read time n asks of may told) settled =
+      other_closed t (other_command _ _ (ap (λ q. command_of q) (sym same) ∙ asks) (λ write e. cc))
+  closed_right answered cursors _ a t same (right_more get c batch next asks found shows told) settled =
+      other_closed t (other_command _ _ (ap (λ q. command_of q) (sym same) ∙ asks) (λ write e. cc))
+  closed_right answered cursors _ a t same (right_no_cursor get asks none told) settled =
+      other_closed t (other_command _ _ (ap (λ q. command_of q) (sym same) ∙ asks) (λ write e. cc))
+  closed_right answered cursors _ a t same (right_kill kill killed missing next asks closed told) settled =
+      other_closed t (other_command _ _ (ap (λ q. command_of q) (sym same) ∙ asks) (λ write e. cc))
+  closed_right answered cursors _ a t same (right_hello asks told) settled =
+      other_closed t (other_command _ _ (ap (λ q. command_of q) (sym same) ∙ asks) (λ write e. cc))
+  closed_right answered cursors _ a t same (right_legacy legacy asks told) settled =
+      other_closed t (other_command _ _ (ap (λ q. command_of q) (sym same) ∙ asks) (λ write e. cc))
+  closed_right answered cursors _ a t same (right_ping asks told) settled =
+      other_closed t (other_command _ _ (ap (λ q. command_of q) (sym same) ∙ asks) (λ write e. cc))
+  closed_right answered cursors _ a t same (right_end_sessions asks told) settled =
+      other_closed t (other_command _ _ (ap (λ q. command_of q) (sym same) ∙ asks) (λ write e. cc))
+  closed_right answered cursors _ a t same (right_refusal refusal asks told) settled =
+      other_closed t (other_command _ _ (ap (λ q. command_of q) (sym same) ∙ asks) (λ write e. cc))
+  closed_right answered cursors _ a t same (right_refused_read read reads refused) settled =
+      other_closed t (reads_not (command_of t.request) read (subst (λ q. Reads (command_of q) read) same reads))
+
+  pub all_closed : (answered : List Answered) (cursors last : List Cursor) (told : List Answered) → AnswersFit v asked answered cursors told last
+      → AllByRecursion (IsClosed v w) told
+  all_closed answered _ _ _ (no_answer cursors) = tt
+  all_closed answered _ _ _ (one_answer cursors next last t rest f others) =
+      (closed_right answered cursors next f.request t f.same f.right f.settled, all_closed answered next last rest others)
+
+-- WHAT READS ARE TOLD
+
+give_stays : (v w : View) (read : Reading) (time : ℕ) (out : Outcome) → Later v w → IsFixed v read time
+    → AllByRecursion (IsPlaced (creations_in w)) (entries_in w first_shard)
+    → MayGive (entries_in v first_shard) read time out → MayGive (entries_in w first_shard) read time out
+give_stays v w read time out later fixed placed may =
+    subst (λ l. Allows read.stages l out) (sym (documents_stay v w read.namespace time later fixed placed)) may
+
+fixed_grows : (v w : View) (read : Reading) (time : ℕ) → Later v w → IsFixed v read time → IsFixed w read time
+fixed_grows v w read time later (inl h) = inl (let le : v.bound first_shard ≤ w.bound first_shard = later.times first_shard in omega arith)
+fixed_grows v w read time later (inr h) = inr (began_grows v w read.namespace time later h)
+
+excess_stays : (v w : View) (asked more : List Asked) (read : Reading) (time n : ℕ) → Later v w → NeighboursFit v asked → NeighboursFit w (asked ++ more)
+    → IsFixed v read time
+    → IsExcess (entries_in v first_shard) (creations_in v) read time n → IsExcess (entries_in w first_shard) (creations_in w) read time n
+excess_stays v w asked more read time n later before after fixed (excess_answer answer may much) =
+    excess_answer answer (give_stays v w read time _ later fixed after.placed may) much
+excess_stays v w asked more read time n later before after fixed (excess_half shard ordered rows permutes makes much) =
+    let same = documents_stay v w read.namespace time later fixed after.placed in
+    let old = all_owned (creations_in v) (entries_in v first_shard) read.namespace shard time before.begun.names before.placed in
+    let new = all_owned (creations_in w) (entries_in w first_shard) read.namespace shard time after.begun.names after.placed in
+    let owned : owned_by (creations_in w) read.namespace shard time (documents_at (entries_in w first_shard) read.namespace time)
+    ≡ owned_by (creations_in v) read.namespace shard time (documents_at (entries_in v first_shard) read.namespace time) =
+    ap (λ l. owned_by (creations_in w) read.namespace shard time l) same
+    ∙ owned_same (creations_in v) (creations_in w) read.namespace shard time (documents_at (entries_in v first_shard) read.namespace time) old
+    (subst (λ l. AreOwned (creations_in w) read.namespace shard time l) same new) in
+    excess_half shard ordered rows (subst (λ l. IsPermutation l ordered) (sym owned) permutes) makes much
+
+-- ALL ANSWERS
+
+-- an answer, with that its read stays
+pub record StaysRight (w : View) (asked : List Asked) (answered : List Answered) (cursors : List Cursor) (a : Asked) (t : Answered)
+    (next : List Cursor) : Type 0 where
+  pub right : IsRight (creations_in w) (entries_in w first_shard) asked answered cursors a t next
+  pub settled : IsSettled w (creations_in w) (entries_in w first_shard) asked answered cursors a t next right
+
+module _ (v w : View) (asked more : List Asked) (answered news : List Answered) (now : ℕ) (g : Grows v w asked more answered news now)
+    (closed : AllByRecursion (IsClosed v w) answered) where
+  abbrev After : List Cursor → Asked → Answered → List Cursor → Type 0
+  After cursors a t next = StaysRight w (asked ++ more) (answered ++ news) cursors a t next
+
+  ahead_stays : (a : Asked) (t : Answered) (read : Reading) → a.came < now + 1 → IsAhead (entries_in v first_shard) answered a t read
+      → IsAhead (entries_in w first_shard) (answered ++ news) a t read
+  ahead_stays a t read came h = record {
+    wanted = h.wanted;
+    wants = h.wants;
+    ahead = h.ahead;
+    of_all = λ s write index e i before asks stands number shows. by_place s write index e before stands (asks, number, shows) (in_append s answered news i);
+  }
+    where
+      by_place : (s : Answered) (write : WriteCommand) (index : ℕ) (e : Entry) → s.step < a.came → IsIn e (entries_in w first_shard) → IsToldOf s write index e
+          → IsIn s answered ⊎ IsIn s news → e.time < h.wanted
+      by_place s write index e before stands told (inl i) =
+          h.of_all s write index e i before told.0 (all_at (IsClosed v w) s answered closed i write index e stands told) told.1 told.2
+      by_place s write index e before stands told (inr i) =
+          let at : s.step ≡ now = all_at (λ (x : Answered). x.step ≡ now) s news g.steps i in absurd (omega arith)
+
+  refused_stays : (a : Asked) (t : Answered) (read : Reading) (cursors : List Cursor) → a.came < now + 1 → Reads (command_of a.request) read
+      → (r : IsReadRefused (creations_in v) (entries_in v first_shard) answered a t read)
+      → IsRefusalFixed v (creations_in v) (entries_in v first_shard) answered a t read r → After cursors a t cursors
+  refused_stays a t read cursors came reads (refused_overflow time of may told) fixed = record {
+    right = right_refused_read read reads (refused_overflow time of (give_stays v w read time _ g.later fixed g.after.placed may) told);
+    settled = fixed_grows v w read time g.later fixed;
+  }
+  refused_stays a t read cursors came reads (refused_excess time n of much told) fixed = record {
+    right = right_refused_read read reads (refused_excess time n of (excess_stays v w asked more read time n g.later g.before g.after fixed much) told);
+    settled = fixed_grows v w read time g.later fixed;
+  }
+  refused_stays a t read cursors came reads (refused_ahead ahead told) fixed =
+      record { right = right_refused_read read reads (refused_ahead (ahead_stays a t read came ahead) told); settled = tt }
+
+  right_stays : (cursors next : List Cursor) (a : Asked) (t : Answered) → IsIn a asked
+      → (r : IsRight (creations_in v) (entries_in v first_shard) asked answered cursors a t next)
+      → IsSettled v (creations_in v) (entries_in v first_shard) asked answered cursors a t next r → After cursors a t next
+  right_stays cursors _ a t taken (right_write write dones c asks may whole begun name past told) settled = record {
+    right = right_write write dones c asks
+        (told_grow (entries_in v first_shard) (entries_in w first_shard) asked more t (λ d i. entry_stays v w first_shard d g.later i) write 0 write.operations
+        dones may)
+        (λ own.
+        let same = closed_write v w asked more a write g.later g.after taken asks own (whole own) in
+        record {
+          part = all_at (StandsInPart (entries_in w first_shard)) a (asked ++ more) g.after.parts (in_prefix a asked more taken) write asks own;
+          all = subst (λ l. AreAll write.ordered write.operations (map done_of l)) (sym same) (whole own).all;
+        })
+        (creation_stays v w c g.later begun) name past told;
+    settled = settled;
+  }
+  right_stays cursors _ a t taken (right_find find time documents batch next asks of may small name when shows told) settled = record {
+    right = right_find find time documents batch next asks of (give_stays v w find.reading time _ g.later settled g.after.placed may) small name
+        when shows told;
+    settled = fixed_grows v w find.reading time g.later settled;
+  }
+  right_stays cursors _ a t taken (right_count read time n asks of may told) settled = record {
+    right = right_count read time n asks of (give_stays v w read time _ g.later settled g.after.placed may) told;
+    settled = fixed_grows v w read time g.later settled;
+  }
+  right_stays cursors _ a t taken (right_refused_read read reads refused) settled =
+      refused_stays a t read cursors (all_at (λ (b : Asked). b.came < now + 1) a asked g.came taken) reads refused settled
+  right_stays cursors _ a t taken (right_more get c batch next asks found shows told) settled = record
+      { right = right_more get c batch next asks found shows told; settled = tt }
+  right_stays cursors _ a t taken (right_no_cursor get asks none told) settled = record { right = right_no_cursor get asks none told; settled = tt }
+  right_stays cursors _ a t taken (right_kill kill killed missing next asks ended told) settled =
+      record { right = right_kill kill killed missing next asks ended told; settled = tt }
+  right_stays cursors _ a t taken (right_hello asks told) settled = record { right = right_hello asks told; settled = tt }
+  right_stays cursors _ a t taken (right_legacy legacy asks told) settled = record { right = right_legacy legacy asks told; settled = tt }
+  right_stays cursors _ a t taken (right_ping asks told) settled = record { right = right_ping asks told; settled = tt }
+  right_stays cursors _ a t taken (right_end_sessions asks told) settled = record { right = right_end_sessions asks told; settled = tt }
+  right_stays cursors _ a t taken (right_refusal refusal asks told) settled = record { right = right_refusal refusal asks told; settled = tt }
+
+  pub answers_grow : (cursors last : List Cursor) (told : List Answered) → AnswersFit v asked answered cursors told last
+      → AnswersFit w (asked ++ more) (answered ++ news) cursors told last
+  answers_grow _ _ _ (no_answer cursors) = no_answer cursors
+  answers_grow _ _ _ (one_answer cursors next last t rest f others) =
+      let s = right_stays cursors next f.request t f.taken f.right f.settled in
+      one_answer cursors next last t rest (record {
+        request = f.request;
+        taken = in_prefix f.request asked more f.taken;
+        own = f.own;
+        link = f.link;
+        number = f.number;
+        same = f.same;
+        came = f.came;
+        risen = f.risen;
+        right = s.right;
+        settled = s.settled;
+      }) (answers_grow next last rest others)
+
+-- answers behind one another
+pub answers_joined : (v : View) (asked : List Asked) (answered : List Answered) (first middle last : List Cursor) (xs ys : List Answered)
+    → AnswersFit v asked answered first xs middle
+    → AnswersFit v asked answered middle ys last → AnswersFit v asked answered first (xs ++ ys) last
+answers_joined v asked answered _ _ last _ ys (no_answer cursors) more = more
+answers_joined v asked answered _ _ last _ ys (one_answer cursors next middle t rest f others) more =
+    one_answer cursors next last t (rest ++ ys) f (answers_joined v asked answered next middle last rest ys others more)

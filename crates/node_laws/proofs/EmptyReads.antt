@@ -1,52 +1,52 @@
--- Where a read is told that nothing is there, nothing was there at its time, nor will be.
-use Rattle.std.proofs.Common.{◌≡◌, ◌⊎◌, inl, inr, ℕ, ◌<◌, ◌≤◌, List, [], ◌∷◌, refl, sym, ap, subst, ◌∙◌, arith, Bool}
+-- Where a read is told that nothing is there, its collection had not begun at its time, nor will it have.
+use Rattle.std.proofs.Common.{◌≡◌, ℕ, ◌<◌, ◌≤◌, List, [], ◌∷◌, refl, sym, ap, subst, ◌∙◌, arith, Bool}
 use Rattle.std.specs.Prelude.{Option, Some, None, true, false, nat_le, if◌then◌else◌}
 use Rattle.std.specs.List.{AllByRecursion}
 use Rattle.std.proofs.lemmas.Bool.{eqb-true, leb-true, leb-false}
-use Rattle.value_model.specs.Order.{same_value}
-use Rattle.history_model.proofs.Lists.{all_weaken, all_at, in_first, in_later}
-use Rattle.node_model.specs.Tree.{Datum}
+use Rattle.value_model.specs.Keys.{is_key}
+use Rattle.query_model.specs.KeySpans.{key_asked, key_equal}
+use Rattle.reply_model.proofs.SpanDocuments.{asked_is_key}
+use Rattle.chunk_model.proofs.FirstTables.{every_key_at}
+use Rattle.history_model.proofs.Lists.{all_at, all_from}
+use Rattle.node_model.specs.Tree.{Datum, null_value}
+use Rattle.node_model.specs.Keys.{Span, point_span, range_span}
 use Rattle.node_model.specs.Catalogue.{Creation}
-use Rattle.node_model.specs.Tables.{Table, first_shard, owner_at, table_of, with_table}
-use Rattle.node_model.specs.History.{Entry, IsIn, document_at}
+use Rattle.node_model.specs.Tables.{Table, first_table, table_of, with_table}
+use Rattle.node_model.specs.Stages.{Stage, match_stage, project_stage, group_stage, sort_stage, skip_stage, limit_stage, count_stage}
+use Rattle.node_model.specs.Split.{split, span_of_stages}
+use Rattle.node_model.specs.History.{IsIn}
 use Rattle.node_model.specs.Exchanges.{Asked}
-use Rattle.node_model.specs.OneHistory.{IsPlaced}
-use Rattle.node_model.specs.Letters.{At, no_time, at_time, key_half}
-use Rattle.node_model.specs.States.{reading}
-use Rattle.node_model.specs.RouterRows.{enough_of, table_for, is_for, adopted}
-use Rattle.node_laws.proofs.Views.{View, entries_in, creations_in}
-use Rattle.node_laws.proofs.Facts.{IsKnownTable, NoneBegan, HasNoOwner, TableFits}
-use Rattle.node_laws.proofs.Answers.{Counts, unchanged, written_name, written_key, same_owner, some_none}
-use Rattle.node_laws.proofs.KnownTables.{FoundTable, table_found, table_there, never_owned, one_creation}
-use Rattle.node_laws.proofs.Neighbours.{AreBegun, NeighboursFit}
+use Rattle.node_model.specs.Letters.{At, no_time, at_time}
+use Rattle.node_model.specs.States.{Telling, reading}
+use Rattle.node_model.specs.RouterRows.{owner_of_span, enough_of, table_for, is_for, adopted}
+use Rattle.node_laws.proofs.Views.{View, creations_in}
+use Rattle.node_laws.proofs.ReadFacts.{NoneBegan}
+use Rattle.node_laws.proofs.Facts.{IsKnownTable, TableFits, AreBegun, NeighboursFit}
+use Rattle.node_laws.proofs.Answers.{some_none}
+use Rattle.node_laws.proofs.KnownTables.{FoundTable, table_found, table_there, one_creation}
 
--- no collection of the name began by the time, or no shard has the key
-abbrev pub HasNothing : View → (namespace : List ℕ) → Datum → (time : ℕ) → Type 0
-HasNothing v namespace key time = NoneBegan v namespace time ⊎ HasNoOwner key
+-- the key of a span may be one
+span_key : (stages : List Stage) (key : Datum) → span_of_stages stages ≡ point_span key → is_key key ≡ true
+span_key [] key e = absurd (cc)
+span_key (match_stage asked ∷ rest) key e = by_asked (key_equal asked) refl e (λ f. span_key rest key f)
+  where
+    by_asked : (o : Option Datum) → key_equal asked ≡ o
+        → elim o as (λ (x : Option Datum). Span) [ None ↦ span_of_stages rest | Some k ↦ point_span k ] ≡ point_span key
+        → (span_of_stages rest ≡ point_span key → is_key key ≡ true) → is_key key ≡ true
+    by_asked None h e later = later e
+    by_asked (Some k) h e later = let same : k ≡ key = cc in ap is_key (sym same) ∙ asked_is_key (key_asked asked) k h
+span_key (project_stage rules ∷ rest) key e = absurd (cc)
+span_key (group_stage spec ∷ rest) key e = absurd (cc)
+span_key (sort_stage spec ∷ rest) key e = absurd (cc)
+span_key (skip_stage n ∷ rest) key e = absurd (cc)
+span_key (limit_stage n ∷ rest) key e = absurd (cc)
+span_key (count_stage name ∷ rest) key e = absurd (cc)
 
-not_counted : (v : View) (namespace : List ℕ) (key : Datum) (time : ℕ) (e : Entry) → HasNothing v namespace key time → IsPlaced (creations_in v) e
-    → ¬ Counts namespace (Some key) time e
-not_counted v namespace key time e (inl none) p counts =
-    let name : p.creation.namespace ≡ namespace = p.name ∙ written_name namespace (Some key) e counts.1 in
-    let after : time < p.creation.at = all_at (λ (c : Creation). c.namespace ≡ namespace → time < c.at) p.creation (creations_in v) none.1 p.begun name in
-    let before = p.before in
-    let early = counts.0 in
-    absurd (omega arith)
-not_counted v namespace key time e (inr alone) p counts =
-    let same : same_value p.key key ≡ true = written_key namespace p.key key e p.writes counts.1 in
-    some_none (sym p.owner ∙ same_owner p.creation p.key key e.time same ∙ alone p.creation e.time)
-
-pub nothing_found : (v : View) (asked : List Asked) (namespace : List ℕ) (key : Datum) (time : ℕ) → NeighboursFit v asked → HasNothing v namespace key time
-    → document_at (entries_in v first_shard) namespace (Some key) time ≡ None
-nothing_found v asked namespace key time n none =
-    unchanged namespace (Some key) time [] (entries_in v first_shard)
-    (all_weaken (IsPlaced (creations_in v)) (λ e. ¬ Counts namespace (Some key) time e) (entries_in v first_shard)
-    (λ e p. not_counted v namespace key time e none p) n.placed)
-
--- what holds of all that stand in a list holds of each
-pub all_in : {X : Type 0} (P : X → Type 0) (xs : List X) → ((x : X) → IsIn x xs → P x) → AllByRecursion P xs
-all_in P [] f = tt
-all_in P (x ∷ xs) f = (f x (in_first x xs), all_in P xs (λ y i. f y (in_later y x xs i)))
+-- a span has an owner from its collection's beginning on
+span_owned : (c : Creation) (at : ℕ) (stages : List Stage) (span : Span) → span_of_stages stages ≡ span → c.at ≤ at
+    → owner_of_span (first_table c) at span ≡ None → ⊥
+span_owned c at stages (point_span key) is before none = some_none (sym ((every_key_at c key at (span_key stages key is)).1 before) ∙ none)
+span_owned c at stages (range_span range) is before none = some_none (sym ((every_key_at c null_value at refl).1 before) ∙ none)
 
 -- the one collection of a name began after the time
 begins_after : (v : View) (namespace : List ℕ) (time : ℕ) (c : Creation) → AreBegun (v.bound 0) (creations_in v) → IsIn c (creations_in v)
@@ -55,38 +55,40 @@ begins_after : (v : View) (namespace : List ℕ) (time : ℕ) (c : Creation) →
 begins_after v namespace time c begun stands name after =
     let by_now : c.at ≤ v.bound 0 = all_at (λ (d : Creation). d.at ≤ v.bound 0) c (creations_in v) begun.past stands in (
       (omega arith),
-      all_in (λ (d : Creation). d.namespace ≡ namespace → time < d.at) (creations_in v)
+      all_from (λ (d : Creation). d.namespace ≡ namespace → time < d.at) (creations_in v)
           (λ d i same. subst (λ (e : Creation). time < e.at) (one_creation c d (creations_in v) begun.names stands i (name ∙ sym same)) after),
     )
 
 -- a table that the catalogue had, and that names no owner at the time
-unowned : (v : View) (known : ℕ) (namespace : List ℕ) (key : Datum) (time : ℕ) (t : Table) → AreBegun (v.bound 0) (creations_in v) → IsKnownTable v known t
+unowned : (v : View) (known : ℕ) (namespace : List ℕ) (stages : List Stage) (at : ℕ) (t : Table) → AreBegun (v.bound 0) (creations_in v)
+    → IsKnownTable v known t
     → t.namespace ≡ namespace
-    → owner_at t key time ≡ None → HasNothing v namespace key time
-unowned v known namespace key time t begun k name none = by_time (nat_le k.creation.at time) refl
+    → owner_of_span t at (split stages).0.span ≡ None → NoneBegan v namespace at
+unowned v known namespace stages at t begun k name none = by_time (nat_le k.creation.at at) refl
   where
-    by_time : (b : Bool) → nat_le k.creation.at time ≡ b → HasNothing v namespace key time
-    by_time true h = inr (never_owned k.creation key time (leb-true _ _ h) (subst (λ u. owner_at u key time ≡ None) k.table none))
-    by_time false h =
-        inl (begins_after v namespace time k.creation begun k.begun (sym (ap (λ (u : Table). u.namespace) k.table) ∙ name) (leb-false _ _ h))
+    by_time : (b : Bool) → nat_le k.creation.at at ≡ b → NoneBegan v namespace at
+    by_time true h =
+        absurd (span_owned k.creation at stages (split stages).0.span refl (leb-true _ _ h)
+        (subst (λ u. owner_of_span u at (split stages).0.span ≡ None) k.table none))
+    by_time false h = begins_after v namespace at k.creation begun k.begun (sym (ap (λ (u : Table). u.namespace) k.table) ∙ name) (leb-false _ _ h)
 
 -- the catalogue told of no table, or of one that names no owner: for the time that is read at
 pub told_nothing : (v : View) (asked : List Asked) (told_at known : ℕ) (namespace : List ℕ) (told : At) (table : Option Table)
-    (tables : List Table) (at : ℕ) (key : Datum)
+    (tables : List Table) (named : Bool) (at : ℕ) (stages : List Stage) (telling : Telling)
     → NeighboursFit v asked → TableFits v told_at namespace told table → AllByRecursion (IsKnownTable v known) (adopted table tables)
-    → is_for told at ≡ true → table_for (adopted table tables) namespace (reading at (key_half key)) ≡ None → HasNothing v namespace key at
-told_nothing v asked told_at known namespace no_time None tables at key n fits all own none = absurd (cc)
-told_nothing v asked told_at known namespace (at_time time) None tables at key n fits all own none =
-    inl (subst (λ x. NoneBegan v namespace x) (eqb-true time at own) fits)
-told_nothing v asked told_at known namespace told (Some t) tables at key n fits all own none =
-    by_owner (owner_at there.0 key at) refl (ap (λ x. enough_of x (reading at (key_half key))) (sym there.1) ∙ none)
+    → is_for told at ≡ true → table_for (adopted table tables) namespace (reading named at stages telling) ≡ None → NoneBegan v namespace at
+told_nothing v asked told_at known namespace no_time None tables named at stages telling n fits all own none = absurd (cc)
+told_nothing v asked told_at known namespace (at_time time) None tables named at stages telling n fits all own none =
+    subst (λ x. NoneBegan v namespace x) (eqb-true time at own) fits
+told_nothing v asked told_at known namespace told (Some t) tables named at stages telling n fits all own none =
+    by_owner (owner_of_span there.0 at (split stages).0.span) refl (ap (λ x. enough_of x (reading named at stages telling)) (sym there.1) ∙ none)
   where
     there : (u : Table) × (table_of namespace (with_table t tables) ≡ Some u)
     there = table_there namespace t tables fits.1
 
-    by_owner : (owner : Option ℕ) → owner_at there.0 key at ≡ owner
-        → (if (elim owner as (λ (o : Option ℕ). Bool) [ None ↦ false | Some shard ↦ true ]) then Some there.0 else None) ≡ None → HasNothing v namespace key at
+    by_owner : (owner : Option ℕ) → owner_of_span there.0 at (split stages).0.span ≡ owner
+        → (if (elim owner as (λ (o : Option ℕ). Bool) [ None ↦ false | Some shard ↦ true ]) then Some there.0 else None) ≡ None → NoneBegan v namespace at
     by_owner (Some shard) h got = absurd (some_none got)
     by_owner None h got =
         let f : FoundTable namespace (with_table t tables) there.0 = table_found namespace (with_table t tables) there.0 there.1 in
-        unowned v known namespace key at there.0 n.begun (all_at (IsKnownTable v known) there.0 (with_table t tables) all f.stands) f.name h
+        unowned v known namespace stages at there.0 n.begun (all_at (IsKnownTable v known) there.0 (with_table t tables) all f.stands) f.name h

@@ -1,26 +1,33 @@
 -- What is true at every moment of a run: of each node, of each message that was ever sent, of each request and of each answer.
 use Rattle.std.proofs.Common.{◌≡◌, ◌≢◌, ◌⊎◌, ℕ, ◌+◌, ◌<◌, ◌≤◌, List, [], ◌∷◌, ◌++◌, Bool, false}
-use Rattle.std.specs.Prelude.{Option, Some, None, Ok, true, map, length, drop}
+use Rattle.std.specs.Prelude.{pos, Option, Some, None, Ok, true, map, filter, length, drop, ◌*◌, ◌==◌, ◌&&◌}
 use Rattle.std.specs.List.{AllByRecursion}
-use Rattle.node_model.specs.Tree.{Datum, Fields}
 use Rattle.node_model.specs.ReplyParts.{operation_time}
 use Rattle.node_model.specs.Writes.{WriteCommand}
-use Rattle.node_model.specs.Find.{Find}
-use Rattle.node_model.specs.Command.{write_command, find_command, command_of}
+use Rattle.node_model.specs.Command.{write_command, command_of}
+use Rattle.node_model.specs.Reading.{Reading}
+use Rattle.node_model.specs.Cursors.{Cursor}
 use Rattle.node_model.specs.Catalogue.{Creation}
-use Rattle.node_model.specs.Tables.{Table, first_table, first_shard, owner_at}
-use Rattle.node_model.specs.History.{Entry, Legal, IsIn, document_at}
-use Rattle.node_model.specs.Exchanges.{RequestId, Asked, Answered, entries_by}
-use Rattle.node_model.specs.Outcomes.{Done, done_of}
-use Rattle.node_model.specs.Right.{found, ends, told_by, time_read}
-use Rattle.node_model.specs.OneHistory.{IsWriteIn, WasSent, WasWanted, StandsInPart, IsPlaced, IsRightOf, IsFresh, IsInOrder, Given, WasMet, ids_asked, ids_told, AreDifferent, AreDifferentNames}
+use Rattle.node_model.specs.Tables.{Table, first_table, first_shard}
+use Rattle.node_model.specs.History.{Entry, Legal, IsIn}
+use Rattle.node_model.specs.Exchanges.{RequestId, Asked, Answered, number_for}
+use Rattle.node_model.specs.Outcomes.{Done}
+use Rattle.node_model.specs.Right.{ends, IsReadRefused, refused_overflow, refused_excess, refused_ahead, IsRight, right_write, right_find}
+use Rattle.node_model.specs.Right.{right_count, right_refused_read, right_more, right_no_cursor, right_kill, right_hello, right_legacy, right_ping}
+use Rattle.node_model.specs.Right.{right_end_sessions, right_refusal}
+use Rattle.node_model.specs.OneHistory.{IsWriteIn, WasWanted, StandsInPart, IsPlaced, AreNumbered, IsFresh, IsInOrder, Given, WasMet, ids_asked}
+use Rattle.node_model.specs.OneHistory.{ids_told, AreDifferent, AreDifferentNames}
 use Rattle.node_model.specs.Journal.{Kept, entries_kept, creations_kept}
-use Rattle.node_model.specs.Letters.{At, no_time, at_time, Statement, Half, key_half, Body, table_ask, table_told, write_ask, write_done, read_ask, half_ask, read_rows, stale, time_ask, time_told, Letter}
-use Rattle.node_model.specs.States.{Catalogue, Shard, Router, Work, writing, reading, for_time, Open, NodeState, catalogue_state, shard_state, router_state, time_of_node}
-use Rattle.node_model.specs.RouterRows.{id_of, statements_from, owner_of_statement, is_ahead}
+use Rattle.node_model.specs.Letters.{At, no_time, at_time, Statement, Body, table_ask, table_told, write_ask, write_done, read_ask, half_ask, read_rows}
+use Rattle.node_model.specs.Letters.{stale, time_ask, time_told, Letter}
+use Rattle.node_model.specs.States.{Catalogue, Shard, Router, Work, writing, reading, Wait, for_time, Open, NodeState, catalogue_state, shard_state}
+use Rattle.node_model.specs.States.{router_state, time_of_node}
+use Rattle.node_model.specs.RouterRows.{id_of, statements_from, owner_of_statement, is_ahead, block_size}
 use Rattle.node_model.specs.World.{Held, World}
-use Rattle.node_laws.proofs.Views.{View, view_of, entries_in, creations_in}
+use Rattle.node_laws.proofs.Views.{Choice, Book, View, view_of, entries_in, creations_in}
 use Rattle.node_laws.proofs.Places.{EachAt}
+use Rattle.node_laws.proofs.WriteFacts.{IsDoneAt, AreAnswers, OnlyLast, WasMade}
+use Rattle.node_laws.proofs.ReadFacts.{NoneBegan, WaitsFor, IsDecided, IsReading, IsReadOf, IsShown, RowsFit}
 
 -- TABLES
 
@@ -31,14 +38,6 @@ pub record IsKnownTable (v : View) (time : ℕ) (t : Table) : Type 0 where
   pub table : t ≡ first_table creation
   pub before : creation.at ≤ time
 
--- no collection of this name began at or below a time, nor will one
-abbrev pub NoneBegan : View → (namespace : List ℕ) → ℕ → Type 0
-NoneBegan v namespace time = (time ≤ v.bound 0) × AllByRecursion (λ (c : Creation). c.namespace ≡ namespace → time < c.at) (creations_in v)
-
--- no shard has the key, whenever it is asked for
-abbrev pub HasNoOwner : Datum → Type 0
-HasNoOwner key = (c : Creation) (time : ℕ) → owner_at (first_table c) key time ≡ None
-
 -- a statement goes to this shard: it owns the key, by a table of the collection that the catalogue had by a time
 pub record IsOwned (v : View) (time : ℕ) (namespace : List ℕ) (shard : ℕ) (s : Statement) : Type 0 where
   pub creation : Creation
@@ -47,56 +46,44 @@ pub record IsOwned (v : View) (time : ℕ) (namespace : List ℕ) (shard : ℕ) 
   pub before : creation.at ≤ time
   pub owner : owner_of_statement (first_table creation) s ≡ Some shard
 
--- READS
-
--- the find of a request, with the time that it is of
-pub record IsReadOf (asked : List Asked) (id : RequestId) (half : Half) : Type 0 where
-  pub request : Asked
-  pub find : Find
-  pub taken : IsIn request asked
-  pub own : request.id ≡ id
-  pub asks : command_of request.request ≡ Ok (find_command find)
-  pub shows : half ≡ key_half find.key
-
--- what the shard at a place has for a read, now and later
-pub record IsShown (v : View) (asked : List Asked) (sender time : ℕ) (id : RequestId) (rows : List Fields) : Type 0 where
-  pub request : Asked
-  pub find : Find
-  pub taken : IsIn request asked
-  pub own : request.id ≡ id
-  pub asks : command_of request.request ≡ Ok (find_command find)
-  pub owner : sender ≡ first_shard
-  pub rows_are : rows ≡ found (document_at (entries_in v sender) find.namespace (Some find.key) (time_read request find))
-  pub settled : time_read request find ≤ v.bound sender
-  pub past : time_read request find ≤ time
-
 -- WRITES
 
--- The statements of an ask are the next ones of a request, behind a prefix that stands and did not end it; the shard that is asked
+-- The statements of an ask are the next ones of a request, behind those that are answered and did not end it; the shard that is asked
 -- owns their keys, and the message is not older than what the router knew.
-pub record IsWriteOf (v : View) (asked : List Asked) (receiver time : ℕ) (id : RequestId) (ordered : Bool) (namespace : List ℕ) (statements : List Statement) : Type 0 where
+pub record IsWriteOf (v : View) (asked : List Asked) (receiver time : ℕ) (id : RequestId) (ordered : Bool) (namespace : List ℕ)
+    (statements : List Statement) : Type 0 where
   pub request : Asked
   pub write : WriteCommand
   pub front : List Done
-  pub standing : List Done
   pub back : List Statement
   pub taken : IsIn request asked
   pub own : request.id ≡ id
   pub asks : command_of request.request ≡ Ok (write_command write)
   pub order : ordered ≡ write.ordered
   pub name : namespace ≡ write.namespace
-  pub stands : told_by id (entries_in v first_shard) ≡ front ++ standing
+  pub answered : AreAnswers (entries_in v first_shard) time write id 0 front
   pub goes_on : AllByRecursion (λ d. ends ordered d ≡ false) front
-  pub next : drop (length front) (statements_from id 0 write.operations) ≡ statements ++ back
+  pub next : drop (length front) (statements_from write.number id 0 write.operations) ≡ statements ++ back
   pub owned : AllByRecursion (IsOwned v time namespace receiver) statements
   pub fresh : request.time ≤ time
 
--- an outcome is that of an entry which the request made
-pub record IsDoneBy (v : View) (sender time : ℕ) (id : RequestId) (d : Done) : Type 0 where
-  pub entry : Entry
-  pub stands : IsIn entry (entries_by id (entries_in v sender))
-  pub outcome : d ≡ done_of entry
-  pub past : entry.time ≤ time
+-- a collection of this name began by a time
+pub record HasBegun (v : View) (time : ℕ) (namespace : List ℕ) : Type 0 where
+  pub creation : Creation
+  pub begun : IsIn creation (creations_in v)
+  pub name : creation.namespace ≡ namespace
+  pub before : creation.at ≤ time
+
+-- what statements of a request are told by the shard that owns their keys
+pub record IsDoneOf (v : View) (asked : List Asked) (sender time : ℕ) (id : RequestId) (dones : List Done) : Type 0 where
+  pub request : Asked
+  pub write : WriteCommand
+  pub taken : IsIn request asked
+  pub own : request.id ≡ id
+  pub asks : command_of request.request ≡ Ok (write_command write)
+  pub each : AllByRecursion (IsDoneAt (entries_in v sender) time write id) dones
+  pub last : OnlyLast write.ordered dones
+  pub begun : HasBegun v time write.namespace
 
 -- MESSAGES
 
@@ -106,6 +93,12 @@ pub record IsWanted (asked : List Asked) (namespace : List ℕ) (time : ℕ) : T
   pub taken : IsIn request asked
   pub writes : IsWriteIn namespace request
   pub past : request.time ≤ time
+
+-- a message about a request that was taken
+pub record IsOfRequest (asked : List Asked) (id : RequestId) : Type 0 where
+  pub request : Asked
+  pub taken : IsIn request asked
+  pub own : request.id ≡ id
 
 abbrev pub AtFits : At → ℕ → Type 0
 AtFits no_time time = Unit {0}
@@ -122,14 +115,13 @@ BodyFits v asked sender receiver time (table_ask namespace true at) = AtFits at 
 BodyFits v asked sender receiver time (table_ask namespace false at) = AtFits at time
 BodyFits v asked sender receiver time (table_told namespace create at table) = TableFits v time namespace at table
 BodyFits v asked sender receiver time (write_ask id turn ordered namespace statements sent) = IsWriteOf v asked receiver time id ordered namespace statements
-BodyFits v asked sender receiver time (write_done id dones) = (sender ≡ first_shard) × AllByRecursion (IsDoneBy v sender time id) dones
-BodyFits v asked sender receiver time (read_ask id turn namespace at half sent) =
-    (r : IsReadOf asked id half) × (namespace ≡ r.find.namespace) × (at ≡ time_read r.request r.find) × (at ≤ time) × (receiver ≡ first_shard)
-BodyFits v asked sender receiver time (half_ask id turn namespace at half documents) = IsReadOf asked id half × IsShown v asked sender time id documents
-BodyFits v asked sender receiver time (read_rows id turn rows) = IsShown v asked sender time id rows
+BodyFits v asked sender receiver time (write_done id dones) = (sender ≡ first_shard) × IsDoneOf v asked sender time id dones
+BodyFits v asked sender receiver time (read_ask id turn namespace at half sent) = IsReadOf v asked id namespace at half × (at ≤ time) × (receiver ≡ first_shard)
+BodyFits v asked sender receiver time (half_ask id turn namespace at half documents) = IsShown v asked sender time id namespace at half documents
+BodyFits v asked sender receiver time (read_rows id turn rows) = RowsFit v asked sender time id rows
 BodyFits v asked sender receiver time (stale id turn met) = Unit {0}
-BodyFits v asked sender receiver time (time_ask id) = Unit {0}
-BodyFits v asked sender receiver time (time_told id) = Unit {0}
+BodyFits v asked sender receiver time (time_ask id) = IsOfRequest asked id
+BodyFits v asked sender receiver time (time_told id) = IsOfRequest asked id
 
 abbrev pub LetterFits : View → List Asked → Letter → Type 0
 LetterFits v asked m = BodyFits v asked m.sender m.receiver m.time m.body
@@ -154,27 +146,29 @@ pub record ShardFits (v : View) (asked : List Asked) (at : ℕ) (kept : List Kep
   pub entries : s.entries ≡ entries_kept kept
   pub past : AllByRecursion (λ (e : Entry). e.time ≤ s.time) s.entries
   pub legal : Legal s.entries
-  pub sent : AllByRecursion (WasSent asked) s.entries
+  pub sent : AllByRecursion (WasMade s.entries asked) s.entries
+  pub numbers : AreNumbered s.entries
   pub placed : AllByRecursion (IsPlaced (creations_in v)) s.entries
   pub parts : AllByRecursion (StandsInPart s.entries) asked
   pub tables : AllByRecursion (IsKnownTable v s.time) s.tables
   pub parked : AllByRecursion (ParkedFits v asked s.time) s.parked
 
 -- what a request still has to do
-abbrev pub WorkFits : View → Asked → (namespace : List ℕ) → Work → Type 0
-WorkFits v a namespace (writing kind ordered statements answers) =
+abbrev pub WorkFits : Asked → (namespace : List ℕ) → Work → Type 0
+WorkFits a namespace (writing kind ordered statements answers) =
     (write : WriteCommand) × (command_of a.request ≡ Ok (write_command write)) × (kind ≡ write.kind) × (namespace ≡ write.namespace) × (ordered ≡ write.ordered)
-    × (statements ≡ statements_from a.id 0 write.operations)
-    × ((standing : List Done) × (told_by a.id (entries_in v first_shard) ≡ answers ++ standing))
-    × AllByRecursion (λ d. ends ordered d ≡ false) answers
-WorkFits v a namespace (reading at half) =
-    (find : Find) × (command_of a.request ≡ Ok (find_command find)) × (namespace ≡ find.namespace) × (half ≡ key_half find.key)
-    × (at ≡ time_read a find)
+    × (statements ≡ statements_from write.number a.id 0 write.operations) × AllByRecursion (λ d. ends ordered d ≡ false) answers
+WorkFits a namespace (reading named at stages telling) = IsReading a namespace named at stages telling
 
--- what a write was told so far is not above a time
-abbrev pub AreSeen : ℕ → Work → Type 0
-AreSeen time (writing kind ordered statements answers) = AllByRecursion (λ (d : Done). d.time ≤ time) answers
-AreSeen time (reading at half) = Unit {0}
+-- what a write was told so far, by entries that are not above a time
+abbrev pub AreSeen : View → ℕ → Asked → Work → Type 0
+AreSeen v time a (writing kind ordered statements answers) =
+    (write : WriteCommand) → command_of a.request ≡ Ok (write_command write) → AreAnswers (entries_in v first_shard) time write a.id 0 answers
+AreSeen v time a (reading named at stages telling) = Unit {0}
+
+-- it waits for the time that it wants, or has reached one, which is decided for it
+abbrev pub HasTime : View → Asked → RequestId → (time : ℕ) → Wait → Work → Type 0
+HasTime v a id time wait work = ((wait ≡ for_time) × WaitsFor v a id work) ⊎ ((wait ≢ for_time) × (is_ahead time work ≡ false) × IsDecided v id work)
 
 -- an open request was taken by this router in this life, and is not answered
 pub record IsOpenOf (v : View) (asked : List Asked) (answered : List Answered) (r : Router) (q : Open) : Type 0 where
@@ -185,11 +179,10 @@ pub record IsOpenOf (v : View) (asked : List Asked) (answered : List Answered) (
   pub number : request.number ≡ q.number
   pub asks : request.request ≡ q.request
   pub past : request.time ≤ r.time
-  -- it waits for its time, or has reached it
-  pub reached : (q.wait ≡ for_time) ⊎ (is_ahead r.time q.work ≡ false)
+  pub reached : HasTime v request (id_of r q.count) r.time q.wait q.work
   pub silent : AllByRecursion (λ (t : Answered). t.id ≢ id_of r q.count) answered
-  pub work : WorkFits v request q.namespace q.work
-  pub seen : AreSeen r.time q.work
+  pub work : WorkFits request q.namespace q.work
+  pub seen : AreSeen v r.time request q.work
 
 -- what stands in a life before this one, or in this one
 abbrev pub IsBy : (life now : ℕ) (begun : Bool) → Type 0 → Type 0
@@ -230,20 +223,121 @@ StateFits v asked answered at kept (router_state r) = RouterFits v asked answere
 abbrev pub IsMet : View → List Given → ℕ → Type 0
 IsMet v given time = WasMet given (creations_in v) (entries_in v first_shard) time
 
+-- CURSORS
+
+-- the number is one of those that were given so far, and what it shows is of a time that is past
+pub record IsGiven (gave time : ℕ) (c : Cursor) : Type 0 where
+  pub n : ℕ
+  pub number : c.number ≡ pos n
+  pub given : n ≤ gave
+  pub past : c.time ≤ time
+
+-- the cursors of a router, and those of one of its lives
+abbrev pub is_of : (router : ℕ) → Cursor → Bool
+is_of router c = c.router == router
+
+abbrev pub is_of_life : (router life : ℕ) → Cursor → Bool
+is_of_life router life c = (c.router == router) && (c.life == life)
+
+pub record CursorsFit (cursors : List Cursor) (at : ℕ) (r : Router) : Type 0 where
+  pub own : filter (is_of_life at r.life) cursors ≡ r.cursors
+  pub given : AllByRecursion (IsGiven r.gave r.time) (filter (is_of at) cursors)
+  pub most : r.gave ≤ block_size * r.blocks
+
+abbrev pub OwnCursors : List Cursor → ℕ → NodeState → Type 0
+OwnCursors cursors at (catalogue_state c) = Unit {0}
+OwnCursors cursors at (shard_state s) = Unit {0}
+OwnCursors cursors at (router_state r) = CursorsFit cursors at r
+
 pub record HeldFits (v : View) (asked : List Asked) (answered : List Answered) (given : List Given) (at : ℕ) (h : Held) : Type 0 where
   pub state : StateFits v asked answered at h.kept h.state
   pub met : IsMet v given (time_of_node h.state)
+  pub cursors : OwnCursors v.cursors at h.state
 
 -- ANSWERS
 
--- what a read was told stays right: its time is one that the shard has passed, or the collection begins after it, or no shard has the key
-abbrev pub IsSettled : View → Asked → Answered → Type 0
-IsSettled v a t = (find : Find) → command_of a.request ≡ Ok (find_command find) → time_read a find ≤ t.time
-    → (time_read a find ≤ v.bound first_shard) ⊎ (NoneBegan v find.namespace (time_read a find) ⊎ HasNoOwner find.key)
+-- what a read was told stays right: its time is one that the shard has passed, or the collection begins after it
+abbrev pub IsFixed : View → Reading → ℕ → Type 0
+IsFixed v read time = (time ≤ v.bound first_shard) ⊎ NoneBegan v read.namespace time
 
-pub record AnswerFits (v : View) (asked : List Asked) (t : Answered) : Type 0 where
-  pub right : IsRightOf (entries_in v first_shard) asked t
-  pub settled : IsSettled v right.request t
+abbrev pub IsRefusalFixed : View → (creations : List Creation) (history : List Entry) (answered : List Answered) (a : Asked) (t : Answered) (read : Reading)
+    → IsReadRefused creations history answered a t read → Type 0
+IsRefusalFixed v creations history answered a t read (refused_overflow time of may told) = IsFixed v read time
+IsRefusalFixed v creations history answered a t read (refused_excess time n of excess told) = IsFixed v read time
+IsRefusalFixed v creations history answered a t read (refused_ahead ahead told) = Unit {0}
+
+abbrev pub IsSettled : View → (creations : List Creation) (history : List Entry) (asked : List Asked) (answered : List Answered) (cursors : List Cursor)
+    (a : Asked) (t : Answered) (next : List Cursor) → IsRight creations history asked answered cursors a t next → Type 0
+IsSettled v creations history asked answered cursors a t _ (right_write write dones c asks may whole begun name before told) = dones ≢ []
+IsSettled v creations history asked answered cursors a t _ (right_find find time documents batch next asks of may small name when shows told) = IsFixed v
+    find.reading time
+IsSettled v creations history asked answered cursors a t _ (right_count read time n asks of may told) = IsFixed v read time
+IsSettled v creations history asked answered cursors a t _ (right_refused_read read reads refused) = IsRefusalFixed v creations history answered a t read
+    refused
+IsSettled v creations history asked answered cursors a t _ (right_more more c batch next asks found shows told) = Unit {0}
+IsSettled v creations history asked answered cursors a t _ (right_no_cursor more asks none told) = Unit {0}
+IsSettled v creations history asked answered cursors a t _ (right_kill kill killed missing next asks closed told) = Unit {0}
+IsSettled v creations history asked answered cursors a t _ (right_hello asks told) = Unit {0}
+IsSettled v creations history asked answered cursors a t _ (right_legacy legacy asks told) = Unit {0}
+IsSettled v creations history asked answered cursors a t _ (right_ping asks told) = Unit {0}
+IsSettled v creations history asked answered cursors a t _ (right_end_sessions asks told) = Unit {0}
+IsSettled v creations history asked answered cursors a t _ (right_refusal refusal asks told) = Unit {0}
+
+-- an answer to a request that was taken, where it is right
+pub record AnswerFits (v : View) (asked : List Asked) (answered : List Answered) (cursors : List Cursor) (t : Answered) (next : List Cursor) : Type 0 where
+  pub request : Asked
+  pub taken : IsIn request asked
+  pub own : request.id ≡ t.id
+  pub link : request.link ≡ t.link
+  pub number : request.number ≡ t.number
+  pub same : request.request ≡ t.request
+  pub came : request.came ≤ t.step
+  pub risen : request.time ≤ t.time
+  pub right : IsRight (creations_in v) (entries_in v first_shard) asked answered cursors request t next
+  pub settled : IsSettled v (creations_in v) (entries_in v first_shard) asked answered cursors request t next right
+
+-- all that was told, in order, from these cursors to those
+pub data AnswersFit (v : View) (asked : List Asked) (answered : List Answered) : List Cursor → List Answered → List Cursor → Type 0 where
+  no_answer : (cursors : List Cursor) → AnswersFit v asked answered cursors [] cursors
+  one_answer : (cursors next last : List Cursor) (t : Answered) (later : List Answered) → AnswerFits v asked answered cursors t next
+      → AnswersFit v asked answered next later last → AnswersFit v asked answered cursors (t ∷ later) last
+
+-- TIMES THAT SHARDS TELL
+
+-- the entry is one of the statements of a write that was told the entry's time
+abbrev pub IsToldOf : (s : Answered) (write : WriteCommand) (index : ℕ) (e : Entry) → Type 0
+IsToldOf s write index e = (command_of s.request ≡ Ok (write_command write)) × (e.number ≡ number_for write.number s.id index)
+    × (operation_time (Some s.document) ≡ Some e.time)
+
+-- no entry of which any router had told the time before the request came is above the time
+abbrev pub IsPast : View → List Answered → Asked → ℕ → Type 0
+IsPast v answered a time = (s : Answered) (write : WriteCommand) (index : ℕ) (e : Entry) → IsIn s answered → s.step < a.came
+    → IsIn e (entries_in v first_shard) → IsToldOf s write index e → e.time ≤ time
+
+abbrev pub TimeFits : View → List Asked → List Answered → ℕ → Body → Type 0
+TimeFits v asked answered time (time_told id) = (a : Asked) × IsIn a asked × (a.id ≡ id) × IsPast v answered a time
+TimeFits v asked answered time body = Unit {0}
+
+-- as it is told, no entry is
+abbrev pub TellsAll : View → ℕ → Body → Type 0
+TellsAll v time (time_told id) = AllByRecursion (λ (e : Entry). e.time ≤ time) (entries_in v first_shard)
+TellsAll v time body = Unit {0}
+
+-- WHAT THE CATALOGUE AND THE SHARD KEEP
+
+-- what collections the catalogue began
+pub record AreBegun (time : ℕ) (creations : List Creation) : Type 0 where
+  pub names : AreDifferentNames creations
+  pub past : AllByRecursion (λ (c : Creation). c.at ≤ time) creations
+
+pub record NeighboursFit (v : View) (asked : List Asked) : Type 0 where
+  pub begun : AreBegun (v.bound 0) (creations_in v)
+  pub one : AreDifferent (ids_asked asked)
+  pub past : AllByRecursion (λ (e : Entry). e.time ≤ v.bound first_shard) (entries_in v first_shard)
+  pub sent : AllByRecursion (WasMade (entries_in v first_shard) asked) (entries_in v first_shard)
+  pub numbers : AreNumbered (entries_in v first_shard)
+  pub parts : AllByRecursion (StandsInPart (entries_in v first_shard)) asked
+  pub placed : AllByRecursion (IsPlaced (creations_in v)) (entries_in v first_shard)
 
 -- THE WORLD
 
@@ -261,17 +355,23 @@ IsShard (router_state r) = ⊥
 abbrev pub InOrder : List Held → Type 0
 InOrder nodes = (c : Held) × (s : Held) × (routers : List Held) × (nodes ≡ c ∷ s ∷ routers) × IsCatalogue c.state × IsShard s.state
 
-pub record Good (w : World) : Type 0 where
+-- what is true of a message that was ever sent
+abbrev pub SentFits : View → List Asked → List Answered → List Given → Letter → Type 0
+SentFits v asked answered given m = LetterFits v asked m × IsMet v given m.time × TimeFits v asked answered m.time m.body
+
+pub record Good (w : World) (book : Book) : Type 0 where
   pub order : InOrder w.nodes
-  pub nodes : EachAt (HeldFits (view_of w.nodes) w.asked w.answered w.given) 0 w.nodes
-  pub letters : AllByRecursion (λ (m : Letter). LetterFits (view_of w.nodes) w.asked m × IsMet (view_of w.nodes) w.given m.time) w.sent
-  pub answers : AllByRecursion (AnswerFits (view_of w.nodes) w.asked) w.answered
+  pub nodes : EachAt (HeldFits (view_of w.nodes book) w.asked w.answered w.given) 0 w.nodes
+  pub letters : AllByRecursion (SentFits (view_of w.nodes book) w.asked w.answered w.given) w.sent
+  pub answers : AnswersFit (view_of w.nodes book) w.asked w.answered [] w.answered book.cursors
+  pub decided : AllByRecursion (λ (c : Choice). IsIn c.id (ids_asked w.asked)) book.chosen
   pub came : AllByRecursion (λ (a : Asked). a.came < w.now + 1) w.asked
   pub one : AreDifferent (ids_asked w.asked)
   pub once : AreDifferent (ids_told w.answered)
   pub fresh : AllByRecursion (IsFresh w.answered) w.asked
   pub in_order : AllByRecursion (IsInOrder w.asked) w.asked
-  pub known : AllByRecursion (λ (a : Asked). IsMet (view_of w.nodes) w.given a.time) w.asked
+  pub known : AllByRecursion (λ (a : Asked). IsMet (view_of w.nodes book) w.given a.time) w.asked
+  pub met : AllByRecursion (λ (t : Answered). IsMet (view_of w.nodes book) w.given t.time) w.answered
 
 -- WHAT A STEP OWES
 

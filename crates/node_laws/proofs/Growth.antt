@@ -1,23 +1,30 @@
 -- Journals grow, more is asked and told: what was true of messages, tables and entries stays.
-use Rattle.std.proofs.Common.{◌≡◌, inl, inr, ℕ, ◌<◌, ◌≤◌, List, [], ◌∷◌, ◌++◌, refl, sym, ap, subst, ◌∙◌, arith, append-nil, append_assoc, Bool}
-use Rattle.std.specs.Prelude.{Option, Some, None, true, false, max, map, filter, nat_le, if◌then◌else◌}
+use Rattle.std.proofs.Common.{◌≡◌, ◌⊎◌, inl, inr, ℕ, ◌<◌, ◌≤◌, List, [], ◌∷◌, ◌++◌, refl, sym, ap, subst, ◌∙◌, arith, append-nil, ◌+◌, Bool}
+use Rattle.std.specs.Prelude.{Option, Some, None, Result, Ok, Err, true, false, max, filter, nat_le, if◌then◌else◌}
 use Rattle.std.specs.List.{AllByRecursion}
 use Rattle.std.proofs.lemmas.Bool.{leb-true, leb-false}
-use Rattle.history_model.proofs.Lists.{all_weaken, all_append, in_prefix}
-use Rattle.node_model.specs.Tree.{Datum, Fields}
+use Rattle.history_model.proofs.Lists.{all_weaken, all_append, all_at, in_prefix}
+use Rattle.node_model.specs.Tree.{Fields}
 use Rattle.node_model.specs.Catalogue.{Creation}
 use Rattle.node_model.specs.Tables.{Table, first_shard}
-use Rattle.node_model.specs.History.{Entry, IsIn, document_left, document_at}
-use Rattle.node_model.specs.Exchanges.{RequestId, Asked, is_session_of, entries_by}
-use Rattle.node_model.specs.Outcomes.{Done, done_of}
-use Rattle.node_model.specs.Right.{found, told_by, time_read}
-use Rattle.node_model.specs.OneHistory.{WasSent, WasWanted, IsPlaced, Given}
+use Rattle.node_model.specs.Documents.{documents_at}
+use Rattle.node_model.specs.Halves.{Half, Rows, may_stand_in}
+use Rattle.node_model.specs.Writes.{WriteCommand}
+use Rattle.node_model.specs.History.{StatementNumber, Entry, IsIn}
+use Rattle.node_model.specs.Exchanges.{RequestId, Asked, number_for, is_session_of, entries_by}
+use Rattle.node_model.specs.Outcomes.{StatementAnswer, Done}
+use Rattle.node_model.specs.OneHistory.{WasWanted, IsPlaced, Given}
 use Rattle.node_model.specs.Journal.{Kept, kept_table, kept_entry, kept_creation, kept_life, kept_block, entries_kept, creations_kept}
-use Rattle.node_model.specs.Letters.{At, no_time, at_time, Statement, Half, Body, table_ask, table_told, write_ask, write_done, read_ask, half_ask, read_rows, stale, time_ask, time_told, Letter}
+use Rattle.node_model.specs.Letters.{At, no_time, at_time, Statement, HalfFault, half_overflow, half_excess, Body, table_ask, table_told, write_ask}
+use Rattle.node_model.specs.Letters.{write_done, read_ask, half_ask, read_rows, stale, time_ask, time_told, Letter}
 use Rattle.node_model.specs.States.{Work, writing, reading}
 use Rattle.node_laws.proofs.Views.{View, entries_in, creations_in, IsAbove, Later}
-use Rattle.node_laws.proofs.Facts.{IsKnownTable, NoneBegan, IsOwned, IsReadOf, IsShown, IsWriteOf, IsDoneBy, TableFits, IsWanted, BodyFits, LetterFits, WorkFits, IsMet}
-use Rattle.node_laws.proofs.Lists.{map_longer}
+use Rattle.node_laws.proofs.ReadFacts.{NoneBegan, IsReadOf, IsShown, IsMade, RowsFit}
+use Rattle.node_laws.proofs.WriteFacts.{IsAnswerOf, by_entry, by_older, IsDoneAt, AreAnswers, WasMade}
+use Rattle.node_laws.proofs.Facts.{IsKnownTable, IsOwned, IsWriteOf, HasBegun, IsDoneOf, TableFits, IsWanted, IsOfRequest, BodyFits, LetterFits, AreSeen, IsMet}
+use Rattle.node_laws.proofs.Choices.{decided_stays}
+use Rattle.node_laws.proofs.KeptDocuments.{Counts, documents_unchanged}
+use Rattle.node_laws.proofs.Lists.{all_behind}
 
 -- LISTS OF RECORDS
 
@@ -81,39 +88,21 @@ creation_stays v w c later i = let m = more_creations v w later in subst (λ l. 
 
 -- WHAT A HISTORY SAYS OF A TIME
 
-left_above : (namespace : List ℕ) (key : Option Datum) (time : ℕ) (history more : List Entry) → AllByRecursion (λ (e : Entry). time < e.time) more → filter (λ (e : Entry). nat_le e.time time) (history ++ more) ≡ filter (λ (e : Entry). nat_le e.time time) history
-left_above namespace key time [] [] all = refl
-left_above namespace key time [] (e ∷ more) all = by_test (nat_le e.time time) refl (left_above namespace key time [] more all.1)
-  where
-    by_test : (a : Bool) → nat_le e.time time ≡ a → filter (λ (d : Entry). nat_le d.time time) more ≡ [] → (if a then e ∷ filter (λ (d : Entry). nat_le d.time time) more else filter (λ (d : Entry). nat_le d.time time) more) ≡ []
-    by_test true h rest = absurd (let k : e.time ≤ time = leb-true _ _ h in let l = all.0 in omega arith)
-    by_test false h rest = rest
-left_above namespace key time (e ∷ history) more all = by_test (nat_le e.time time) (left_above namespace key time history more all)
-  where
-    by_test : (a : Bool) → filter (λ (d : Entry). nat_le d.time time) (history ++ more) ≡ filter (λ (d : Entry). nat_le d.time time) history
-        → (if a then e ∷ filter (λ (d : Entry). nat_le d.time time) (history ++ more) else filter (λ (d : Entry). nat_le d.time time) (history ++ more)) ≡ (if a then e ∷ filter (λ (d : Entry). nat_le d.time time) history else filter (λ (d : Entry). nat_le d.time time) history)
-    by_test true rest = ap (λ l. e ∷ l) rest
-    by_test false rest = rest
-
--- later entries change nothing of what stood at a time
-pub document_stays : (namespace : List ℕ) (key : Option Datum) (time : ℕ) (history more : List Entry) → AllByRecursion (λ (e : Entry). time < e.time) more → document_at (history ++ more) namespace key time ≡ document_at history namespace key time
-document_stays namespace key time history more all = ap (λ l. document_left namespace key l) (left_above namespace key time history more all)
-
 pub entries_by_longer : (id : RequestId) (history more : List Entry) → entries_by id (history ++ more) ≡ entries_by id history ++ entries_by id more
 entries_by_longer id [] more = refl
 entries_by_longer id (e ∷ history) more = by_test (is_session_of id e.number.session) (entries_by_longer id history more)
   where
-    by_test : (a : Bool) → entries_by id (history ++ more) ≡ entries_by id history ++ entries_by id more → (if a then e ∷ entries_by id (history ++ more) else entries_by id (history ++ more)) ≡ (if a then e ∷ entries_by id history else entries_by id history) ++ entries_by id more
+    by_test : (a : Bool) → entries_by id (history ++ more) ≡ entries_by id history ++ entries_by id more
+        → (if a then e ∷ entries_by id (history ++ more) else entries_by id (history ++ more)) ≡
+        (if a then e ∷ entries_by id history else entries_by id history) ++ entries_by id more
     by_test true rest = ap (λ l. e ∷ l) rest
     by_test false rest = rest
-
-pub told_by_longer : (id : RequestId) (history more : List Entry) → told_by id (history ++ more) ≡ told_by id history ++ told_by id more
-told_by_longer id history more = ap (λ l. map done_of l) (entries_by_longer id history more) ∙ map_longer done_of (entries_by id history) (entries_by id more)
 
 -- FACTS ON TABLES
 
 pub known_grows : (v w : View) (a b : ℕ) (t : Table) → Later v w → a ≤ b → IsKnownTable v a t → IsKnownTable w b t
-known_grows v w a b t later le k = record { creation = k.creation; begun = creation_stays v w k.creation later k.begun; table = k.table; before = let h = k.before in omega arith }
+known_grows v w a b t later le k = record
+    { creation = k.creation; begun = creation_stays v w k.creation later k.begun; table = k.table; before = let h = k.before in omega arith }
 
 pub began_grows : (v w : View) (namespace : List ℕ) (time : ℕ) → Later v w → NoneBegan v namespace time → NoneBegan w namespace time
 began_grows v w namespace time later n =
@@ -122,110 +111,250 @@ began_grows v w namespace time later n =
     let early : time ≤ v.bound 0 = n.0 in (
       omega arith,
       subst (λ l. AllByRecursion (λ (c : Creation). c.namespace ≡ namespace → time < c.at) l) (sym m.same)
-          (all_append (λ (c : Creation). c.namespace ≡ namespace → time < c.at) (creations_in v) m.more n.1 (all_weaken (λ (c : Creation). v.bound 0 < c.at) (λ (c : Creation). c.namespace ≡ namespace → time < c.at) m.more (λ c h e. omega arith) m.above)),
+          (all_append (λ (c : Creation). c.namespace ≡ namespace → time < c.at) (creations_in v) m.more n.1
+          (all_weaken (λ (c : Creation). v.bound 0 < c.at) (λ (c : Creation). c.namespace ≡ namespace → time < c.at) m.more
+          (λ c h e. omega arith) m.above)),
     )
 
-pub owned_grows : (v w : View) (a b : ℕ) (namespace : List ℕ) (shard : ℕ) (s : Statement) → Later v w → a ≤ b → IsOwned v a namespace shard s → IsOwned w b namespace shard s
-owned_grows v w a b namespace shard s later le o = record { creation = o.creation; begun = creation_stays v w o.creation later o.begun; name = o.name; before = let h = o.before in omega arith; owner = o.owner }
+-- an entry of a collection that did not begin by a time is above it
+before_all : (v : View) (namespace : List ℕ) (time : ℕ) (e : Entry) → NoneBegan v namespace time → IsPlaced (creations_in v) e → ¬ Counts namespace time e
+before_all v namespace time e none p counts =
+    let after : time < p.creation.at = all_at (λ (c : Creation). c.namespace ≡ namespace → time < c.at) p.creation (creations_in v) none.1 p.begun
+    (p.name ∙ counts.1) in
+    let before = p.before in
+    let early = counts.0 in
+    absurd (omega arith)
+
+pub owned_grows : (v w : View) (a b : ℕ) (namespace : List ℕ) (shard : ℕ) (s : Statement) → Later v w → a ≤ b → IsOwned v a namespace shard s
+    → IsOwned w b namespace shard s
+owned_grows v w a b namespace shard s later le o = record
+    { creation = o.creation; begun = creation_stays v w o.creation later o.begun; name = o.name; before = let h = o.before in omega arith; owner = o.owner }
 
 -- FACTS ON READS AND WRITES
 
-abbrev pub read_grows : (asked more : List Asked) (id : RequestId) (half : Half) → IsReadOf asked id half → IsReadOf (asked ++ more) id half
-read_grows asked more id half r = record { request = r.request; find = r.find; taken = in_prefix r.request asked more r.taken; own = r.own; asks = r.asks; shows = r.shows }
+-- where the time of a read is past, or its collection begins after it, no later entry counts for it
+none_counts : (v w : View) (namespace : List ℕ) (time : ℕ) (more : List Entry) → Later v w → (time ≤ v.bound first_shard) ⊎ NoneBegan v namespace time
+    → AllByRecursion (λ (e : Entry). v.bound first_shard < e.time) more → AllByRecursion (IsPlaced (creations_in w)) more
+    → AllByRecursion (λ e. ¬ Counts namespace time e) more
+none_counts v w namespace time more later (inl settled) above placed =
+    all_weaken (λ (e : Entry). v.bound first_shard < e.time) (λ e. ¬ Counts namespace time e) more
+    (λ e h counts. let l = counts.0 in absurd (omega arith)) above
+none_counts v w namespace time more later (inr none) above placed =
+    let began : NoneBegan w namespace time = began_grows v w namespace time later none in
+    all_weaken (IsPlaced (creations_in w)) (λ e. ¬ Counts namespace time e) more (λ e p counts. before_all w namespace time e began p counts) placed
 
-pub shown_grows : (v w : View) (asked more : List Asked) (sender time : ℕ) (id : RequestId) (rows : List Fields) → Later v w → IsShown v asked sender time id rows → IsShown w (asked ++ more) sender time id rows
-shown_grows v w asked more sender time id rows later s =
-    let m = more_entries v w sender later in
-    let le : v.bound sender ≤ w.bound sender = later.times sender in
-    let early : time_read s.request s.find ≤ v.bound sender = s.settled in
+pub documents_stay : (v w : View) (namespace : List ℕ) (time : ℕ) → Later v w → (time ≤ v.bound first_shard) ⊎ NoneBegan v namespace time
+    → AllByRecursion (IsPlaced (creations_in w)) (entries_in w first_shard)
+    → documents_at (entries_in w first_shard) namespace time ≡ documents_at (entries_in v first_shard) namespace time
+documents_stay v w namespace time later fixed placed =
+    let m = more_entries v w first_shard later in
+    let behind : AllByRecursion (IsPlaced (creations_in w)) m.more = all_behind (IsPlaced (creations_in w)) (entries_in v first_shard) m.more
+    (subst (λ l. AllByRecursion (IsPlaced (creations_in w)) l) m.same placed) in
+    ap (λ l. documents_at l namespace time) m.same
+    ∙ documents_unchanged namespace time (entries_in v first_shard) m.more (none_counts v w namespace time m.more later fixed m.above behind)
+
+-- the same where the shard has passed the time
+settled_stay : (v w : View) (namespace : List ℕ) (time : ℕ) → Later v w → time ≤ v.bound first_shard
+    → documents_at (entries_in w first_shard) namespace time ≡ documents_at (entries_in v first_shard) namespace time
+settled_stay v w namespace time later settled =
+    let m = more_entries v w first_shard later in
+    ap (λ l. documents_at l namespace time) m.same
+    ∙ documents_unchanged namespace time (entries_in v first_shard) m.more
+    (all_weaken (λ (e : Entry). v.bound first_shard < e.time) (λ e. ¬ Counts namespace time e) m.more
+    (λ e h counts. let l = counts.0 in absurd (omega arith)) m.above)
+
+-- nothing stands in a collection that did not begin
+pub nothing_stands : (v : View) (namespace : List ℕ) (time : ℕ) → NoneBegan v namespace time
+    → AllByRecursion (IsPlaced (creations_in v)) (entries_in v first_shard)
+    → documents_at (entries_in v first_shard) namespace time ≡ []
+nothing_stands v namespace time none placed =
+    documents_unchanged namespace time [] (entries_in v first_shard)
+    (all_weaken (IsPlaced (creations_in v)) (λ e. ¬ Counts namespace time e) (entries_in v first_shard)
+    (λ e p counts. before_all v namespace time e none p counts) placed)
+
+abbrev pub read_grows : (v w : View) (asked more : List Asked) (id : RequestId) (namespace : List ℕ) (at : ℕ) (half : Half) → Later v w
+    → IsReadOf v asked id namespace at half → IsReadOf w (asked ++ more) id namespace at half
+read_grows v w asked more id namespace at half later r = record {
+  request = r.request;
+  read = r.read;
+  taken = in_prefix r.request asked more r.taken;
+  own = r.own;
+  reads = r.reads;
+  name = r.name;
+  shows = r.shows;
+  decided = decided_stays v w id at later r.decided;
+}
+
+pub shown_grows : (v w : View) (asked more : List Asked) (sender early late : ℕ) (id : RequestId) (namespace : List ℕ) (at : ℕ) (half : Half)
+    (documents : List Fields) → Later v w
+    → early ≤ late → IsShown v asked sender early id namespace at half documents → IsShown w (asked ++ more) sender late id namespace at half documents
+shown_grows v w asked more sender early late id namespace at half documents later le s =
+    let risen : v.bound first_shard ≤ w.bound first_shard = later.times first_shard in
+    let settled = s.settled in
+    let past = s.past in
     record {
-      request = s.request;
-      find = s.find;
-      taken = in_prefix s.request asked more s.taken;
-      own = s.own;
-      asks = s.asks;
+      read = read_grows v w asked more id namespace at half later s.read;
       owner = s.owner;
-      rows_are = s.rows_are ∙ ap (λ d. found d) (sym (ap (λ l. document_at l s.find.namespace (Some s.find.key) (time_read s.request s.find)) m.same ∙ document_stays s.find.namespace (Some s.find.key) (time_read s.request s.find) (entries_in v sender) m.more (all_weaken (λ (e : Entry). v.bound sender < e.time) (λ (e : Entry). time_read s.request s.find < e.time) m.more (λ e h. omega arith) m.above)));
+      documents_are = s.documents_are ∙ ap (λ l. filter (may_stand_in half.span) l) (sym (settled_stay v w namespace at later s.settled));
       settled = omega arith;
-      past = s.past;
+      past = omega arith;
     }
 
-pub told_grows : (v w : View) (id : RequestId) (front standing : List Done) → Later v w → told_by id (entries_in v first_shard) ≡ front ++ standing → (more : List Done) × (told_by id (entries_in w first_shard) ≡ front ++ more)
-told_grows v w id front standing later e =
-    let m = more_entries v w first_shard later in
-    (standing ++ told_by id m.more, ap (λ l. told_by id l) m.same ∙ told_by_longer id (entries_in v first_shard) m.more ∙ ap (λ l. l ++ told_by id m.more) e ∙ append_assoc front standing (told_by id m.more))
+made_grows : (v w : View) (asked more : List Asked) (sender early late : ℕ) (id : RequestId) (rows : Rows) → Later v w → early ≤ late
+    → IsMade v asked sender early id rows → IsMade w (asked ++ more) sender late id rows
+made_grows v w asked more sender early late id rows later le m = record {
+  namespace = m.namespace;
+  at = m.at;
+  half = m.half;
+  documents = m.documents;
+  shown = shown_grows v w asked more sender early late id m.namespace m.at m.half m.documents later le m.shown;
+  makes = m.makes;
+}
 
-pub write_grows : (v w : View) (asked more : List Asked) (receiver time : ℕ) (id : RequestId) (ordered : Bool) (namespace : List ℕ) (statements : List Statement) → Later v w → IsWriteOf v asked receiver time id ordered namespace statements → IsWriteOf w (asked ++ more) receiver time id ordered namespace statements
+rows_grow : (v w : View) (asked more : List Asked) (sender time : ℕ) (id : RequestId) (rows : Result Rows HalfFault) → Later v w
+    → RowsFit v asked sender time id rows → RowsFit w (asked ++ more) sender time id rows
+rows_grow v w asked more sender time id (Ok rows) later f = made_grows v w asked more sender time time id rows later (omega arith) f
+rows_grow v w asked more sender time id (Err half_overflow) later f = f
+rows_grow v w asked more sender time id (Err (half_excess n)) later f = record {
+  rows = f.rows;
+  made = made_grows v w asked more sender time time id f.rows later (omega arith) f.made;
+  length = f.length;
+  excess = f.excess;
+  told = f.told;
+}
+
+-- what statements are told is told of more entries, at a later time
+answer_grows : (old more : List Entry) (early late : ℕ) (number : StatementNumber) (answer : StatementAnswer) → early ≤ late
+    → IsAnswerOf old early number answer → IsAnswerOf (old ++ more) late number answer
+answer_grows old more early late number _ le (by_entry e i numbered past) = by_entry e (in_prefix e old more i) numbered (omega arith)
+answer_grows old more early late number _ le (by_older e i session less past) = by_older e (in_prefix e old more i) session less (omega arith)
+
+done_at_grows : (old more : List Entry) (early late : ℕ) (write : WriteCommand) (id : RequestId) (d : Done) → early ≤ late
+    → IsDoneAt old early write id d → IsDoneAt (old ++ more) late write id d
+done_at_grows old more early late write id d le a =
+    record { within = a.within; answer = answer_grows old more early late (number_for write.number id d.index) d.answer le a.answer }
+
+pub done_at_later : (v w : View) (at early late : ℕ) (write : WriteCommand) (id : RequestId) (d : Done) → Later v w → early ≤ late
+    → IsDoneAt (entries_in v at) early write id d → IsDoneAt (entries_in w at) late write id d
+done_at_later v w at early late write id d later le a =
+    let m = more_entries v w at later in
+    subst (λ l. IsDoneAt l late write id d) (sym m.same) (done_at_grows (entries_in v at) m.more early late write id d le a)
+
+pub answers_later : (v w : View) (early late : ℕ) (write : WriteCommand) (id : RequestId) (index : ℕ) (dones : List Done) → Later v w → early ≤ late
+    → AreAnswers (entries_in v first_shard) early write id index dones → AreAnswers (entries_in w first_shard) late write id index dones
+answers_later v w early late write id index [] later le all = tt
+answers_later v w early late write id index (d ∷ dones) later le all = (
+  all.0,
+  done_at_later v w first_shard early late write id d later le all.1,
+  answers_later v w early late write id (index + 1) dones later le all.2,
+)
+
+pub write_grows : (v w : View) (asked more : List Asked) (receiver time : ℕ) (id : RequestId) (ordered : Bool) (namespace : List ℕ)
+    (statements : List Statement) → Later v w → IsWriteOf v asked receiver time id ordered namespace statements
+    → IsWriteOf w (asked ++ more) receiver time id ordered namespace statements
 write_grows v w asked more receiver time id ordered namespace statements later a =
-    let t = told_grows v w id a.front a.standing later a.stands in
     record {
       request = a.request;
       write = a.write;
       front = a.front;
-      standing = t.0;
       back = a.back;
       taken = in_prefix a.request asked more a.taken;
       own = a.own;
       asks = a.asks;
       order = a.order;
       name = a.name;
-      stands = t.1;
+      answered = answers_later v w time time a.write id 0 a.front later (omega arith) a.answered;
       goes_on = a.goes_on;
       next = a.next;
-      owned = all_weaken (IsOwned v time namespace receiver) (IsOwned w time namespace receiver) statements (λ s o. owned_grows v w time time namespace receiver s later (omega arith) o) a.owned;
+      owned = all_weaken (IsOwned v time namespace receiver) (IsOwned w time namespace receiver) statements
+          (λ s o. owned_grows v w time time namespace receiver s later (omega arith) o) a.owned;
       fresh = a.fresh;
     }
 
-pub done_grows : (v w : View) (sender time : ℕ) (id : RequestId) (d : Done) → Later v w → IsDoneBy v sender time id d → IsDoneBy w sender time id d
-done_grows v w sender time id d later b =
-    let m = more_entries v w sender later in
-    record {
-      entry = b.entry;
-      stands = subst (λ l. IsIn b.entry l) (sym (ap (λ l. entries_by id l) m.same ∙ entries_by_longer id (entries_in v sender) m.more)) (in_prefix b.entry (entries_by id (entries_in v sender)) (entries_by id m.more) b.stands);
-      outcome = b.outcome;
-      past = b.past;
-    }
+pub begun_grows : (v w : View) (time : ℕ) (namespace : List ℕ) → Later v w → HasBegun v time namespace → HasBegun w time namespace
+begun_grows v w time namespace later b =
+    record { creation = b.creation; begun = creation_stays v w b.creation later b.begun; name = b.name; before = b.before }
+
+pub done_grows : (v w : View) (asked more : List Asked) (sender time : ℕ) (id : RequestId) (dones : List Done) → Later v w
+    → IsDoneOf v asked sender time id dones → IsDoneOf w (asked ++ more) sender time id dones
+done_grows v w asked more sender time id dones later b = record {
+  request = b.request;
+  write = b.write;
+  taken = in_prefix b.request asked more b.taken;
+  own = b.own;
+  asks = b.asks;
+  each = all_weaken (IsDoneAt (entries_in v sender) time b.write id) (IsDoneAt (entries_in w sender) time b.write id) dones
+      (λ d a. done_at_later v w sender time time b.write id d later (omega arith) a) b.each;
+  last = b.last;
+  begun = begun_grows v w time b.write.namespace later b.begun;
+}
 
 -- MESSAGES
 
 pub wanted_grows : (asked more : List Asked) (namespace : List ℕ) (time : ℕ) → IsWanted asked namespace time → IsWanted (asked ++ more) namespace time
 wanted_grows asked more namespace time s = record { request = s.request; taken = in_prefix s.request asked more s.taken; writes = s.writes; past = s.past }
 
-table_fits_grows : (v w : View) (time : ℕ) (namespace : List ℕ) (at : At) (table : Option Table) → Later v w → TableFits v time namespace at table → TableFits w time namespace at table
+request_grows : (asked more : List Asked) (id : RequestId) → IsOfRequest asked id → IsOfRequest (asked ++ more) id
+request_grows asked more id r = record { request = r.request; taken = in_prefix r.request asked more r.taken; own = r.own }
+
+table_fits_grows : (v w : View) (time : ℕ) (namespace : List ℕ) (at : At) (table : Option Table) → Later v w → TableFits v time namespace at table
+    → TableFits w time namespace at table
 table_fits_grows v w time namespace at (Some t) later f = (known_grows v w time time t later (omega arith) f.0, f.1)
 table_fits_grows v w time namespace no_time None later f = f
 table_fits_grows v w time namespace (at_time at) None later f = began_grows v w namespace at later f
 
-body_grows : (v w : View) (asked more : List Asked) (sender receiver time : ℕ) (b : Body) → Later v w → BodyFits v asked sender receiver time b → BodyFits w (asked ++ more) sender receiver time b
+body_grows : (v w : View) (asked more : List Asked) (sender receiver time : ℕ) (b : Body) → Later v w → BodyFits v asked sender receiver time b
+    → BodyFits w (asked ++ more) sender receiver time b
 body_grows v w asked more sender receiver time (table_ask namespace true at) later f = (f.0, wanted_grows asked more namespace time f.1)
 body_grows v w asked more sender receiver time (table_ask namespace false at) later f = f
 body_grows v w asked more sender receiver time (table_told namespace create at table) later f = table_fits_grows v w time namespace at table later f
-body_grows v w asked more sender receiver time (write_ask id turn ordered namespace statements sent) later f = write_grows v w asked more receiver time id ordered namespace statements later f
-body_grows v w asked more sender receiver time (write_done id dones) later f = (f.0, all_weaken (IsDoneBy v sender time id) (IsDoneBy w sender time id) dones (λ d b. done_grows v w sender time id d later b) f.1)
-body_grows v w asked more sender receiver time (read_ask id turn namespace at half sent) later f = (read_grows asked more id half f.0, f.1, f.2, f.3, f.4)
-body_grows v w asked more sender receiver time (half_ask id turn namespace at half documents) later f = (read_grows asked more id half f.0, shown_grows v w asked more sender time id documents later f.1)
-body_grows v w asked more sender receiver time (read_rows id turn rows) later f = shown_grows v w asked more sender time id rows later f
+body_grows v w asked more sender receiver time (write_ask id turn ordered namespace statements sent) later f = write_grows v w asked more receiver time id
+    ordered namespace statements later f
+body_grows v w asked more sender receiver time (write_done id dones) later f =
+    (f.0, done_grows v w asked more sender time id dones later f.1)
+body_grows v w asked more sender receiver time (read_ask id turn namespace at half sent) later f =
+    (read_grows v w asked more id namespace at half later f.0, f.1, f.2)
+body_grows v w asked more sender receiver time (half_ask id turn namespace at half documents) later f =
+    shown_grows v w asked more sender time time id namespace at half documents later (omega arith) f
+body_grows v w asked more sender receiver time (read_rows id turn rows) later f = rows_grow v w asked more sender time id rows later f
 body_grows v w asked more sender receiver time (stale id turn met) later f = f
-body_grows v w asked more sender receiver time (time_ask id) later f = f
-body_grows v w asked more sender receiver time (time_told id) later f = f
+body_grows v w asked more sender receiver time (time_ask id) later f = request_grows asked more id f
+body_grows v w asked more sender receiver time (time_told id) later f = request_grows asked more id f
 
 pub letter_grows : (v w : View) (asked more : List Asked) (m : Letter) → Later v w → LetterFits v asked m → LetterFits w (asked ++ more) m
 letter_grows v w asked more m later f = body_grows v w asked more m.sender m.receiver m.time m.body later f
 
 -- WORK, ENTRIES AND TIMES
 
-pub work_grows : (v w : View) (a : Asked) (namespace : List ℕ) (work : Work) → Later v w → WorkFits v a namespace work → WorkFits w a namespace work
-work_grows v w a namespace (writing kind ordered statements answers) later (write, asks, is, name, order, all, (standing, stands), goes_on) = (write, asks, is, name, order, all, told_grows v w a.id answers standing later stands, goes_on)
-work_grows v w a namespace (reading at half) later f = f
+pub seen_grows : (v w : View) (early late : ℕ) (a : Asked) (work : Work) → Later v w → early ≤ late → AreSeen v early a work → AreSeen w late a work
+seen_grows v w early late a (writing kind ordered statements answers) later le seen =
+    λ write asks. answers_later v w early late write a.id 0 answers later le (seen write asks)
+seen_grows v w early late a (reading named at stages telling) later le seen = tt
 
-pub sent_grows : (asked more : List Asked) (e : Entry) → WasSent asked e → WasSent (asked ++ more) e
-sent_grows asked more e s = record { request = s.request; taken = in_prefix s.request asked more s.taken; writes = s.writes; own = s.own; later = s.later }
+-- an entry was made for a request, also among more entries and requests
+pub entry_grows : (old new : List Entry) (asked more : List Asked) (e : Entry) → ((d : Entry) → IsIn d old → IsIn d new) → WasMade old asked e
+    → WasMade new (asked ++ more) e
+entry_grows old new asked more e stays m = record {
+  request = m.request;
+  taken = in_prefix m.request asked more m.taken;
+  sends = m.sends;
+  later = m.later;
+  reached = λ ordered i before. let r = m.reached ordered i before in (r.0, stays r.0 r.1, r.2, r.3, r.4);
+}
 
 pub creation_wanted_grows : (asked more : List Asked) (c : Creation) → WasWanted asked c → WasWanted (asked ++ more) c
 creation_wanted_grows asked more c s = record { request = s.request; taken = in_prefix s.request asked more s.taken; writes = s.writes; later = s.later }
 
 pub placed_grows : (v w : View) (e : Entry) → Later v w → IsPlaced (creations_in v) e → IsPlaced (creations_in w) e
-placed_grows v w e later p = record { creation = p.creation; key = p.key; begun = creation_stays v w p.creation later p.begun; name = p.name; before = p.before; writes = p.writes; owner = p.owner }
+placed_grows v w e later p = record {
+  creation = p.creation;
+  key = p.key;
+  begun = creation_stays v w p.creation later p.begun;
+  name = p.name;
+  before = p.before;
+  writes = p.writes;
+  owner = p.owner;
+}
 
 pub met_grows : (v w : View) (given more : List Given) (time : ℕ) → Later v w → IsMet v given time → IsMet w (given ++ more) time
 met_grows v w given more time later (inl z) = inl z

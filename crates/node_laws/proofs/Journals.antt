@@ -2,10 +2,11 @@
 use Rattle.std.proofs.Common.{◌≡◌, ◌≢◌, ℕ, zero, suc, ◌≤◌, List, [], ◌∷◌, ◌++◌, refl, sym, ap, subst, arith, append-nil}
 use Rattle.std.specs.Prelude.{Some}
 use Rattle.std.specs.List.{AllByRecursion, slice_get, slice_set}
+use Rattle.node_model.specs.Cursors.{Cursor}
 use Rattle.node_model.specs.Journal.{Kept}
 use Rattle.node_model.specs.States.{NodeState, time_of_node}
 use Rattle.node_model.specs.World.{Held, journal_at}
-use Rattle.node_laws.proofs.Views.{View, time_at, view_of, IsAbove, Longer, Later}
+use Rattle.node_laws.proofs.Views.{Choice, Book, View, time_at, view_of, IsAbove, Longer, Later}
 
 abbrev pub with_more : Held → List Kept → NodeState → Held
 with_more old written new = record { state = new; kept = old.kept ++ written }
@@ -14,18 +15,30 @@ pub longer_self : (time : ℕ) (kept : List Kept) → Longer time kept kept
 longer_self time kept = record { written = []; same = sym (append-nil kept); rises = tt }
 
 pub later_self : (v : View) → Later v v
-later_self v = record { longer = λ at. longer_self (v.bound at) (v.journal at); times = λ at. omega arith }
+later_self v = record {
+  longer = λ at. longer_self (v.bound at) (v.journal at);
+  times = λ at. omega arith;
+  decided = record { news = []; same = sym (append-nil v.chosen) };
+}
 
-longer_at : (nodes : List Held) (at : ℕ) (old : Held) (written : List Kept) (new : NodeState) → slice_get nodes at ≡ Some old → AllByRecursion (IsAbove (time_of_node old.state)) written → (p : ℕ) → Longer (time_at nodes p) (journal_at nodes p) (journal_at (slice_set nodes at (with_more old written new)) p)
+longer_at : (nodes : List Held) (at : ℕ) (old : Held) (written : List Kept) (new : NodeState) → slice_get nodes at ≡ Some old
+    → AllByRecursion (IsAbove (time_of_node old.state)) written → (p : ℕ)
+    → Longer (time_at nodes p) (journal_at nodes p) (journal_at (slice_set nodes at (with_more old written new)) p)
 longer_at [] at old written new here rises p = longer_self 0 []
 longer_at (h ∷ nodes) zero old written new here rises zero =
     let same : h ≡ old = cc in
-    record { written = written; same = ap (λ (x : Held). x.kept ++ written) (sym same); rises = subst (λ (x : Held). AllByRecursion (IsAbove (time_of_node x.state)) written) (sym same) rises }
+    record {
+      written = written;
+      same = ap (λ (x : Held). x.kept ++ written) (sym same);
+      rises = subst
+          (λ (x : Held). AllByRecursion (IsAbove (time_of_node x.state)) written) (sym same) rises;
+    }
 longer_at (h ∷ nodes) zero old written new here rises (suc p) = longer_self (time_at nodes p) (journal_at nodes p)
 longer_at (h ∷ nodes) (suc at) old written new here rises zero = longer_self (time_of_node h.state) h.kept
 longer_at (h ∷ nodes) (suc at) old written new here rises (suc p) = longer_at nodes at old written new here rises p
 
-times_at : (nodes : List Held) (at : ℕ) (old : Held) (written : List Kept) (new : NodeState) → slice_get nodes at ≡ Some old → time_of_node old.state ≤ time_of_node new → (p : ℕ) → time_at nodes p ≤ time_at (slice_set nodes at (with_more old written new)) p
+times_at : (nodes : List Held) (at : ℕ) (old : Held) (written : List Kept) (new : NodeState) → slice_get nodes at ≡ Some old
+    → time_of_node old.state ≤ time_of_node new → (p : ℕ) → time_at nodes p ≤ time_at (slice_set nodes at (with_more old written new)) p
 times_at [] at old written new here le p = omega arith
 times_at (h ∷ nodes) zero old written new here le zero =
     let same : h ≡ old = cc in
@@ -34,8 +47,18 @@ times_at (h ∷ nodes) zero old written new here le (suc p) = omega arith
 times_at (h ∷ nodes) (suc at) old written new here le zero = omega arith
 times_at (h ∷ nodes) (suc at) old written new here le (suc p) = times_at nodes at old written new here le p
 
-pub views_later : (nodes : List Held) (at : ℕ) (old : Held) (written : List Kept) (new : NodeState) → slice_get nodes at ≡ Some old → AllByRecursion (IsAbove (time_of_node old.state)) written → time_of_node old.state ≤ time_of_node new → Later (view_of nodes) (view_of (slice_set nodes at (with_more old written new)))
-views_later nodes at old written new here rises le = record { longer = longer_at nodes at old written new here rises; times = times_at nodes at old written new here le }
+-- the book behind a step
+abbrev pub with_news : Book → List Choice → List Cursor → Book
+with_news book news cursors = record { chosen = book.chosen ++ news; cursors = cursors }
+
+pub views_later : (nodes : List Held) (at : ℕ) (old : Held) (written : List Kept) (new : NodeState) (book : Book) (news : List Choice) (cursors : List Cursor)
+    → slice_get nodes at ≡ Some old → AllByRecursion (IsAbove (time_of_node old.state)) written → time_of_node old.state ≤ time_of_node new
+    → Later (view_of nodes book) (view_of (slice_set nodes at (with_more old written new)) (with_news book news cursors))
+views_later nodes at old written new book news cursors here rises le = record {
+  longer = longer_at nodes at old written new here rises;
+  times = times_at nodes at old written new here le;
+  decided = record { news = news; same = refl };
+}
 
 -- the time at the place of a step
 pub time_here : (nodes : List Held) (at : ℕ) (old new : Held) → slice_get nodes at ≡ Some old → time_at (slice_set nodes at new) at ≡ time_of_node new.state

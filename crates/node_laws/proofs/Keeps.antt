@@ -1,26 +1,32 @@
 -- A step that owes what it owes keeps all facts.
-use Rattle.std.proofs.Common.{◌≡◌, ℕ, zero, suc, ◌+◌, ◌<◌, ◌≤◌, List, ◌∷◌, ◌++◌, refl, sym, ap, subst, ◌∙◌, arith}
-use Rattle.std.specs.Prelude.{Some}
+use Rattle.std.proofs.Common.{◌≡◌, ◌≢◌, ◌⊎◌, inl, inr, ℕ, zero, suc, ◌+◌, ◌<◌, ◌≤◌, List, [], ◌∷◌, ◌++◌, refl, sym, ap, subst, ◌∙◌, arith}
+use Rattle.std.specs.Prelude.{Some, filter}
 use Rattle.std.specs.List.{AllByRecursion, slice_get, slice_set}
-use Rattle.history_model.proofs.Lists.{all_weaken, all_both, all_append}
+use Rattle.history_model.proofs.Lists.{all_weaken, all_both, all_append, all_at, in_prefix, in_append}
+use Rattle.node_model.specs.Writes.{WriteCommand}
 use Rattle.node_model.specs.Tables.{first_shard}
+use Rattle.node_model.specs.History.{Entry, IsIn}
 use Rattle.node_model.specs.Exchanges.{Asked, Answered}
-use Rattle.node_model.specs.OneHistory.{StandsInPart, IsPlaced, IsFresh, IsInOrder, Given, ids_asked, ids_told, AreDifferent}
-use Rattle.node_model.specs.Journal.{Kept, entries_kept}
-use Rattle.node_model.specs.Letters.{Letter, Effect}
-use Rattle.node_model.specs.States.{Shard, NodeState, catalogue_state, shard_state, router_state}
+use Rattle.node_model.specs.OneHistory.{StandsInPart, IsPlaced, AreNumbered, IsFresh, IsInOrder, Given, ids_asked, ids_told, AreDifferent}
+use Rattle.node_model.specs.Journal.{Kept, entries_kept, creations_kept}
+use Rattle.node_model.specs.Letters.{Body, table_ask, table_told, write_ask, write_done, read_ask, half_ask, read_rows, stale, time_ask, time_told, Letter}
+use Rattle.node_model.specs.Letters.{Effect}
+use Rattle.node_model.specs.States.{Shard, NodeState, catalogue_state, shard_state, router_state, time_of_node}
 use Rattle.node_model.specs.World.{Held, World, asked_by, answered_by, after, journal_at}
 use Rattle.node_model.proofs.Journals.{journal_here}
-use Rattle.node_laws.proofs.Views.{View, view_of, entries_in, creations_in, Later}
+use Rattle.node_laws.proofs.Views.{Choice, Book, View, view_of, time_at, entries_in, creations_in, Later}
 use Rattle.node_laws.proofs.Places.{EachAt, each_set}
-use Rattle.node_laws.proofs.Facts.{LetterFits, ShardFits, StateFits, HeldFits, IsMet, AnswerFits, IsCatalogue, IsShard, InOrder, Good, SameKind}
-use Rattle.node_laws.proofs.Owes.{asked_after, answered_after, OwesIn, Owes}
-use Rattle.node_laws.proofs.Lists.{all_prefix}
+use Rattle.node_laws.proofs.WriteFacts.{WasMade}
+use Rattle.node_laws.proofs.Facts.{BodyFits, ShardFits, StateFits, is_of, HeldFits, IsMet, AnswersFit, IsPast, IsToldOf, TimeFits, TellsAll, AreBegun}
+use Rattle.node_laws.proofs.Facts.{NeighboursFit}
+use Rattle.node_laws.proofs.Facts.{IsCatalogue, IsShard, InOrder, SentFits, Good, SameKind}
+use Rattle.node_laws.proofs.Owes.{asked_after, answered_after, IsSaid, OwesIn, Owes}
+use Rattle.node_laws.proofs.Lists.{map_longer}
 use Rattle.node_laws.proofs.Growth.{letter_grows, met_later}
-use Rattle.node_laws.proofs.Journals.{with_more, views_later, journal_else, time_here}
+use Rattle.node_laws.proofs.Journals.{with_more, with_news, views_later, journal_else, time_here}
 use Rattle.node_laws.proofs.Requests.{answered_now, answered_here, asked_now, asked_here, still_fresh}
-use Rattle.node_laws.proofs.Others.{other_fits}
-use Rattle.node_laws.proofs.Answers.{answer_grows}
+use Rattle.node_laws.proofs.Others.{Decided, other_fits}
+use Rattle.node_laws.proofs.Answers.{Grows, IsClosed, all_closed, answers_grow, answers_joined}
 
 -- THE ORDER OF NODES
 
@@ -38,13 +44,18 @@ kind_shard (shard_state c) (router_state d) same is = absurd same
 kind_shard (catalogue_state s) t same is = absurd is
 kind_shard (router_state s) t same is = absurd is
 
-order_set : (c s : Held) (routers : List Held) (at : ℕ) (old new : Held) → slice_get (c ∷ s ∷ routers) at ≡ Some old → SameKind old.state new.state → IsCatalogue c.state → IsShard s.state → InOrder (slice_set (c ∷ s ∷ routers) at new)
-order_set c s routers zero old new here kind is_c is_s = let same : c ≡ old = cc in (new, s, routers, refl, kind_catalogue old.state new.state kind (subst (λ (h : Held). IsCatalogue h.state) same is_c), is_s)
-order_set c s routers (suc zero) old new here kind is_c is_s = let same : s ≡ old = cc in (c, new, routers, refl, is_c, kind_shard old.state new.state kind (subst (λ (h : Held). IsShard h.state) same is_s))
+order_set : (c s : Held) (routers : List Held) (at : ℕ) (old new : Held) → slice_get (c ∷ s ∷ routers) at ≡ Some old → SameKind old.state new.state
+    → IsCatalogue c.state → IsShard s.state → InOrder (slice_set (c ∷ s ∷ routers) at new)
+order_set c s routers zero old new here kind is_c is_s = let same : c ≡ old = cc in
+    (new, s, routers, refl, kind_catalogue old.state new.state kind (subst (λ (h : Held). IsCatalogue h.state) same is_c), is_s)
+order_set c s routers (suc zero) old new here kind is_c is_s = let same : s ≡ old = cc in
+    (c, new, routers, refl, is_c, kind_shard old.state new.state kind (subst (λ (h : Held). IsShard h.state) same is_s))
 order_set c s routers (suc (suc at)) old new here kind is_c is_s = (c, s, slice_set routers at new, refl, is_c, is_s)
 
-order_after : (nodes : List Held) (at : ℕ) (old new : Held) → InOrder nodes → slice_get nodes at ≡ Some old → SameKind old.state new.state → InOrder (slice_set nodes at new)
-order_after nodes at old new (c, s, routers, same, is_c, is_s) here kind = subst (λ l. InOrder (slice_set l at new)) (sym same) (order_set c s routers at old new (ap (λ l. slice_get l at) (sym same) ∙ here) kind is_c is_s)
+order_after : (nodes : List Held) (at : ℕ) (old new : Held) → InOrder nodes → slice_get nodes at ≡ Some old → SameKind old.state new.state
+    → InOrder (slice_set nodes at new)
+order_after nodes at old new (c, s, routers, same, is_c, is_s) here kind = subst (λ l. InOrder (slice_set l at new)) (sym same)
+    (order_set c s routers at old new (ap (λ l. slice_get l at) (sym same) ∙ here) kind is_c is_s)
 
 -- the shard, where its journal says all entries
 pub record TheShard (w : View) (asked : List Asked) (nodes : List Held) : Type 0 where
@@ -52,27 +63,124 @@ pub record TheShard (w : View) (asked : List Asked) (nodes : List Held) : Type 0
   pub kept : List Kept
   pub fits : ShardFits w asked first_shard kept shard
   pub journal : journal_at nodes first_shard ≡ kept
+  pub time : time_at nodes first_shard ≡ shard.time
 
-the_shard_in : (w : View) (asked : List Asked) (answered : List Answered) (given : List Given) (c h : Held) (routers : List Held) → IsShard h.state → EachAt (HeldFits w asked answered given) 0 (c ∷ h ∷ routers) → TheShard w asked (c ∷ h ∷ routers)
-the_shard_in w asked answered given c h routers is all = by_state h.state is all.1.0.state
+the_shard_in : (w : View) (asked : List Asked) (answered : List Answered) (given : List Given) (c h : Held) (routers : List Held) → IsShard h.state
+    → EachAt (HeldFits w asked answered given) 0 (c ∷ h ∷ routers) → TheShard w asked (c ∷ h ∷ routers)
+the_shard_in w asked answered given c h routers is all = by_state h.state refl is all.1.0.state
   where
-    by_state : (s : NodeState) → IsShard s → StateFits w asked answered first_shard h.kept s → TheShard w asked (c ∷ h ∷ routers)
-    by_state (shard_state s) is fits = record { shard = s; kept = h.kept; fits = fits; journal = refl }
-    by_state (catalogue_state s) is fits = absurd is
-    by_state (router_state s) is fits = absurd is
+    by_state : (s : NodeState) → h.state ≡ s → IsShard s → StateFits w asked answered first_shard h.kept s → TheShard w asked (c ∷ h ∷ routers)
+    by_state (shard_state s) same is fits = record { shard = s; kept = h.kept; fits = fits; journal = refl; time = ap (λ x. time_of_node x) same }
+    by_state (catalogue_state s) same is fits = absurd is
+    by_state (router_state s) same is fits = absurd is
 
-pub the_shard : (w : View) (asked : List Asked) (answered : List Answered) (given : List Given) (nodes : List Held) → InOrder nodes → EachAt (HeldFits w asked answered given) 0 nodes → TheShard w asked nodes
+pub the_shard : (w : View) (asked : List Asked) (answered : List Answered) (given : List Given) (nodes : List Held) → InOrder nodes
+    → EachAt (HeldFits w asked answered given) 0 nodes → TheShard w asked nodes
 the_shard w asked answered given nodes (c, s, routers, same, is_c, is_s) all =
     let t = the_shard_in w asked answered given c s routers is_s (subst (λ l. EachAt (HeldFits w asked answered given) 0 l) same all) in
-    record { shard = t.shard; kept = t.kept; fits = t.fits; journal = ap (λ l. journal_at l first_shard) same ∙ t.journal }
+    record {
+      shard = t.shard;
+      kept = t.kept;
+      fits = t.fits;
+      journal = ap (λ l. journal_at l first_shard) same ∙ t.journal;
+      time = ap (λ l. time_at l first_shard) same ∙ t.time;
+    }
+
+-- WHAT THE CATALOGUE AND THE SHARD KEEP
+
+catalogue_begun : (w : View) (asked : List Asked) (answered : List Answered) (kept : List Kept) (s : NodeState) → IsCatalogue s
+    → StateFits w asked answered 0 kept s → AreBegun (time_of_node s) (creations_kept kept)
+catalogue_begun w asked answered kept (catalogue_state c) is fits = record { names = fits.names; past = fits.past }
+catalogue_begun w asked answered kept (shard_state s) is fits = absurd is
+catalogue_begun w asked answered kept (router_state r) is fits = absurd is
+
+pub the_begun : (w : View) (asked : List Asked) (answered : List Answered) (given : List Given) (nodes : List Held) → InOrder nodes
+    → EachAt (HeldFits w asked answered given) 0 nodes → AreBegun (time_at nodes 0) (creations_kept (journal_at nodes 0))
+the_begun w asked answered given nodes (c, s, routers, same, is_c, is_s) all =
+    let fits = (subst (λ l. EachAt (HeldFits w asked answered given) 0 l) same all).0 in
+    subst (λ l. AreBegun (time_at l 0) (creations_kept (journal_at l 0))) (sym same) (catalogue_begun w asked answered c.kept c.state is_c fits.state)
+
+-- in a view of the nodes
+pub nodes_keep : (v : View) (asked : List Asked) (answered : List Answered) (given : List Given) (nodes : List Held) → InOrder nodes
+    → EachAt (HeldFits v asked answered given) 0 nodes → ((at : ℕ) → v.journal at ≡ journal_at nodes at) → ((at : ℕ) → v.bound at ≡ time_at nodes at)
+    → AreDifferent (ids_asked asked) → NeighboursFit v asked
+nodes_keep v asked answered given nodes order all journals bounds different =
+    let s = the_shard v asked answered given nodes order all in
+    let b = the_begun v asked answered given nodes order all in
+    let creations : creations_in v ≡ creations_kept (journal_at nodes 0) = ap (λ k. creations_kept k) (journals 0) in
+    let entries : s.shard.entries ≡ entries_in v first_shard = s.fits.entries ∙ sym (ap (λ k. entries_kept k) (journals first_shard ∙ s.journal)) in
+    record {
+      begun = subst (λ l. AreBegun (v.bound 0) l) (sym creations) (subst (λ t. AreBegun t (creations_kept (journal_at nodes 0))) (sym (bounds 0)) b);
+      one = different;
+      past = subst (λ l. AllByRecursion (λ (e : Entry). e.time ≤ v.bound first_shard) l) entries
+          (subst (λ n. AllByRecursion (λ (e : Entry). e.time ≤ n) s.shard.entries) (sym (bounds first_shard ∙ s.time)) s.fits.past);
+      sent = subst (λ l. AllByRecursion (WasMade l asked) l) entries s.fits.sent;
+      numbers = subst (λ l. AreNumbered l) entries s.fits.numbers;
+      parts = subst (λ l. AllByRecursion (StandsInPart l) asked) entries s.fits.parts;
+      placed = subst (λ l. AllByRecursion (IsPlaced (creations_in v)) l) entries s.fits.placed;
+    }
 
 -- REQUESTS
 
 -- requests in order stay so, since a new one comes now
-order_stays : (asked more : List Asked) (now : ℕ) (a : Asked) → a.came < now + 1 → AllByRecursion (λ (b : Asked). b.came ≡ now) more → IsInOrder asked a → IsInOrder (asked ++ more) a
+order_stays : (asked more : List Asked) (now : ℕ) (a : Asked) → a.came < now + 1 → AllByRecursion (λ (b : Asked). b.came ≡ now) more → IsInOrder asked a
+    → IsInOrder (asked ++ more) a
 order_stays asked more now a came news order =
     all_append (λ (b : Asked). b.id.router ≡ a.id.router → b.id.life ≡ a.id.life → b.came < a.came → b.time ≤ a.time) asked more order
-    (all_weaken (λ (b : Asked). b.came ≡ now) (λ (b : Asked). b.id.router ≡ a.id.router → b.id.life ≡ a.id.life → b.came < a.came → b.time ≤ a.time) more (λ b e router life before. absurd (omega arith)) news)
+    (all_weaken (λ (b : Asked). b.came ≡ now) (λ (b : Asked). b.id.router ≡ a.id.router → b.id.life ≡ a.id.life → b.came < a.came → b.time ≤ a.time) more
+    (λ b e router life before. absurd (omega arith)) news)
+
+-- TIMES THAT SHARDS TELL
+
+-- what is told fits
+times_told : (v : View) (asked : List Asked) (answered : List Answered) (sender receiver time : ℕ) (b : Body) → BodyFits v asked sender receiver time b
+    → TellsAll v time b
+    → TimeFits v asked answered time b
+times_told v asked answered sender receiver time (time_told id) fits all = (
+  fits.request,
+  fits.taken,
+  fits.own,
+  λ s write index e i before stands told. all_at (λ (d : Entry). d.time ≤ time) e (entries_in v first_shard) all stands,
+)
+times_told v asked answered sender receiver time (table_ask namespace create at) fits all = tt
+times_told v asked answered sender receiver time (table_told namespace create at table) fits all = tt
+times_told v asked answered sender receiver time (write_ask id turn ordered namespace statements sent) fits all = tt
+times_told v asked answered sender receiver time (write_done id dones) fits all = tt
+times_told v asked answered sender receiver time (read_ask id turn namespace at half sent) fits all = tt
+times_told v asked answered sender receiver time (half_ask id turn namespace at half documents) fits all = tt
+times_told v asked answered sender receiver time (read_rows id turn rows) fits all = tt
+times_told v asked answered sender receiver time (stale id turn met) fits all = tt
+times_told v asked answered sender receiver time (time_ask id) fits all = tt
+
+-- and goes on to
+module _ (v w : View) (asked more : List Asked) (answered news : List Answered) (now : ℕ) (g : Grows v w asked more answered news now)
+    (closed : AllByRecursion (IsClosed v w) answered) where
+  past_grows : (a : Asked) (time : ℕ) → IsIn a asked → IsPast v answered a time → IsPast w (answered ++ news) a time
+  past_grows a time taken past = λ s write index e i before stands told. by_place s write index e before stands told (in_append s answered news i)
+    where
+      by_place : (s : Answered) (write : WriteCommand) (index : ℕ) (e : Entry) → s.step < a.came → IsIn e (entries_in w first_shard)
+          → IsToldOf s write index e → IsIn s answered ⊎ IsIn s news → e.time ≤ time
+      by_place s write index e before stands told (inl j) =
+          past s write index e j before (all_at (IsClosed v w) s answered closed j write index e stands told) told
+      by_place s write index e before stands told (inr j) =
+          let at : s.step ≡ now = all_at (λ (x : Answered). x.step ≡ now) s news g.steps j in
+          let came : a.came < now + 1 = all_at (λ (x : Asked). x.came < now + 1) a asked g.came taken in
+          absurd (omega arith)
+
+  times_grow : (time : ℕ) (b : Body) → TimeFits v asked answered time b → TimeFits w (asked ++ more) (answered ++ news) time b
+  times_grow time (time_told id) (a, taken, own, past) = (a, in_prefix a asked more taken, own, past_grows a time taken past)
+  times_grow time (table_ask namespace create at) f = tt
+  times_grow time (table_told namespace create at table) f = tt
+  times_grow time (write_ask id turn ordered namespace statements sent) f = tt
+  times_grow time (write_done id dones) f = tt
+  times_grow time (read_ask id turn namespace at half sent) f = tt
+  times_grow time (half_ask id turn namespace at half documents) f = tt
+  times_grow time (read_rows id turn rows) f = tt
+  times_grow time (stale id turn met) f = tt
+  times_grow time (time_ask id) f = tt
+
+  letters_grow : (given : List Given) (m : Letter) → SentFits v asked answered given m → SentFits w (asked ++ more) (answered ++ news) given m
+  letters_grow given m f = (letter_grows v w asked more m g.later f.0, met_later v w given m.time g.later f.1, times_grow m.time m.body f.2)
 
 -- A STEP
 
@@ -80,18 +188,22 @@ order_stays asked more now a came news order =
 pub record GoodIn (v : View) (w : World) (at : ℕ) (old : Held) (f : Effect) (new : NodeState) : Type 0 where
   pub order : InOrder (slice_set w.nodes at (with_more old f.written new))
   pub nodes : EachAt (HeldFits v (asked_after w f) (answered_after w f) w.given) 0 (slice_set w.nodes at (with_more old f.written new))
-  pub letters : AllByRecursion (λ (m : Letter). LetterFits v (asked_after w f) m × IsMet v w.given m.time) (w.sent ++ f.mail)
-  pub answers : AllByRecursion (AnswerFits v (asked_after w f)) (answered_after w f)
+  pub letters : AllByRecursion (SentFits v (asked_after w f) (answered_after w f) w.given) (w.sent ++ f.mail)
+  pub answers : AnswersFit v (asked_after w f) (answered_after w f) [] (answered_after w f) v.cursors
+  pub decided : AllByRecursion (λ (c : Choice). IsIn c.id (ids_asked (asked_after w f))) v.chosen
   pub came : AllByRecursion (λ (a : Asked). a.came < w.now + 1) (asked_after w f)
   pub one : AreDifferent (ids_asked (asked_after w f))
   pub once : AreDifferent (ids_told (answered_after w f))
   pub fresh : AllByRecursion (IsFresh (answered_after w f)) (asked_after w f)
   pub in_order : AllByRecursion (IsInOrder (asked_after w f)) (asked_after w f)
   pub known : AllByRecursion (λ (a : Asked). IsMet v w.given a.time) (asked_after w f)
+  pub met : AllByRecursion (λ (t : Answered). IsMet v w.given t.time) (answered_after w f)
 
-good_parts : (w : World) (at : ℕ) (old : Held) (f : Effect) (new : NodeState) (v : View) → v ≡ view_of (slice_set w.nodes at (with_more old f.written new)) → Good w → slice_get w.nodes at ≡ Some old → Owes w at old f new → Later (view_of w.nodes) v → OwesIn v w at old f new → GoodIn v w at old f new
-good_parts w at old f new v is good here owes later owed =
-    let u : View = view_of w.nodes in
+good_parts : (w : World) (book : Book) (at : ℕ) (old : Held) (f : Effect) (new : NodeState) (v : View) → Good w book → slice_get w.nodes at ≡ Some old
+    → (owes : Owes w book at old f new) → v ≡ view_of (slice_set w.nodes at (with_more old f.written new)) (with_news book owes.news owes.cursors)
+    → Later (view_of w.nodes book) v → OwesIn v w book at old f new → GoodIn v w at old f new
+good_parts w book at old f new v good here owes is later owed =
+    let u : View = view_of w.nodes book in
     let more : List Asked = asked_by w.now f.taken in
     let news : List Answered = answered_by w.now f.replies in
     let own = asked_here w.now at f.taken owes.taken in
@@ -99,43 +211,92 @@ good_parts w at old f new v is good here owes later owed =
     let steps = answered_now w.now f.replies in
     let comes = asked_now w.now f.taken in
     let zero_at : 0 + at ≡ at = omega arith in
+    let decides : Decided at u v = record {
+      news = owes.news;
+      same = ap (λ (x : View). x.chosen) is;
+      theirs = all_weaken (λ (c : Choice). (c.id.router ≡ at) × IsIn c.id (ids_asked (asked_after w f))) (λ (c : Choice). c.id.router ≡ at) owes.news
+          (λ c h. h.0) owes.chose;
+    } in
+    let elsewhere : (router : ℕ) → router ≢ at → filter (is_of router) v.cursors ≡ filter (is_of router) book.cursors =
+    λ router other. ap (λ (x : View). filter (is_of router) x.cursors) is ∙ owes.elsewhere router other in
     let nodes : EachAt (HeldFits v (asked_after w f) (answered_after w f) w.given) 0 (slice_set w.nodes at (with_more old f.written new)) =
     each_set (HeldFits u w.asked w.answered w.given) (HeldFits v (asked_after w f) (answered_after w f) w.given) 0 at w.nodes (with_more old f.written new)
-    (λ j h other fits. other_fits u v w.asked more w.answered news w.given j at h (λ e. other (omega (arith, e))) later owes.one own told fits)
+    (λ j h other fits. other_fits u v w.asked more w.answered news w.given j at h (λ e. other (omega (arith, e))) later decides elsewhere owes.one
+    own told fits)
     (subst (λ k. HeldFits v (asked_after w f) (answered_after w f) w.given k (with_more old f.written new)) (sym zero_at) owed.node) good.nodes in
-    let order : InOrder (slice_set w.nodes at (with_more old f.written new)) = order_after w.nodes at old (with_more old f.written new) good.order here owes.kind in
-    let shard = the_shard v (asked_after w f) (answered_after w f) w.given (slice_set w.nodes at (with_more old f.written new)) order nodes in
-    let entries : shard.shard.entries ≡ entries_in v first_shard = shard.fits.entries ∙ sym (ap (λ k. entries_kept k) (ap (λ (x : View). x.journal first_shard) is ∙ shard.journal)) in
-    let parts : AllByRecursion (StandsInPart (entries_in v first_shard)) (asked_after w f) = subst (λ l. AllByRecursion (StandsInPart l) (asked_after w f)) entries shard.fits.parts in
-    let placed : AllByRecursion (IsPlaced (creations_in v)) (entries_in v first_shard) = subst (λ l. AllByRecursion (IsPlaced (creations_in v)) l) entries shard.fits.placed in
-    let old_parts : AllByRecursion (StandsInPart (entries_in v first_shard)) w.asked = all_prefix (StandsInPart (entries_in v first_shard)) w.asked more parts in
+    let order : InOrder (slice_set w.nodes at (with_more old f.written new)) = order_after w.nodes at old (with_more old f.written new) good.order
+    here owes.kind in
+    let before : NeighboursFit u w.asked = nodes_keep u w.asked w.answered w.given w.nodes good.order good.nodes (λ p. refl) (λ p. refl) good.one in
+    let after : NeighboursFit v (asked_after w f) = nodes_keep v (asked_after w f) (answered_after w f) w.given
+    (slice_set w.nodes at (with_more old f.written new)) order nodes
+    (λ p. ap (λ (x : View). x.journal p) is) (λ p. ap (λ (x : View). x.bound p) is) owes.one in
+    let g : Grows u v w.asked more w.answered news w.now = record { later = later; before = before; after = after; came = good.came; steps = steps } in
+    let closed : AllByRecursion (IsClosed u v) w.answered = all_closed u v w.asked more later before after w.answered [] book.cursors w.answered good.answers in
     record {
       order = order;
       nodes = nodes;
-      letters = all_append (λ (m : Letter). LetterFits v (asked_after w f) m × IsMet v w.given m.time) w.sent f.mail
-          (all_weaken (λ (m : Letter). LetterFits u w.asked m × IsMet u w.given m.time) (λ (m : Letter). LetterFits v (asked_after w f) m × IsMet v w.given m.time) w.sent (λ m h. (letter_grows u v w.asked more m later h.0, met_later u v w.given m.time later h.1)) good.letters)
-          owed.letters;
-      answers = all_append (AnswerFits v (asked_after w f)) w.answered news
-          (all_weaken (AnswerFits u w.asked) (AnswerFits v (asked_after w f)) w.answered (λ t h. answer_grows u v w.asked more t later old_parts placed h) good.answers)
-          owed.answers;
-      came = all_append (λ (a : Asked). a.came < w.now + 1) w.asked more good.came (all_weaken (λ (a : Asked). a.came ≡ w.now) (λ (a : Asked). a.came < w.now + 1) more (λ a e. omega arith) comes);
+      letters = all_append (SentFits v (asked_after w f) (answered_after w f) w.given) w.sent f.mail
+          (all_weaken (SentFits u w.asked w.answered w.given) (SentFits v (asked_after w f) (answered_after w f) w.given) w.sent
+          (λ m h. letters_grow u v w.asked more w.answered news w.now g closed w.given m h) good.letters)
+          (all_weaken (IsSaid v (asked_after w f) w.given) (SentFits v (asked_after w f) (answered_after w f) w.given) f.mail
+          (λ m h. (h.0, h.1, times_told v (asked_after w f) (answered_after w f) m.sender m.receiver m.time m.body h.0 h.2)) owed.letters);
+      answers = answers_joined v (asked_after w f) (answered_after w f) [] book.cursors v.cursors w.answered news
+          (answers_grow u v w.asked more w.answered news w.now g closed [] book.cursors w.answered good.answers) owed.answers;
+      decided = subst (λ l. AllByRecursion (λ (c : Choice). IsIn c.id (ids_asked (asked_after w f))) l) (sym (ap (λ (x : View). x.chosen) is))
+          (all_append (λ (c : Choice). IsIn c.id (ids_asked (asked_after w f))) book.chosen owes.news
+          (all_weaken (λ (c : Choice). IsIn c.id (ids_asked w.asked)) (λ (c : Choice). IsIn c.id (ids_asked (asked_after w f))) book.chosen
+          (λ c i. subst (λ l. IsIn c.id l) (sym (map_longer (λ (a : Asked). a.id) w.asked more)) (in_prefix c.id (ids_asked w.asked) (ids_asked more) i))
+          good.decided)
+          (all_weaken (λ (c : Choice). (c.id.router ≡ at) × IsIn c.id (ids_asked (asked_after w f)))
+          (λ (c : Choice). IsIn c.id (ids_asked (asked_after w f))) owes.news
+          (λ c h. h.1) owes.chose));
+      came = all_append (λ (a : Asked). a.came < w.now + 1) w.asked more good.came
+          (all_weaken (λ (a : Asked). a.came ≡ w.now) (λ (a : Asked). a.came < w.now + 1) more (λ a e. omega arith) comes);
       one = owes.one;
       once = owes.once;
       fresh = all_append (IsFresh (answered_after w f)) w.asked more
-          (all_both (λ (a : Asked). a.came < w.now + 1) (IsFresh w.answered) (IsFresh (answered_after w f)) w.asked (λ a early h. still_fresh w.answered news w.now a early steps h) good.came good.fresh)
-          (all_both (λ (a : Asked). a.came ≡ w.now) (IsFresh w.answered) (IsFresh (answered_after w f)) more (λ a e h. still_fresh w.answered news w.now a (omega arith) steps h) comes owes.fresh);
+          (all_both (λ (a : Asked). a.came < w.now + 1) (IsFresh w.answered) (IsFresh (answered_after w f)) w.asked
+          (λ a early h. still_fresh w.answered news w.now a early steps h) good.came good.fresh)
+          (all_both (λ (a : Asked). a.came ≡ w.now) (IsFresh w.answered) (IsFresh (answered_after w f)) more
+          (λ a e h. still_fresh w.answered news w.now a (omega arith) steps h) comes owes.fresh);
       in_order = all_append (IsInOrder (asked_after w f)) w.asked more
-          (all_both (λ (a : Asked). a.came < w.now + 1) (IsInOrder w.asked) (IsInOrder (asked_after w f)) w.asked (λ a early h. order_stays w.asked more w.now a early comes h) good.came good.in_order)
-          (all_both (λ (a : Asked). a.came ≡ w.now) (IsInOrder w.asked) (IsInOrder (asked_after w f)) more (λ a e h. order_stays w.asked more w.now a (omega arith) comes h) comes owes.in_order);
+          (all_both (λ (a : Asked). a.came < w.now + 1) (IsInOrder w.asked) (IsInOrder (asked_after w f)) w.asked
+          (λ a early h. order_stays w.asked more w.now a early comes h) good.came good.in_order)
+          (all_both (λ (a : Asked). a.came ≡ w.now) (IsInOrder w.asked) (IsInOrder (asked_after w f)) more
+          (λ a e h. order_stays w.asked more w.now a (omega arith) comes h) comes owes.in_order);
       known = all_append (λ (a : Asked). IsMet v w.given a.time) w.asked more
-          (all_weaken (λ (a : Asked). IsMet u w.given a.time) (λ (a : Asked). IsMet v w.given a.time) w.asked (λ a h. met_later u v w.given a.time later h) good.known)
+          (all_weaken (λ (a : Asked). IsMet u w.given a.time) (λ (a : Asked). IsMet v w.given a.time) w.asked
+          (λ a h. met_later u v w.given a.time later h) good.known)
           owed.known;
+      met = all_append (λ (t : Answered). IsMet v w.given t.time) w.answered news
+          (all_weaken (λ (t : Answered). IsMet u w.given t.time) (λ (t : Answered). IsMet v w.given t.time) w.answered
+          (λ t h. met_later u v w.given t.time later h) good.met)
+          owed.met;
     }
 
 -- a step that owes what it owes keeps all facts
-pub good_after : (w : World) (at : ℕ) (old : Held) (f : Effect) (new : NodeState) → Good w → slice_get w.nodes at ≡ Some old → Owes w at old f new → Good (after w at old f new)
-good_after w at old f new good here owes =
-    let v : View = view_of (slice_set w.nodes at (with_more old f.written new)) in
-    let later : Later (view_of w.nodes) (view_of (slice_set w.nodes at (with_more old f.written new))) = views_later w.nodes at old f.written new here owes.rises owes.later in
-    let g : GoodIn (view_of (slice_set w.nodes at (with_more old f.written new))) w at old f new = good_parts w at old f new v refl good here owes later (owes.owed v later (λ p other. journal_else w.nodes at (with_more old f.written new) p other) (journal_here w.nodes at old (with_more old f.written new) here) (time_here w.nodes at old (with_more old f.written new) here)) in
-    record { order = g.order; nodes = g.nodes; letters = g.letters; answers = g.answers; came = g.came; one = g.one; once = g.once; fresh = g.fresh; in_order = g.in_order; known = g.known }
+pub good_after : (w : World) (book : Book) (at : ℕ) (old : Held) (f : Effect) (new : NodeState) → Good w book → slice_get w.nodes at ≡ Some old
+    → (owes : Owes w book at old f new) → Good (after w at old f new) (with_news book owes.news owes.cursors)
+good_after w book at old f new good here owes =
+    let v : View = view_of (slice_set w.nodes at (with_more old f.written new)) (with_news book owes.news owes.cursors) in
+    let later : Later (view_of w.nodes book) (view_of (slice_set w.nodes at (with_more old f.written new)) (with_news book owes.news owes.cursors)) =
+    views_later w.nodes at old f.written new book owes.news owes.cursors here owes.rises owes.later in
+    let g : GoodIn (view_of (slice_set w.nodes at (with_more old f.written new)) (with_news book owes.news owes.cursors)) w at old f new =
+    good_parts w book at old f new v good here owes refl later
+    (owes.owed v later (λ p other. journal_else w.nodes at (with_more old f.written new) p other)
+    (journal_here w.nodes at old (with_more old f.written new) here)
+    (time_here w.nodes at old (with_more old f.written new) here) refl refl) in
+    record {
+      order = g.order;
+      nodes = g.nodes;
+      letters = g.letters;
+      answers = g.answers;
+      decided = g.decided;
+      came = g.came;
+      one = g.one;
+      once = g.once;
+      fresh = g.fresh;
+      in_order = g.in_order;
+      known = g.known;
+      met = g.met;
+    }

@@ -1,21 +1,15 @@
 -- Tables that the catalogue had, and what they say of owners.
-use Rattle.std.proofs.Common.{◌≡◌, ◌≢◌, ◌⊎◌, inl, inr, ℕ, ◌<◌, ◌≤◌, List, [], ◌∷◌, refl, sym, ap, subst, ◌∙◌, arith, Bool}
-use Rattle.std.specs.Prelude.{Option, Some, None, true, false, nat_le, if◌then◌else◌}
+use Rattle.std.proofs.Common.{◌≡◌, ◌≢◌, ◌⊎◌, inl, inr, ℕ, List, [], ◌∷◌, refl, sym, ap, subst, ◌∙◌, Bool}
+use Rattle.std.specs.Prelude.{Option, Some, None, true, false, if◌then◌else◌}
 use Rattle.std.specs.List.{AllByRecursion}
 use Rattle.std.specs.Str.{bytes_eq}
-use Rattle.std.proofs.lemmas.Bool.{leb-false}
 use Rattle.std.proofs.lemmas.Slice.Eq.{bytes_eq-Decides}
-use Rattle.chunk_model.proofs.FirstTables.{at_by}
 use Rattle.history_model.proofs.Lists.{all_at, in_first, in_later, in_none, in_cons}
-use Rattle.node_model.specs.Tree.{Datum}
 use Rattle.node_model.specs.Catalogue.{Creation}
-use Rattle.node_model.specs.Tables.{Table, first_chunk, first_table, first_shard, owner_at, table_of, with_table, is_longer}
-use Rattle.node_model.specs.Keys.{range_span, inside}
+use Rattle.node_model.specs.Tables.{Table, table_of, with_table, is_longer}
 use Rattle.node_model.specs.History.{IsIn}
 use Rattle.node_model.specs.OneHistory.{AreDifferentNames}
 use Rattle.node_model.specs.RouterRows.{adopted}
-use Rattle.node_laws.proofs.Facts.{HasNoOwner}
-use Rattle.node_laws.proofs.Answers.{some_none}
 
 pub record FoundTable (namespace : List ℕ) (tables : List Table) (t : Table) : Type 0 where
   pub stands : IsIn t tables
@@ -71,20 +65,6 @@ table_there namespace t (u ∷ tables) name = by_test (bytes_eq u.namespace t.na
         by_first : (b : Bool) → (x : Table) × ((if b then Some u else table_of namespace (with_table t tables)) ≡ Some x)
         by_first true = (u, refl)
         by_first false = more
-
--- OWNERS BY FIRST TABLES
-
--- where a table that began by a time names no owner at it, there is none at any time
-pub never_owned : (c : Creation) (key : Datum) (time : ℕ) → c.at ≤ time → owner_at (first_table c) key time ≡ None → HasNoOwner key
-never_owned c key time before none = by_test (inside (range_span (first_chunk c).range) key) refl none
-  where
-    by_time : (a : Bool) → nat_le c.at time ≡ a → (if a then Some first_shard else None) ≡ None → ⊥
-    by_time true h none = some_none none
-    by_time false h none = let l : time < c.at = leb-false _ _ h in omega arith
-
-    by_test : (has : Bool) → inside (range_span (first_chunk c).range) key ≡ has → at_by c time has ≡ None → HasNoOwner key
-    by_test true h none = absurd (by_time (nat_le c.at time) refl none)
-    by_test false h none = λ d t. ap (at_by d t) h
 
 -- NAMES
 

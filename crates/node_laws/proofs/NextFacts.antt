@@ -1,27 +1,33 @@
 -- What becomes of an open request where a table is told fits.
-use Rattle.std.proofs.Common.{◌≡◌, ◌⊎◌, inl, inr, ℕ, ◌+◌, ◌<◌, ◌≤◌, List, [], refl, sym, subst, ◌∙◌, Bool}
-use Rattle.std.specs.Prelude.{Option, Some, None, true, false, ◌&&◌, if◌then◌else◌}
+use Rattle.std.proofs.Common.{◌≡◌, inl, inr, ℕ, ◌+◌, ◌<◌, ◌≤◌, List, [], refl, sym, subst, ◌∙◌, Bool}
+use Rattle.std.specs.Prelude.{pos, Option, Some, None, true, false, ◌&&◌, if◌then◌else◌}
 use Rattle.std.specs.List.{AllByRecursion}
 use Rattle.std.specs.Str.{bytes_eq}
 use Rattle.std.proofs.lemmas.Bool.{ltb-false}
 use Rattle.std.proofs.lemmas.Slice.Eq.{bytes_eq-Decides}
 use Rattle.history_model.proofs.Lists.{all_at}
-use Rattle.node_model.specs.Tree.{Datum}
+use Rattle.node_model.specs.Cursors.{Cursor}
+use Rattle.node_model.specs.Stages.{Stage}
 use Rattle.node_model.specs.Tables.{Table}
 use Rattle.node_model.specs.Exchanges.{Asked, Answered}
 use Rattle.node_model.specs.OneHistory.{Given}
-use Rattle.node_model.specs.Letters.{At, key_half, Reply}
-use Rattle.node_model.specs.States.{Work, writing, reading, Wait, for_time, for_table, for_shards, Open, Router}
-use Rattle.node_model.specs.RouterRows.{table_for, is_ahead, reply_to, empty_answer, is_for, is_for_table, adopted, Next, stays, is_told, next_without, next_waiting, next_of}
+use Rattle.node_model.specs.Letters.{At, Reply}
+use Rattle.node_model.specs.States.{Telling, in_batches, as_number, Work, writing, reading, Wait, for_time, for_table, for_shards, Open, Router}
+use Rattle.node_model.specs.RouterRows.{id_of, table_for, is_ahead, reply_to, empty_answer, is_for, is_for_table, adopted, Next, stays, is_told, next_without}
+use Rattle.node_model.specs.RouterRows.{next_waiting, next_of}
 use Rattle.node_laws.proofs.Views.{View}
-use Rattle.node_laws.proofs.Facts.{IsKnownTable, TableFits, WorkFits, IsOpenOf, ToldBelow, IsMet, AnswerFits}
+use Rattle.node_laws.proofs.ReadFacts.{NoneBegan, IsDecided}
+use Rattle.node_laws.proofs.Facts.{IsKnownTable, TableFits, WorkFits, HasTime, IsOpenOf, ToldBelow, IsMet, AnswerFits, NeighboursFit}
+use Rattle.node_laws.proofs.Owes.{IsSaid}
+use Rattle.node_laws.proofs.Growth.{seen_grows}
+use Rattle.node_laws.proofs.Journals.{later_self}
 use Rattle.node_laws.proofs.NextRequests.{KeepsCount, NextIs}
 use Rattle.node_laws.proofs.KnownTables.{FoundTable}
-use Rattle.node_laws.proofs.RouterAsks.{IsSaid, open_asks, shards_fit, table_for_found}
-use Rattle.node_laws.proofs.AnswerTimes.{find_below}
-use Rattle.node_laws.proofs.Neighbours.{NeighboursFit}
-use Rattle.node_laws.proofs.EmptyReads.{HasNothing, told_nothing}
-use Rattle.node_laws.proofs.RouterAnswers.{as_answered, answer_fits, found_right, found_settled, empty_rows}
+use Rattle.node_laws.proofs.RouterAsks.{open_asks, shards_fit, table_for_found}
+use Rattle.node_laws.proofs.AnswerTimes.{ShowsBelow, first_below, count_below}
+use Rattle.node_laws.proofs.EmptyReads.{told_nothing}
+use Rattle.node_laws.proofs.RouterAnswers.{as_answered, answer_fits}
+use Rattle.node_laws.proofs.ReadAnswers.{empty_right}
 use Rattle.node_laws.proofs.OpenFacts.{with_own, ahead_later, open_goes, open_rises}
 
 -- what becomes of a request has its count
@@ -29,16 +35,16 @@ pub next_keeps : (r : Router) (time : ℕ) (tables : List Table) (namespace : Li
     → KeepsCount r q (next_of r time tables namespace told q)
 next_keeps r time tables namespace told q = by_test (is_for_table q.wait && bytes_eq q.namespace namespace)
   where
-    by_own : (at : ℕ) (b : Bool) → KeepsCount r q (if b then is_told (reply_to r time q (empty_answer q at)) else stays q [])
-    by_own at true = refl
-    by_own at false = refl
+    by_own : (at : ℕ) (telling : Telling) (b : Bool) → KeepsCount r q (if b then is_told (reply_to r time q (empty_answer q at telling)) else stays q [])
+    by_own at telling true = refl
+    by_own at telling false = refl
 
     by_work : (work : Work) → KeepsCount r q (elim work as (λ (x : Work). Next) [
       | writing kind ordered statements answers ↦ stays q []
-      | reading at half ↦ if is_for told at then is_told (reply_to r time q (empty_answer q at)) else stays q []
+      | reading named at stages telling ↦ if is_for told at then is_told (reply_to r time q (empty_answer q at telling)) else stays q []
     ])
     by_work (writing kind ordered statements answers) = refl
-    by_work (reading at half) = by_own at (is_for told at)
+    by_work (reading named at stages telling) = by_own at telling (is_for told at)
 
     by_table : (table : Option Table) → KeepsCount r q (next_waiting r time told q table)
     by_table None = by_work q.work
@@ -48,27 +54,33 @@ next_keeps r time tables namespace told q = by_test (is_for_table q.wait && byte
     by_test true = by_table (table_for tables q.namespace q.work)
     by_test false = refl
 
--- an answer fits, and shows no later time
-abbrev pub IsToldRightly : View → List Asked → (time now : ℕ) → Reply → Type 0
-IsToldRightly v asked time now x = AnswerFits v asked (as_answered now x) × ToldBelow time (as_answered now x)
+-- an answer fits, leaves the cursors, shows no later time, and is told at this one
+abbrev pub IsToldRightly : View → List Asked → (said : List Answered) → List Cursor → (time now : ℕ) → Reply → Type 0
+IsToldRightly v asked said cursors time now x = AnswerFits v asked said cursors (as_answered now x) cursors × ToldBelow time (as_answered now x)
+    × (x.time ≡ time)
 
-module _ (v : View) (asked : List Asked) (answered : List Answered) (given : List Given) (r s : Router) (now told_at : ℕ) (namespace : List ℕ) (told : At)
+empty_below : (bound : ℕ) (q : Open) (at : ℕ) (telling : Telling) → at ≤ bound → ShowsBelow bound (empty_answer q at telling)
+empty_below bound q at (in_batches size single) past = first_below bound (record { cursor = pos 0; namespace = q.namespace; documents = []; time = at }) past
+empty_below bound q at as_number past = count_below bound 0 at past
+
+module _ (v : View) (asked : List Asked) (answered said : List Answered) (cursors : List Cursor) (given : List Given) (r s : Router) (now told_at : ℕ)
+    (namespace : List ℕ) (told : At)
     (table : Option Table)
     (tables : List Table) (n : NeighboursFit v asked) (met : IsMet v given s.time) (later : r.time ≤ s.time) (fits : TableFits v told_at namespace told table)
     (known : AllByRecursion (IsKnownTable v s.time) (adopted table tables)) where
   -- how an open request goes on
   abbrev Goes : Next → Type 0
-  Goes next = NextIs (IsOpenOf v asked answered (with_own r s)) (IsSaid v asked given) (IsToldRightly v asked s.time now) next
+  Goes next = NextIs (IsOpenOf v asked answered (with_own r s)) (IsSaid v asked given) (IsToldRightly v asked said cursors s.time now) next
 
-  told_empty : (q : Open) (at : ℕ) (key : Datum) (o : IsOpenOf v asked answered r q) → o.request.came < now + 1
-      → WorkFits v o.request q.namespace (reading at (key_half key)) → at ≤ s.time
-      → HasNothing v q.namespace key at → IsToldRightly v asked s.time now (reply_to r s.time q (empty_answer q at))
-  told_empty q at key o came work reached none = (
-    answer_fits v asked answered r s.time now q (empty_answer q at) o later came
-        (found_right v o.request (as_answered now (reply_to r s.time q (empty_answer q at))) q.namespace at key [] work reached
-        (empty_rows v asked q.namespace key at n none) refl)
-        (found_settled v o.request (as_answered now (reply_to r s.time q (empty_answer q at))) q.namespace at key work (inr none)),
-    find_below s.time q.namespace [] at reached,
+  told_empty : (q : Open) (named : Bool) (at : ℕ) (stages : List Stage) (telling : Telling) (o : IsOpenOf v asked answered r q) → o.request.came < now + 1
+      → WorkFits o.request q.namespace (reading named at stages telling) → at ≤ s.time
+      → NoneBegan v q.namespace at → IsToldRightly v asked said cursors s.time now (reply_to r s.time q (empty_answer q at telling))
+  told_empty q named at stages telling o came work reached none = (
+    answer_fits v asked answered said r s.time now q (empty_answer q at telling) cursors cursors o later came
+        (empty_right v asked said cursors o.request (as_answered now (reply_to r s.time q (empty_answer q at telling))) q named at stages telling n none work
+        reached refl),
+    empty_below s.time q at telling reached,
+    refl,
   )
 
   without_fits : (q : Open) (o : IsOpenOf v asked answered r q) → o.request.came < now + 1 → is_ahead s.time q.work ≡ false → q.namespace ≡ namespace
@@ -81,51 +93,58 @@ module _ (v : View) (asked : List Asked) (answered : List Answered) (given : Lis
       same : IsOpenOf v asked answered (with_own r s) q
       same = open_rises v asked answered r s q later o
 
-      by_own : (at : ℕ) (key : Datum) (b : Bool) → is_for told at ≡ b → WorkFits v o.request q.namespace (reading at (key_half key)) → at ≤ s.time
-          → table_for (adopted table tables) q.namespace (reading at (key_half key)) ≡ None
-          → Goes (if b then is_told (reply_to r s.time q (empty_answer q at)) else stays q [])
-      by_own at key true h work reached none =
-          told_empty q at key o came work reached (told_nothing v asked told_at s.time q.namespace told table tables at key n here known h none)
-      by_own at key false h work reached none = (same, tt)
+      by_own : (named : Bool) (at : ℕ) (stages : List Stage) (telling : Telling) (b : Bool) → is_for told at ≡ b
+          → WorkFits o.request q.namespace (reading named at stages telling)
+          → at ≤ s.time → table_for (adopted table tables) q.namespace (reading named at stages telling) ≡ None
+          → Goes (if b then is_told (reply_to r s.time q (empty_answer q at telling)) else stays q [])
+      by_own named at stages telling true h work reached none =
+          told_empty q named at stages telling o came work reached
+          (told_nothing v asked told_at s.time q.namespace told table tables named at stages telling n here known h none)
+      by_own named at stages telling false h work reached none = (same, tt)
 
-      by_work : (work : Work) → WorkFits v o.request q.namespace work → is_ahead s.time work ≡ false → table_for (adopted table tables) q.namespace work ≡ None
+      by_work : (work : Work) → WorkFits o.request q.namespace work → is_ahead s.time work ≡ false → table_for (adopted table tables) q.namespace work ≡ None
           → Goes (elim work as (λ (x : Work). Next) [
             | writing kind ordered statements answers ↦ stays q []
-            | reading at half ↦ if is_for told at then is_told (reply_to r s.time q (empty_answer q at)) else stays q []
+            | reading named at stages telling ↦ if is_for told at then is_told (reply_to r s.time q (empty_answer q at telling)) else stays q []
           ])
       by_work (writing kind ordered statements answers) work reached none = (same, tt)
-      by_work (reading at (key_half key)) work reached none = by_own at key (is_for told at) refl work (ltb-false s.time at reached) none
+      by_work (reading named at stages telling) work reached none = by_own named at stages telling (is_for told at) refl work (ltb-false s.time at reached) none
 
-  waiting_fits : (q : Open) (o : IsOpenOf v asked answered r q) → o.request.came < now + 1 → is_ahead s.time q.work ≡ false → q.namespace ≡ namespace
+  waiting_fits : (q : Open) (o : IsOpenOf v asked answered r q) → o.request.came < now + 1 → is_ahead s.time q.work ≡ false
+      → IsDecided v (id_of r q.count) q.work
+      → q.namespace ≡ namespace
       → Goes (next_waiting r s.time told q (table_for (adopted table tables) q.namespace q.work))
-  waiting_fits q o came reached name = by_table (table_for (adopted table tables) q.namespace q.work) refl
+  waiting_fits q o came reached decided name = by_table (table_for (adopted table tables) q.namespace q.work) refl
     where
       by_table : (found : Option Table) → table_for (adopted table tables) q.namespace q.work ≡ found → Goes (next_waiting r s.time told q found)
       by_table None h = without_fits q o came reached name h
       by_table (Some t) h =
-          let f : FoundTable q.namespace (adopted table tables) t = table_for_found v asked given r s.time met (adopted table tables) q.namespace q.work t h in
-          let up = open_rises v asked answered r s q later o in (
-            open_goes v asked answered r s q for_shards q.work later o (inr reached) o.work up.seen,
-            shards_fit v asked given r s.time met q.count q.namespace t q.work (open_asks v asked answered r s.time q later o)
+          let f : FoundTable q.namespace (adopted table tables) t = table_for_found v asked given r s.time met (adopted table tables) q.namespace q.work t
+          h in (
+            open_goes v asked answered r s q for_shards q.work later o (inr (λ e. cc, reached, decided)) o.work
+                (seen_grows v v r.time s.time o.request q.work (later_self v) later o.seen),
+            shards_fit v asked given r s.time met q.count q.namespace t q.work (open_asks v asked answered r s.time q later o (λ e. decided))
                 (all_at (IsKnownTable v s.time) t (adopted table tables) known f.stands) f.name reached,
           )
 
   pub next_fits : (q : Open) (o : IsOpenOf v asked answered r q) → o.request.came < now + 1 → Goes (next_of r s.time (adopted table tables) namespace told q)
   next_fits q o came = by_tests (is_for_table q.wait) (bytes_eq q.namespace namespace) refl refl
     where
-      by_reached : (wait : Wait) → q.wait ≡ wait → is_for_table wait ≡ true → (q.wait ≡ for_time) ⊎ (is_ahead r.time q.work ≡ false)
-          → is_ahead s.time q.work ≡ false
-      by_reached for_time same is reached = absurd (cc)
-      by_reached wait same is (inl e) = absurd (not_both wait is (sym same ∙ e))
+      by_reached : (wait : Wait) → q.wait ≡ wait → is_for_table wait ≡ true
+          → HasTime v o.request (id_of r q.count) r.time q.wait q.work
+          → (is_ahead s.time q.work ≡ false) × IsDecided v (id_of r q.count) q.work
+      by_reached wait same is (inl (e, f)) = absurd (not_both wait is (sym same ∙ e))
         where
           not_both : (x : Wait) → is_for_table x ≡ true → x ≡ for_time → ⊥
           not_both for_time is e = cc
           not_both for_table is e = cc
           not_both for_shards is e = cc
-      by_reached wait same is (inr e) = ahead_later r.time s.time q.work later e
+      by_reached wait same is (inr (w, e, f)) = (ahead_later r.time s.time q.work later e, f)
 
       by_tests : (a b : Bool) → is_for_table q.wait ≡ a → bytes_eq q.namespace namespace ≡ b
           → Goes (if a && b then next_waiting r s.time told q (table_for (adopted table tables) q.namespace q.work) else stays q [])
-      by_tests true true h name = waiting_fits q o came (by_reached q.wait refl h o.reached) ((bytes_eq-Decides q.namespace namespace).0 name)
+      by_tests true true h name =
+          let reached = by_reached q.wait refl h o.reached in
+          waiting_fits q o came reached.0 reached.1 ((bytes_eq-Decides q.namespace namespace).0 name)
       by_tests true false h name = (open_rises v asked answered r s q later o, tt)
       by_tests false b h name = (open_rises v asked answered r s q later o, tt)

@@ -1,26 +1,39 @@
 -- What open requests are, at a later time of their router and with other work.
-use Rattle.std.proofs.Common.{◌≡◌, ◌⊎◌, inl, inr, ℕ, ◌<◌, ◌≤◌, List, [], ◌++◌, refl, ap, subst, ◌∙◌, arith, append-nil, Bool}
-use Rattle.std.specs.Prelude.{true, false, nat_lt}
+use Rattle.std.proofs.Common.{◌≡◌, inl, inr, ℕ, ◌<◌, ◌≤◌, List, [], ◌++◌, refl, ap, subst, ◌∙◌, arith, append-nil, Bool}
+use Rattle.std.specs.Prelude.{None, true, false, nat_lt}
 use Rattle.std.specs.List.{AllByRecursion}
 use Rattle.std.proofs.lemmas.Bool.{ltb-true, ltb-false}
-use Rattle.history_model.proofs.Lists.{all_weaken, all_at}
+use Rattle.history_model.proofs.Lists.{all_at}
 use Rattle.node_model.specs.Exchanges.{RequestId, Asked, Answered}
-use Rattle.node_model.specs.Outcomes.{Done}
 use Rattle.node_model.specs.Letters.{Letter}
-use Rattle.node_model.specs.States.{Work, writing, reading, Wait, for_time, Open, Router}
-use Rattle.node_model.specs.RouterRows.{is_ahead, with_work}
-use Rattle.node_laws.proofs.Views.{View, Later}
-use Rattle.node_laws.proofs.Facts.{LetterFits, WorkFits, AreSeen, IsOpenOf, IsBy}
-use Rattle.node_laws.proofs.Growth.{letter_grows}
+use Rattle.node_model.specs.States.{Work, writing, reading, Wait, Open, Router}
+use Rattle.node_model.specs.RouterRows.{id_of, is_ahead, with_work}
+use Rattle.node_laws.proofs.Views.{View, chosen_time, Later}
+use Rattle.node_laws.proofs.Facts.{LetterFits, WorkFits, AreSeen, HasTime, IsOpenOf, IsBy}
+use Rattle.node_laws.proofs.Growth.{letter_grows, seen_grows}
+use Rattle.node_laws.proofs.Journals.{later_self}
 use Rattle.node_laws.proofs.Others.{open_grows}
 
 -- another state of a router, in the same life
 abbrev pub with_own : Router → Router → Router
-with_own r s = record { me = r.me; time = s.time; life = r.life; begun = s.begun; moment = s.moment; count = s.count; tables = s.tables; requests = s.requests }
+with_own r s = record {
+  me = r.me;
+  time = s.time;
+  life = r.life;
+  begun = s.begun;
+  moment = s.moment;
+  count = s.count;
+  tables = s.tables;
+  requests =
+      s.requests;
+  cursors = s.cursors;
+  blocks = s.blocks;
+  gave = s.gave;
+}
 
 pub ahead_later : (a b : ℕ) (work : Work) → a ≤ b → is_ahead a work ≡ false → is_ahead b work ≡ false
 ahead_later a b (writing kind ordered statements answers) le not_ahead = refl
-ahead_later a b (reading at half) le not_ahead = by_test (nat_lt b at) refl
+ahead_later a b (reading named at stages telling) le not_ahead = by_test (nat_lt b at) refl
   where
     by_test : (t : Bool) → nat_lt b at ≡ t → nat_lt b at ≡ false
     by_test true h =
@@ -29,14 +42,11 @@ ahead_later a b (reading at half) le not_ahead = by_test (nat_lt b at) refl
         absurd (omega arith)
     by_test false h = h
 
-pub seen_later : (a b : ℕ) (work : Work) → a ≤ b → AreSeen a work → AreSeen b work
-seen_later a b (writing kind ordered statements answers) le all = all_weaken (λ (d : Done). d.time ≤ a) (λ (d : Done). d.time ≤ b) answers (λ d l. omega arith) all
-seen_later a b (reading at half) le all = tt
-
 -- an open request goes on, with other work
 pub open_goes : (v : View) (asked : List Asked) (answered : List Answered) (r s : Router) (q : Open) (wait : Wait) (work : Work) → r.time ≤ s.time
     → (o : IsOpenOf v asked answered r q)
-    → (wait ≡ for_time) ⊎ (is_ahead s.time work ≡ false) → WorkFits v o.request q.namespace work → AreSeen s.time work
+    → HasTime v o.request (id_of r q.count) s.time wait work
+    → WorkFits o.request q.namespace work → AreSeen v s.time o.request work
     → IsOpenOf v asked answered (with_own r s) (with_work q wait work)
 open_goes v asked answered r s q wait work later o reached fits seen = record {
   request = o.request;
@@ -55,18 +65,19 @@ open_goes v asked answered r s q wait work later o reached fits seen = record {
 pub open_rises : (v : View) (asked : List Asked) (answered : List Answered) (r s : Router) (q : Open) → r.time ≤ s.time → IsOpenOf v asked answered r q
     → IsOpenOf v asked answered (with_own r s) q
 open_rises v asked answered r s q later o = open_goes v asked answered r s q q.wait q.work later o (by_reached o.reached) o.work
-    (seen_later r.time s.time q.work later o.seen)
+    (seen_grows v v r.time s.time o.request q.work (later_self v) later o.seen)
   where
-    by_reached : (q.wait ≡ for_time) ⊎ (is_ahead r.time q.work ≡ false) → (q.wait ≡ for_time) ⊎ (is_ahead s.time q.work ≡ false)
+    by_reached : HasTime v o.request (id_of r q.count) r.time q.wait q.work → HasTime v o.request (id_of r q.count) s.time q.wait q.work
     by_reached (inl e) = inl e
-    by_reached (inr e) = inr (ahead_later r.time s.time q.work later e)
+    by_reached (inr (w, e, d)) = inr (w, ahead_later r.time s.time q.work later e, d)
 
--- it is one in a later view
-pub open_stays : (v w : View) (asked : List Asked) (answered : List Answered) (r : Router) (q : Open) → Later v w → IsOpenOf v asked answered r q
+-- it is one in a later view, where no time is decided for it
+pub open_stays : (v w : View) (asked : List Asked) (answered : List Answered) (r : Router) (q : Open) → Later v w
+    → (chosen_time (id_of r q.count) v.chosen ≡ None → chosen_time (id_of r q.count) w.chosen ≡ None) → IsOpenOf v asked answered r q
     → IsOpenOf w asked answered r q
-open_stays v w asked answered r q later o =
+open_stays v w asked answered r q later still o =
     subst (λ l. IsOpenOf w l answered r q) (append-nil asked)
-    (subst (λ l. IsOpenOf w (asked ++ []) l r q) (append-nil answered) (open_grows v w asked [] answered [] r q later tt o))
+    (subst (λ l. IsOpenOf w (asked ++ []) l r q) (append-nil answered) (open_grows v w asked [] answered [] r q later still tt o))
 
 pub letter_stays : (v w : View) (asked : List Asked) (m : Letter) → Later v w → LetterFits v asked m → LetterFits w asked m
 letter_stays v w asked m later f = subst (λ l. LetterFits w l m) (append-nil asked) (letter_grows v w asked [] m later f)

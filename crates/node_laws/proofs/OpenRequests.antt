@@ -56,13 +56,16 @@ all_without P count (q ∷ requests) all = by_test (q.count == count) (all_witho
     by_test true more = more
     by_test false more = (all.0, more)
 
-pub all_replaced : (P : Open → Type 0) (p : Open) (requests : List Open) → P p → AllByRecursion P requests → AllByRecursion P (replaced p requests)
+-- what is put in their place has it, and so have those of another count
+pub all_replaced : (P : Open → Type 0) (p : Open) (requests : List Open) → P p → AllByRecursion (λ (q : Open). q.count ≢ p.count → P q) requests
+    → AllByRecursion P (replaced p requests)
 all_replaced P p [] own all = tt
-all_replaced P p (q ∷ requests) own all = by_test (q.count == p.count) (all_replaced P p requests own all.1)
+all_replaced P p (q ∷ requests) own all = by_test (q.count == p.count) refl (all_replaced P p requests own all.1)
   where
-    by_test : (a : Bool) → AllByRecursion P (replaced p requests) → AllByRecursion P (if a then p ∷ replaced p requests else q ∷ replaced p requests)
-    by_test true more = (own, more)
-    by_test false more = (all.0, more)
+    by_test : (a : Bool) → (q.count == p.count) ≡ a → AllByRecursion P (replaced p requests)
+        → AllByRecursion P (if a then p ∷ replaced p requests else q ∷ replaced p requests)
+    by_test true h more = (own, more)
+    by_test false h more = (all.0 (λ e. eqb-false _ _ h e), more)
 
 -- COUNTS
 

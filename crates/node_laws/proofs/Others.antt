@@ -1,27 +1,48 @@
 -- A step of one node leaves the facts on the other nodes.
 use Rattle.std.proofs.Common.{◌≡◌, ◌≢◌, inl, inr, ℕ, ◌≤◌, List, ◌++◌, sym, ap, subst, ◌∙◌, arith}
+use Rattle.std.specs.Prelude.{None, filter}
 use Rattle.std.specs.List.{AllByRecursion}
 use Rattle.history_model.proofs.Lists.{all_weaken, all_append, in_prefix}
 use Rattle.node_model.specs.History.{IsIn}
 use Rattle.node_model.specs.Exchanges.{RequestId, Asked, Answered}
-use Rattle.node_model.specs.OneHistory.{WasSent, WasWanted, IsPlaced, Given, ids_asked, ids_told, AreDifferent}
+use Rattle.node_model.specs.OneHistory.{WasWanted, IsPlaced, Given, ids_asked, ids_told, AreDifferent}
 use Rattle.node_model.specs.Journal.{Kept}
 use Rattle.node_model.specs.Letters.{Letter}
-use Rattle.node_model.specs.States.{Router, Open, NodeState, catalogue_state, shard_state, router_state, time_of_node}
+use Rattle.node_model.specs.Cursors.{Cursor}
+use Rattle.node_model.specs.States.{Router, Work, writing, reading, Open, NodeState, catalogue_state, shard_state, router_state, time_of_node}
 use Rattle.node_model.specs.RouterRows.{id_of}
 use Rattle.node_model.specs.World.{Held}
-use Rattle.node_laws.proofs.Views.{View, creations_in, Later}
-use Rattle.node_laws.proofs.Facts.{IsKnownTable, ParkedFits, IsOpenOf, IsBy, ToldBelow, IsClosedOrOpen, RouterFits, StateFits, HeldFits}
+use Rattle.node_laws.proofs.Views.{Choice, View, creations_in, chosen_time, Later}
+use Rattle.node_laws.proofs.ReadFacts.{WaitsFor, IsDecided}
+use Rattle.node_laws.proofs.WriteFacts.{WasMade}
+use Rattle.node_laws.proofs.Facts.{IsKnownTable, ParkedFits, HasTime, IsOpenOf, IsBy, ToldBelow, IsClosedOrOpen, RouterFits, StateFits, IsGiven, is_of}
+use Rattle.node_laws.proofs.Facts.{OwnCursors, HeldFits}
+use Rattle.node_laws.proofs.Choices.{none_longer, none_of_others, decided_stays}
+use Rattle.node_laws.proofs.OwnCursors.{same_lives}
 use Rattle.node_laws.proofs.Lists.{map_longer}
-use Rattle.node_laws.proofs.Growth.{known_grows, letter_grows, work_grows, sent_grows, creation_wanted_grows, placed_grows, met_later}
+use Rattle.node_laws.proofs.Growth.{known_grows, letter_grows, seen_grows, entry_grows, creation_wanted_grows, placed_grows, met_later}
 use Rattle.node_laws.proofs.Requests.{parts_grow}
 
 pub told_more : (id : RequestId) (answered news : List Answered) → IsIn id (ids_told answered) → IsIn id (ids_told (answered ++ news))
-told_more id answered news i = subst (λ l. IsIn id l) (sym (map_longer (λ (t : Answered). t.id) answered news)) (in_prefix id (ids_told answered) (ids_told news) i)
+told_more id answered news i = subst (λ l. IsIn id l) (sym (map_longer (λ (t : Answered). t.id) answered news))
+    (in_prefix id (ids_told answered) (ids_told news) i)
 
--- an open request stays one, where the answers that are new are to others
-pub open_grows : (v w : View) (asked more : List Asked) (answered news : List Answered) (r : Router) (q : Open) → Later v w → AllByRecursion (λ (t : Answered). t.id ≢ id_of r q.count) news → IsOpenOf v asked answered r q → IsOpenOf w (asked ++ more) (answered ++ news) r q
-open_grows v w asked more answered news r q later others o = record {
+-- what a request waits for or is decided for it, where nothing is decided meanwhile that was not
+waits_grow : (v w : View) (a : Asked) (id : RequestId) (work : Work) → (chosen_time id v.chosen ≡ None → chosen_time id w.chosen ≡ None)
+    → WaitsFor v a id work → WaitsFor w a id work
+waits_grow v w a id (writing kind ordered statements answers) still f = f
+waits_grow v w a id (reading named at stages telling) still f =
+    record { read = f.read; reads = f.reads; wanted = f.wanted; ahead = f.ahead; undecided = still f.undecided }
+
+pub decided_grows : (v w : View) (id : RequestId) (work : Work) → Later v w → IsDecided v id work → IsDecided w id work
+decided_grows v w id (writing kind ordered statements answers) later f = f
+decided_grows v w id (reading named at stages telling) later f = decided_stays v w id at later f
+
+-- an open request stays one, where the answers that are new are to others, and no time is decided for it
+pub open_grows : (v w : View) (asked more : List Asked) (answered news : List Answered) (r : Router) (q : Open) → Later v w
+    → (chosen_time (id_of r q.count) v.chosen ≡ None → chosen_time (id_of r q.count) w.chosen ≡ None)
+    → AllByRecursion (λ (t : Answered). t.id ≢ id_of r q.count) news → IsOpenOf v asked answered r q → IsOpenOf w (asked ++ more) (answered ++ news) r q
+open_grows v w asked more answered news r q later still others o = record {
   request = o.request;
   taken = in_prefix o.request asked more o.taken;
   own = o.own;
@@ -29,13 +50,18 @@ open_grows v w asked more answered news r q later others o = record {
   number = o.number;
   asks = o.asks;
   past = o.past;
-  reached = o.reached;
+  reached = by_reached o.reached;
   silent = all_append (λ (t : Answered). t.id ≢ id_of r q.count) answered news o.silent others;
-  work = work_grows v w o.request q.namespace q.work later o.work;
-  seen = o.seen;
+  work = o.work;
+  seen = seen_grows v w r.time r.time o.request q.work later (omega arith) o.seen;
 }
+  where
+    by_reached : HasTime v o.request (id_of r q.count) r.time q.wait q.work → HasTime w o.request (id_of r q.count) r.time q.wait q.work
+    by_reached (inl (e, f)) = inl (e, waits_grow v w o.request (id_of r q.count) q.work still f)
+    by_reached (inr (e, f, d)) = inr (e, f, decided_grows v w (id_of r q.count) q.work later d)
 
-pub closed_grows : (requests : List Open) (answered news : List Answered) (a : Asked) → IsClosedOrOpen requests answered a → IsClosedOrOpen requests (answered ++ news) a
+pub closed_grows : (requests : List Open) (answered news : List Answered) (a : Asked) → IsClosedOrOpen requests answered a
+    → IsClosedOrOpen requests (answered ++ news) a
 closed_grows requests answered news a (inl i) = inl i
 closed_grows requests answered news a (inr i) = inr (told_more a.id answered news i)
 
@@ -48,29 +74,57 @@ AreToldBy at answered = AllByRecursion (λ (t : Answered). t.id.router ≡ at) a
 
 -- of requests of another router anything holds that is said of those of this one
 no_asked : (P : Asked → Type 0) (j at : ℕ) (more : List Asked) → j ≢ at → AreOf at more → AllByRecursion (λ (a : Asked). a.id.router ≡ j → P a) more
-no_asked P j at more other own = all_weaken (λ (a : Asked). a.id.router ≡ at) (λ (a : Asked). a.id.router ≡ j → P a) more (λ a o e. absurd (other (sym e ∙ o))) own
+no_asked P j at more other own = all_weaken (λ (a : Asked). a.id.router ≡ at) (λ (a : Asked). a.id.router ≡ j → P a) more
+    (λ a o e. absurd (other (sym e ∙ o))) own
 
-pub other_router : (v w : View) (asked more : List Asked) (answered news : List Answered) (j at : ℕ) (r : Router) → j ≢ at → Later v w → AreOf at more → AreToldBy at news → RouterFits v asked answered j r → RouterFits w (asked ++ more) (answered ++ news) j r
-other_router v w asked more answered news j at r other later own told fits = record {
+-- times that are decided for requests of one router
+pub record Decided (at : ℕ) (v w : View) : Type 0 where
+  pub news : List Choice
+  pub same : w.chosen ≡ v.chosen ++ news
+  pub theirs : AllByRecursion (λ (c : Choice). c.id.router ≡ at) news
+
+-- none is decided for a request of another
+pub still_undecided : (v w : View) (j at : ℕ) (id : RequestId) → j ≢ at → id.router ≡ j → Decided at v w → chosen_time id v.chosen ≡ None
+    → chosen_time id w.chosen ≡ None
+still_undecided v w j at id other router d e =
+    ap (λ l. chosen_time id l) d.same
+    ∙ none_longer id v.chosen d.news e
+    (none_of_others id d.news (all_weaken (λ (c : Choice). c.id.router ≡ at) (λ (c : Choice). c.id ≢ id) d.news
+    (λ c h same. other (sym router ∙ sym (ap (λ (i : RequestId). i.router) same) ∙ h)) d.theirs))
+
+pub other_router : (v w : View) (asked more : List Asked) (answered news : List Answered) (j at : ℕ) (r : Router) → j ≢ at → Later v w → Decided at v w
+    → AreOf at more
+    → AreToldBy at news → RouterFits v asked answered j r → RouterFits w (asked ++ more) (answered ++ news) j r
+other_router v w asked more answered news j at r other later decides own told fits = record {
   own = fits.own;
   place = fits.place;
   requests = all_weaken (IsOpenOf v asked answered r) (IsOpenOf w (asked ++ more) (answered ++ news) r) r.requests
-      (λ q o. open_grows v w asked more answered news r q later (all_weaken (λ (t : Answered). t.id.router ≡ at) (λ (t : Answered). t.id ≢ id_of r q.count) news (λ t h e. other (sym fits.own ∙ sym (ap (λ (id : RequestId). id.router) e) ∙ h)) told) o) fits.requests;
+      (λ q o. open_grows v w asked more answered news r q later (still_undecided v w j at (id_of r q.count) other fits.own decides)
+      (all_weaken (λ (t : Answered). t.id.router ≡ at) (λ (t : Answered). t.id ≢ id_of r q.count) news
+      (λ t h e. other (sym fits.own ∙ sym (ap (λ (id : RequestId). id.router) e) ∙ h)) told) o) fits.requests;
   different = fits.different;
-  counted = all_append (λ (a : Asked). a.id.router ≡ j → IsBy a.id.life r.life r.begun (a.id.count ≤ r.count)) asked more fits.counted (no_asked (λ a. IsBy a.id.life r.life r.begun (a.id.count ≤ r.count)) j at more other own);
-  told = all_append (λ (t : Answered). t.id.router ≡ j → IsBy t.id.life r.life r.begun (ToldBelow r.time t)) answered news fits.told (all_weaken (λ (t : Answered). t.id.router ≡ at) (λ (t : Answered). t.id.router ≡ j → IsBy t.id.life r.life r.begun (ToldBelow r.time t)) news (λ t o e. absurd (other (sym e ∙ o))) told);
+  counted = all_append (λ (a : Asked). a.id.router ≡ j → IsBy a.id.life r.life r.begun (a.id.count ≤ r.count)) asked more fits.counted
+      (no_asked (λ a. IsBy a.id.life r.life r.begun (a.id.count ≤ r.count)) j at more other own);
+  told = all_append (λ (t : Answered). t.id.router ≡ j → IsBy t.id.life r.life r.begun (ToldBelow r.time t)) answered news fits.told
+      (all_weaken (λ (t : Answered). t.id.router ≡ at) (λ (t : Answered). t.id.router ≡ j → IsBy t.id.life r.life r.begun (ToldBelow r.time t)) news
+      (λ t o e. absurd (other (sym e ∙ o))) told);
   tables = all_weaken (IsKnownTable v r.time) (IsKnownTable w r.time) r.tables (λ t k. known_grows v w r.time r.time t later (omega arith) k) fits.tables;
   closed = all_append (λ (a : Asked). a.id.router ≡ j → a.id.life ≡ r.life → IsClosedOrOpen r.requests (answered ++ news) a) asked more
-      (all_weaken (λ (a : Asked). a.id.router ≡ j → a.id.life ≡ r.life → IsClosedOrOpen r.requests answered a) (λ (a : Asked). a.id.router ≡ j → a.id.life ≡ r.life → IsClosedOrOpen r.requests (answered ++ news) a) asked (λ a c e f. closed_grows r.requests answered news a (c e f)) fits.closed)
+      (all_weaken (λ (a : Asked). a.id.router ≡ j → a.id.life ≡ r.life → IsClosedOrOpen r.requests answered a)
+      (λ (a : Asked). a.id.router ≡ j → a.id.life ≡ r.life → IsClosedOrOpen r.requests (answered ++ news) a) asked
+      (λ a c e f. closed_grows r.requests answered news a (c e f)) fits.closed)
       (no_asked (λ a. a.id.life ≡ r.life → IsClosedOrOpen r.requests (answered ++ news) a) j at more other own);
-  risen = all_append (λ (a : Asked). a.id.router ≡ j → IsBy a.id.life r.life r.begun (a.time ≤ r.time)) asked more fits.risen (no_asked (λ a. IsBy a.id.life r.life r.begun (a.time ≤ r.time)) j at more other own);
+  risen = all_append (λ (a : Asked). a.id.router ≡ j → IsBy a.id.life r.life r.begun (a.time ≤ r.time)) asked more fits.risen
+      (no_asked (λ a. IsBy a.id.life r.life r.begun (a.time ≤ r.time)) j at more other own);
 }
 
 pub parked_grows : (v w : View) (asked more : List Asked) (a b : ℕ) (m : Letter) → Later v w → a ≤ b → ParkedFits v asked a m → ParkedFits w (asked ++ more) b m
 parked_grows v w asked more a b m later le f = (letter_grows v w asked more m later f.0, (let h = f.1 in omega arith), f.2)
 
-pub other_state : (v w : View) (asked more : List Asked) (answered news : List Answered) (j at : ℕ) (kept : List Kept) (s : NodeState) → j ≢ at → Later v w → AreDifferent (ids_asked (asked ++ more)) → AreOf at more → AreToldBy at news → StateFits v asked answered j kept s → StateFits w (asked ++ more) (answered ++ news) j kept s
-other_state v w asked more answered news j at kept (catalogue_state c) other later different own told fits = record {
+pub other_state : (v w : View) (asked more : List Asked) (answered news : List Answered) (j at : ℕ) (kept : List Kept) (s : NodeState) → j ≢ at → Later v w
+    → Decided at v w → AreDifferent (ids_asked (asked ++ more)) → AreOf at more → AreToldBy at news → StateFits v asked answered j kept s
+    → StateFits w (asked ++ more) (answered ++ news) j kept s
+other_state v w asked more answered news j at kept (catalogue_state c) other later decides different own told fits = record {
   own = fits.own;
   place = fits.place;
   tables = fits.tables;
@@ -78,22 +132,41 @@ other_state v w asked more answered news j at kept (catalogue_state c) other lat
   names = fits.names;
   wanted = all_weaken (WasWanted asked) (WasWanted (asked ++ more)) _ (λ c s. creation_wanted_grows asked more c s) fits.wanted;
 }
-other_state v w asked more answered news j at kept (shard_state s) other later different own told fits = record {
+other_state v w asked more answered news j at kept (shard_state s) other later decides different own told fits = record {
   own = fits.own;
   place = fits.place;
   entries = fits.entries;
   past = fits.past;
   legal = fits.legal;
-  sent = all_weaken (WasSent asked) (WasSent (asked ++ more)) s.entries (λ e h. sent_grows asked more e h) fits.sent;
+  sent = all_weaken (WasMade s.entries asked) (WasMade s.entries (asked ++ more)) s.entries
+      (λ e h. entry_grows s.entries s.entries asked more e (λ d i. i) h) fits.sent;
+  numbers = fits.numbers;
   placed = all_weaken (IsPlaced (creations_in v)) (IsPlaced (creations_in w)) s.entries (λ e h. placed_grows v w e later h) fits.placed;
   parts = parts_grow asked more s.entries different fits.sent fits.parts;
   tables = all_weaken (IsKnownTable v s.time) (IsKnownTable w s.time) s.tables (λ t k. known_grows v w s.time s.time t later (omega arith) k) fits.tables;
-  parked = all_weaken (ParkedFits v asked s.time) (ParkedFits w (asked ++ more) s.time) s.parked (λ m p. parked_grows v w asked more s.time s.time m later (omega arith) p) fits.parked;
+  parked = all_weaken (ParkedFits v asked s.time) (ParkedFits w (asked ++ more) s.time) s.parked
+      (λ m p. parked_grows v w asked more s.time s.time m later (omega arith) p) fits.parked;
 }
-other_state v w asked more answered news j at kept (router_state r) other later different own told fits = other_router v w asked more answered news j at r other later own told fits
+other_state v w asked more answered news j at kept (router_state r) other later decides different own told fits =
+    other_router v w asked more answered news j at r other later decides own told fits
 
-pub other_fits : (v w : View) (asked more : List Asked) (answered news : List Answered) (given : List Given) (j at : ℕ) (h : Held) → j ≢ at → Later v w → AreDifferent (ids_asked (asked ++ more)) → AreOf at more → AreToldBy at news → HeldFits v asked answered given j h → HeldFits w (asked ++ more) (answered ++ news) given j h
-other_fits v w asked more answered news given j at h other later different own told fits = record {
-  state = other_state v w asked more answered news j at h.kept h.state other later different own told fits.state;
+other_cursors : (v w : List Cursor) (j at : ℕ) (s : NodeState) → j ≢ at → ((router : ℕ) → router ≢ at → filter (is_of router) w ≡ filter (is_of router) v)
+    → OwnCursors v j s → OwnCursors w j s
+other_cursors v w j at (catalogue_state c) other same own = own
+other_cursors v w j at (shard_state s) other same own = own
+other_cursors v w j at (router_state r) other same own = record {
+  own = same_lives j r.life v w (same j other) ∙ own.own;
+  given = subst (λ l. AllByRecursion (IsGiven r.gave r.time) l) (sym (same j other)) own.given;
+  most = own.most;
+}
+
+pub other_fits : (v w : View) (asked more : List Asked) (answered news : List Answered) (given : List Given) (j at : ℕ) (h : Held) → j ≢ at → Later v w
+    → Decided at v w
+    → ((router : ℕ) → router ≢ at → filter (is_of router) w.cursors ≡ filter (is_of router) v.cursors) → AreDifferent (ids_asked (asked ++ more))
+    → AreOf at more → AreToldBy at news
+    → HeldFits v asked answered given j h → HeldFits w (asked ++ more) (answered ++ news) given j h
+other_fits v w asked more answered news given j at h other later decides cursors different own told fits = record {
+  state = other_state v w asked more answered news j at h.kept h.state other later decides different own told fits.state;
   met = met_later v w given (time_of_node h.state) later fits.met;
+  cursors = other_cursors v.cursors w.cursors j at h.state other cursors fits.cursors;
 }

@@ -1,21 +1,24 @@
 -- What a step of one node owes, so that all facts stay.
 use Rattle.std.proofs.Common.{◌≡◌, ◌≢◌, ℕ, ◌≤◌, List, ◌++◌}
+use Rattle.std.specs.Prelude.{filter}
 use Rattle.std.specs.List.{AllByRecursion}
 use Rattle.node_model.specs.Times.{time_of_moment}
+use Rattle.node_model.specs.Cursors.{Cursor}
 use Rattle.node_model.specs.Exchanges.{Asked, Answered}
-use Rattle.node_model.specs.OneHistory.{IsFresh, IsInOrder, ids_asked, ids_told, AreDifferent}
+use Rattle.node_model.specs.History.{IsIn}
+use Rattle.node_model.specs.OneHistory.{IsFresh, IsInOrder, Given, ids_asked, ids_told, AreDifferent}
 use Rattle.node_model.specs.Letters.{Letter, Input, client_input, letter_input, moment_input, opened_input, Taken, Reply, Effect}
 use Rattle.node_model.specs.States.{NodeState, time_of_node}
 use Rattle.node_model.specs.World.{Held, World, asked_by, answered_by, journal_at}
-use Rattle.node_laws.proofs.Views.{View, view_of, IsAbove, Later}
-use Rattle.node_laws.proofs.Facts.{LetterFits, HeldFits, IsMet, AnswerFits, SameKind}
+use Rattle.node_laws.proofs.Views.{Choice, Book, View, view_of, IsAbove, Later}
+use Rattle.node_laws.proofs.Facts.{LetterFits, SentFits, TellsAll, HeldFits, IsMet, AnswersFit, SameKind, is_of}
 
 -- what is known of an input: a message fits, and its time was met; so was a moment's time
-abbrev pub InputFits : World → Input → Type 0
-InputFits w (letter_input m) = LetterFits (view_of w.nodes) w.asked m × IsMet (view_of w.nodes) w.given m.time
-InputFits w (moment_input moment) = IsMet (view_of w.nodes) w.given (time_of_moment moment)
-InputFits w (client_input link number request) = Unit {0}
-InputFits w opened_input = Unit {0}
+abbrev pub InputFits : World → Book → Input → Type 0
+InputFits w book (letter_input m) = SentFits (view_of w.nodes book) w.asked w.answered w.given m
+InputFits w book (moment_input moment) = IsMet (view_of w.nodes book) w.given (time_of_moment moment)
+InputFits w book (client_input link number request) = Unit {0}
+InputFits w book opened_input = Unit {0}
 
 abbrev pub asked_after : World → Effect → List Asked
 asked_after w f = w.asked ++ asked_by w.now f.taken
@@ -23,14 +26,19 @@ asked_after w f = w.asked ++ asked_by w.now f.taken
 abbrev pub answered_after : World → Effect → List Answered
 answered_after w f = w.answered ++ answered_by w.now f.replies
 
--- what the node at a place owes in a view of the world behind the step
-pub record OwesIn (v : View) (w : World) (at : ℕ) (old : Held) (f : Effect) (new : NodeState) : Type 0 where
-  pub node : HeldFits v (asked_after w f) (answered_after w f) w.given at (record { state = new; kept = old.kept ++ f.written })
-  pub letters : AllByRecursion (λ (m : Letter). LetterFits v (asked_after w f) m × IsMet v w.given m.time) f.mail
-  pub answers : AllByRecursion (AnswerFits v (asked_after w f)) (answered_by w.now f.replies)
-  pub known : AllByRecursion (λ (a : Asked). IsMet v w.given a.time) (asked_by w.now f.taken)
+-- a message that is sent: it fits, its time was met, and if it tells a time, no entry is later
+abbrev pub IsSaid : View → List Asked → List Given → Letter → Type 0
+IsSaid v asked given m = LetterFits v asked m × IsMet v given m.time × TellsAll v m.time m.body
 
-pub record Owes (w : World) (at : ℕ) (old : Held) (f : Effect) (new : NodeState) : Type 0 where
+-- what the node at a place owes in a view of the world behind the step
+pub record OwesIn (v : View) (w : World) (book : Book) (at : ℕ) (old : Held) (f : Effect) (new : NodeState) : Type 0 where
+  pub node : HeldFits v (asked_after w f) (answered_after w f) w.given at (record { state = new; kept = old.kept ++ f.written })
+  pub letters : AllByRecursion (IsSaid v (asked_after w f) w.given) f.mail
+  pub answers : AnswersFit v (asked_after w f) (answered_after w f) book.cursors (answered_by w.now f.replies) v.cursors
+  pub known : AllByRecursion (λ (a : Asked). IsMet v w.given a.time) (asked_by w.now f.taken)
+  pub met : AllByRecursion (λ (t : Answered). IsMet v w.given t.time) (answered_by w.now f.replies)
+
+pub record Owes (w : World) (book : Book) (at : ℕ) (old : Held) (f : Effect) (new : NodeState) : Type 0 where
   pub kind : SameKind old.state new
   -- what it writes is above its time, which does not fall
   pub rises : AllByRecursion (IsAbove (time_of_node old.state)) f.written
@@ -42,5 +50,13 @@ pub record Owes (w : World) (at : ℕ) (old : Held) (f : Effect) (new : NodeStat
   pub once : AreDifferent (ids_told (answered_after w f))
   pub fresh : AllByRecursion (IsFresh w.answered) (asked_by w.now f.taken)
   pub in_order : AllByRecursion (IsInOrder w.asked) (asked_by w.now f.taken)
+  -- the times that it decides are for requests of its own
+  pub news : List Choice
+  pub chose : AllByRecursion (λ (c : Choice). (c.id.router ≡ at) × IsIn c.id (ids_asked (asked_after w f))) news
+  -- the cursors behind the step: those of the other routers stay
+  pub cursors : List Cursor
+  pub elsewhere : (router : ℕ) → router ≢ at → filter (is_of router) cursors ≡ filter (is_of router) book.cursors
   -- the rest is owed in the view behind the step, in which the other journals stay, and its own journal and time are these
-  pub owed : (v : View) → Later (view_of w.nodes) v → ((p : ℕ) → p ≢ at → v.journal p ≡ journal_at w.nodes p) → v.journal at ≡ old.kept ++ f.written → v.bound at ≡ time_of_node new → OwesIn v w at old f new
+  pub owed : (v : View) → Later (view_of w.nodes book) v → ((p : ℕ) → p ≢ at → v.journal p ≡ journal_at w.nodes p) → v.journal at ≡ old.kept ++ f.written
+      → v.bound at ≡ time_of_node new
+      → v.chosen ≡ book.chosen ++ news → v.cursors ≡ cursors → OwesIn v w book at old f new

@@ -17,7 +17,8 @@ each_get P i (suc k) (y ∷ xs) x all got =
     let n : i + 1 + k ≡ i + suc k = omega arith in
     subst (λ j. P j x) n (each_get P (i + 1) k xs x all.1 got)
 
-pub each_set : {X : Type 0} (P Q : ℕ → X → Type 0) (i k : ℕ) (xs : List X) (x : X) → ((j : ℕ) (y : X) → j ≢ i + k → P j y → Q j y) → Q (i + k) x → EachAt P i xs → EachAt Q i (slice_set xs k x)
+pub each_set : {X : Type 0} (P Q : ℕ → X → Type 0) (i k : ℕ) (xs : List X) (x : X) → ((j : ℕ) (y : X) → j ≢ i + k → P j y → Q j y) → Q (i + k) x
+    → EachAt P i xs → EachAt Q i (slice_set xs k x)
 each_set P Q i k [] x f q all = tt
 each_set P Q i zero (y ∷ xs) x f q all =
     let n : i + 0 ≡ i = omega arith in

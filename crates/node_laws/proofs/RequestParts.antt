@@ -1,17 +1,17 @@
 -- Where an ask to write is served, its entries are sent and placed, and of each request a prefix stands.
-use Rattle.std.proofs.Common.{◌≡◌, ◌≢◌, ℕ, zero, suc, ◌+◌, ◌<◌, List, [], ◌∷◌, ◌++◌, refl, sym, ap, subst, ◌∙◌, arith, append_assoc}
+use Rattle.std.proofs.Common.{◌≡◌, ◌≢◌, ℕ, ◌+◌, ◌<◌, List, [], ◌∷◌, ◌++◌, refl, sym, ap, subst, ◌∙◌, arith, append_assoc}
 use Rattle.std.proofs.Common.{append-nil, Bool}
 use Rattle.std.specs.Prelude.{Option, Some, None, Result, Ok, true, false, map, length, drop, if◌then◌else◌}
 use Rattle.std.specs.List.{AllByRecursion}
 use Rattle.std.proofs.lemmas.List.{length-map}
 use Rattle.chunk_model.proofs.FirstTables.{only_now, owned_at}
 use Rattle.node_model.specs.Tree.{Datum}
-use Rattle.node_model.specs.Writes.{WriteCommand}
+use Rattle.node_model.specs.Writes.{ClientNumber, WriteCommand}
 use Rattle.node_model.specs.Refusals.{Refusal}
 use Rattle.node_model.specs.Command.{Command, write_command, command_of}
 use Rattle.node_model.specs.Tables.{Table, first_table, first_shard, owner_now}
-use Rattle.node_model.specs.History.{Operation, Entry, IsIn, key_written}
-use Rattle.node_model.specs.Exchanges.{RequestId, same_request, Asked, is_session_of, entries_by}
+use Rattle.node_model.specs.History.{StatementNumber, Operation, Entry, IsIn, key_written}
+use Rattle.node_model.specs.Exchanges.{RequestId, same_request, Asked, number_for, is_session_of, entries_by}
 use Rattle.node_model.specs.Outcomes.{Done, done_of}
 use Rattle.node_model.specs.Right.{ends, AreStatements, IsPart, told_by}
 use Rattle.node_model.specs.OneHistory.{StandsInPart, IsPlaced, ids_asked, AreDifferent}
@@ -23,9 +23,11 @@ use Rattle.node_laws.proofs.Facts.{IsOwned, IsWriteOf}
 use Rattle.node_laws.proofs.Lists.{all_unmapped, all_within, all_prefix}
 use Rattle.node_laws.proofs.Growth.{entries_by_longer}
 use Rattle.node_model.proofs.Requests.{same_id, one_asked}
-use Rattle.node_laws.proofs.Requests.{other_made}
-use Rattle.node_laws.proofs.SeenStatements.{own_session}
-use Rattle.node_laws.proofs.ServedStatements.{AreOwn, IsEntryOf, statement_of}
+use Rattle.node_laws.proofs.Requests.{other_number}
+use Rattle.node_laws.proofs.SeenStatements.{true_false, own_session}
+use Rattle.node_laws.proofs.NotedOutcomes.{HasNoOther}
+use Rattle.node_laws.proofs.ServedStatements.{IsOf, AreOf, IsEntryOf, statement_of}
+use Rattle.node_laws.proofs.MadeEntries.{drop_statements, statements_of}
 use Rattle.node_laws.proofs.ServedParts.{GoOn, front_below, behind_front, other_back, serves_stands}
 
 -- OWNERS
@@ -66,24 +68,11 @@ owned_placed v time namespace receiver e (shard, name, o) later =
 
 -- STATEMENTS OF A REQUEST
 
-own_from : (id : RequestId) (index : ℕ) (operations : List Operation) → AreOwn id (statements_from id index operations)
-own_from id index [] = tt
-own_from id index (d ∷ operations) = (own_session id, own_from id (index + 1) operations)
-
-drop_statements : (id : RequestId) (index n : ℕ) (operations : List Operation)
-    → drop n (statements_from id index operations) ≡ statements_from id (index + n) (drop n operations)
-drop_statements id index zero operations = ap (λ k. statements_from id k operations) (omega arith)
-drop_statements id index (suc n) [] = refl
-drop_statements id index (suc n) (d ∷ operations) = drop_statements id (index + 1) n operations
-    ∙ ap (λ k. statements_from id k (drop n operations)) (omega arith)
-
--- the statements of an ask are numbered by its request
+-- the statements of an ask are those of its request
 pub ask_own : (v : View) (asked : List Asked) (receiver time : ℕ) (id : RequestId) (ordered : Bool) (namespace : List ℕ) (statements : List Statement)
-    → IsWriteOf v asked receiver time id ordered namespace statements → AreOwn id statements
+    → (a : IsWriteOf v asked receiver time id ordered namespace statements) → AreOf a.write id statements
 ask_own v asked receiver time id ordered namespace statements a =
-    all_prefix (λ (s : Statement). is_session_of id s.number.session ≡ true) statements a.back
-    (subst (λ l. AreOwn id l) (sym (drop_statements id 0 (length a.front) a.write.operations) ∙ a.next)
-    (own_from id (0 + length a.front) (drop (length a.front) a.write.operations)))
+    all_prefix (IsOf a.write id) statements a.back (subst (λ l. AreOf a.write id l) a.next (statements_of a.write id (length a.front)))
 
 -- what some entries were told is what the first of them were told
 pub record ToldFirst (entries : List Entry) (front : List Done) : Type 0 where
@@ -103,16 +92,16 @@ told_first (x ∷ entries) (d ∷ front) standing e =
 pub request_part : (id : RequestId) (shard : ℕ) (namespace : List ℕ) (ordered : Bool) (operations : List Operation) (entries : List Entry) (time : ℕ)
     (statements : List Statement) (dones : List Done) (made : List Entry) (last : ℕ)
     → Serves shard namespace ordered entries time statements dones made last → (front standing : List Done) (back : List Statement)
-    → told_by id entries ≡ front ++ standing → AllByRecursion (λ d. ends ordered d ≡ false) front
-    → drop (length front) (statements_from id 0 operations) ≡ statements ++ back → AreStatements id namespace ordered 0 operations (entries_by id entries)
+    → told_by id entries ≡ front ++ standing → AllByRecursion (λ d. ends ordered d ≡ false) front → AllByRecursion HasNoOther entries
+    → drop (length front) (statements_from None id 0 operations) ≡ statements ++ back → AreStatements id namespace ordered 0 operations (entries_by id entries)
     → AreStatements id namespace ordered 0 operations (entries_by id (entries ++ made))
-request_part id shard namespace ordered operations entries time statements dones made last serves front standing back told goes next part =
+request_part id shard namespace ordered operations entries time statements dones made last serves front standing back told goes none next part =
     let t = told_first (entries_by id entries) front standing told in
     let all : AreStatements id namespace ordered 0 operations (t.ahead ++ t.behind) =
     subst (λ l. AreStatements id namespace ordered 0 operations l) t.split part in
     let count : length t.ahead ≡ length front = sym (length-map t.ahead done_of) ∙ ap (λ (l : List Done). length l) t.told in
-    let from : statements_from id (0 + length t.ahead) (drop (length t.ahead) operations) ≡ statements ++ back =
-    sym (drop_statements id 0 (length t.ahead) operations) ∙ ap (λ n. drop n (statements_from id 0 operations)) count ∙ next in
+    let from : statements_from None id (0 + length t.ahead) (drop (length t.ahead) operations) ≡ statements ++ back =
+    sym (drop_statements None id 0 (length t.ahead) operations) ∙ ap (λ n. drop n (statements_from None id 0 operations)) count ∙ next in
     let goes_on : GoOn ordered t.ahead = all_unmapped (λ d. ends ordered d ≡ false) done_of t.ahead
     (subst (λ l. AllByRecursion (λ d. ends ordered d ≡ false) l) (sym t.told) goes) in
     let new = serves_stands id shard namespace ordered entries time statements dones made last serves (0 + length t.ahead)
@@ -121,6 +110,7 @@ request_part id shard namespace ordered operations entries time statements dones
       split = t.split;
       below = front_below id namespace ordered 0 operations t.ahead t.behind all;
       from = behind_front id namespace ordered 0 operations t.ahead t.behind all;
+      zero = none;
     }) in
     subst (λ l. AreStatements id namespace ordered 0 operations l)
     (sym (entries_by_longer id entries made ∙ ap (λ l. l ++ entries_by id made) t.split ∙ append_assoc t.ahead t.behind (entries_by id made)))
@@ -128,11 +118,16 @@ request_part id shard namespace ordered operations entries time statements dones
 
 -- ALL REQUESTS
 
-none_of_other : (a b : RequestId) (made : List Entry) → a ≢ b → AllByRecursion (λ (e : Entry). is_session_of a e.number.session ≡ true) made
-    → entries_by b made ≡ []
-none_of_other a b [] other own = refl
-none_of_other a b (e ∷ made) other own = ap (λ t. if t then e ∷ entries_by b made else entries_by b made) (other_made a b e.number.session other own.0)
-    ∙ none_of_other a b made other own.1
+-- the entry is under a number of the request
+abbrev pub IsBy : Option ClientNumber → RequestId → Entry → Type 0
+IsBy given id e = (index : ℕ) × (e.number ≡ number_for given id index)
+
+none_of_other : (given : Option ClientNumber) (a b : RequestId) (made : List Entry) → a ≢ b → AllByRecursion (IsBy given a) made → entries_by b made ≡ []
+none_of_other given a b [] other own = refl
+none_of_other given a b (e ∷ made) other own =
+    ap (λ t. if t then e ∷ entries_by b made else entries_by b made)
+    (ap (λ (n : StatementNumber). is_session_of b n.session) own.0.1 ∙ other_number given a b own.0.0 other)
+    ∙ none_of_other given a b made other own.1
 
 write_is : (r : Result Command Refusal) (a b : WriteCommand) → r ≡ Ok (write_command a) → r ≡ Ok (write_command b) → a ≡ b
 write_is r a b e h = cc
@@ -140,24 +135,22 @@ write_is r a b e h = cc
 -- where of one request a prefix stands, and none of the others made an entry, of each a prefix stands
 pub parts_longer : (asked : List Asked) (entries made : List Entry) (own : Asked) (write : WriteCommand) → AreDifferent (ids_asked asked) → IsIn own asked
     → command_of own.request ≡ Ok (write_command write)
-    → AllByRecursion (λ (e : Entry). is_session_of own.id e.number.session ≡ true) made → IsPart (entries ++ made) own.id write
+    → AllByRecursion (IsBy write.number own.id) made → (write.number ≡ None → IsPart (entries ++ made) own.id write)
     → AllByRecursion (StandsInPart entries) asked → AllByRecursion (StandsInPart (entries ++ made)) asked
 parts_longer asked entries made own write different taken asks mine part parts =
     all_within (StandsInPart entries) (StandsInPart (entries ++ made)) asked (λ a i p. each a i p) parts
   where
     by_id : (a : Asked) → IsIn a asked → StandsInPart entries a → (t : Bool) → same_request own.id a.id ≡ t → StandsInPart (entries ++ made) a
-    by_id a i old true same wanted is =
+    by_id a i old true same wanted is none =
         let one : own ≡ a = one_asked own a asked different taken i (same_id own.id a.id same) in
         let writes : write ≡ wanted = write_is (command_of own.request) write wanted asks (ap (λ (b : Asked). command_of b.request) one ∙ is) in
-        subst (λ (b : Asked). IsPart (entries ++ made) b.id wanted) one (subst (λ n. IsPart (entries ++ made) own.id n) writes part)
-    by_id a i old false other wanted is =
+        subst (λ (b : Asked). IsPart (entries ++ made) b.id wanted) one
+        (subst (λ n. IsPart (entries ++ made) own.id n) writes (part (ap (λ (c : WriteCommand). c.number) writes ∙ none)))
+    by_id a i old false other wanted is none =
         let different : own.id ≢ a.id = λ e. true_false (sym (own_session own.id) ∙ ap (λ n. same_request own.id n) e ∙ other) in
         let same : entries_by a.id (entries ++ made) ≡ entries_by a.id entries = entries_by_longer a.id entries made
-        ∙ ap (λ l. entries_by a.id entries ++ l) (none_of_other own.id a.id made different mine) ∙ append-nil (entries_by a.id entries) in
-        subst (λ l. AreStatements a.id wanted.namespace wanted.ordered 0 wanted.operations l) (sym same) (old wanted is)
-      where
-        true_false : true ≡ false → ⊥
-        true_false e = cc
+        ∙ ap (λ l. entries_by a.id entries ++ l) (none_of_other write.number own.id a.id made different mine) ∙ append-nil (entries_by a.id entries) in
+        subst (λ l. AreStatements a.id wanted.namespace wanted.ordered 0 wanted.operations l) (sym same) (old wanted is none)
 
     each : (a : Asked) → IsIn a asked → StandsInPart entries a → StandsInPart (entries ++ made) a
     each a i p = by_id a i p (same_request own.id a.id) refl

@@ -1,16 +1,19 @@
 -- What new requests and answers leave of the facts on old ones.
 use Rattle.std.proofs.Common.{◌≡◌, ◌≢◌, ℕ, ◌+◌, ◌<◌, List, [], ◌∷◌, ◌++◌, refl, sym, ap, subst, ◌∙◌, arith, Bool}
-use Rattle.std.specs.Prelude.{true, false, if◌then◌else◌}
+use Rattle.std.specs.Prelude.{Option, Some, None, true, false, if◌then◌else◌}
 use Rattle.std.specs.List.{AllByRecursion}
 use Rattle.history_model.proofs.Lists.{all_weaken, all_append, all_at}
-use Rattle.node_model.specs.History.{Session, client_session, router_session, Entry}
-use Rattle.node_model.specs.Exchanges.{RequestId, same_request, Asked, Answered, is_session_of, entries_by}
-use Rattle.node_model.specs.Right.{AreStatements}
-use Rattle.node_model.specs.OneHistory.{WasSent, StandsInPart, IsNotBefore, IsFresh, ids_asked, AreDifferent}
+use Rattle.node_model.specs.Writes.{ClientNumber}
+use Rattle.node_model.specs.History.{Session, client_session, router_session, StatementNumber, Entry}
+use Rattle.node_model.specs.Exchanges.{RequestId, same_request, Asked, Answered, number_for, is_session_of, entries_by}
+use Rattle.node_model.specs.Right.{Sends, AreStatements}
+use Rattle.node_model.specs.OneHistory.{StandsInPart, IsNotBefore, IsFresh, ids_asked, AreDifferent}
 use Rattle.node_model.specs.Letters.{Taken, Reply}
 use Rattle.node_model.specs.World.{asked_by, answered_by}
 use Rattle.node_model.proofs.Requests.{same_id}
+use Rattle.node_laws.proofs.WriteFacts.{WasMade}
 use Rattle.node_laws.proofs.Lists.{all_of}
+use Rattle.node_laws.proofs.SeenStatements.{own_session}
 
 -- a request that is new: none before has its number
 abbrev pub IsNew : List Asked → Asked → Type 0
@@ -35,31 +38,48 @@ pub other_made : (a b : RequestId) (session : Session) → a ≢ b → is_sessio
 other_made a b (client_session name) other own = absurd (cc)
 other_made a b (router_session node life request) other own = by_test (same_request (record { router = node; life = life; count = request }) b) refl
   where
-    by_test : (t : Bool) → same_request (record { router = node; life = life; count = request }) b ≡ t → same_request (record { router = node; life = life; count = request }) b ≡ false
-    by_test true e = absurd (other (sym (same_id (record { router = node; life = life; count = request }) a own) ∙ same_id (record { router = node; life = life; count = request }) b e))
+    by_test : (t : Bool) → same_request (record { router = node; life = life; count = request }) b ≡ t
+        → same_request (record { router = node; life = life; count = request }) b ≡ false
+    by_test true e = absurd (other (sym (same_id (record { router = node; life = life; count = request }) a own)
+        ∙ same_id (record { router = node; life = life; count = request }) b e))
     by_test false e = e
 
+-- a number of one request is under no session of another
+pub other_number : (given : Option ClientNumber) (a b : RequestId) (index : ℕ) → a ≢ b → is_session_of b (number_for given a index).session ≡ false
+other_number None a b index other = other_made a b (router_session a.router a.life a.count) other (own_session a)
+other_number (Some by) a b index other = refl
+
+pub other_sent : (a : Asked) (b : RequestId) (e : Entry) → Sends a e → a.id ≢ b → is_session_of b e.number.session ≡ false
+other_sent a b e sends other =
+    ap (λ (n : StatementNumber). is_session_of b n.session) sends.entry.statement.same_number ∙ other_number sends.write.number a.id b sends.index other
+
 -- a new request made no entry
-pub none_by : (asked : List Asked) (a : Asked) (history : List Entry) → IsNew asked a → AllByRecursion (WasSent asked) history → entries_by a.id history ≡ []
-none_by asked a [] new sent = refl
-none_by asked a (e ∷ history) new sent =
+pub none_by : (entries : List Entry) (asked : List Asked) (a : Asked) (history : List Entry) → IsNew asked a → AllByRecursion (WasMade entries asked) history
+    → entries_by a.id history ≡ []
+none_by entries asked a [] new sent = refl
+none_by entries asked a (e ∷ history) new sent =
     let s = sent.0 in
     let other : s.request.id ≢ a.id = all_at (λ (b : Asked). b.id ≢ a.id) s.request asked new s.taken in
-    let no : is_session_of a.id e.number.session ≡ false = other_made s.request.id a.id e.number.session other s.own in
-    ap (λ t. if t then e ∷ entries_by a.id history else entries_by a.id history) no ∙ none_by asked a history new sent.1
+    ap (λ t. if t then e ∷ entries_by a.id history else entries_by a.id history) (other_sent s.request a.id e s.sends other)
+    ∙ none_by entries asked a history new sent.1
 
 -- so of each request a prefix stands, also of new ones
-pub parts_grow : (asked more : List Asked) (history : List Entry) → AreDifferent (ids_asked (asked ++ more)) → AllByRecursion (WasSent asked) history → AllByRecursion (StandsInPart history) asked → AllByRecursion (StandsInPart history) (asked ++ more)
+pub parts_grow : (asked more : List Asked) (history : List Entry) → AreDifferent (ids_asked (asked ++ more)) → AllByRecursion (WasMade history asked) history
+    → AllByRecursion (StandsInPart history) asked → AllByRecursion (StandsInPart history) (asked ++ more)
 parts_grow asked more history different sent parts =
     all_append (StandsInPart history) asked more parts
-    (all_weaken (IsNew asked) (StandsInPart history) more (λ a new write asks. subst (λ l. AreStatements a.id write.namespace write.ordered 0 write.operations l) (sym (none_by asked a history new sent)) tt) (new_ones asked more different))
+    (all_weaken (IsNew asked) (StandsInPart history) more
+    (λ a new write asks own. subst (λ l. AreStatements a.id write.namespace write.ordered 0 write.operations l)
+    (sym (none_by history asked a history new sent)) tt)
+    (new_ones asked more different))
 
 -- what is answered in this step is answered in it, by this router
 pub answered_now : (now : ℕ) (replies : List Reply) → AllByRecursion (λ (t : Answered). t.step ≡ now) (answered_by now replies)
 answered_now now [] = tt
 answered_now now (x ∷ replies) = (refl, answered_now now replies)
 
-pub answered_here : (now at : ℕ) (replies : List Reply) → AllByRecursion (λ (x : Reply). x.id.router ≡ at) replies → AllByRecursion (λ (t : Answered). t.id.router ≡ at) (answered_by now replies)
+pub answered_here : (now at : ℕ) (replies : List Reply) → AllByRecursion (λ (x : Reply). x.id.router ≡ at) replies
+    → AllByRecursion (λ (t : Answered). t.id.router ≡ at) (answered_by now replies)
 answered_here now at [] all = tt
 answered_here now at (x ∷ replies) all = (all.0, answered_here now at replies all.1)
 
@@ -67,11 +87,14 @@ pub asked_now : (now : ℕ) (taken : List Taken) → AllByRecursion (λ (a : Ask
 asked_now now [] = tt
 asked_now now (x ∷ taken) = (refl, asked_now now taken)
 
-pub asked_here : (now at : ℕ) (taken : List Taken) → AllByRecursion (λ (x : Taken). x.id.router ≡ at) taken → AllByRecursion (λ (a : Asked). a.id.router ≡ at) (asked_by now taken)
+pub asked_here : (now at : ℕ) (taken : List Taken) → AllByRecursion (λ (x : Taken). x.id.router ≡ at) taken
+    → AllByRecursion (λ (a : Asked). a.id.router ≡ at) (asked_by now taken)
 asked_here now at [] all = tt
 asked_here now at (x ∷ taken) all = (all.0, asked_here now at taken all.1)
 
 -- what is told in a step was not told before a request that came in it or earlier
-pub still_fresh : (answered news : List Answered) (now : ℕ) (a : Asked) → a.came < now + 1 → AllByRecursion (λ (t : Answered). t.step ≡ now) news → IsFresh answered a → IsFresh (answered ++ news) a
+pub still_fresh : (answered news : List Answered) (now : ℕ) (a : Asked) → a.came < now + 1 → AllByRecursion (λ (t : Answered). t.step ≡ now) news
+    → IsFresh answered a → IsFresh (answered ++ news) a
 still_fresh answered news now a came told fresh =
-    all_append (IsNotBefore a) answered news fresh (all_weaken (λ (t : Answered). t.step ≡ now) (IsNotBefore a) news (λ t e time router life before told. absurd (omega arith)) told)
+    all_append (IsNotBefore a) answered news fresh
+    (all_weaken (λ (t : Answered). t.step ≡ now) (IsNotBefore a) news (λ t e time router life before told. absurd (omega arith)) told)

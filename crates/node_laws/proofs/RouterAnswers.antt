@@ -1,241 +1,332 @@
 -- What a router tells is right, and stays so.
-use Rattle.std.proofs.Common.{◌≡◌, ◌≢◌, ◌⊎◌, ℕ, ◌+◌, ◌<◌, ◌≤◌, List, [], ◌++◌, refl, sym, ap, subst, ◌∙◌, arith, append-nil, Bool}
-use Rattle.std.specs.Prelude.{Option, Some, None, Result, Ok, Err, true}
+use Rattle.std.proofs.Common.{◌≡◌, ◌≢◌, ◌⊎◌, inl, inr, ℕ, ◌+◌, ◌<◌, ◌≤◌, List, [], ◌∷◌, ◌++◌, refl, sym, ap, subst, ◌∙◌, arith, append-nil, append_assoc}
+use Rattle.std.proofs.Common.{Bool}
+use Rattle.std.specs.Prelude.{pos, Option, Some, None, Result, Ok, Err, true, false, length, int_lt, if◌then◌else◌}
 use Rattle.std.specs.List.{AllByRecursion}
-use Rattle.history_model.proofs.Lists.{all_at}
-use Rattle.node_model.specs.Tree.{Datum, Fields}
+use Rattle.history_model.proofs.Lists.{all_weaken, all_at, in_push}
 use Rattle.node_model.specs.Refusals.{Refusal, time_ahead}
-use Rattle.node_model.specs.Writes.{WriteCommand, WriteKind}
-use Rattle.node_model.specs.Find.{Find}
-use Rattle.node_model.specs.Command.{Command, hello_command, legacy_command, ping_command, end_sessions_command, write_command, find_command, command_of}
-use Rattle.node_model.specs.Answers.{Answer, hello_answer, legacy_answer, find_answer, refusal_answer, answer_document}
+use Rattle.node_model.specs.Writes.{ClientNumber, WriteCommand, WriteKind}
+use Rattle.node_model.specs.Command.{Command, hello_command, legacy_command, ping_command, end_sessions_command, write_command, find_command, count_command}
+use Rattle.node_model.specs.Command.{more_command, kill_command}
+use Rattle.node_model.specs.Command.{command_of}
+use Rattle.node_model.specs.Answers.{Answer, hello_answer, legacy_answer, refusal_answer, answer_document}
+use Rattle.node_model.specs.Cursors.{Cursor}
 use Rattle.node_model.specs.Tables.{first_shard}
-use Rattle.node_model.specs.History.{IsIn, document_at}
-use Rattle.node_model.specs.Exchanges.{RequestId, Asked, Answered, entries_by}
-use Rattle.node_model.specs.Outcomes.{Done, answer_of}
-use Rattle.node_model.specs.Right.{found, IsPart, told_by, AreAll, time_read, IsRight, right_write, right_find, right_ahead, right_hello, right_legacy, right_ping, right_end_sessions, right_refusal}
+use Rattle.node_model.specs.History.{StatementNumber, Operation, Entry, IsIn}
+use Rattle.node_model.specs.Exchanges.{RequestId, Asked, Answered, number_for, entries_by}
+use Rattle.node_model.specs.Outcomes.{StatementAnswer, Done, answer_of}
+use Rattle.node_model.specs.Right.{ends, IsStatement, HadSent, MayBeTold, told_own, told_other, told_older, AreTold, IsPart, told_by, AreAll, right_write}
+use Rattle.node_model.specs.Right.{right_refused_read, refused_ahead, right_hello, right_legacy, right_ping}
+use Rattle.node_model.specs.Right.{right_end_sessions, right_refusal}
 use Rattle.node_model.specs.OneHistory.{StandsInPart, ids_asked, AreDifferent}
-use Rattle.node_model.specs.Letters.{Statement, Half, key_half, Reply}
-use Rattle.node_model.specs.States.{Work, writing, reading, Open, Router}
-use Rattle.node_model.specs.RouterRows.{statements_from, noted, is_answered, at_once, needs, plan_of, reply_to}
+use Rattle.node_model.specs.Letters.{Statement, Reply}
+use Rattle.node_model.specs.States.{writing, Open, Router}
+use Rattle.node_model.specs.RouterRows.{statements_from, noted, is_answered, at_once, plan_of, reply_to}
+use Rattle.node_model.proofs.Requests.{number_same, one_asked}
 use Rattle.node_laws.proofs.Views.{View, entries_in}
-use Rattle.node_laws.proofs.Facts.{IsShown, IsDoneBy, WorkFits, IsOpenOf, IsSettled, AnswerFits}
-use Rattle.node_laws.proofs.NotedOutcomes.{noted_stands, IsAllTold, told_whole}
+use Rattle.node_laws.proofs.ReadFacts.{IsAwaited}
+use Rattle.node_laws.proofs.WriteFacts.{IsAnswerOf, by_entry, by_older, IsDoneAt, AreAnswers, OnlyLast, WasMade}
+use Rattle.node_laws.proofs.Facts.{HasBegun, IsDoneOf, WorkFits, AreSeen, IsOpenOf, AnswerFits, IsToldOf, IsPast, NeighboursFit}
+use Rattle.node_laws.proofs.SeenStatements.{true_false}
+use Rattle.node_laws.proofs.Growth.{done_at_later}
+use Rattle.node_laws.proofs.Journals.{later_self}
+use Rattle.node_laws.proofs.Answers.{StaysRight}
+use Rattle.node_laws.proofs.NotedOutcomes.{HasNoOther, made_no_other, answers_stand, noted_answers, noted_last, IsAllTold, told_whole}
 use Rattle.node_laws.proofs.AnswerTimes.{ShowsBelow, refusal_below, hello_below, legacy_below, done_below}
-use Rattle.node_laws.proofs.Neighbours.{NeighboursFit}
-use Rattle.node_laws.proofs.EmptyReads.{HasNothing, nothing_found}
-use Rattle.node_model.proofs.Requests.{one_asked}
 
 -- the answer that a reply is, in a step
 abbrev pub as_answered : ℕ → Reply → Answered
 as_answered now x = record { id = x.id; link = x.link; number = x.number; request = x.request; step = now; time = x.time; document = x.document }
 
--- a request asks for one command
-one_find : (command : Result Command Refusal) (f g : Find) → command ≡ Ok (find_command f) → command ≡ Ok (find_command g) → f ≡ g
-one_find command f g a b = cc
-
-no_write : (command : Result Command Refusal) (f : Find) (write : WriteCommand) → command ≡ Ok (write_command write) → command ≡ Ok (find_command f) → ⊥
-no_write command f write a b = cc
-
 -- an open request is told rightly
-pub answer_fits : (v : View) (asked : List Asked) (answered : List Answered) (r : Router) (time now : ℕ)
-    (q : Open) (answer : Answer) (o : IsOpenOf v asked answered r q) → r.time ≤ time
-    → o.request.came < now + 1 → IsRight (entries_in v first_shard) o.request (as_answered now (reply_to r time q answer))
-    → IsSettled v o.request (as_answered now (reply_to r time q answer))
-    → AnswerFits v asked (as_answered now (reply_to r time q answer))
-answer_fits v asked answered r time now q answer o later came right settled = record {
-  right = record {
-    request = o.request;
-    taken = o.taken;
-    own = o.own;
-    link = o.link;
-    number = o.number;
-    same = o.asks;
-    came = omega arith;
-    risen = (let p = o.past in omega arith);
-    right = right;
-  };
-  settled = settled;
+pub answer_fits : (v : View) (asked : List Asked) (answered told : List Answered) (r : Router) (time now : ℕ)
+    (q : Open) (answer : Answer) (cursors next : List Cursor) (o : IsOpenOf v asked answered r q) → r.time ≤ time → o.request.came < now + 1
+    → StaysRight v asked told cursors o.request (as_answered now (reply_to r time q answer)) next
+    → AnswerFits v asked told cursors (as_answered now (reply_to r time q answer)) next
+answer_fits v asked answered told r time now q answer cursors next o later came s = record {
+  request = o.request;
+  taken = o.taken;
+  own = o.own;
+  link = o.link;
+  number = o.number;
+  same = o.asks;
+  came = omega arith;
+  risen = (let p = o.past in omega arith);
+  right = s.right;
+  settled = s.settled;
 }
 
--- FINDS
+-- A TIME THAT IS AHEAD
 
-same_answer : (v : View) (namespace other : List ℕ) (key same : Datum) (at time : ℕ) (rows : List Fields) → namespace ≡ other
-    → key_half key ≡ key_half same → at ≡ time
-    → rows ≡ found (document_at (entries_in v first_shard) namespace (Some key) at)
-    → answer_document (find_answer namespace rows at) ≡ answer_document (find_answer other
-    (found (document_at (entries_in v first_shard) other (Some same) time)) time)
-same_answer v namespace other key same at time rows name half when rows_are =
-    let keys : key ≡ same = cc in
-    ap (λ l. answer_document (find_answer namespace l at)) rows_are
-    ∙ ap (λ n. answer_document (find_answer n (found (document_at (entries_in v first_shard) n (Some key) at)) at)) name
-    ∙ ap (λ k. answer_document (find_answer other (found (document_at (entries_in v first_shard) other (Some k) at)) at)) keys
-    ∙ ap (λ t. answer_document (find_answer other (found (document_at (entries_in v first_shard) other (Some same) t)) t)) when
-
-pub found_right : (v : View) (a : Asked) (t : Answered) (namespace : List ℕ) (at : ℕ) (key : Datum) (rows : List Fields)
-    → WorkFits v a namespace (reading at (key_half key)) → at ≤ t.time
-    → rows ≡ found (document_at (entries_in v first_shard) namespace (Some key) at) → t.document ≡ answer_document (find_answer namespace rows at)
-    → IsRight (entries_in v first_shard) a t
-found_right v a t namespace at key rows (find, asks, name, half, when) reached rows_are document =
-    right_find find asks (subst (λ n. n ≤ t.time) when reached)
-    (document ∙ same_answer v namespace find.namespace key find.key at (time_read a find) rows name half when rows_are)
-
--- it stays so, where its time is settled
-pub found_settled : (v : View) (a : Asked) (t : Answered) (namespace : List ℕ) (at : ℕ) (key : Datum) → WorkFits v a namespace (reading at (key_half key))
-    → (at ≤ v.bound first_shard) ⊎ HasNothing v namespace key at → IsSettled v a t
-found_settled v a t namespace at key (own, owns, name, half, when) settled find asks reached =
-    let same : own ≡ find = one_find (command_of a.request) own find owns asks in
-    let keys : key ≡ own.key = cc in
-    subst (λ (f : Find). (time_read a f ≤ v.bound first_shard) ⊎ HasNothing v f.namespace f.key (time_read a f)) same
-    (subst (λ n. (n ≤ v.bound first_shard) ⊎ HasNothing v own.namespace own.key n) when
-    (subst (λ k. (at ≤ v.bound first_shard) ⊎ HasNothing v own.namespace k at) keys
-    (subst (λ n. (at ≤ v.bound first_shard) ⊎ HasNothing v n key at) name settled)))
-
--- nothing is there
-pub empty_rows : (v : View) (asked : List Asked) (namespace : List ℕ) (key : Datum) (at : ℕ) → NeighboursFit v asked → HasNothing v namespace key at
-    → [] ≡ found (document_at (entries_in v first_shard) namespace (Some key) at)
-empty_rows v asked namespace key at n none = ap (λ d. found d) (sym (nothing_found v asked namespace key at n none))
-
--- what the shard showed for this request
-pub record ShownTo (v : View) (time : ℕ) (namespace : List ℕ) (key : Datum) (at : ℕ) (rows : List Fields) : Type 0 where
-  pub rows_are : rows ≡ found (document_at (entries_in v first_shard) namespace (Some key) at)
-  pub settled : at ≤ v.bound first_shard
-  pub past : at ≤ time
-
-pub shown_to : (v : View) (asked : List Asked) (a : Asked) (sender time : ℕ) (id : RequestId)
-    (namespace : List ℕ) (at : ℕ) (key : Datum) (rows : List Fields) → AreDifferent (ids_asked asked)
-    → IsIn a asked → a.id ≡ id → WorkFits v a namespace (reading at (key_half key)) → IsShown v asked sender time id rows → ShownTo v time namespace key at rows
-shown_to v asked a sender time id namespace at key rows different taken own (find, asks, name, half, when) s =
-    let request : s.request ≡ a = one_asked s.request a asked different s.taken taken (s.own ∙ sym own) in
-    let finds : s.find ≡ find = one_find (command_of a.request) s.find find (sym (ap (λ (x : Asked). command_of x.request) request) ∙ s.asks) asks in
-    let times : time_read s.request s.find ≡ at = ap (λ (x : Asked). time_read x s.find) request ∙ ap (λ (f : Find). time_read a f) finds ∙ sym when in
-    let names : s.find.namespace ≡ namespace = ap (λ (f : Find). f.namespace) finds ∙ sym name in
-    let keys : s.find.key ≡ key = ap (λ (f : Find). f.key) finds ∙ cc in
-    let settled = s.settled in
-    let past = s.past in
-    record {
-      rows_are =
-          s.rows_are ∙ ap (λ p. found (document_at (entries_in v p) s.find.namespace (Some s.find.key) (time_read s.request s.find))) s.owner
-          ∙ ap (λ n. found (document_at (entries_in v first_shard) n (Some s.find.key) (time_read s.request s.find))) names
-          ∙ ap (λ k. found (document_at (entries_in v first_shard) namespace (Some k) (time_read s.request s.find))) keys
-          ∙ ap (λ n. found (document_at (entries_in v first_shard) namespace (Some key) n)) times;
-      settled = subst (λ p. at ≤ v.bound p) s.owner (subst (λ n. n ≤ v.bound sender) times settled);
-      past = subst (λ n. n ≤ time) times past;
-    }
-
--- a time is read at that is ahead of the router's, so it was named
-pub ahead_right : (v : View) (a : Asked) (t : Answered) (namespace : List ℕ) (at : ℕ) (half : Half) → WorkFits v a namespace (reading at half)
-    → a.time ≤ t.time → t.time < at
-    → t.document ≡ answer_document (refusal_answer (time_ahead t.time)) → IsRight (entries_in v first_shard) a t
-ahead_right v a t namespace at half (find, asks, name, shows, when) past ahead document = by_name find.at refl when
+-- the shard told its time, asked after the request came
+pub ahead_right : (v : View) (asked : List Asked) (told : List Answered) (cursors : List Cursor) (a : Asked) (t : Answered) (id : RequestId)
+    (at heard now : ℕ) (old : List Answered)
+    → IsAwaited v a id at → IsPast v old a heard → heard ≤ t.time → t.time < at → a.came < now + 1 → told ≡ old ++ t ∷ [] → t.step ≡ now
+    → t.document ≡ answer_document (refusal_answer (time_ahead t.time)) → StaysRight v asked told cursors a t cursors
+ahead_right v asked told cursors a t id at heard now old waits past by_now ahead came all step document = record {
+  right = right_refused_read waits.read waits.reads (refused_ahead (record {
+    wanted = at;
+    wants = waits.wanted;
+    ahead = ahead;
+    of_all = λ s write index e i before asks stands number shows.
+        by_place s write index e before stands (asks, number, shows) (in_push s old t (subst (λ l. IsIn s l) all i));
+  }) document);
+  settled = tt;
+}
   where
-    by_name : (named : Option ℕ) → find.at ≡ named → at ≡ (elim named as (λ (o : Option ℕ). ℕ) [ None ↦ a.time | Some n ↦ n ])
-        → IsRight (entries_in v first_shard) a t
-    by_name None h same = absurd (omega arith)
-    by_name (Some n) h same = right_ahead find n asks h (subst (λ m. t.time < m) same ahead) document
-
-pub ahead_settled : (v : View) (a : Asked) (t : Answered) (namespace : List ℕ) (at : ℕ) (half : Half) → WorkFits v a namespace (reading at half)
-    → t.time < at → IsSettled v a t
-ahead_settled v a t namespace at half (own, owns, name, shows, when) ahead find asks reached =
-    let same : own ≡ find = one_find (command_of a.request) own find owns asks in
-    let times : at ≡ time_read a find = when ∙ ap (λ (f : Find). time_read a f) same in
-    absurd (omega arith)
+    by_place : (s : Answered) (write : WriteCommand) (index : ℕ) (e : Entry) → s.step < a.came → IsIn e (entries_in v first_shard) → IsToldOf s write index e
+        → IsIn s old ⊎ (s ≡ t) → e.time < at
+    by_place s write index e before stands shown (inl i) = let l = past s write index e i before stands shown in omega arith
+    by_place s write index e before stands shown (inr same) =
+        let now_too : s.step ≡ t.step = ap (λ (x : Answered). x.step) same in absurd (omega arith)
 
 -- WRITES
 
-pub record NotedFits (v : View) (a : Asked) (namespace : List ℕ) (kind : WriteKind) (ordered : Bool) (statements : List Statement) (told : List Done) : Type 0 where
+pub same_write : (a b : WriteCommand) (command : Result Command Refusal) → command ≡ Ok (write_command a) → command ≡ Ok (write_command b) → a ≡ b
+same_write a b command e f = cc
+
+same_place : (xs : List Operation) (x : Operation) (ys us : List Operation) (u : Operation) (vs : List Operation) → xs ++ x ∷ ys ≡ us ++ u ∷ vs
+    → length xs ≡ length us → x ≡ u
+same_place [] x ys [] u vs e n = cc
+same_place [] x ys (w ∷ us) u vs e n = absurd (cc)
+same_place (z ∷ xs) x ys [] u vs e n = absurd (cc)
+same_place (z ∷ xs) x ys (w ∷ us) u vs e n = same_place xs x ys us u vs (cc) (omega arith)
+
+-- a request that was taken, with its write, and an answer to it that is told behind all that was taken
+pub record IsTelling (v : View) (asked : List Asked) (a : Asked) (write : WriteCommand) (t : Answered) : Type 0 where
+  pub around : NeighboursFit v asked
+  pub taken : IsIn a asked
+  pub asks : command_of a.request ≡ Ok (write_command write)
+  pub own : a.id ≡ t.id
+  pub came : AllByRecursion (λ (b : Asked). b.came ≤ t.step) asked
+
+module _ (v : View) (asked : List Asked) (a : Asked) (write : WriteCommand) (t : Answered) (x : IsTelling v asked a write t) where
+  made : (e : Entry) → IsIn e (entries_in v first_shard) → WasMade (entries_in v first_shard) asked e
+  made e i = all_at (WasMade (entries_in v first_shard) asked) e (entries_in v first_shard) x.around.sent i
+
+  had : (e : Entry) → IsIn e (entries_in v first_shard) → HadSent asked e t
+  had e i =
+      let m = made e i in
+      record { request = m.request; taken = m.taken; sends = m.sends; came = all_at (λ (b : Asked). b.came ≤ t.step) m.request asked x.came m.taken }
+
+  -- the entry under a router's own number is that of its statement
+  own_statement : (e : Entry) (prefix : List Operation) (operation : Operation) (back : List Operation) → write.number ≡ None
+      → write.operations ≡ prefix ++ operation ∷ back → IsIn e (entries_in v first_shard) → e.number ≡ number_for write.number t.id (length prefix)
+      → IsStatement (number_for write.number t.id (length prefix)) write.namespace operation e
+  own_statement e prefix operation back none both i numbered =
+      let m = made e i in
+      let sent = m.sends.entry in
+      let number : number_for None t.id (length prefix) ≡ number_for m.sends.write.number m.request.id m.sends.index =
+      ap (λ g. number_for g t.id (length prefix)) (sym none) ∙ sym numbered ∙ sent.statement.same_number in
+      let id : t.id ≡ m.request.id = number_same t.id m.request.id m.sends.write.number (length prefix) m.sends.index number in
+      let one : m.request ≡ a = one_asked m.request a asked x.around.one m.taken x.taken (sym id ∙ sym x.own) in
+      let is : m.sends.write ≡ write = same_write m.sends.write write (command_of a.request)
+      (ap (λ (b : Asked). command_of b.request) (sym one) ∙ m.sends.asks) x.asks in
+      let index : m.sends.index ≡ length prefix = sym (index_at m.sends.write.number m.request.id m.sends.index)
+      ∙ ap (λ (n : StatementNumber). n.index) (sym number) in
+      let does : sent.operation ≡ operation = same_place sent.prefix sent.operation sent.back prefix operation back
+      (sym sent.both ∙ ap (λ (c : WriteCommand). c.operations) is ∙ both) (sent.at ∙ index) in
+      record { same_number = numbered; name = sent.statement.name ∙ ap (λ (c : WriteCommand). c.namespace) is; does = sent.statement.does ∙ does }
+    where
+      index_at : (g : Option ClientNumber) (id : RequestId) (n : ℕ) → (number_for g id n).index ≡ n
+      index_at None id n = refl
+      index_at (Some by) id n = refl
+
+  -- an answer that is by an entry may be told
+  may_tell : (prefix : List Operation) (operation : Operation) (back : List Operation) (answer : StatementAnswer)
+      → write.operations ≡ prefix ++ operation ∷ back
+      → IsAnswerOf (entries_in v first_shard) t.time (number_for write.number t.id (length prefix)) answer
+      → MayBeTold (entries_in v first_shard) asked t write.number (number_for write.number t.id (length prefix)) write.namespace operation answer
+  may_tell prefix operation back answer both is = by_number write.number refl answer is
+    where
+      of_own : (number : StatementNumber) → number ≡ number_for write.number t.id (length prefix) → write.number ≡ None → (answer : StatementAnswer)
+          → IsAnswerOf (entries_in v first_shard) t.time number answer
+          → MayBeTold (entries_in v first_shard) asked t write.number (number_for write.number t.id (length prefix)) write.namespace operation answer
+      of_own number same none _ (by_entry e i numbered past) = told_own e i (own_statement e prefix operation back none both i (numbered ∙ same)) past
+      of_own number same none _ (by_older e i session less past) =
+          let zero : number ≡ number_for None t.id (length prefix) = same ∙ ap (λ g. number_for g t.id (length prefix)) none in
+          let first : number.transaction ≡ pos 0 = ap (λ (n : StatementNumber). n.transaction) zero in
+          let other : e.number.transaction ≡ pos 0 = made_no_other (entries_in v first_shard) asked e (made e i) t.id.router t.id.life t.id.count
+          (session ∙ ap (λ (n : StatementNumber). n.session) zero) in
+          absurd (true_false (sym less ∙ ap (λ n. int_lt n e.number.transaction) first ∙ ap (λ n. int_lt (pos 0) n) other))
+
+      of_client : (by : ClientNumber) → write.number ≡ Some by → (answer : StatementAnswer)
+          → IsAnswerOf (entries_in v first_shard) t.time (number_for write.number t.id (length prefix)) answer
+          → MayBeTold (entries_in v first_shard) asked t write.number (number_for write.number t.id (length prefix)) write.namespace operation answer
+      of_client by some _ (by_entry e i numbered past) = told_other e by i some numbered past (had e i)
+      of_client by some _ (by_older e i session less past) = told_older e by i some session less past (had e i)
+
+      by_number : (given : Option ClientNumber) → write.number ≡ given → (answer : StatementAnswer)
+          → IsAnswerOf (entries_in v first_shard) t.time (number_for write.number t.id (length prefix)) answer
+          → MayBeTold (entries_in v first_shard) asked t write.number (number_for write.number t.id (length prefix)) write.namespace operation answer
+      by_number None none answer is = of_own (number_for write.number t.id (length prefix)) refl none answer is
+      by_number (Some by) some answer is = of_client by some answer is
+
+  -- answers to all statements, or up to the error that ends the command
+  are_told : (given : Option ClientNumber) (prefix operations : List Operation) (dones : List Done) → write.operations ≡ prefix ++ operations
+      → AreAnswers (entries_in v first_shard) t.time write t.id (length prefix) dones → OnlyLast write.ordered dones
+      → is_answered write.ordered (statements_from given t.id (length prefix) operations) dones ≡ true
+      → AreTold (entries_in v first_shard) asked t write (length prefix) operations dones
+  are_told given prefix [] [] both all last whole = refl
+  are_told given prefix [] (d ∷ dones) both all last whole =
+      let none : length write.operations ≡ length prefix = ap (λ (l : List Operation). length l) (both ∙ append-nil prefix) in
+      let within = all.1.within in
+      let at = all.0 in
+      absurd (omega arith)
+  are_told given prefix (operation ∷ operations) [] both all last whole = absurd (cc)
+  are_told given prefix (operation ∷ operations) (d ∷ dones) both all last whole =
+      let longer : length (prefix ++ operation ∷ []) ≡ length prefix + 1 = length_push prefix in (
+        all.0,
+        may_tell prefix operation operations d.answer both
+            (subst (λ n. IsAnswerOf (entries_in v first_shard) t.time (number_for write.number t.id n) d.answer) all.0 all.1.answer),
+        by_end (ends write.ordered d) refl whole
+            (λ rest. subst (λ n. AreTold (entries_in v first_shard) asked t write n operations dones) longer
+            (are_told given (prefix ++ operation ∷ []) operations dones (both ∙ sym (append_assoc prefix (operation ∷ []) operations))
+            (subst (λ n. AreAnswers (entries_in v first_shard) t.time write t.id n dones) (sym longer) all.2) last.1
+            (subst (λ n. is_answered write.ordered (statements_from given t.id n operations) dones ≡ true) (sym longer) rest))),
+      )
+    where
+      length_push : (xs : List Operation) → length (xs ++ operation ∷ []) ≡ length xs + 1
+      length_push [] = refl
+      length_push (y ∷ xs) = let n = length_push xs in omega (arith, n)
+
+      by_end : (b : Bool) → ends write.ordered d ≡ b
+          → (if b then true else is_answered write.ordered (statements_from given t.id (length prefix + 1) operations) dones) ≡ true
+          → (is_answered write.ordered (statements_from given t.id (length prefix + 1) operations) dones ≡ true
+          → AreTold (entries_in v first_shard) asked t write (length prefix + 1) operations dones)
+          → (elim b as (λ z. Type 0) [
+            | true ↦ dones ≡ []
+            | false ↦ AreTold (entries_in v first_shard) asked t write (length prefix + 1) operations dones
+          ])
+      by_end true h w more = last.0 h
+      by_end false h w more = more w
+
+-- what is noted of an open write
+pub record NotedFits (v : View) (a : Asked) (time : ℕ) (namespace : List ℕ) (kind : WriteKind) (ordered : Bool) (statements : List Statement)
+    (told : List Done) : Type 0 where
   pub write : WriteCommand
   pub asks : command_of a.request ≡ Ok (write_command write)
   pub is : kind ≡ write.kind
   pub name : namespace ≡ write.namespace
   pub order : ordered ≡ write.ordered
-  pub all : statements ≡ statements_from a.id 0 write.operations
-  pub more : List Done
-  pub stands : told_by a.id (entries_in v first_shard) ≡ told ++ more
-  pub part : IsPart (entries_in v first_shard) a.id write
+  pub all : statements ≡ statements_from write.number a.id 0 write.operations
+  pub answers : AreAnswers (entries_in v first_shard) time write a.id 0 told
+  pub last : OnlyLast write.ordered told
+  pub begun : HasBegun v time write.namespace
 
-pub noted_fits : (v : View) (asked : List Asked) (a : Asked) (sender time : ℕ) (id : RequestId) (namespace : List ℕ)
+pub noted_fits : (v : View) (asked : List Asked) (a : Asked) (sender early time : ℕ) (id : RequestId) (namespace : List ℕ)
     (kind : WriteKind) (ordered : Bool) (statements : List Statement) (answers dones : List Done)
-    → NeighboursFit v asked → IsIn a asked → a.id ≡ id → WorkFits v a namespace (writing kind ordered statements answers) → sender ≡ first_shard
-    → AllByRecursion (IsDoneBy v sender time id) dones → NotedFits v a namespace kind ordered statements (noted answers dones)
-noted_fits v asked a sender time id namespace kind ordered statements answers dones n taken own
-    (write, asks, is, name, order, all, (standing, stands), goes_on) first done =
-    let part : IsPart (entries_in v first_shard) a.id write = all_at (StandsInPart (entries_in v first_shard)) a asked n.parts taken write asks in
-    let mine : AllByRecursion (IsDoneBy v first_shard time a.id) dones =
-    subst (λ p. AllByRecursion (IsDoneBy v p time a.id) dones) first (subst (λ i. AllByRecursion (IsDoneBy v sender time i) dones) (sym own) done) in
-    let r = noted_stands v first_shard time a.id write.namespace write.ordered write.operations answers standing dones part stands mine in
-    record { write = write; asks = asks; is = is; name = name; order = order; all = all; more = r.0; stands = r.1; part = part }
+    → AreDifferent (ids_asked asked) → IsIn a asked → a.id ≡ id → WorkFits a namespace (writing kind ordered statements answers)
+    → AreSeen v time a (writing kind ordered statements answers) → early ≤ time → sender ≡ first_shard
+    → IsDoneOf v asked sender early id dones → NotedFits v a time namespace kind ordered statements (noted answers dones)
+noted_fits v asked a sender early time id namespace kind ordered statements answers dones different taken own
+    (write, asks, is, name, order, all, goes_on) seen le first done =
+    let one : done.request ≡ a = one_asked done.request a asked different done.taken taken (done.own ∙ sym own) in
+    let same : done.write ≡ write = same_write done.write write (command_of a.request)
+    (ap (λ (b : Asked). command_of b.request) (sym one) ∙ done.asks) asks in
+    let each : AllByRecursion (IsDoneAt (entries_in v first_shard) early write a.id) dones =
+    subst (λ p. AllByRecursion (IsDoneAt (entries_in v p) early write a.id) dones) first
+    (subst (λ i. AllByRecursion (IsDoneAt (entries_in v sender) early write i) dones) (sym own)
+    (subst (λ c. AllByRecursion (IsDoneAt (entries_in v sender) early c id) dones) same done.each)) in
+    let begun : HasBegun v early write.namespace = subst (λ (c : WriteCommand). HasBegun v early c.namespace) same done.begun in
+    let before = begun.before in
+    record {
+      write = write;
+      asks = asks;
+      is = is;
+      name = name;
+      order = order;
+      all = all;
+      answers = noted_answers (entries_in v first_shard) time write a.id answers dones (seen write asks)
+          (all_weaken (IsDoneAt (entries_in v first_shard) early write a.id) (IsDoneAt (entries_in v first_shard) time write a.id) dones
+          (λ d x. done_at_later v v first_shard early time write a.id d (later_self v) le x) each);
+      last = noted_last write.ordered answers dones (subst (λ b. AllByRecursion (λ d. ends b d ≡ false) answers) order goes_on)
+          (subst (λ (c : WriteCommand). OnlyLast c.ordered dones) same done.last);
+      begun = record { creation = begun.creation; begun = begun.begun; name = begun.name; before = omega arith };
+    }
 
-pub wrote_right : (v : View) (a : Asked) (t : Answered) (namespace : List ℕ) (kind : WriteKind) (ordered : Bool) (statements : List Statement) (told : List Done)
-    → NotedFits v a namespace kind ordered statements told
-    → is_answered ordered statements told ≡ true → t.document ≡ answer_document (answer_of kind told) → IsRight (entries_in v first_shard) a t
-wrote_right v a t namespace kind ordered statements told n whole document =
-    let every : is_answered n.write.ordered (statements_from a.id 0 n.write.operations) told ≡ true =
+pub wrote_right : (v : View) (asked : List Asked) (old : List Answered) (cursors : List Cursor) (a : Asked) (t : Answered) (namespace : List ℕ)
+    (kind : WriteKind) (ordered : Bool)
+    (statements : List Statement) (told : List Done) → (n : NotedFits v a t.time namespace kind ordered statements told)
+    → IsTelling v asked a n.write t → is_answered ordered statements told ≡ true → told ≢ []
+    → t.document ≡ answer_document (answer_of kind t.time told) → StaysRight v asked old cursors a t cursors
+wrote_right v asked old cursors a t namespace kind ordered statements told n x whole some document =
+    let every : is_answered n.write.ordered (statements_from n.write.number a.id 0 n.write.operations) told ≡ true =
     ap (λ l. is_answered n.write.ordered l told) (sym n.all) ∙ ap (λ b. is_answered b statements told) (sym n.order) ∙ whole in
-    let w : IsAllTold n.write.ordered n.write.operations told n.more =
-    told_whole a.id n.write.namespace n.write.ordered 0 n.write.operations (entries_by a.id (entries_in v first_shard)) told n.more n.part n.stands every in
-    let same : told_by a.id (entries_in v first_shard) ≡ told = n.stands ∙ ap (λ l. told ++ l) w.last ∙ append-nil told in
-    right_write n.write n.asks (record { part = n.part; all = subst (λ l. AreAll n.write.ordered n.write.operations l) (sym same) w.all })
-    (document ∙ ap (λ k. answer_document (answer_of k told)) n.is ∙ ap (λ l. answer_document (answer_of n.write.kind l)) (sym same))
-
-pub wrote_settled : (v : View) (a : Asked) (t : Answered) (write : WriteCommand) → command_of a.request ≡ Ok (write_command write) → IsSettled v a t
-wrote_settled v a t write asks find finds reached = absurd (no_write (command_of a.request) find write asks finds)
+    record {
+      right = right_write n.write told n.begun.creation n.asks
+          (are_told v asked a n.write t x n.write.number [] n.write.operations told refl
+          (subst (λ i. AreAnswers (entries_in v first_shard) t.time n.write i 0 told) x.own n.answers) n.last
+          (subst (λ i. is_answered n.write.ordered (statements_from n.write.number i 0 n.write.operations) told ≡ true) x.own every))
+          (λ own.
+          let part : IsPart (entries_in v first_shard) a.id n.write =
+          all_at (StandsInPart (entries_in v first_shard)) a asked x.around.parts x.taken n.write n.asks own in
+          let stands = answers_stand (entries_in v first_shard) t.time n.write a.id told own
+          (all_weaken (WasMade (entries_in v first_shard) asked) HasNoOther (entries_in v first_shard)
+          (λ e m. made_no_other (entries_in v first_shard) asked e m) x.around.sent) part n.answers in
+          let w : IsAllTold n.write.ordered n.write.operations told stands.0 =
+          told_whole n.write.number a.id n.write.namespace n.write.ordered 0 n.write.operations (entries_by a.id (entries_in v first_shard)) told stands.0 part
+          stands.1 every in
+          let same : told_by a.id (entries_in v first_shard) ≡ told = stands.1 ∙ ap (λ l. told ++ l) w.last ∙ append-nil told in
+          record { part = part; all = subst (λ l. AreAll n.write.ordered n.write.operations l) (sym same) w.all })
+          n.begun.begun n.begun.name n.begun.before (document ∙ ap (λ k. answer_document (answer_of k t.time told)) n.is);
+      settled = some;
+    }
 
 -- AT ONCE
 
-pub record IsPlain (v : View) (a : Asked) (t : Answered) (bound : ℕ) (answer : Answer) : Type 0 where
-  pub right : IsRight (entries_in v first_shard) a t
-  pub settled : IsSettled v a t
+pub record IsPlain (v : View) (asked : List Asked) (told : List Answered) (cursors : List Cursor) (a : Asked) (t : Answered) (bound : ℕ)
+    (answer : Answer) : Type 0 where
+  pub right : StaysRight v asked told cursors a t cursors
   pub below : ShowsBelow bound answer
-
-no_plan : (r : Router) (namespace : List ℕ) (work : Work) (answer : Answer) → needs namespace work ≡ at_once answer → ⊥
-no_plan r namespace work answer e = cc
-
-other_command : (v : View) (a : Asked) (t : Answered) (command : Result Command Refusal) → command_of a.request ≡ command
-    → ((find : Find) → command ≢ Ok (find_command find)) → IsSettled v a t
-other_command v a t command asks none find finds reached = absurd (none find (sym asks ∙ finds))
 
 one_answer : (x y : Answer) → at_once x ≡ at_once y → x ≡ y
 one_answer x y e = cc
 
-pub plain_fits : (v : View) (a : Asked) (t : Answered) (r : Router) (id : RequestId) (bound : ℕ) (answer : Answer) (command : Result Command Refusal)
-    → command_of a.request ≡ command
-    → a.moment ≡ r.moment → plan_of r id command ≡ at_once answer → t.document ≡ answer_document answer → IsPlain v a t bound answer
-plain_fits v a t r id bound answer (Err refusal) asks moment plan document =
+pub plain_fits : (v : View) (asked : List Asked) (told : List Answered) (cursors : List Cursor) (a : Asked) (t : Answered) (r : Router) (id : RequestId)
+    (silent : Bool)
+    (bound : ℕ) (answer : Answer)
+    (command : Result Command Refusal) → command_of a.request ≡ command
+    → a.moment ≡ r.moment → plan_of r id silent command ≡ at_once answer → t.document ≡ answer_document answer → IsPlain v asked told cursors a t bound answer
+plain_fits v asked told cursors a t r id silent bound answer (Err refusal) asks moment plan document =
     let same = one_answer (refusal_answer refusal) answer plan in
     record {
-      right = right_refusal refusal asks (document ∙ ap answer_document (sym same));
-      settled = other_command v a t (Err refusal) asks (λ find e. cc);
+      right = record { right = right_refusal refusal asks (document ∙ ap answer_document (sym same)); settled = tt };
       below = subst (λ x. ShowsBelow bound x) same (refusal_below bound refusal);
     }
-plain_fits v a t r id bound answer (Ok hello_command) asks moment plan document =
+plain_fits v asked told cursors a t r id silent bound answer (Ok hello_command) asks moment plan document =
     let same = one_answer _ answer plan in
     record {
-      right = right_hello asks (document ∙ ap answer_document (sym same) ∙ ap (λ m. answer_document (hello_answer m)) (sym moment));
-      settled = other_command v a t (Ok hello_command) asks (λ find e. cc);
+      right = record {
+        right = right_hello asks (document ∙ ap answer_document (sym same) ∙ ap (λ m. answer_document (hello_answer m)) (sym moment));
+        settled = tt;
+      };
       below = subst (λ x. ShowsBelow bound x) same (hello_below bound r.moment);
     }
-plain_fits v a t r id bound answer (Ok (legacy_command legacy)) asks moment plan document =
+plain_fits v asked told cursors a t r id silent bound answer (Ok (legacy_command legacy)) asks moment plan document =
     let same = one_answer _ answer plan in
     record {
-      right = right_legacy legacy asks (document ∙ ap answer_document (sym same) ∙ ap (λ m. answer_document (legacy_answer m legacy.shows_hello_ok))
-          (sym moment));
-      settled = other_command v a t (Ok (legacy_command legacy)) asks (λ find e. cc);
+      right = record {
+        right = right_legacy legacy asks (document ∙ ap answer_document (sym same) ∙ ap (λ m. answer_document (legacy_answer m legacy.shows_hello_ok))
+            (sym moment));
+        settled = tt;
+      };
       below = subst (λ x. ShowsBelow bound x) same (legacy_below bound r.moment legacy.shows_hello_ok);
     }
-plain_fits v a t r id bound answer (Ok ping_command) asks moment plan document =
+plain_fits v asked told cursors a t r id silent bound answer (Ok ping_command) asks moment plan document =
     let same = one_answer _ answer plan in
     record {
-      right = right_ping asks (document ∙ ap answer_document (sym same));
-      settled = other_command v a t (Ok ping_command) asks (λ find e. cc);
+      right = record { right = right_ping asks (document ∙ ap answer_document (sym same)); settled = tt };
       below = subst (λ x. ShowsBelow bound x) same (done_below bound);
     }
-plain_fits v a t r id bound answer (Ok end_sessions_command) asks moment plan document =
+plain_fits v asked told cursors a t r id silent bound answer (Ok end_sessions_command) asks moment plan document =
     let same = one_answer _ answer plan in
     record {
-      right = right_end_sessions asks (document ∙ ap answer_document (sym same));
-      settled = other_command v a t (Ok end_sessions_command) asks (λ find e. cc);
+      right = record { right = right_end_sessions asks (document ∙ ap answer_document (sym same)); settled = tt };
       below = subst (λ x. ShowsBelow bound x) same (done_below bound);
     }
-plain_fits v a t r id bound answer (Ok (write_command write)) asks moment plan document = absurd (no_plan r _ _ answer plan)
-plain_fits v a t r id bound answer (Ok (find_command find)) asks moment plan document = absurd (no_plan r _ _ answer plan)
+plain_fits v asked told cursors a t r id silent bound answer (Ok (write_command write)) asks moment plan document = absurd (cc)
+plain_fits v asked told cursors a t r id silent bound answer (Ok (find_command find)) asks moment plan document = absurd (cc)
+plain_fits v asked told cursors a t r id silent bound answer (Ok (count_command read)) asks moment plan document = absurd (cc)
+plain_fits v asked told cursors a t r id silent bound answer (Ok (more_command get)) asks moment plan document = absurd (cc)
+plain_fits v asked told cursors a t r id silent bound answer (Ok (kill_command kill)) asks moment plan document = absurd (cc)

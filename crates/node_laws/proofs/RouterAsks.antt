@@ -1,28 +1,34 @@
 -- What a router asks for fits.
-use Rattle.std.proofs.Common.{◌≡◌, ◌≢◌, ◌⊎◌, inl, inr, ℕ, ◌≤◌, List, [], ◌∷◌, ◌++◌, refl, sym, ap, subst, ◌∙◌, arith, Bool}
+use Rattle.std.proofs.Common.{◌≡◌, ◌≢◌, inl, inr, ℕ, ◌≤◌, List, [], ◌∷◌, ◌++◌, refl, sym, ap, subst, ◌∙◌, arith, Bool}
 use Rattle.std.specs.Prelude.{Option, Some, None, true, false, drop, length, if◌then◌else◌}
 use Rattle.std.specs.List.{AllByRecursion}
 use Rattle.std.proofs.lemmas.Bool.{eqb-true, ltb-false}
 use Rattle.history_model.proofs.Lists.{all_weaken, all_at}
 use Rattle.chunk_model.proofs.FirstTables.{only_at}
-use Rattle.node_model.specs.Tree.{Datum}
-use Rattle.node_model.specs.Tables.{Table, first_shard, table_of, owner_at}
+use Rattle.node_model.specs.Tree.{null_value}
+use Rattle.node_model.specs.Catalogue.{Creation}
+use Rattle.node_model.specs.Keys.{Span, point_span, range_span}
+use Rattle.node_model.specs.Stages.{Stage}
+use Rattle.node_model.specs.Split.{split}
+use Rattle.node_model.specs.Tables.{Table, first_table, first_shard, table_of}
 use Rattle.node_model.specs.Verdicts.{sent_by}
 use Rattle.node_model.specs.Writes.{WriteKind}
 use Rattle.node_model.specs.History.{IsIn}
 use Rattle.node_model.specs.Exchanges.{RequestId, Asked, Answered}
 use Rattle.node_model.specs.Outcomes.{Done}
 use Rattle.node_model.specs.OneHistory.{Given}
-use Rattle.node_model.specs.Letters.{Statement, Half, key_half, write_ask, read_ask, Letter}
-use Rattle.node_model.specs.States.{Work, writing, reading, Wait, for_time, for_table, for_shards, Open, Router}
-use Rattle.node_model.specs.RouterRows.{id_of, owner_of_statement, is_on, run_to, unanswered, asks_to_write, asks_to_read, asks_shards, asks_table, is_enough, enough_of, table_for, asks_times, is_ahead, asks_by, asks_for, asks_again, says}
+use Rattle.node_model.specs.Letters.{Statement, write_ask, read_ask, Letter}
+use Rattle.node_model.specs.States.{Telling, Work, writing, reading, Wait, for_time, for_table, for_shards, Open, Router}
+use Rattle.node_model.specs.RouterRows.{id_of, owner_of_statement, owner_of_span, is_on, run_to, unanswered, asks_to_write, asks_to_read, asks_shards}
+use Rattle.node_model.specs.RouterRows.{asks_table, is_enough, enough_of, table_for, asks_times, is_ahead, asks_by, asks_for, asks_again, says}
 use Rattle.node_laws.proofs.Views.{View}
-use Rattle.node_laws.proofs.Facts.{IsKnownTable, IsOwned, IsReadOf, IsWriteOf, LetterFits, WorkFits, IsOpenOf, IsMet}
+use Rattle.node_laws.proofs.ReadFacts.{IsDecided, IsReadOf}
+use Rattle.node_laws.proofs.Facts.{IsKnownTable, IsOwned, IsWriteOf, WorkFits, AreSeen, HasTime, IsOpenOf, IsMet}
+use Rattle.node_laws.proofs.Owes.{IsSaid}
+use Rattle.node_laws.proofs.Growth.{seen_grows}
+use Rattle.node_laws.proofs.Journals.{later_self}
+use Rattle.node_laws.proofs.ReadTimes.{reads_of}
 use Rattle.node_laws.proofs.KnownTables.{FoundTable, table_found}
-
--- a message that fits, of a time that was met
-abbrev pub IsSaid : View → List Asked → List Given → Letter → Type 0
-IsSaid v asked given m = LetterFits v asked m × IsMet v given m.time
 
 -- the request with this number, taken by this time, has this work to do
 pub record IsAsking (v : View) (asked : List Asked) (id : RequestId) (time : ℕ) (namespace : List ℕ) (work : Work) : Type 0 where
@@ -30,17 +36,21 @@ pub record IsAsking (v : View) (asked : List Asked) (id : RequestId) (time : ℕ
   pub taken : IsIn request asked
   pub own : request.id ≡ id
   pub past : request.time ≤ time
-  pub does : WorkFits v request namespace work
+  pub does : WorkFits request namespace work
+  pub seen : AreSeen v time request work
+  pub decided : is_ahead time work ≡ false → IsDecided v id work
 
 pub open_asks : (v : View) (asked : List Asked) (answered : List Answered) (r : Router) (time : ℕ) (q : Open) → r.time ≤ time → IsOpenOf v asked answered r q
-    → IsAsking v asked (id_of r q.count) time q.namespace q.work
-open_asks v asked answered r time q later o = record {
+    → (is_ahead time q.work ≡ false → IsDecided v (id_of r q.count) q.work) → IsAsking v asked (id_of r q.count) time q.namespace q.work
+open_asks v asked answered r time q later o decided = record {
   request = o.request;
   taken = o.taken;
   own = o.own;
   past =
       (let p = o.past in omega arith);
   does = o.work;
+  seen = seen_grows v v r.time time o.request q.work (later_self v) later o.seen;
+  decided = decided;
 }
 
 -- STATEMENTS THAT GO TO ONE SHARD
@@ -77,10 +87,16 @@ owned_by v time namespace shard t s k name owner = record {
   owner = subst (λ u. owner_of_statement u s ≡ Some shard) k.table owner;
 }
 
+-- so far one shard owns a span
+pub only_span : (c : Creation) (at shard : ℕ) (span : Span) → owner_of_span (first_table c) at span ≡ Some shard → shard ≡ first_shard
+only_span c at shard (point_span key) e = (only_at c key at shard e).0
+only_span c at shard (range_span range) e = (only_at c null_value at shard e).0
+
 module _ (v : View) (asked : List Asked) (given : List Given) (r : Router) (time : ℕ) (met : IsMet v given time) where
   -- WHAT SHARDS ARE ASKED
 
-  writes_fit : (id : RequestId) (namespace : List ℕ) (t : Table) (kind : WriteKind) (ordered : Bool) (statements : List Statement) (answers : List Done) (left : List Statement)
+  writes_fit : (id : RequestId) (namespace : List ℕ) (t : Table) (kind : WriteKind) (ordered : Bool) (statements : List Statement) (answers : List Done)
+      (left : List Statement)
       → IsAsking v asked id time namespace (writing kind ordered statements answers) → IsKnownTable v time t → t.namespace ≡ namespace
       → unanswered statements answers ≡ left
       → AllByRecursion (IsSaid v asked given) (asks_to_write r time id namespace t ordered left)
@@ -95,15 +111,14 @@ module _ (v : View) (asked : List Asked) (given : List Given) (r : Router) (time
             request = a.request;
             write = work.0;
             front = answers;
-            standing = work.6.0;
             back = split.0;
             taken = a.taken;
             own = refl;
             asks = work.1;
             order = work.4;
             name = work.3;
-            stands = work.6.1;
-            goes_on = work.7;
+            answered = a.seen work.0 work.1;
+            goes_on = work.6;
             next = ap (λ l. drop (length answers) l) (sym work.5) ∙ here ∙ split.1;
             owned = all_weaken (λ x. owner_of_statement t x ≡ Some shard) (IsOwned v time namespace shard) (run_to t shard (s ∷ left))
                 (λ x o. owned_by v time namespace shard t x k name o) (run_owned t shard (s ∷ left));
@@ -115,37 +130,44 @@ module _ (v : View) (asked : List Asked) (given : List Given) (r : Router) (time
         | Some shard ↦ says r shard time (write_ask id 1 ordered namespace (run_to t shard (s ∷ left)) (sent_by t shard)) ∷ []
       ])
       by_owner None = tt
-      by_owner (Some shard) = ((fits shard, met), tt)
+      by_owner (Some shard) = ((fits shard, met, tt), tt)
 
-  reads_fit : (id : RequestId) (namespace : List ℕ) (t : Table) (at : ℕ) (key : Datum)
-      → IsAsking v asked id time namespace (reading at (key_half key)) → IsKnownTable v time t → at ≤ time
-      → AllByRecursion (IsSaid v asked given) (asks_to_read r time id namespace t at (key_half key))
-  reads_fit id namespace t at key a k reached = by_owner (owner_at t key at) refl
+  reads_fit : (id : RequestId) (namespace : List ℕ) (t : Table) (named : Bool) (at : ℕ) (stages : List Stage) (telling : Telling)
+      → IsAsking v asked id time namespace (reading named at stages telling) → IsKnownTable v time t → is_ahead time (reading named at stages telling) ≡ false
+      → AllByRecursion (IsSaid v asked given) (asks_to_read r time id namespace t at (split stages).0)
+  reads_fit id namespace t named at stages telling a k reached = by_owner (owner_of_span t at (split stages).0.span) refl
     where
-      work : WorkFits v a.request namespace (reading at (key_half key))
+      work : WorkFits a.request namespace (reading named at stages telling)
       work = a.does
 
-      read : IsReadOf asked id (key_half key)
-      read = record { request = a.request; find = work.0; taken = a.taken; own = a.own; asks = work.1; shows = work.3 }
+      read : IsReadOf v asked id namespace at (split stages).0
+      read = record {
+        request = a.request;
+        read = work.read;
+        taken = a.taken;
+        own = a.own;
+        reads = reads_of a.request work.read telling work.tells;
+        name = work.name;
+        shows = ap (λ (l : List Stage). (split l).0) work.words;
+        decided = a.decided reached;
+      }
 
-      by_owner : (owner : Option ℕ) → owner_at t key at ≡ owner → AllByRecursion (IsSaid v asked given) (elim owner as (λ (o : Option ℕ). List Letter) [
-        | None ↦ []
-        | Some shard ↦ says r shard time (read_ask id 1 namespace at (key_half key) (sent_by t shard)) ∷ []
-      ])
+      by_owner : (owner : Option ℕ) → owner_of_span t at (split stages).0.span ≡ owner
+          → AllByRecursion (IsSaid v asked given) (elim owner as (λ (o : Option ℕ). List Letter) [
+            | None ↦ []
+            | Some shard ↦ says r shard time (read_ask id 1 namespace at (split stages).0 (sent_by t shard)) ∷ []
+          ])
       by_owner None h = tt
       by_owner (Some shard) h =
-          let first : shard ≡ first_shard = (only_at k.creation key at shard (subst (λ u. owner_at u key at ≡ Some shard) k.table h)).0 in
-          (((read, work.2, work.4, reached, first), met), tt)
-
-  reached_by : (at : ℕ) (half : Half) → is_ahead time (reading at half) ≡ false → at ≤ time
-  reached_by at half h = ltb-false time at h
+          let first : shard ≡ first_shard = only_span k.creation at shard (split stages).0.span
+          (subst (λ u. owner_of_span u at (split stages).0.span ≡ Some shard) k.table h) in
+          (((read, ltb-false time at reached, first), met, tt), tt)
 
   pub shards_fit : (count : ℕ) (namespace : List ℕ) (t : Table) (work : Work) → IsAsking v asked (id_of r count) time namespace work → IsKnownTable v time t
       → t.namespace ≡ namespace → is_ahead time work ≡ false → AllByRecursion (IsSaid v asked given) (asks_shards r time count namespace t work)
   shards_fit count namespace t (writing kind ordered statements answers) a k name reached =
       writes_fit (id_of r count) namespace t kind ordered statements answers (unanswered statements answers) a k name refl
-  shards_fit count namespace t (reading at (key_half key)) a k name reached = reads_fit (id_of r count) namespace t at key a k
-      (reached_by at (key_half key) reached)
+  shards_fit count namespace t (reading named at stages telling) a k name reached = reads_fit (id_of r count) namespace t named at stages telling a k reached
 
   -- WHAT THE CATALOGUE IS ASKED
 
@@ -153,8 +175,8 @@ module _ (v : View) (asked : List Asked) (given : List Given) (r : Router) (time
       → IsSaid v asked given (asks_table r time namespace work)
   table_ask_fits id namespace (writing kind ordered statements answers) a reached =
       let work = a.does in
-      ((tt, record { request = a.request; taken = a.taken; writes = record { write = work.0; asks = work.1; name = sym work.3 }; past = a.past }), met)
-  table_ask_fits id namespace (reading at half) a reached = (reached_by at half reached, met)
+      ((tt, record { request = a.request; taken = a.taken; writes = record { write = work.0; asks = work.1; name = sym work.3 }; past = a.past }), met, tt)
+  table_ask_fits id namespace (reading named at stages telling) a reached = (ltb-false time at reached, met, tt)
 
   -- WHAT A REQUEST ASKS FOR
 
@@ -185,34 +207,41 @@ module _ (v : View) (asked : List Asked) (given : List Given) (r : Router) (time
       by_ahead : (b : Bool) → is_ahead time work ≡ b
           → AllByRecursion (IsSaid v asked given)
           (if b then asks_times r time (id_of r count) else asks_by r time count namespace work (table_for r.tables namespace work))
-      by_ahead true h = ((tt, met), tt)
+      by_ahead true h = ((record { request = a.request; taken = a.taken; own = a.own }, met, tt), tt)
       by_ahead false h = by_table (table_for r.tables namespace work) refl h
 
   -- a request that waits for no time has reached it
-  pub again_fits : (q : Open) → IsAsking v asked (id_of r q.count) time q.namespace q.work → AllByRecursion (IsKnownTable v time) r.tables
-      → (q.wait ≡ for_time) ⊎ (is_ahead time q.work ≡ false) → AllByRecursion (IsSaid v asked given) (asks_again r time q)
-  again_fits q a known reached = by_wait q.wait refl
+  pub again_fits : (q : Open) (request : Asked) → IsIn request asked → request.id ≡ id_of r q.count → request.time ≤ time
+      → WorkFits request q.namespace q.work → AreSeen v time request q.work
+      → AllByRecursion (IsKnownTable v time) r.tables → HasTime v request (id_of r q.count) time q.wait q.work
+      → AllByRecursion (IsSaid v asked given) (asks_again r time q)
+  again_fits q request taken own past does seen known reached = by_wait q.wait refl
     where
-      not_time : (wait : Wait) → q.wait ≡ wait → wait ≢ for_time → is_ahead time q.work ≡ false
+      not_time : (wait : Wait) → q.wait ≡ wait → wait ≢ for_time → (is_ahead time q.work ≡ false) × IsDecided v (id_of r q.count) q.work
       not_time wait h other = by_case reached
         where
-          by_case : (q.wait ≡ for_time) ⊎ (is_ahead time q.work ≡ false) → is_ahead time q.work ≡ false
-          by_case (inl e) = absurd (other (sym h ∙ e))
-          by_case (inr e) = e
+          by_case : HasTime v request (id_of r q.count) time q.wait q.work → (is_ahead time q.work ≡ false) × IsDecided v (id_of r q.count) q.work
+          by_case (inl (e, f)) = absurd (other (sym h ∙ e))
+          by_case (inr (w, e, d)) = (e, d)
 
-      by_table : (table : Option Table) → table_of q.namespace r.tables ≡ table → is_ahead time q.work ≡ false
+      asking : IsDecided v (id_of r q.count) q.work → IsAsking v asked (id_of r q.count) time q.namespace q.work
+      asking d = record { request = request; taken = taken; own = own; past = past; does = does; seen = seen; decided = λ e. d }
+
+      by_table : (table : Option Table) → table_of q.namespace r.tables ≡ table → (is_ahead time q.work ≡ false) × IsDecided v (id_of r q.count) q.work
           → AllByRecursion (IsSaid v asked given)
           (elim table as (λ (o : Option Table). List Letter) [ None ↦ [] | Some t ↦ asks_shards r time q.count q.namespace t q.work ])
-      by_table None h not_ahead = tt
-      by_table (Some t) h not_ahead =
+      by_table None h n = tt
+      by_table (Some t) h n =
           let f = table_found q.namespace r.tables t h in
-          shards_fit q.count q.namespace t q.work a (all_at (IsKnownTable v time) t r.tables known f.stands) f.name not_ahead
+          shards_fit q.count q.namespace t q.work (asking n.1) (all_at (IsKnownTable v time) t r.tables known f.stands) f.name n.0
 
       by_wait : (wait : Wait) → q.wait ≡ wait → AllByRecursion (IsSaid v asked given) (elim wait as (λ (w : Wait). List Letter) [
         | for_time ↦ asks_times r time (id_of r q.count)
         | for_table ↦ asks_table r time q.namespace q.work ∷ []
         | for_shards ↦ elim (table_of q.namespace r.tables) [ None ↦ [] | Some t ↦ asks_shards r time q.count q.namespace t q.work ]
       ])
-      by_wait for_time h = ((tt, met), tt)
-      by_wait for_table h = (table_ask_fits (id_of r q.count) q.namespace q.work a (not_time for_table h (λ e. cc)), tt)
+      by_wait for_time h = ((record { request = request; taken = taken; own = own }, met, tt), tt)
+      by_wait for_table h =
+          let n = not_time for_table h (λ e. cc) in
+          (table_ask_fits (id_of r q.count) q.namespace q.work (asking n.1) n.0, tt)
       by_wait for_shards h = by_table (table_of q.namespace r.tables) refl (not_time for_shards h (λ e. cc))

@@ -1,28 +1,34 @@
 -- The forms of the steps in which a router takes no request.
-use Rattle.std.proofs.Common.{◌≡◌, ◌≢◌, inr, ℕ, ◌+◌, ◌<◌, ◌≤◌, List, [], ◌∷◌, refl, arith, Bool}
-use Rattle.std.specs.Prelude.{true, false, max, nat_lt}
+use Rattle.std.proofs.Common.{◌≡◌, ◌≢◌, inr, ℕ, ◌+◌, ◌<◌, ◌≤◌, List, [], ◌∷◌, ◌++◌, refl, sym, ap, subst, ◌∙◌, arith, append-nil, Bool}
+use Rattle.std.specs.Prelude.{Option, Some, None, true, false, max, nat_lt, if◌then◌else◌}
 use Rattle.std.specs.List.{AllByRecursion, flat_map}
 use Rattle.std.proofs.lemmas.Bool.{ltb-true}
 use Rattle.history_model.proofs.Lists.{all_weaken, all_append, all_at}
 use Rattle.node_model.specs.Times.{time_of_moment}
 use Rattle.node_model.specs.Answers.{Answer}
+use Rattle.node_model.specs.Cursors.{Cursor}
+use Rattle.node_model.specs.Tables.{Table}
 use Rattle.node_model.specs.History.{IsIn}
-use Rattle.node_model.specs.Exchanges.{Asked}
+use Rattle.node_model.specs.Exchanges.{RequestId, Asked}
+use Rattle.node_model.specs.OneHistory.{ids_asked}
 use Rattle.node_model.specs.Journal.{Kept}
-use Rattle.node_model.specs.States.{Work, Open, Router, router_state, replaced, without}
-use Rattle.node_model.specs.RouterRows.{asks_for, asks_again, wait_of, going_on, is_ahead, reply_to}
+use Rattle.node_model.specs.States.{Work, for_time, Open, Router, router_state, replaced, without}
+use Rattle.node_model.specs.RouterRows.{id_of, Opened, as_before, table_for, wait_by, asks_for, asks_again, wait_of, going_on, is_ahead, reply_to}
 use Rattle.node_model.specs.World.{World, journal_at}
-use Rattle.node_laws.proofs.Views.{View, view_of, Later}
-use Rattle.node_laws.proofs.Facts.{IsKnownTable, WorkFits, AreSeen, IsOpenOf, RouterFits, HeldFits, IsMet, Good}
-use Rattle.node_laws.proofs.Owes.{Owes}
+use Rattle.node_laws.proofs.Views.{Choice, Book, View, view_of, chosen_time, IsAbove, Later}
+use Rattle.node_laws.proofs.ReadFacts.{IsDecided}
+use Rattle.node_laws.proofs.Facts.{IsKnownTable, WorkFits, AreSeen, IsOpenOf, ToldBelow, RouterFits, HeldFits, IsMet, AnswerFits, AnswersFit, no_answer}
+use Rattle.node_laws.proofs.Facts.{one_answer, NeighboursFit, Good}
+use Rattle.node_laws.proofs.Owes.{IsSaid, Owes}
 use Rattle.node_laws.proofs.Growth.{known_grows, met_later, met_max}
 use Rattle.node_laws.proofs.OpenRequests.{all_without, all_replaced, parted_same, parted_replaced, parted_without}
-use Rattle.node_laws.proofs.RouterAsks.{IsSaid, asks_fit, again_fits}
-use Rattle.node_laws.proofs.Neighbours.{NeighboursFit, neighbours}
+use Rattle.node_laws.proofs.RouterAsks.{asks_fit, again_fits}
+use Rattle.node_laws.proofs.Neighbours.{neighbours}
 use Rattle.node_laws.proofs.RouterAnswers.{as_answered}
-use Rattle.node_laws.proofs.OpenFacts.{with_own, open_goes, open_rises, open_stays}
-use Rattle.node_laws.proofs.NextFacts.{IsToldRightly}
-use Rattle.node_laws.proofs.RouterLater.{goes_to, tells, goes_owes}
+use Rattle.node_laws.proofs.OpenFacts.{with_own, open_rises, open_stays}
+use Rattle.node_laws.proofs.Choices.{none_longer}
+use Rattle.node_laws.proofs.Turns.{Turns, turns_same}
+use Rattle.node_laws.proofs.RouterLater.{goes_to, tells, Leaves, goes_owes}
 
 -- a read whose time is reached
 pub not_ahead : (time at : ℕ) → at ≤ time → nat_lt time at ≡ false
@@ -32,122 +38,208 @@ not_ahead time at reached = by_test (nat_lt time at) refl
     by_test true h = let less : time < at = ltb-true time at h in absurd (omega arith)
     by_test false h = h
 
-module _ (w : World) (at : ℕ) (kept : List Kept) (r : Router) (good : Good w)
-    (h : HeldFits (view_of w.nodes) w.asked w.answered w.given at (record { state = router_state r; kept = kept })) where
-  pub fits : RouterFits (view_of w.nodes) w.asked w.answered at r
+-- a request whose time is reached does not wait for it
+pub waits_not : (r : Router) (time : ℕ) (namespace : List ℕ) (work : Work) → is_ahead time work ≡ false → wait_of r time namespace work ≢ for_time
+waits_not r time namespace work reached = by_ahead (is_ahead time work) reached
+  where
+    by_table : (t : Option Table) → wait_by t ≢ for_time
+    by_table None e = cc
+    by_table (Some t) e = cc
+
+    by_ahead : (b : Bool) → b ≡ false → (if b then for_time else wait_by (table_for r.tables namespace work)) ≢ for_time
+    by_ahead true e = absurd (cc)
+    by_ahead false e = by_table (table_for r.tables namespace work)
+
+-- what a request goes on with fits
+pub record GoesOn (v : View) (request : Asked) (id : RequestId) (time : ℕ) (namespace : List ℕ) (work : Work) : Type 0 where
+  pub does : WorkFits request namespace work
+  pub decided : IsDecided v id work
+  pub seen : AreSeen v time request work
+
+module _ (w : World) (book : Book) (at : ℕ) (kept : List Kept) (r : Router) (good : Good w book)
+    (h : HeldFits (view_of w.nodes book) w.asked w.answered w.given at (record { state = router_state r; kept = kept })) where
+  pub fits : RouterFits (view_of w.nodes book) w.asked w.answered at r
   fits = h.state
 
   -- a view behind the step: the other journals stay
   abbrev pub IsBehind : View → Type 0
-  IsBehind v = Later (view_of w.nodes) v × ((p : ℕ) → p ≢ at → v.journal p ≡ journal_at w.nodes p)
+  IsBehind v = Later (view_of w.nodes book) v × ((p : ℕ) → p ≢ at → v.journal p ≡ journal_at w.nodes p)
 
   pub around : (v : View) → IsBehind v → NeighboursFit v w.asked
-  around v behind = neighbours w at v good fits.place behind.0 behind.1
+  around v behind = neighbours w book at v good fits.place behind.0 behind.1
 
-  pub each_open : (v : View) → IsBehind v → AllByRecursion (IsOpenOf v w.asked w.answered r) r.requests
-  each_open v behind =
-      all_weaken (IsOpenOf (view_of w.nodes) w.asked w.answered r) (IsOpenOf v w.asked w.answered r) r.requests
-      (λ q o. open_stays (view_of w.nodes) v w.asked w.answered r q behind.0 o) fits.requests
+  -- where no time is decided, open requests stay so
+  pub each_open : (v : View) → IsBehind v → v.chosen ≡ book.chosen ++ [] → AllByRecursion (IsOpenOf v w.asked w.answered r) r.requests
+  each_open v behind same =
+      all_weaken (IsOpenOf (view_of w.nodes book) w.asked w.answered r) (IsOpenOf v w.asked w.answered r) r.requests
+      (λ q o. open_stays (view_of w.nodes book) v w.asked w.answered r q behind.0
+      (λ e. ap (λ l. chosen_time (id_of r q.count) l) (same ∙ append-nil book.chosen) ∙ e) o) fits.requests
 
-  pub risen_open : (v : View) → IsBehind v → (s : Router) → r.time ≤ s.time → AllByRecursion (IsOpenOf v w.asked w.answered (with_own r s)) r.requests
-  risen_open v behind s later =
+  -- and where one is decided for another
+  pub others_open : (v : View) → IsBehind v → (news : List Choice) → v.chosen ≡ book.chosen ++ news → (s : Router) → r.time ≤ s.time → (count : ℕ)
+      → ((n : ℕ) → n ≢ count → chosen_time (id_of r n) news ≡ None)
+      → AllByRecursion (λ (q : Open). q.count ≢ count → IsOpenOf v w.asked w.answered (with_own r s) q) r.requests
+  others_open v behind news same s later count none =
+      all_weaken (IsOpenOf (view_of w.nodes book) w.asked w.answered r)
+      (λ (q : Open). q.count ≢ count → IsOpenOf v w.asked w.answered (with_own r s) q) r.requests
+      (λ q o other. open_rises v w.asked w.answered r s q later
+      (open_stays (view_of w.nodes book) v w.asked w.answered r q behind.0
+      (λ e. ap (λ l. chosen_time (id_of r q.count) l) same ∙ none_longer (id_of r q.count) book.chosen news e (none q.count other)) o)) fits.requests
+
+  pub risen_open : (v : View) → IsBehind v → v.chosen ≡ book.chosen ++ [] → (s : Router) → r.time ≤ s.time
+      → AllByRecursion (IsOpenOf v w.asked w.answered (with_own r s)) r.requests
+  risen_open v behind same s later =
       all_weaken (IsOpenOf v w.asked w.answered r) (IsOpenOf v w.asked w.answered (with_own r s)) r.requests
-      (λ q o. open_rises v w.asked w.answered r s q later o) (each_open v behind)
+      (λ q o. open_rises v w.asked w.answered r s q later o) (each_open v behind same)
 
   pub known_tables : (v : View) → IsBehind v → (time : ℕ) → r.time ≤ time → AllByRecursion (IsKnownTable v time) r.tables
   known_tables v behind time later =
-      all_weaken (IsKnownTable (view_of w.nodes) r.time) (IsKnownTable v time) r.tables
-      (λ t k. known_grows (view_of w.nodes) v r.time time t behind.0 later k) fits.tables
+      all_weaken (IsKnownTable (view_of w.nodes book) r.time) (IsKnownTable v time) r.tables
+      (λ t k. known_grows (view_of w.nodes book) v r.time time t behind.0 later k) fits.tables
 
   pub came_by : (a : Asked) → IsIn a w.asked → a.came < w.now + 1
   came_by a i = all_at (λ (b : Asked). b.came < w.now + 1) a w.asked good.came i
 
+  -- the cursors stay where nothing is told of them
+  pub turns_stay : (time moment : ℕ) (tables : List Table) (requests : List Open) → r.time ≤ time
+      → Turns book.cursors book.cursors at (goes_to r time moment tables requests (as_before r))
+  turns_stay time moment tables requests later =
+      turns_same book.cursors at r (goes_to r time moment tables requests (as_before r)) h.cursors refl refl refl refl later
+
+  abbrev pub quiet : (time moment : ℕ) (tables : List Table) (requests : List Open) → r.time ≤ time
+      → Leaves w book at r (goes_to r time moment tables requests (as_before r)) (as_before r)
+  quiet time moment tables requests later = record
+      { news = []; chose = tt; cursors = book.cursors; turns = turns_stay time moment tables requests later; rises = tt }
+
+  no_answers : (v : View) → v.cursors ≡ book.cursors → AnswersFit v w.asked (w.answered ++ []) book.cursors [] v.cursors
+  no_answers v same = subst (λ l. AnswersFit v w.asked (w.answered ++ []) book.cursors [] l) (sym same) (no_answer book.cursors)
+
   -- FORMS OF STEPS
 
   -- nothing is told
-  pub stays_owes : (time : ℕ) → r.time ≤ time → IsMet (view_of w.nodes) w.given time
-      → Owes w at (record { state = router_state r; kept = kept }) (tells [] []) (router_state (goes_to r time r.moment r.tables r.requests))
+  pub stays_owes : (time : ℕ) → r.time ≤ time → IsMet (view_of w.nodes book) w.given time
+      → Owes w book at (record { state = router_state r; kept = kept }) (tells (as_before r) [] [])
+      (router_state (goes_to r time r.moment r.tables r.requests (as_before r)))
   stays_owes time later met =
-      goes_owes w at r fits good kept time r.moment r.tables r.requests [] [] later met (parted_same r r.requests fits.different)
-      (λ v grows others. record {
+      goes_owes w book at r fits good kept time r.moment r.tables r.requests (as_before r) [] [] later met (parted_same r r.requests fits.different)
+      (quiet time r.moment r.tables r.requests later)
+      (λ v grows others chosen cursors. record {
         tables = known_tables v (grows, others) time later;
-        requests = risen_open v (grows, others) (goes_to r time r.moment r.tables r.requests) later;
+        requests = risen_open v (grows, others) chosen (goes_to r time r.moment r.tables r.requests (as_before r)) later;
         letters = tt;
-        answers = tt;
+        answers = no_answers v cursors;
+        below = tt;
+        times = tt;
       })
 
   -- at a moment all is asked for again
-  pub again_owes : (moment : ℕ) → IsMet (view_of w.nodes) w.given (time_of_moment moment)
-      → Owes w at (record { state = router_state r; kept = kept }) (tells (flat_map (λ q. asks_again r (max r.time (time_of_moment moment)) q) r.requests) [])
-      (router_state (goes_to r (max r.time (time_of_moment moment)) moment r.tables r.requests))
+  pub again_owes : (moment : ℕ) → IsMet (view_of w.nodes book) w.given (time_of_moment moment)
+      → Owes w book at (record { state = router_state r; kept = kept })
+      (tells (as_before r) (flat_map (λ q. asks_again r (max r.time (time_of_moment moment)) q) r.requests) [])
+      (router_state (goes_to r (max r.time (time_of_moment moment)) moment r.tables r.requests (as_before r)))
   again_owes moment met =
       let later : r.time ≤ max r.time (time_of_moment moment) = omega arith in
-      let met_time = met_max (view_of w.nodes) w.given r.time (time_of_moment moment) h.met met in
-      goes_owes w at r fits good kept (max r.time (time_of_moment moment)) moment r.tables r.requests
+      let met_time = met_max (view_of w.nodes book) w.given r.time (time_of_moment moment) h.met met in
+      goes_owes w book at r fits good kept (max r.time (time_of_moment moment)) moment r.tables r.requests (as_before r)
       (flat_map (λ q. asks_again r (max r.time (time_of_moment moment)) q) r.requests) []
-      later met_time (parted_same r r.requests fits.different)
-      (λ v grows others. let rise = risen_open v (grows, others) (goes_to r (max r.time (time_of_moment moment)) moment r.tables r.requests) later in record {
+      later met_time (parted_same r r.requests fits.different) (quiet (max r.time (time_of_moment moment)) moment r.tables r.requests later)
+      (λ v grows others chosen cursors.
+      let rise = risen_open v (grows, others) chosen (goes_to r (max r.time (time_of_moment moment)) moment r.tables r.requests (as_before r)) later in record {
         tables = known_tables v (grows, others) (max r.time (time_of_moment moment)) later;
         requests = rise;
         letters = each_again v (grows, others) moment
-            (met_later (view_of w.nodes) v w.given (max r.time (time_of_moment moment)) grows met_time) r.requests rise;
-        answers = tt;
+            (met_later (view_of w.nodes book) v w.given (max r.time (time_of_moment moment)) grows met_time) r.requests rise;
+        answers = no_answers v cursors;
+        below = tt;
+        times = tt;
       })
     where
       each_again : (v : View) → IsBehind v → (moment : ℕ) → IsMet v w.given (max r.time (time_of_moment moment)) → (requests : List Open)
-          → AllByRecursion (IsOpenOf v w.asked w.answered (goes_to r (max r.time (time_of_moment moment)) moment r.tables r.requests)) requests
+          → AllByRecursion (IsOpenOf v w.asked w.answered (goes_to r (max r.time (time_of_moment moment)) moment r.tables r.requests (as_before r))) requests
           → AllByRecursion (IsSaid v w.asked w.given) (flat_map (λ q. asks_again r (max r.time (time_of_moment moment)) q) requests)
       each_again v behind moment met [] all = tt
       each_again v behind moment met (q ∷ requests) all =
           let o = all.0 in
           all_append (IsSaid v w.asked w.given) (asks_again r (max r.time (time_of_moment moment)) q)
           (flat_map (λ q. asks_again r (max r.time (time_of_moment moment)) q) requests)
-          (again_fits v w.asked w.given r (max r.time (time_of_moment moment)) met q
-          (record { request = o.request; taken = o.taken; own = o.own; past = o.past; does = o.work })
+          (again_fits v w.asked w.given r (max r.time (time_of_moment moment)) met q o.request o.taken o.own o.past o.work o.seen
           (known_tables v behind (max r.time (time_of_moment moment)) (omega arith)) o.reached)
           (each_again v behind moment met requests all.1)
 
-  -- an open request goes on with this work
-  pub goes_on_owes : (q : Open) (work : Work) (time : ℕ) → IsIn q r.requests → r.time ≤ time → IsMet (view_of w.nodes) w.given time → is_ahead time work ≡ false
-      → ((v : View) → IsBehind v → (o : IsOpenOf v w.asked w.answered r q) → NeighboursFit v w.asked
-      → WorkFits v o.request q.namespace work × AreSeen time work)
-      → Owes w at (record { state = router_state r; kept = kept }) (tells (asks_for r time q.count q.namespace work) [])
-      (router_state (goes_to r time r.moment r.tables (replaced (going_on r time q work) r.requests)))
-  goes_on_owes q work time stands later met reached does =
-      goes_owes w at r fits good kept time r.moment r.tables (replaced (going_on r time q work) r.requests) (asks_for r time q.count q.namespace work) [] later
+  -- an open request goes on with this work, of a time that is decided
+  pub goes_on_owes : (q : Open) (work : Work) (time : ℕ) (news : List Choice) → (o : IsOpenOf (view_of w.nodes book) w.asked w.answered r q)
+      → IsIn q r.requests → r.time ≤ time → IsMet (view_of w.nodes book) w.given time
+      → is_ahead time work ≡ false → AllByRecursion (λ (c : Choice). (c.id.router ≡ at) × IsIn c.id (ids_asked w.asked)) news
+      → ((n : ℕ) → n ≢ q.count → chosen_time (id_of r n) news ≡ None)
+      → ((v : View) → IsBehind v → v.chosen ≡ book.chosen ++ news → NeighboursFit v w.asked
+      → GoesOn v o.request (id_of r q.count) time q.namespace work)
+      → Owes w book at (record { state = router_state r; kept = kept }) (tells (as_before r) (asks_for r time q.count q.namespace work) [])
+      (router_state (goes_to r time r.moment r.tables (replaced (going_on r time q work) r.requests) (as_before r)))
+  goes_on_owes q work time news o stands later met reached chose none does =
+      goes_owes w book at r fits good kept time r.moment r.tables (replaced (going_on r time q work) r.requests) (as_before r)
+      (asks_for r time q.count q.namespace work) [] later
       met (parted_replaced r (going_on r time q work) r.requests fits.different)
-      (λ v grows others.
-      let o = all_at (IsOpenOf v w.asked w.answered r) q r.requests (each_open v (grows, others)) stands in
-      let d = does v (grows, others) o (around v (grows, others)) in
+      (record {
+        news = news;
+        chose = chose;
+        cursors = book.cursors;
+        turns = turns_stay time r.moment r.tables (replaced (going_on r time q work) r.requests) later;
+        rises = tt;
+      })
+      (λ v grows others chosen cursors.
+      let g = does v (grows, others) chosen (around v (grows, others)) in
+      let past = o.past in
       record {
         tables = known_tables v (grows, others) time later;
-        requests = all_replaced (IsOpenOf v w.asked w.answered (goes_to r time r.moment r.tables (replaced (going_on r time q work) r.requests)))
+        requests = all_replaced (IsOpenOf v w.asked w.answered (goes_to r time r.moment r.tables (replaced (going_on r time q work) r.requests) (as_before r)))
             (going_on r time q work) r.requests
-            (open_goes v w.asked w.answered r (goes_to r time r.moment r.tables (replaced (going_on r time q work) r.requests)) q
-            (wait_of r time q.namespace work) work later o
-            (inr reached) d.0 d.1)
-            (risen_open v (grows, others) (goes_to r time r.moment r.tables (replaced (going_on r time q work) r.requests)) later);
-        letters = asks_fit v w.asked w.given r time (met_later (view_of w.nodes) v w.given time grows met) q.count q.namespace work
-            (record { request = o.request; taken = o.taken; own = o.own; past = (let p = o.past in omega arith); does = d.0 })
+            (record {
+              request = o.request;
+              taken = o.taken;
+              own = o.own;
+              link = o.link;
+              number = o.number;
+              asks = o.asks;
+              past = omega arith;
+              reached = inr (waits_not r time q.namespace work reached, reached, g.decided);
+              silent = o.silent;
+              work = g.does;
+              seen = g.seen;
+            })
+            (others_open v (grows, others) news chosen (goes_to r time r.moment r.tables (replaced (going_on r time q work) r.requests) (as_before r)) later
+            q.count none);
+        letters = asks_fit v w.asked w.given r time (met_later (view_of w.nodes book) v w.given time grows met) q.count q.namespace work
+            (record { request = o.request; taken = o.taken; own = o.own; past = omega arith; does = g.does; seen = g.seen; decided = λ e. g.decided })
             (known_tables v (grows, others) time later);
-        answers = tt;
+        answers = no_answers v cursors;
+        below = tt;
+        times = tt;
       })
 
   -- an open request is told
-  pub told_owes : (q : Open) (answer : Answer) (time : ℕ) → IsIn q r.requests → r.time ≤ time → IsMet (view_of w.nodes) w.given time
+  pub told_owes : (q : Open) (answer : Answer) (time : ℕ) (f : Opened) (next : List Cursor) → IsIn q r.requests → r.time ≤ time
+      → IsMet (view_of w.nodes book) w.given time
+      → AllByRecursion (IsAbove r.time) f.written → Turns book.cursors next at (goes_to r time r.moment r.tables (without q.count r.requests) f)
       → ((v : View) → IsBehind v → (o : IsOpenOf v w.asked w.answered r q) → NeighboursFit v w.asked
-      → IsToldRightly v w.asked time w.now (reply_to r time q answer))
-      → Owes w at (record { state = router_state r; kept = kept }) (tells [] (reply_to r time q answer ∷ []))
-      (router_state (goes_to r time r.moment r.tables (without q.count r.requests)))
-  told_owes q answer time stands later met told =
-      goes_owes w at r fits good kept time r.moment r.tables (without q.count r.requests) [] (reply_to r time q answer ∷ []) later
+      → AnswerFits v w.asked (w.answered ++ as_answered w.now (reply_to r time q answer) ∷ []) book.cursors (as_answered w.now (reply_to r time q answer)) next
+      × ToldBelow time (as_answered w.now (reply_to r time q answer)))
+      → Owes w book at (record { state = router_state r; kept = kept }) (tells f [] (reply_to r time q answer ∷ []))
+      (router_state (goes_to r time r.moment r.tables (without q.count r.requests) f))
+  told_owes q answer time f next stands later met rises turns told =
+      goes_owes w book at r fits good kept time r.moment r.tables (without q.count r.requests) f [] (reply_to r time q answer ∷ []) later
       met (parted_without r q (as_answered w.now (reply_to r time q answer)) r.requests fits.different stands refl)
-      (λ v grows others.
-      let o = all_at (IsOpenOf v w.asked w.answered r) q r.requests (each_open v (grows, others)) stands in
+      (record { news = []; chose = tt; cursors = next; turns = turns; rises = rises })
+      (λ v grows others chosen cursors.
+      let o = all_at (IsOpenOf v w.asked w.answered r) q r.requests (each_open v (grows, others) chosen) stands in
+      let t = told v (grows, others) o (around v (grows, others)) in
       record {
         tables = known_tables v (grows, others) time later;
-        requests = all_without (IsOpenOf v w.asked w.answered (goes_to r time r.moment r.tables (without q.count r.requests))) q.count r.requests
-            (risen_open v (grows, others) (goes_to r time r.moment r.tables (without q.count r.requests)) later);
+        requests = all_without (IsOpenOf v w.asked w.answered (goes_to r time r.moment r.tables (without q.count r.requests) f)) q.count r.requests
+            (risen_open v (grows, others) chosen (goes_to r time r.moment r.tables (without q.count r.requests) f) later);
         letters = tt;
-        answers = (told v (grows, others) o (around v (grows, others)), tt);
+        answers = subst (λ l. AnswersFit v w.asked (w.answered ++ as_answered w.now (reply_to r time q answer) ∷ []) book.cursors
+            (as_answered w.now (reply_to r time q answer) ∷ []) l)
+            (sym cursors) (one_answer book.cursors next next (as_answered w.now (reply_to r time q answer)) [] t.0 (no_answer next));
+        below = (t.1, tt);
+        times = (refl, tt);
       })

@@ -6,26 +6,26 @@ use Rattle.history_model.proofs.Lists.{all_weaken, all_both, all_append, all_at,
 use Rattle.node_model.specs.Tables.{Table}
 use Rattle.node_model.specs.History.{IsIn}
 use Rattle.node_model.specs.Exchanges.{RequestId, Asked, Answered}
-use Rattle.node_model.specs.OneHistory.{ids_told, AreDifferent}
+use Rattle.node_model.specs.OneHistory.{Given, ids_asked, ids_told, AreDifferent}
 use Rattle.node_model.specs.Journal.{Kept}
 use Rattle.node_model.specs.Letters.{Letter, Reply, Effect}
 use Rattle.node_model.specs.States.{Open, Router, router_state}
-use Rattle.node_model.specs.RouterRows.{id_of}
+use Rattle.node_model.specs.Cursors.{Cursor}
+use Rattle.node_model.specs.RouterRows.{id_of, Opened}
 use Rattle.node_model.specs.World.{World, answered_by, journal_at}
-use Rattle.node_laws.proofs.Views.{View, view_of, Later}
-use Rattle.node_laws.proofs.Facts.{IsKnownTable, IsOpenOf, IsBy, ToldBelow, IsClosedOrOpen, RouterFits, IsMet, AnswerFits, Good}
-use Rattle.node_laws.proofs.Owes.{Owes}
+use Rattle.node_laws.proofs.Views.{Choice, Book, View, view_of, IsAbove, Later}
+use Rattle.node_laws.proofs.Facts.{IsKnownTable, IsOpenOf, IsBy, ToldBelow, IsClosedOrOpen, RouterFits, CursorsFit, IsMet, AnswersFit, Good}
+use Rattle.node_laws.proofs.Owes.{IsSaid, Owes}
 use Rattle.node_laws.proofs.Growth.{met_later}
 use Rattle.node_laws.proofs.Others.{told_more}
 use Rattle.node_laws.proofs.OpenRequests.{IsParted}
-use Rattle.node_laws.proofs.RouterAsks.{IsSaid}
 use Rattle.node_laws.proofs.RouterAnswers.{as_answered}
-use Rattle.node_laws.proofs.NextFacts.{IsToldRightly}
+use Rattle.node_laws.proofs.Turns.{Turns}
 use Rattle.node_laws.proofs.OpenFacts.{by_weaken, open_begun}
 
 -- the router with what a row changes, where it took no request
-abbrev pub goes_to : Router → (time moment : ℕ) → List Table → List Open → Router
-goes_to r time moment tables requests = record {
+abbrev pub goes_to : Router → (time moment : ℕ) → List Table → List Open → Opened → Router
+goes_to r time moment tables requests f = record {
   me = r.me;
   time = time;
   life = r.life;
@@ -34,17 +34,30 @@ goes_to r time moment tables requests = record {
   count = r.count;
   tables = tables;
   requests = requests;
+  cursors = f.cursors;
+  blocks = f.blocks;
+  gave = f.gave;
 }
 
-abbrev pub tells : List Letter → List Reply → Effect
-tells mail replies = record { written = []; mail = mail; taken = []; replies = replies }
+abbrev pub tells : Opened → List Letter → List Reply → Effect
+tells f mail replies = record { written = f.written; mail = mail; taken = []; replies = replies }
 
 -- what a row gives, in a view behind the step
-pub record RowFits (v : View) (w : World) (s : Router) (mail : List Letter) (replies : List Reply) : Type 0 where
+pub record RowFits (v : View) (w : World) (book : Book) (s : Router) (mail : List Letter) (replies : List Reply) : Type 0 where
   pub tables : AllByRecursion (IsKnownTable v s.time) s.tables
   pub requests : AllByRecursion (IsOpenOf v w.asked w.answered s) s.requests
   pub letters : AllByRecursion (IsSaid v w.asked w.given) mail
-  pub answers : AllByRecursion (IsToldRightly v w.asked s.time w.now) replies
+  pub answers : AnswersFit v w.asked (w.answered ++ answered_by w.now replies) book.cursors (answered_by w.now replies) v.cursors
+  pub below : AllByRecursion (λ x. ToldBelow s.time (as_answered w.now x)) replies
+  pub times : AllByRecursion (λ (x : Reply). x.time ≡ s.time) replies
+
+-- what it leaves beside that: the times that it decides, and the cursors
+pub record Leaves (w : World) (book : Book) (at : ℕ) (r s : Router) (f : Opened) : Type 0 where
+  pub news : List Choice
+  pub chose : AllByRecursion (λ (c : Choice). (c.id.router ≡ at) × IsIn c.id (ids_asked w.asked)) news
+  pub cursors : List Cursor
+  pub turns : Turns book.cursors cursors at s
+  pub rises : AllByRecursion (IsAbove r.time) f.written
 
 -- LISTS
 
@@ -58,6 +71,13 @@ pub of_answers : (P : Answered → Type 0) (now : ℕ) (replies : List Reply) �
     → AllByRecursion P (answered_by now replies)
 of_answers P now [] all = tt
 of_answers P now (x ∷ replies) all = (all.0, of_answers P now replies all.1)
+
+-- answers at a time that was met
+pub met_answers : (v : View) (given : List Given) (now time : ℕ) (replies : List Reply) → IsMet v given time
+    → AllByRecursion (λ (x : Reply). x.time ≡ time) replies → AllByRecursion (λ (t : Answered). IsMet v given t.time) (answered_by now replies)
+met_answers v given now time replies met times =
+    of_answers (λ (t : Answered). IsMet v given t.time) now replies
+    (all_weaken (λ (x : Reply). x.time ≡ time) (λ x. IsMet v given (as_answered now x).time) replies (λ x e. subst (λ n. IsMet v given n) (sym e) met) times)
 
 -- answers of which each is to another than those before
 pub once_more : (old news : List Answered) → AreDifferent (ids_told old) → AreDifferent (ids_told news)
@@ -92,19 +112,19 @@ told_now id old news i = subst (λ l. IsIn id l) (sym (ids_longer old news)) (in
 
 -- THE ROUTER
 
-module _ (w : World) (at : ℕ) (r : Router) (fits : RouterFits (view_of w.nodes) w.asked w.answered at r) (good : Good w) where
+module _ (w : World) (book : Book) (at : ℕ) (r : Router) (fits : RouterFits (view_of w.nodes book) w.asked w.answered at r) (good : Good w book) where
   -- an answer to an open request of this router
   abbrev IsOwn : Answered → Type 0
   IsOwn t = (q : Open) × IsIn q r.requests × (t.id ≡ id_of r q.count)
 
-  open_at : (t : Answered) → (o : IsOwn t) → IsOpenOf (view_of w.nodes) w.asked w.answered r o.0
-  open_at t o = all_at (IsOpenOf (view_of w.nodes) w.asked w.answered r) o.0 r.requests fits.requests o.1
+  open_at : (t : Answered) → (o : IsOwn t) → IsOpenOf (view_of w.nodes book) w.asked w.answered r o.0
+  open_at t o = all_at (IsOpenOf (view_of w.nodes book) w.asked w.answered r) o.0 r.requests fits.requests o.1
 
   own_router : (t : Answered) → IsOwn t → t.id.router ≡ at
   own_router t o = ap (λ (i : RequestId). i.router) o.2 ∙ fits.own
 
   own_begun : (t : Answered) → IsOwn t → r.begun ≡ true
-  own_begun t o = open_begun (view_of w.nodes) w.asked w.answered at r o.0 fits.own fits.counted (open_at t o)
+  own_begun t o = open_begun (view_of w.nodes book) w.asked w.answered at r o.0 fits.own fits.counted (open_at t o)
 
   own_new : (t : Answered) → IsOwn t → AllByRecursion (λ (x : Answered). x.id ≢ t.id) w.answered
   own_new t o = subst (λ i. AllByRecursion (λ (x : Answered). x.id ≢ i) w.answered) (sym o.2) (open_at t o).silent
@@ -132,15 +152,16 @@ module _ (w : World) (at : ℕ) (r : Router) (fits : RouterFits (view_of w.nodes
       (all_both IsOwn (ToldBelow time) (λ (t : Answered). t.id.router ≡ at → IsBy t.id.life r.life r.begun (ToldBelow time t)) news
       (λ t o b e. inr (ap (λ (i : RequestId). i.life) o.2, own_begun t o, b)) own below)
 
-  router_goes : (v : View) (time moment : ℕ) (tables : List Table) (requests : List Open) (mail : List Letter) (replies : List Reply) → r.time ≤ time
-      → IsParted r r.requests requests (answered_by w.now replies) → RowFits v w (goes_to r time moment tables requests) mail replies
-      → RouterFits v w.asked (w.answered ++ answered_by w.now replies) at (goes_to r time moment tables requests)
-  router_goes v time moment tables requests mail replies later parted row = record {
+  router_goes : (v : View) (time moment : ℕ) (tables : List Table) (requests : List Open) (f : Opened) (mail : List Letter) (replies : List Reply)
+      → r.time ≤ time
+      → IsParted r r.requests requests (answered_by w.now replies) → RowFits v w book (goes_to r time moment tables requests f) mail replies
+      → RouterFits v w.asked (w.answered ++ answered_by w.now replies) at (goes_to r time moment tables requests f)
+  router_goes v time moment tables requests f mail replies later parted row = record {
     own = fits.own;
     place = fits.place;
-    requests = all_both (IsOpenOf v w.asked w.answered (goes_to r time moment tables requests))
+    requests = all_both (IsOpenOf v w.asked w.answered (goes_to r time moment tables requests f))
         (λ (q : Open). AllByRecursion (λ (t : Answered). t.id ≢ id_of r q.count) (answered_by w.now replies))
-        (IsOpenOf v w.asked (w.answered ++ answered_by w.now replies) (goes_to r time moment tables requests)) requests
+        (IsOpenOf v w.asked (w.answered ++ answered_by w.now replies) (goes_to r time moment tables requests f)) requests
         (λ q o s. record {
           request = o.request;
           taken = o.taken;
@@ -156,9 +177,7 @@ module _ (w : World) (at : ℕ) (r : Router) (fits : RouterFits (view_of w.nodes
         }) row.requests parted.silent;
     different = parted.different;
     counted = fits.counted;
-    told = told_still time (answered_by w.now replies) later parted.own
-        (of_answers (ToldBelow time) w.now replies
-        (all_weaken (IsToldRightly v w.asked time w.now) (λ x. ToldBelow time (as_answered w.now x)) replies (λ x t. t.1) row.answers));
+    told = told_still time (answered_by w.now replies) later parted.own (of_answers (ToldBelow time) w.now replies row.below);
     tables = row.tables;
     closed = all_weaken (λ (a : Asked). a.id.router ≡ at → a.id.life ≡ r.life → IsClosedOrOpen r.requests w.answered a)
         (λ (a : Asked). a.id.router ≡ at → a.id.life ≡ r.life → IsClosedOrOpen requests (w.answered ++ answered_by w.now replies) a) w.asked
@@ -168,14 +187,16 @@ module _ (w : World) (at : ℕ) (r : Router) (fits : RouterFits (view_of w.nodes
         (λ a h e. by_weaken a.id.life r.life r.begun (a.time ≤ r.time) (a.time ≤ time) (λ l. omega arith) (h e)) fits.risen;
   }
 
-  pub goes_owes : (kept : List Kept) (time moment : ℕ) (tables : List Table) (requests : List Open) (mail : List Letter) (replies : List Reply) → r.time ≤ time
-      → IsMet (view_of w.nodes) w.given time → IsParted r r.requests requests (answered_by w.now replies)
-      → ((v : View) → Later (view_of w.nodes) v → ((p : ℕ) → p ≢ at → v.journal p ≡ journal_at w.nodes p)
-      → RowFits v w (goes_to r time moment tables requests) mail replies)
-      → Owes w at (record { state = router_state r; kept = kept }) (tells mail replies) (router_state (goes_to r time moment tables requests))
-  goes_owes kept time moment tables requests mail replies later met parted row = record {
+  pub goes_owes : (kept : List Kept) (time moment : ℕ) (tables : List Table) (requests : List Open) (f : Opened) (mail : List Letter) (replies : List Reply)
+      → r.time ≤ time
+      → IsMet (view_of w.nodes book) w.given time → IsParted r r.requests requests (answered_by w.now replies)
+      → (left : Leaves w book at r (goes_to r time moment tables requests f) f)
+      → ((v : View) → Later (view_of w.nodes book) v → ((p : ℕ) → p ≢ at → v.journal p ≡ journal_at w.nodes p) → v.chosen ≡ book.chosen ++ left.news
+      → v.cursors ≡ left.cursors → RowFits v w book (goes_to r time moment tables requests f) mail replies)
+      → Owes w book at (record { state = router_state r; kept = kept }) (tells f mail replies) (router_state (goes_to r time moment tables requests f))
+  goes_owes kept time moment tables requests f mail replies later met parted left row = record {
     kind = tt;
-    rises = tt;
+    rises = left.rises;
     later = later;
     taken = tt;
     told = of_replies (λ (t : Answered). t.id.router ≡ at) w.now replies
@@ -186,15 +207,19 @@ module _ (w : World) (at : ℕ) (r : Router) (fits : RouterFits (view_of w.nodes
         (λ t o. own_new t o) parted.own);
     fresh = tt;
     in_order = tt;
-    owed = λ v grows others journal bound. let given_row = row v grows others in record {
-      node = rw (append-nil w.asked, append-nil kept) (record {
-        state = router_goes v time moment tables requests mail replies later parted given_row;
-        met = met_later (view_of w.nodes) v w.given time grows met;
+    news = left.news;
+    chose = rw (append-nil w.asked) left.chose;
+    cursors = left.cursors;
+    elsewhere = left.turns.elsewhere;
+    owed = λ v grows others journal bound chosen cursors. let given_row = row v grows others chosen cursors in record {
+      node = rw (append-nil w.asked) (record {
+        state = router_goes v time moment tables requests f mail replies later parted given_row;
+        met = met_later (view_of w.nodes book) v w.given time grows met;
+        cursors = subst (λ l. CursorsFit l at (goes_to r time moment tables requests f)) (sym cursors) left.turns.fits;
       });
       letters = rw (append-nil w.asked) given_row.letters;
-      answers = rw (append-nil w.asked)
-          (of_answers (AnswerFits v w.asked) w.now replies
-          (all_weaken (IsToldRightly v w.asked time w.now) (λ x. AnswerFits v w.asked (as_answered w.now x)) replies (λ x t. t.0) given_row.answers));
+      answers = rw (append-nil w.asked) given_row.answers;
       known = tt;
+      met = met_answers v w.given w.now time replies (met_later (view_of w.nodes book) v w.given time grows met) given_row.times;
     };
   }

@@ -1,70 +1,97 @@
 -- What a message tells a router, and what the router asks for and tells then.
-use Rattle.std.proofs.Common.{◌≡◌, inl, ℕ, ◌<◌, ◌≤◌, List, [], ◌∷◌, refl, sym, ap, subst, ◌∙◌, arith, Bool}
-use Rattle.std.specs.Prelude.{Option, Some, true, false}
+use Rattle.std.proofs.Common.{◌≡◌, ◌≢◌, inl, inr, ℕ, ◌+◌, ◌<◌, ◌≤◌, List, [], ◌∷◌, ◌++◌, refl, sym, ap, subst, ◌∙◌, arith, Bool}
+use Rattle.std.specs.Prelude.{Option, Some, None, true, false, nat_lt, if◌then◌else◌}
 use Rattle.std.specs.List.{AllByRecursion}
-use Rattle.history_model.proofs.Lists.{all_weaken}
-use Rattle.node_model.specs.Tree.{Datum, Fields}
+use Rattle.history_model.proofs.Lists.{all_weaken, all_at}
 use Rattle.node_model.specs.Refusals.{time_ahead}
-use Rattle.node_model.specs.Answers.{find_answer, refusal_answer}
+use Rattle.node_model.specs.Answers.{refusal_answer}
+use Rattle.node_model.specs.Cursors.{Cursor}
+use Rattle.node_model.specs.Stages.{Stage}
 use Rattle.node_model.specs.Tables.{Table, first_shard}
-use Rattle.node_model.specs.Writes.{WriteKind}
+use Rattle.node_model.specs.Writes.{WriteCommand, WriteKind}
+use Rattle.node_model.specs.Command.{command_of}
 use Rattle.node_model.specs.History.{IsIn}
-use Rattle.node_model.specs.Exchanges.{RequestId}
+use Rattle.node_model.specs.Exchanges.{RequestId, Asked, Answered}
+use Rattle.node_model.specs.OneHistory.{ids_asked}
 use Rattle.node_model.specs.Outcomes.{Done, answer_of}
-use Rattle.node_model.specs.Journal.{Kept}
-use Rattle.node_model.specs.Letters.{At, Statement, Half, key_half, Body, table_told, write_done, read_rows, Letter}
-use Rattle.node_model.specs.States.{writing, reading, Open, Router, router_state, replaced, without}
-use Rattle.node_model.specs.RouterRows.{id_of, heard, asks_for, going_on, noted, is_answered, is_ahead, reply_to, adopted, next_of, Next}
-use Rattle.node_model.specs.World.{World}
-use Rattle.node_laws.proofs.Views.{View, view_of}
-use Rattle.node_laws.proofs.Facts.{IsKnownTable, TableFits, IsDoneBy, IsShown, BodyFits, LetterFits, WorkFits, AreSeen, IsOpenOf, HeldFits, IsMet, Good}
-use Rattle.node_laws.proofs.Owes.{Owes}
+use Rattle.node_model.specs.Journal.{Kept, entries_kept}
+use Rattle.node_model.specs.Letters.{At, Statement, Body, table_told, write_done, time_told, Letter, Reply}
+use Rattle.node_model.specs.States.{Telling, writing, reading, for_time, Open, Router, router_state, replaced, without}
+use Rattle.node_model.specs.RouterRows.{id_of, heard, as_before, reached, asks_for, going_on, noted, is_answered, reply_to, adopted, next_of, Next}
+use Rattle.node_model.specs.World.{World, answered_by}
+use Rattle.node_model.proofs.Requests.{one_asked}
+use Rattle.node_laws.proofs.Views.{Book, View, view_of, entries_in, chosen_time}
+use Rattle.node_laws.proofs.WriteFacts.{AreAnswers}
+use Rattle.node_laws.proofs.ReadFacts.{IsAwaited, WaitsFor}
+use Rattle.node_laws.proofs.Facts.{IsKnownTable, TableFits, IsDoneOf, BodyFits, WorkFits, AreSeen, HasTime, IsOpenOf, ToldBelow, HeldFits, IsMet, AnswerFits}
+use Rattle.node_laws.proofs.Facts.{AnswersFit, no_answer, one_answer}
+use Rattle.node_laws.proofs.Facts.{IsPast, TimeFits, SentFits, Good}
+use Rattle.node_laws.proofs.Owes.{IsSaid, Owes}
+use Rattle.node_laws.proofs.Lists.{map_longer}
+use Rattle.node_laws.proofs.Choices.{chosen_last, none_of_others}
 use Rattle.node_laws.proofs.Journals.{later_self}
-use Rattle.node_laws.proofs.Growth.{known_grows, met_later, met_max}
+use Rattle.node_laws.proofs.Growth.{known_grows, seen_grows, met_later, met_max}
 use Rattle.node_laws.proofs.OpenRequests.{IsOpenWith}
 use Rattle.node_laws.proofs.NextRequests.{NextIs, left_by, sent_by, told_by, each_next, parted_next}
 use Rattle.node_laws.proofs.KnownTables.{all_adopted}
-use Rattle.node_laws.proofs.NotedOutcomes.{all_noted, none_ends}
-use Rattle.node_laws.proofs.AnswerTimes.{refusal_below, find_below, write_below}
-use Rattle.node_laws.proofs.RouterAsks.{IsSaid}
-use Rattle.node_laws.proofs.Neighbours.{NeighboursFit}
-use Rattle.node_laws.proofs.RouterAnswers.{as_answered, answer_fits, found_right, found_settled, ShownTo, shown_to, ahead_right, ahead_settled, NotedFits, noted_fits, wrote_right, wrote_settled}
-use Rattle.node_laws.proofs.OpenFacts.{letter_stays, seen_later}
+use Rattle.node_laws.proofs.NotedOutcomes.{noted_some, answers_below, none_ends}
+use Rattle.node_laws.proofs.AnswerTimes.{refusal_below, write_below}
+use Rattle.node_laws.proofs.ReadTimes.{reads_of, reached_time}
+use Rattle.node_laws.proofs.RouterAnswers.{as_answered, answer_fits, ahead_right, same_write, NotedFits, noted_fits, wrote_right}
+use Rattle.node_laws.proofs.OpenFacts.{letter_stays}
 use Rattle.node_laws.proofs.NextFacts.{IsToldRightly, next_keeps, next_fits}
 use Rattle.node_laws.proofs.RouterLater.{goes_to, tells, goes_owes}
-use Rattle.node_laws.proofs.RouterForms.{not_ahead, IsBehind, around, each_open, known_tables, came_by, goes_on_owes, told_owes}
+use Rattle.node_laws.proofs.RouterForms.{not_ahead, GoesOn, IsBehind, around, each_open, known_tables, came_by, turns_stay, quiet, goes_on_owes, told_owes}
 
 -- what becomes of each open request where a message tells of a table
 abbrev next_by : Router → Letter → Option Table → (namespace : List ℕ) → At → Open → Next
 next_by r m table namespace told q = next_of r (heard r m) (adopted table r.tables) namespace told q
 
 abbrev learns : Router → Letter → Option Table → (namespace : List ℕ) → At → Router
-learns r m table namespace told = goes_to r (heard r m) r.moment (adopted table r.tables) (left_by (next_by r m table namespace told) r.requests)
+learns r m table namespace told = goes_to r (heard r m) r.moment (adopted table r.tables) (left_by (next_by r m table namespace told) r.requests) (as_before r)
 
--- the time of an outcome is that of its entry
-done_past : (v : View) (sender time bound : ℕ) (id : RequestId) (d : Done) → time ≤ bound → IsDoneBy v sender time id d → d.time ≤ bound
-done_past v sender time bound id d le b =
-    let same : d.time ≡ b.entry.time = ap (λ (x : Done). x.time) b.outcome in
-    let past = b.past in
-    omega arith
+-- answers that leave the cursors
+all_same : (v : View) (asked : List Asked) (said : List Answered) (cursors : List Cursor) (now : ℕ) (replies : List Reply)
+    → AllByRecursion (λ x. AnswerFits v asked said cursors (as_answered now x) cursors) replies
+    → AnswersFit v asked said cursors (answered_by now replies) cursors
+all_same v asked said cursors now [] all = no_answer cursors
+all_same v asked said cursors now (x ∷ replies) all =
+    one_answer cursors cursors cursors (as_answered now x) (answered_by now replies) all.0 (all_same v asked said cursors now replies all.1)
 
-module _ (w : World) (at : ℕ) (kept : List Kept) (r : Router) (good : Good w)
-    (h : HeldFits (view_of w.nodes) w.asked w.answered w.given at (record { state = router_state r; kept = kept }))
-    (m : Letter) (comes : LetterFits (view_of w.nodes) w.asked m) (met : IsMet (view_of w.nodes) w.given m.time) where
+-- the number of a request that was taken
+in_ids : (a : Asked) (asked : List Asked) → IsIn a asked → IsIn a.id (ids_asked asked)
+in_ids a asked (front, back, e) =
+    (ids_asked front, ids_asked back, ap (λ l. ids_asked l) e ∙ map_longer (λ (b : Asked). b.id) front (a ∷ back))
+
+-- what is noted of a write was seen
+seen_of : (v : View) (a : Asked) {time : ℕ} {namespace : List ℕ} {kind : WriteKind} {ordered : Bool} {statements : List Statement} {told : List Done}
+    → NotedFits v a time namespace kind ordered statements told → AreSeen v time a (writing kind ordered statements told)
+seen_of v a {time = time} {told = told} f = λ write asks.
+    subst (λ (c : WriteCommand). AreAnswers (entries_in v first_shard) time c a.id 0 told) (same_write f.write write (command_of a.request) f.asks asks)
+    f.answers
+
+-- a time that is decided for one request is for no other of its router's life
+not_others : (r : Router) (count at n : ℕ) → n ≢ count → chosen_time (id_of r n) (record { id = id_of r count; at = at } ∷ []) ≡ None
+not_others r count at n other =
+    none_of_others (id_of r n) (record { id = id_of r count; at = at } ∷ []) ((λ e. other (sym (ap (λ (i : RequestId). i.count) e))), tt)
+
+module _ (w : World) (book : Book) (at : ℕ) (kept : List Kept) (r : Router) (good : Good w book)
+    (h : HeldFits (view_of w.nodes book) w.asked w.answered w.given at (record { state = router_state r; kept = kept }))
+    (m : Letter) (comes : SentFits (view_of w.nodes book) w.asked w.answered w.given m) where
   abbrev Behind : View → Type 0
-  Behind v = IsBehind w at kept r good h v
+  Behind v = IsBehind w book at kept r good h v
 
   -- the router's time behind the message
-  later : r.time ≤ heard r m
+  pub later : r.time ≤ heard r m
   later = omega arith
 
-  met_time : IsMet (view_of w.nodes) w.given (heard r m)
-  met_time = met_max (view_of w.nodes) w.given r.time m.time h.met met
+  met_time : IsMet (view_of w.nodes book) w.given (heard r m)
+  met_time = met_max (view_of w.nodes book) w.given r.time m.time h.met comes.1
 
-  body_in : (v : View) → Behind v → (b : Body) → m.body ≡ b → BodyFits v w.asked m.sender m.receiver m.time b
-  body_in v behind b says = subst (λ x. BodyFits v w.asked m.sender m.receiver m.time x) says (letter_stays (view_of w.nodes) v w.asked m behind.0 comes)
+  pub body_in : (v : View) → Behind v → (b : Body) → m.body ≡ b → BodyFits v w.asked m.sender m.receiver m.time b
+  body_in v behind b says = subst (λ x. BodyFits v w.asked m.sender m.receiver m.time x) says (letter_stays (view_of w.nodes book) v w.asked m behind.0 comes.0)
 
-  pub heard_met : IsMet (view_of w.nodes) w.given (heard r m)
+  pub heard_met : IsMet (view_of w.nodes book) w.given (heard r m)
   heard_met = met_time
 
   -- A TABLE
@@ -73,132 +100,205 @@ module _ (w : World) (at : ℕ) (kept : List Kept) (r : Router) (good : Good w)
       → AllByRecursion (IsKnownTable v (heard r m)) (adopted table r.tables)
   adopts v behind namespace told table fit =
       all_adopted (IsKnownTable v (heard r m)) table r.tables (λ t same. of_table t (subst (λ x. TableFits v m.time namespace told x) same fit))
-      (known_tables w at kept r good h v behind (heard r m) later)
+      (known_tables w book at kept r good h v behind (heard r m) later)
     where
       of_table : (t : Table) → TableFits v m.time namespace told (Some t) → IsKnownTable v (heard r m) t
       of_table t f = known_grows v v m.time (heard r m) t (later_self v) (omega arith) f.0
 
   pub learn_owes : (namespace : List ℕ) (create : Bool) (told : At) (table : Option Table) → m.body ≡ table_told namespace create told table
-      → Owes w at (record { state = router_state r; kept = kept })
-      (tells (sent_by (next_by r m table namespace told) r.requests) (told_by (next_by r m table namespace told) r.requests))
+      → Owes w book at (record { state = router_state r; kept = kept })
+      (tells (as_before r) (sent_by (next_by r m table namespace told) r.requests) (told_by (next_by r m table namespace told) r.requests))
       (router_state (learns r m table namespace told))
   learn_owes namespace create told table says =
-      goes_owes w at r h.state good kept (heard r m) r.moment (adopted table r.tables) (left_by (next_by r m table namespace told) r.requests)
+      let said : List Answered = w.answered ++ answered_by w.now (told_by (next_by r m table namespace told) r.requests) in
+      goes_owes w book at r h.state good kept (heard r m) r.moment (adopted table r.tables) (left_by (next_by r m table namespace told) r.requests)
+      (as_before r)
       (sent_by (next_by r m table namespace told) r.requests) (told_by (next_by r m table namespace told) r.requests) later met_time
       (parted_next r w.now (next_by r m table namespace told)
       (λ q. next_keeps r (heard r m) (adopted table r.tables) namespace told q) r.requests h.state.different)
-      (λ v grows others.
+      (quiet w book at kept r good h (heard r m) r.moment (adopted table r.tables) (left_by (next_by r m table namespace told) r.requests) later)
+      (λ v grows others chosen cursors.
       let fit : TableFits v m.time namespace told table = body_in v (grows, others) (table_told namespace create told table) says in
       let known = adopts v (grows, others) namespace told table fit in
-      let n = around w at kept r good h v (grows, others) in
+      let n = around w book at kept r good h v (grows, others) in
       let all = each_next (IsOpenOf v w.asked w.answered (learns r m table namespace told)) (IsSaid v w.asked w.given)
-      (IsToldRightly v w.asked (heard r m) w.now) (next_by r m table namespace told) r.requests
+      (IsToldRightly v w.asked said book.cursors (heard r m) w.now) (next_by r m table namespace told) r.requests
       (all_weaken (IsOpenOf v w.asked w.answered r)
-      (λ q. NextIs (IsOpenOf v w.asked w.answered (learns r m table namespace told)) (IsSaid v w.asked w.given) (IsToldRightly v w.asked (heard r m) w.now)
+      (λ q. NextIs (IsOpenOf v w.asked w.answered (learns r m table namespace told)) (IsSaid v w.asked w.given)
+      (IsToldRightly v w.asked said book.cursors (heard r m) w.now)
       (next_by r m table namespace told q)) r.requests
-      (λ q o. next_fits v w.asked w.answered w.given r (learns r m table namespace told) w.now m.time namespace told table r.tables n
-      (met_later (view_of w.nodes) v w.given (heard r m) grows met_time) later fit known q o (came_by w at kept r good h o.request o.taken))
-      (each_open w at kept r good h v (grows, others))) in
-      record { tables = known; requests = all.stay; letters = all.ask; answers = all.tell })
+      (λ q o. next_fits v w.asked w.answered said book.cursors w.given r (learns r m table namespace told) w.now m.time namespace told table r.tables n
+      (met_later (view_of w.nodes book) v w.given (heard r m) grows met_time) later fit known q o (came_by w book at kept r good h o.request o.taken))
+      (each_open w book at kept r good h v (grows, others) chosen)) in
+      record {
+        tables = known;
+        requests = all.stay;
+        letters = all.ask;
+        answers = subst (λ l. AnswersFit v w.asked said book.cursors (answered_by w.now (told_by (next_by r m table namespace told) r.requests)) l)
+            (sym cursors)
+            (all_same v w.asked said book.cursors w.now (told_by (next_by r m table namespace told) r.requests)
+            (all_weaken (IsToldRightly v w.asked said book.cursors (heard r m) w.now)
+            (λ x. AnswerFits v w.asked said book.cursors (as_answered w.now x) book.cursors)
+            (told_by (next_by r m table namespace told) r.requests) (λ x t. t.0) all.tell));
+        below = all_weaken (IsToldRightly v w.asked said book.cursors (heard r m) w.now) (λ x. ToldBelow (heard r m) (as_answered w.now x))
+            (told_by (next_by r m table namespace told) r.requests) (λ x t. t.1) all.tell;
+        times = all_weaken (IsToldRightly v w.asked said book.cursors (heard r m) w.now) (λ (x : Reply). x.time ≡ heard r m)
+            (told_by (next_by r m table namespace told) r.requests) (λ x t. t.2) all.tell;
+      })
 
   -- A TIME
 
-  pub reach_owes : (q : Open) (time : ℕ) (half : Half) → IsIn q r.requests → q.work ≡ reading time half → time ≤ heard r m
-      → Owes w at (record { state = router_state r; kept = kept }) (tells (asks_for r (heard r m) q.count q.namespace q.work) [])
-      (router_state (goes_to r (heard r m) r.moment r.tables (replaced (going_on r (heard r m) q q.work) r.requests)))
-  reach_owes q time half stands work reached =
-      goes_on_owes w at kept r good h q q.work (heard r m) stands later met_time
-      (subst (λ x. is_ahead (heard r m) x ≡ false) (sym work) (not_ahead (heard r m) time reached))
-      (λ v behind o n. (o.work, seen_later r.time (heard r m) q.work later o.seen))
+  open_now : (q : Open) → IsIn q r.requests → IsOpenOf (view_of w.nodes book) w.asked w.answered r q
+  open_now q stands = all_at (IsOpenOf (view_of w.nodes book) w.asked w.answered r) q r.requests h.state.requests stands
 
-  pub ahead_owes : (q : Open) (time : ℕ) (half : Half) → IsIn q r.requests → q.work ≡ reading time half → heard r m < time
-      → Owes w at (record { state = router_state r; kept = kept }) (tells [] (reply_to r (heard r m) q (refusal_answer (time_ahead (heard r m))) ∷ []))
-      (router_state (goes_to r (heard r m) r.moment r.tables (without q.count r.requests)))
-  ahead_owes q time half stands work ahead =
-      told_owes w at kept r good h q (refusal_answer (time_ahead (heard r m))) (heard r m) stands later met_time
-      (λ v behind o n.
-      let does : WorkFits v o.request q.namespace (reading time half) = subst (λ x. WorkFits v o.request q.namespace x) work o.work in
-      let past = o.past in (
-        answer_fits v w.asked w.answered r (heard r m) w.now q (refusal_answer (time_ahead (heard r m))) o later (came_by w at kept r good h o.request o.taken)
-            (ahead_right v o.request (as_answered w.now (reply_to r (heard r m) q (refusal_answer (time_ahead (heard r m))))) q.namespace time half does
-            (omega arith) ahead refl)
-            (ahead_settled v o.request (as_answered w.now
-            (reply_to r (heard r m) q (refusal_answer (time_ahead (heard r m))))) q.namespace time half does ahead),
+  -- what an open read waits for
+  awaited : (v : View) (q : Open) (a : Asked) (named : Bool) (at : ℕ) (stages : List Stage) (telling : Telling) → q.work ≡ reading named at stages telling
+      → q.wait ≡ for_time
+      → HasTime v a (id_of r q.count) r.time q.wait q.work → IsAwaited v a (id_of r q.count) at
+  awaited v q a named at stages telling work wait (inl (e, f)) = subst (λ x. WaitsFor v a (id_of r q.count) x) work f
+  awaited v q a named at stages telling work wait (inr (w, e, d)) = absurd (w wait)
+
+  pub reach_owes : (q : Open) (named : Bool) (time : ℕ) (stages : List Stage) (telling : Telling) → IsIn q r.requests
+      → q.work ≡ reading named time stages telling → q.wait ≡ for_time
+      → time ≤ heard r m
+      → Owes w book at (record { state = router_state r; kept = kept })
+      (tells (as_before r) (asks_for r (heard r m) q.count q.namespace (reached (heard r m) q.work)) [])
+      (router_state (goes_to r (heard r m) r.moment r.tables (replaced (going_on r (heard r m) q (reached (heard r m) q.work)) r.requests) (as_before r)))
+  reach_owes q named time stages telling stands work wait le =
+      subst (λ x. Owes w book at (record { state = router_state r; kept = kept })
+      (tells (as_before r) (asks_for r (heard r m) q.count q.namespace (reached (heard r m) x)) [])
+      (router_state (goes_to r (heard r m) r.moment r.tables (replaced (going_on r (heard r m) q (reached (heard r m) x)) r.requests)
+      (as_before r)))) (sym work)
+      (goes_on_owes w book at kept r good h q (reading named (if named then time else heard r m) stages telling) (heard r m)
+      (record { id = id_of r q.count; at = if named then time else heard r m } ∷ []) (open_now q stands) stands later met_time (in_time named)
+      ((h.state.own, asked_now (open_now q stands)), tt)
+      (λ n other. not_others r q.count (if named then time else heard r m) n other)
+      (λ v behind chosen n. goes_on v chosen (open_now q stands)))
+    where
+      in_time : (b : Bool) → nat_lt (heard r m) (if b then time else heard r m) ≡ false
+      in_time true = not_ahead (heard r m) time le
+      in_time false = not_ahead (heard r m) (heard r m) (omega arith)
+
+      asked_now : IsOpenOf (view_of w.nodes book) w.asked w.answered r q → IsIn (id_of r q.count) (ids_asked w.asked)
+      asked_now o = subst (λ i. IsIn i (ids_asked w.asked)) o.own (in_ids o.request w.asked o.taken)
+
+      goes_on : (v : View) → v.chosen ≡ book.chosen ++ record { id = id_of r q.count; at = if named then time else heard r m } ∷ []
+          → (o : IsOpenOf (view_of w.nodes book) w.asked w.answered r q)
+          → GoesOn v o.request (id_of r q.count) (heard r m) q.namespace (reading named (if named then time else heard r m) stages telling)
+      goes_on v chosen o =
+          let does : WorkFits o.request q.namespace (reading named time stages telling) =
+          subst (λ x. WorkFits o.request q.namespace x) work o.work in
+          let waits : IsAwaited (view_of w.nodes book) o.request (id_of r q.count) time =
+          awaited (view_of w.nodes book) q o.request named time stages telling work wait o.reached in
+          record {
+            does = record {
+              read = does.read;
+              tells = does.tells;
+              name = does.name;
+              words = does.words;
+              time = reached_time (view_of w.nodes book) o.request (id_of r q.count) does.read time (heard r m) named
+                  (reads_of o.request does.read telling does.tells) does.time waits le;
+            };
+            decided = ap (λ l. chosen_time (id_of r q.count) l) chosen
+                ∙ chosen_last (id_of r q.count) (if named then time else heard r m) book.chosen waits.undecided;
+            seen = tt;
+          }
+
+  -- the shard's time came behind the request, so that of no write that was answered before is an entry later
+  told_before : (v : View) → Behind v → (id : RequestId) → m.body ≡ time_told id → (a : Asked) → IsIn a w.asked → a.id ≡ id → IsPast v w.answered a m.time
+  told_before v behind id says a taken own =
+      let t : TimeFits (view_of w.nodes book) w.asked w.answered m.time (time_told id) = subst
+      (λ b. TimeFits (view_of w.nodes book) w.asked w.answered m.time b) says comes.2 in
+      let same : t.0 ≡ a = one_asked t.0 a w.asked good.one t.1 taken (t.2 ∙ sym own) in
+      let entries : entries_in v first_shard ≡ entries_in (view_of w.nodes book) first_shard =
+      ap (λ l. entries_kept l) (behind.1 first_shard (λ e. let place = h.state.place in omega (arith, e, place))) in
+      subst (λ b. IsPast v w.answered b m.time) same
+      (λ s write index e i before stands shown. t.3 s write index e i before (subst (λ l. IsIn e l) entries stands) shown)
+
+  pub ahead_owes : (id : RequestId) (q : Open) (named : Bool) (time : ℕ) (stages : List Stage) (telling : Telling) → m.body ≡ time_told id → IsOpenWith r id q
+      → q.work ≡ reading named time stages telling → q.wait ≡ for_time → heard r m < time
+      → Owes w book at (record { state = router_state r; kept = kept })
+      (tells (as_before r) [] (reply_to r (heard r m) q (refusal_answer (time_ahead (heard r m))) ∷ []))
+      (router_state (goes_to r (heard r m) r.moment r.tables (without q.count r.requests) (as_before r)))
+  ahead_owes id q named time stages telling says found work wait ahead =
+      told_owes w book at kept r good h q (refusal_answer (time_ahead (heard r m))) (heard r m) (as_before r) book.cursors found.stands later met_time tt
+      (turns_stay w book at kept r good h (heard r m) r.moment r.tables (without q.count r.requests) later)
+      (λ v behind o n. (
+        answer_fits v w.asked w.answered (w.answered ++ as_answered w.now (reply_to r (heard r m) q (refusal_answer (time_ahead (heard r m)))) ∷ []) r
+            (heard r m) w.now q (refusal_answer (time_ahead (heard r m))) book.cursors book.cursors o later
+            (came_by w book at kept r good h o.request o.taken)
+            (ahead_right v w.asked (w.answered ++ as_answered w.now (reply_to r (heard r m) q (refusal_answer (time_ahead (heard r m)))) ∷ []) book.cursors
+            o.request
+            (as_answered w.now (reply_to r (heard r m) q (refusal_answer (time_ahead (heard r m))))) (id_of r q.count) time m.time w.now w.answered
+            (awaited v q o.request named time stages telling work wait o.reached) (told_before v behind id says o.request o.taken (o.own ∙ sym found.own))
+            (omega arith) ahead
+            (came_by w book at kept r good h o.request o.taken) refl refl refl),
         refusal_below (heard r m) (time_ahead (heard r m)),
       ))
 
   -- OUTCOMES
 
   -- what is noted of an open write
-  noted_in : (v : View) → Behind v → (id : RequestId) (dones : List Done) (q : Open) (kind : WriteKind) (ordered : Bool) (statements : List Statement) (answers : List Done)
+  noted_in : (v : View) → Behind v
+      → (id : RequestId) (dones : List Done) (q : Open) (kind : WriteKind) (ordered : Bool) (statements : List Statement) (answers : List Done)
       → m.body ≡ write_done id dones
-      → id ≡ id_of r q.count → q.work ≡ writing kind ordered statements answers → (o : IsOpenOf v w.asked w.answered r q) → NeighboursFit v w.asked
-      → NotedFits v o.request q.namespace kind ordered statements (noted answers dones) × AreSeen (heard r m) (writing kind ordered statements (noted answers dones))
-  noted_in v behind id dones q kind ordered statements answers says own work o n =
-      let done : (m.sender ≡ first_shard) × AllByRecursion (IsDoneBy v m.sender m.time id) dones = body_in v behind (write_done id dones) says in
-      let seen : AreSeen (heard r m) (writing kind ordered statements answers) = subst (λ x. AreSeen (heard r m) x) work
-      (seen_later r.time (heard r m) q.work later o.seen) in (
-        noted_fits v w.asked o.request m.sender m.time id q.namespace kind ordered statements answers dones n o.taken (o.own ∙ sym own)
-            (subst (λ x. WorkFits v o.request q.namespace x) work o.work) done.0 done.1,
-        all_noted (λ (d : Done). d.time ≤ heard r m) answers dones seen
-            (all_weaken (IsDoneBy v m.sender m.time id) (λ (d : Done). d.time ≤ heard r m) dones
-            (λ d b. done_past v m.sender m.time (heard r m) id d (omega arith) b) done.1),
-      )
+      → id ≡ id_of r q.count → q.work ≡ writing kind ordered statements answers → (o : IsOpenOf v w.asked w.answered r q)
+      → NotedFits v o.request (heard r m) q.namespace kind ordered statements (noted answers dones)
+  noted_in v behind id dones q kind ordered statements answers says own work o =
+      let done : (m.sender ≡ first_shard) × IsDoneOf v w.asked m.sender m.time id dones = body_in v behind (write_done id dones) says in
+      let seen : AreSeen v (heard r m) o.request (writing kind ordered statements answers) = subst (λ x. AreSeen v (heard r m) o.request x) work
+      (seen_grows v v r.time (heard r m) o.request q.work (later_self v) later o.seen) in
+      noted_fits v w.asked o.request m.sender m.time (heard r m) id q.namespace kind ordered statements answers dones good.one o.taken (o.own ∙ sym own)
+      (subst (λ x. WorkFits o.request q.namespace x) work o.work) seen (omega arith) done.0 done.1
 
   pub note_owes : (id : RequestId) (dones : List Done) (q : Open) (kind : WriteKind) (ordered : Bool) (statements : List Statement) (answers : List Done)
       → m.body ≡ write_done id dones
       → IsOpenWith r id q → q.work ≡ writing kind ordered statements answers → is_answered ordered statements (noted answers dones) ≡ false
-      → Owes w at (record { state = router_state r; kept = kept })
-      (tells (asks_for r (heard r m) q.count q.namespace (writing kind ordered statements (noted answers dones))) [])
+      → Owes w book at (record { state = router_state r; kept = kept })
+      (tells (as_before r) (asks_for r (heard r m) q.count q.namespace (writing kind ordered statements (noted answers dones))) [])
       (router_state (goes_to r (heard r m) r.moment r.tables
-      (replaced (going_on r (heard r m) q (writing kind ordered statements (noted answers dones))) r.requests)))
+      (replaced (going_on r (heard r m) q (writing kind ordered statements (noted answers dones))) r.requests) (as_before r)))
   note_owes id dones q kind ordered statements answers says found work open_yet =
-      goes_on_owes w at kept r good h q (writing kind ordered statements (noted answers dones)) (heard r m) found.stands later met_time refl
-      (λ v behind o n.
-      let f = noted_in v behind id dones q kind ordered statements answers says found.own work o n in
-      ((f.0.write, f.0.asks, f.0.is, f.0.name, f.0.order, f.0.all, (f.0.more, f.0.stands), none_ends ordered statements (noted answers dones) open_yet), f.1))
+      goes_on_owes w book at kept r good h q (writing kind ordered statements (noted answers dones)) (heard r m) [] (open_now q found.stands) found.stands
+      later met_time refl tt (λ n other. refl)
+      (λ v behind chosen n.
+      let o = all_at (IsOpenOf v w.asked w.answered r) q r.requests (each_open w book at kept r good h v behind chosen) found.stands in
+      let f = noted_in v behind id dones q kind ordered statements answers says found.own work o in
+      let same : o.request ≡ (open_now q found.stands).request =
+      one_asked o.request (open_now q found.stands).request w.asked good.one o.taken (open_now q found.stands).taken
+      (o.own ∙ sym (open_now q found.stands).own) in
+      record {
+        does = subst (λ a. WorkFits a q.namespace (writing kind ordered statements (noted answers dones))) same
+            (f.write, f.asks, f.is, f.name, f.order, f.all, none_ends ordered statements (noted answers dones) open_yet);
+        decided = tt;
+        seen = subst (λ a. AreSeen v (heard r m) a (writing kind ordered statements (noted answers dones))) same (seen_of v o.request f);
+      })
 
   pub wrote_owes : (id : RequestId) (dones : List Done) (q : Open) (kind : WriteKind) (ordered : Bool) (statements : List Statement) (answers : List Done)
       → m.body ≡ write_done id dones
-      → IsOpenWith r id q → q.work ≡ writing kind ordered statements answers → is_answered ordered statements (noted answers dones) ≡ true
-      → Owes w at (record { state = router_state r; kept = kept }) (tells [] (reply_to r (heard r m) q (answer_of kind (noted answers dones)) ∷ []))
-      (router_state (goes_to r (heard r m) r.moment r.tables (without q.count r.requests)))
-  wrote_owes id dones q kind ordered statements answers says found work whole =
-      told_owes w at kept r good h q (answer_of kind (noted answers dones)) (heard r m) found.stands later met_time
+      → IsOpenWith r id q → q.work ≡ writing kind ordered statements answers → noted answers dones ≢ answers
+      → is_answered ordered statements (noted answers dones) ≡ true
+      → Owes w book at (record { state = router_state r; kept = kept })
+      (tells (as_before r) [] (reply_to r (heard r m) q (answer_of kind (heard r m) (noted answers dones)) ∷ []))
+      (router_state (goes_to r (heard r m) r.moment r.tables (without q.count r.requests) (as_before r)))
+  wrote_owes id dones q kind ordered statements answers says found work news whole =
+      told_owes w book at kept r good h q (answer_of kind (heard r m) (noted answers dones)) (heard r m) (as_before r) book.cursors found.stands later
+      met_time tt
+      (turns_stay w book at kept r good h (heard r m) r.moment r.tables (without q.count r.requests) later)
       (λ v behind o n.
-      let f = noted_in v behind id dones q kind ordered statements answers says found.own work o n in (
-        answer_fits v w.asked w.answered r (heard r m) w.now q (answer_of kind (noted answers dones)) o later (came_by w at kept r good h o.request o.taken)
-            (wrote_right v o.request (as_answered w.now (reply_to r (heard r m) q (answer_of kind (noted answers dones)))) q.namespace kind ordered statements
-            (noted answers dones) f.0 whole refl)
-            (wrote_settled v o.request (as_answered w.now (reply_to r (heard r m) q (answer_of kind (noted answers dones)))) f.0.write f.0.asks),
-        write_below (heard r m) kind (noted answers dones) f.1,
+      let f = noted_in v behind id dones q kind ordered statements answers says found.own work o in
+      let t : Answered = as_answered w.now (reply_to r (heard r m) q (answer_of kind (heard r m) (noted answers dones))) in (
+        answer_fits v w.asked w.answered (w.answered ++ t ∷ []) r
+            (heard r m) w.now q (answer_of kind (heard r m) (noted answers dones)) book.cursors book.cursors o later
+            (came_by w book at kept r good h o.request o.taken)
+            (wrote_right v w.asked (w.answered ++ t ∷ []) book.cursors o.request t q.namespace kind ordered statements (noted answers dones) f
+            (record {
+              around = n;
+              taken = o.taken;
+              asks = f.asks;
+              own = o.own;
+              came = all_weaken (λ (a : Asked). a.came < w.now + 1) (λ (a : Asked). a.came ≤ w.now) w.asked (λ a l. omega arith) good.came;
+            }) whole (noted_some answers dones news) refl),
+        write_below (heard r m) kind (heard r m) (noted answers dones) (omega arith)
+            (answers_below (entries_in v first_shard) (heard r m) f.write o.request.id 0 (noted answers dones) f.answers),
       ))
-
-  -- DOCUMENTS
-
-  read_in : (v : View) → Behind v → (id : RequestId) (rows : List Fields) (q : Open) (time : ℕ) (key : Datum) → m.body ≡ read_rows id 1 rows
-      → id ≡ id_of r q.count
-      → q.work ≡ reading time (key_half key) → (o : IsOpenOf v w.asked w.answered r q)
-      → IsToldRightly v w.asked (heard r m) w.now (reply_to r (heard r m) q (find_answer q.namespace rows time))
-  read_in v behind id rows q time key says own work o =
-      let shown : IsShown v w.asked m.sender m.time id rows = body_in v behind (read_rows id 1 rows) says in
-      let does : WorkFits v o.request q.namespace (reading time (key_half key)) = subst (λ x. WorkFits v o.request q.namespace x) work o.work in
-      let s : ShownTo v m.time q.namespace key time rows = shown_to v w.asked o.request m.sender m.time id q.namespace time key rows good.one o.taken
-      (o.own ∙ sym own) does shown in
-      let past = s.past in
-      let reached : time ≤ heard r m = omega arith in (
-        answer_fits v w.asked w.answered r (heard r m) w.now q (find_answer q.namespace rows time) o later (came_by w at kept r good h o.request o.taken)
-            (found_right v o.request (as_answered w.now
-            (reply_to r (heard r m) q (find_answer q.namespace rows time))) q.namespace time key rows does reached s.rows_are refl)
-            (found_settled v o.request (as_answered w.now (reply_to r (heard r m) q (find_answer q.namespace rows time))) q.namespace time key does
-            (inl s.settled)),
-        find_below (heard r m) q.namespace rows time reached,
-      )
-
-  pub read_owes : (id : RequestId) (rows : List Fields) (q : Open) (time : ℕ) (half : Half) → m.body ≡ read_rows id 1 rows → IsOpenWith r id q
-      → q.work ≡ reading time half
-      → Owes w at (record { state = router_state r; kept = kept }) (tells [] (reply_to r (heard r m) q (find_answer q.namespace rows time) ∷ []))
-      (router_state (goes_to r (heard r m) r.moment r.tables (without q.count r.requests)))
-  read_owes id rows q time (key_half key) says found work =
-      told_owes w at kept r good h q (find_answer q.namespace rows time) (heard r m) found.stands later met_time
-      (λ v behind o n. read_in v behind id rows q time key says found.own work o)

@@ -1,68 +1,126 @@
 -- Each row of a router owes nothing that it does not give.
-use Rattle.std.proofs.Common.{◌≡◌, ◌⊎◌, inl, inr, ℕ, ℤ, ◌+◌, List, [], ◌∷◌, ◌++◌, refl, sym, ap, subst, arith, append-nil, Bool}
-use Rattle.std.specs.Prelude.{Option, Some, None, Result, Ok, Err, true, false, if◌then◌else◌}
-use Rattle.std.specs.List.{slice_get}
+use Rattle.std.proofs.Common.{◌≡◌, inl, inr, ℕ, ℤ, ◌+◌, ◌≤◌, List, [], ◌∷◌, ◌++◌, refl, sym, ap, subst, ◌∙◌, arith, append-nil, Bool}
+use Rattle.std.specs.Prelude.{Option, Some, None, Result, Ok, Err, true, false, max, length, drop, ◌||◌, if◌then◌else◌}
+use Rattle.std.specs.List.{AllByRecursion, slice_get}
+use Rattle.std.specs.Option.{unwrap_or}
+use Rattle.std.proofs.lemmas.Bool.{ltb-true}
 use Rattle.history_model.proofs.Lists.{in_back, in_first}
+use Rattle.command_model.specs.Cursors.{Batch, GetMore, KillCursors}
 use Rattle.node_model.specs.Requests.{Request}
-use Rattle.node_model.specs.Refusals.{Refusal}
-use Rattle.node_model.specs.Command.{Command, hello_command, legacy_command, ping_command, end_sessions_command, write_command, find_command, command_of}
-use Rattle.node_model.specs.Answers.{Answer, answer_document}
+use Rattle.node_model.specs.Errors.{cursor_not_found}
+use Rattle.node_model.specs.Refusals.{Refusal, cursor_evidence}
+use Rattle.node_model.specs.Command.{Command, hello_command, legacy_command, ping_command, end_sessions_command, write_command, find_command, count_command}
+use Rattle.node_model.specs.Command.{more_command, kill_command}
+use Rattle.node_model.specs.Command.{command_of}
+use Rattle.node_model.specs.Reading.{Reading}
+use Rattle.node_model.specs.Answers.{Answer, next_answer, killed_answer, refusal_answer, answer_document}
+use Rattle.node_model.specs.Cursors.{Cursor, open_cursor, with_remaining, ShowsNext, Kills}
 use Rattle.node_model.specs.History.{IsIn}
-use Rattle.node_model.specs.Exchanges.{Asked}
-use Rattle.node_model.specs.Right.{told_by}
+use Rattle.node_model.specs.Exchanges.{RequestId, Asked, Answered}
+use Rattle.node_model.specs.Right.{asks_for_one, usual_size, unless_silent, right_more, right_no_cursor, right_kill}
 use Rattle.node_model.specs.Journal.{Kept}
 use Rattle.node_model.specs.Letters.{Input, Reply, Effect}
-use Rattle.node_model.specs.States.{Work, for_time, Router, router_state}
-use Rattle.node_model.specs.RouterRows.{id_of, heard, is_ahead, table_for, wait_by, asks_for, Plan, at_once, needs, plan_of, opened_request, taken_now, takes, RouterRow, router_begin, router_opened, router_plain, router_take, router_learn, router_reach, router_ahead, router_note, router_wrote, router_read, router_late, router_skip, router_moment}
+use Rattle.node_model.specs.States.{Telling, in_batches, as_number, Work, writing, reading, for_time, Open, Router, router_state}
+use Rattle.node_model.specs.RouterRows.{id_of, heard, is_ahead, table_for, wait_by, wait_of, asks_for, Plan, at_once, needs, needs_batch, needs_end, plan_of}
+use Rattle.node_model.specs.RouterRows.{plan_read, opened_request, taken_now}
+use Rattle.node_model.specs.RouterRows.{RouterRow, router_begin, router_opened, router_plain, router_more, router_no_cursor, router_kill, router_take}
+use Rattle.node_model.specs.RouterRows.{router_learn, router_reach, router_ahead}
+use Rattle.node_model.specs.RouterRows.{router_note, router_wrote, router_read, router_excess, router_overflow, router_late, router_skip, router_moment}
 use Rattle.node_model.specs.World.{World}
-use Rattle.node_laws.proofs.Views.{View, view_of, entries_in}
-use Rattle.node_model.specs.Tables.{first_shard}
-use Rattle.node_laws.proofs.Facts.{WorkFits, AreSeen, IsOpenOf, HeldFits, AnswerFits, Good}
+use Rattle.node_laws.proofs.Views.{Choice, Book, View, view_of, chosen_time}
+use Rattle.node_laws.proofs.ReadFacts.{is_named, WaitsFor, IsDecided, IsTelling, tells_find, tells_count}
+use Rattle.node_laws.proofs.Facts.{WorkFits, AreSeen, HasTime, IsOpenOf, CursorsFit, HeldFits, AnswerFits, AnswersFit, no_answer, one_answer, Good}
 use Rattle.node_laws.proofs.Owes.{InputFits, Owes}
+use Rattle.node_laws.proofs.Choices.{chosen_last}
+use Rattle.node_laws.proofs.OwnCursors.{open_own, kills_all}
 use Rattle.node_laws.proofs.Growth.{met_later}
+use Rattle.node_laws.proofs.Answers.{StaysRight}
 use Rattle.node_laws.proofs.OpenRequests.{open_of_found}
+use Rattle.node_laws.proofs.AnswerTimes.{ShowsBelow, refusal_below, next_below, killed_below}
+use Rattle.node_laws.proofs.ReadTimes.{reads_of, first_time, planned_time, awaits_first, awaits_named}
 use Rattle.node_laws.proofs.RouterAsks.{asks_fit}
 use Rattle.node_laws.proofs.RouterAnswers.{as_answered, IsPlain, plain_fits}
+use Rattle.node_laws.proofs.Turns.{Turns, turns_same, turns_left, turns_closed, open_past}
 use Rattle.node_laws.proofs.RouterLater.{told_now}
-use Rattle.node_laws.proofs.RouterForms.{IsBehind, known_tables, stays_owes, again_owes}
-use Rattle.node_laws.proofs.RouterMessages.{heard_met, learn_owes, reach_owes, ahead_owes, note_owes, wrote_owes, read_owes}
-use Rattle.node_laws.proofs.RouterTakes.{asked_now, counts_behind, new_answer, begin_owes, takes_owes}
+use Rattle.node_laws.proofs.RouterForms.{waits_not, known_tables, stays_owes, again_owes}
+use Rattle.node_laws.proofs.RouterMessages.{heard_met, learn_owes, reach_owes, ahead_owes, note_owes, wrote_owes}
+use Rattle.node_laws.proofs.RouterReads.{read_owes, much_owes, none_overflows}
+use Rattle.node_laws.proofs.RouterTakes.{asked_now, took, counts_behind, new_answer, undecided, begin_owes, takes_owes}
 
 -- WORK THAT IS PLANNED
 
-no_plan : (answer : Answer) (namespace : List ℕ) (work : Work) → at_once answer ≡ needs namespace work → ⊥
-no_plan answer namespace work e = cc
+-- what is said of a plan: the work of a request, with the collection that it is on. A read that waits for its time waits for
+-- one that it wants.
+abbrev IsPlanned : View → Router → Asked → Plan → Type 0
+IsPlanned v r a (at_once answer) = ⊥
+IsPlanned v r a (needs namespace work) =
+    WorkFits a namespace work × AreSeen v a.time a work × (is_ahead r.time work ≡ true → chosen_time a.id v.chosen ≡ None → WaitsFor v a a.id work)
+IsPlanned v r a (needs_batch get) = ⊥
+IsPlanned v r a (needs_end kill) = ⊥
 
--- the work of a request, with the collection that it is on
-abbrev IsWorkOf : View → Asked → Plan → Type 0
-IsWorkOf v a (at_once answer) = ⊥
-IsWorkOf v a (needs namespace work) = WorkFits v a namespace work × AreSeen a.time work
+module _ (v : View) (r : Router) (a : Asked) (time : a.time ≡ r.time) where
+  planned_first : (read : Reading) (telling : Telling) → IsTelling a read telling → (after : Option ℕ) → read.at ≡ None → read.after ≡ after
+      → IsPlanned v r a (needs read.namespace (reading false (first_time r.time after) read.stages telling))
+  planned_first read telling tells after none wants = (
+    record { read = read; tells = tells; name = refl; words = refl; time = planned_time a read r.time after time none wants },
+    tt,
+    λ ahead undecided. awaits_first v a a.id read r.time after (reads_of a read telling tells) time none wants
+        (ltb-true r.time (first_time r.time after) ahead) undecided,
+  )
 
-planned : (v : View) (r : Router) (a : Asked) (namespace : List ℕ) (work : Work) (command : Result Command Refusal) → command_of a.request ≡ command
-    → a.time ≡ r.time
-    → plan_of r a.id command ≡ needs namespace work → IsWorkOf v a (needs namespace work)
-planned v r a namespace work (Err refusal) asks time plan = absurd (no_plan _ namespace work plan)
-planned v r a namespace work (Ok hello_command) asks time plan = absurd (no_plan _ namespace work plan)
-planned v r a namespace work (Ok (legacy_command legacy)) asks time plan = absurd (no_plan _ namespace work plan)
-planned v r a namespace work (Ok ping_command) asks time plan = absurd (no_plan _ namespace work plan)
-planned v r a namespace work (Ok end_sessions_command) asks time plan = absurd (no_plan _ namespace work plan)
-planned v r a namespace work (Ok (write_command write)) asks time plan =
-    subst (λ p. IsWorkOf v a p) plan ((write, asks, refl, refl, refl, refl, (told_by a.id (entries_in v first_shard), refl), tt), tt)
-planned v r a namespace work (Ok (find_command find)) asks time plan =
-    subst (λ p. IsWorkOf v a p) plan (
-      (
-        find,
-        asks,
-        refl,
-        refl,
-        ap (λ n. elim find.at as (λ (o : Option ℕ). ℕ) [ None ↦ n | Some named ↦ named ])
-            (sym time),
-      ),
-      tt,
-    )
+  planned_named : (read : Reading) (telling : Telling) → IsTelling a read telling → (named : ℕ) → read.at ≡ Some named
+      → IsPlanned v r a (needs read.namespace (reading true named read.stages telling))
+  planned_named read telling tells named names = (
+    record { read = read; tells = tells; name = refl; words = refl; time = is_named names },
+    tt,
+    λ ahead undecided. awaits_named v a a.id read r.time named (reads_of a read telling tells) time names (ltb-true r.time named ahead) undecided,
+  )
 
-module _ (w : World) (at : ℕ) (kept : List Kept) (r : Router) (good : Good w)
-    (h : HeldFits (view_of w.nodes) w.asked w.answered w.given at (record { state = router_state r; kept = kept }))
+  planned_read : (read : Reading) (telling : Telling) → IsTelling a read telling → IsPlanned v r a (plan_read r read telling)
+  planned_read read telling tells = by_at read.at refl
+    where
+      by_at : (at : Option ℕ) → read.at ≡ at → IsPlanned v r a (needs read.namespace (elim at as (λ (o : Option ℕ). Work) [
+        | None ↦ reading false (max r.time (unwrap_or read.after 0)) read.stages telling
+        | Some named ↦ reading true named read.stages telling
+      ]))
+      by_at None none = planned_first read telling tells read.after none refl
+      by_at (Some named) names = planned_named read telling tells named names
+
+  planned : (silent : Bool) (namespace : List ℕ) (work : Work) (command : Result Command Refusal) → command_of a.request ≡ command → a.request.more ≡ silent
+      → plan_of r a.id silent command ≡ needs namespace work → IsPlanned v r a (needs namespace work)
+  planned silent namespace work (Err refusal) asks more plan = absurd (cc)
+  planned silent namespace work (Ok hello_command) asks more plan = absurd (cc)
+  planned silent namespace work (Ok (legacy_command legacy)) asks more plan = absurd (cc)
+  planned silent namespace work (Ok ping_command) asks more plan = absurd (cc)
+  planned silent namespace work (Ok end_sessions_command) asks more plan = absurd (cc)
+  planned silent namespace work (Ok (more_command get)) asks more plan = absurd (cc)
+  planned silent namespace work (Ok (kill_command kill)) asks more plan = absurd (cc)
+  planned silent namespace work (Ok (write_command write)) asks more plan =
+      subst (λ p. IsPlanned v r a p) plan
+      ((write, asks, refl, refl, refl, refl, tt), (λ own of. tt), λ ahead undecided. absurd (cc))
+  planned silent namespace work (Ok (find_command find)) asks more plan =
+      subst (λ p. IsPlanned v r a p) plan
+      (subst (λ b. IsPlanned v r a (plan_read r find.reading (in_batches (unwrap_or find.batches.size usual_size) (find.batches.single || b)))) more
+      (planned_read find.reading (in_batches (unwrap_or find.batches.size usual_size) (asks_for_one find.batches a.request)) (tells_find find asks)))
+  planned silent namespace work (Ok (count_command read)) asks more plan =
+      subst (λ p. IsPlanned v r a p) plan (planned_read read as_number (tells_count read asks))
+
+-- the time of a read that can go on
+abbrev pub choice_of : RequestId → Work → List Choice
+choice_of id (writing kind ordered statements answers) = []
+choice_of id (reading named at stages telling) = record { id = id; at = at } ∷ []
+
+choice_own : (id : RequestId) (work : Work) → AllByRecursion (λ (c : Choice). c.id ≡ id) (choice_of id work)
+choice_own id (writing kind ordered statements answers) = tt
+choice_own id (reading named at stages telling) = (refl, tt)
+
+choice_decides : (v : View) (id : RequestId) (old : List Choice) (work : Work) → chosen_time id old ≡ None → v.chosen ≡ old ++ choice_of id work
+    → IsDecided v id work
+choice_decides v id old (writing kind ordered statements answers) none same = tt
+choice_decides v id old (reading named at stages telling) none same = ap (λ l. chosen_time id l) same ∙ chosen_last id at old none
+
+module _ (w : World) (book : Book) (at : ℕ) (kept : List Kept) (r : Router) (good : Good w book)
+    (h : HeldFits (view_of w.nodes book) w.asked w.answered w.given at (record { state = router_state r; kept = kept }))
     (link : ℕ) (number : ℤ) (request : Request) (begun : r.begun ≡ true) where
   abbrev New : Asked
   New = asked_now w.now r link number request
@@ -73,64 +131,182 @@ module _ (w : World) (at : ℕ) (kept : List Kept) (r : Router) (good : Good w)
   abbrev Plain : Answer → Reply
   Plain answer = record { id = id_of r (r.count + 1); link = link; number = number; request = request; time = r.time; document = answer_document answer }
 
-  -- a request that is answered at once
-  plain_owes : (answer : Answer) → plan_of r (id_of r (r.count + 1)) (command_of request) ≡ at_once answer
-      → Owes w at (record { state = router_state r; kept = kept })
-      (record { written = []; mail = []; taken = taken_now r link number request ∷ []; replies = Plain answer ∷ [] }) (router_state (takes r []))
-  plain_owes answer plan =
-      takes_owes w at kept r good h link number request begun [] [] (Plain answer ∷ []) tt tt (refl, tt) (tt, tt) ((plain (view_of w.nodes)).below, tt)
+  abbrev Said : Answer → List Answered
+  Said answer = w.answered ++ as_answered w.now (Plain answer) ∷ []
+
+  -- a request that is answered at once, where these cursors are left
+  told_at_once : (answer : Answer) (own after : List Cursor) → Turns book.cursors after at (took r own []) → ShowsBelow r.time answer
+      → ((v : View) → StaysRight v (w.asked ++ New ∷ []) (Said answer) book.cursors New (as_answered w.now (Plain answer)) after)
+      → Owes w book at (record { state = router_state r; kept = kept })
+      (record { written = []; mail = []; taken = taken_now r link number request ∷ []; replies = Plain answer ∷ [] }) (router_state (took r own []))
+  told_at_once answer own after turns below right =
+      takes_owes w book at kept r good h link number request begun [] own after [] [] (Plain answer ∷ []) tt turns tt tt (refl, tt) (tt, tt) (below, tt)
+      (refl, tt)
       (inr (told_now (id_of r (r.count + 1)) w.answered (as_answered w.now (Plain answer) ∷ []) (in_first (id_of r (r.count + 1)) [])))
-      (λ v behind. record { requests = tt; letters = tt; answers = (fits v, tt) })
-    where
-      plain : (v : View) → IsPlain v New (as_answered w.now (Plain answer)) r.time answer
-      plain v = plain_fits v New (as_answered w.now (Plain answer)) r (id_of r (r.count + 1)) r.time answer (command_of request) refl refl plan refl
-
-      fits : (v : View) → AnswerFits v (w.asked ++ New ∷ []) (as_answered w.now (Plain answer))
-      fits v = record {
-        right = record {
-          request = New;
-          taken = taken;
-          own = refl;
-          link = refl;
-          number = refl;
-          same = refl;
-          came = omega arith;
-          risen = omega arith;
-          right = (plain v).right;
-        };
-        settled = (plain v).settled;
-      }
-
-  -- a request that has work to do
-  take_owes : (namespace : List ℕ) (work : Work) → plan_of r (id_of r (r.count + 1)) (command_of request) ≡ needs namespace work
-      → Owes w at (record { state = router_state r; kept = kept })
-      (record { written = []; mail = asks_for r r.time (r.count + 1) namespace work; taken = taken_now r link number request ∷ []; replies = [] })
-      (router_state (takes r (opened_request r link number request namespace work ∷ [])))
-  take_owes namespace work plan =
-      takes_owes w at kept r good h link number request begun (opened_request r link number request namespace work ∷ [])
-      (asks_for r r.time (r.count + 1) namespace work) []
-      (tt, tt) (refl, tt) tt tt tt (inl (counts_behind (r.count + 1) r.requests (opened_request r link number request namespace work ∷ [])
-      (in_first (r.count + 1) [])))
-      (λ v behind. record {
-        requests = (opens v behind, tt);
-        letters = asks_fit v (w.asked ++ New ∷ []) w.given r r.time (met_later (view_of w.nodes) v w.given r.time behind.0 h.met) (r.count + 1) namespace work
-            (record { request = New; taken = taken; own = refl; past = omega arith; does = (does v).0 })
-            (known_tables w at kept r good h v behind r.time (omega arith));
-        answers = tt;
+      (λ v behind chosen cursors. record {
+        requests = tt;
+        letters = tt;
+        answers = subst (λ l. AnswersFit v (w.asked ++ New ∷ []) (Said answer) book.cursors (as_answered w.now (Plain answer) ∷ []) l) (sym cursors)
+            (one_answer book.cursors after after (as_answered w.now (Plain answer)) [] (fits v) (no_answer after));
       })
     where
-      does : (v : View) → IsWorkOf v New (needs namespace work)
-      does v = planned v r New namespace work (command_of request) refl refl plan
+      fits : (v : View) → AnswerFits v (w.asked ++ New ∷ []) (Said answer) book.cursors (as_answered w.now (Plain answer)) after
+      fits v = record {
+        request = New;
+        taken = taken;
+        own = refl;
+        link = refl;
+        number = refl;
+        same = refl;
+        came = omega arith;
+        risen = omega arith;
+        right = (right v).right;
+        settled = (right v).settled;
+      }
 
-      waits : (b : Bool) → is_ahead r.time work ≡ b
-          → ((if b then for_time else wait_by (table_for r.tables namespace work)) ≡ for_time) ⊎ (is_ahead r.time work ≡ false)
-      waits true ahead = inl refl
-      waits false ahead = inr ahead
+  -- the cursors stay
+  turns_kept : (more : List Open) → Turns book.cursors book.cursors at (took r r.cursors more)
+  turns_kept more = turns_same book.cursors at r (took r r.cursors more) h.cursors refl refl refl refl (omega arith)
 
-      opens : (v : View) → IsBehind w at kept r good h v
-          → IsOpenOf v (w.asked ++ New ∷ []) (w.answered ++ []) (takes r (opened_request r link number request namespace work ∷ []))
+  plain_owes : (answer : Answer) → plan_of r (id_of r (r.count + 1)) request.more (command_of request) ≡ at_once answer
+      → Owes w book at (record { state = router_state r; kept = kept })
+      (record { written = []; mail = []; taken = taken_now r link number request ∷ []; replies = Plain answer ∷ [] }) (router_state (took r r.cursors []))
+  plain_owes answer plan =
+      told_at_once answer r.cursors book.cursors (turns_kept []) (plain (view_of w.nodes book)).below (λ v. (plain v).right)
+    where
+      plain : (v : View) → IsPlain v (w.asked ++ New ∷ []) (Said answer) book.cursors New (as_answered w.now (Plain answer)) r.time answer
+      plain v = plain_fits v (w.asked ++ New ∷ []) (Said answer) book.cursors New (as_answered w.now (Plain answer)) r (id_of r (r.count + 1)) request.more
+          r.time answer
+          (command_of request) refl refl plan refl
+
+  -- CURSORS
+
+  mine : CursorsFit book.cursors r.me r
+  mine = subst (λ n. CursorsFit book.cursors n r) (sym h.state.own) h.cursors
+
+  -- what a command about cursors is
+  batch_asked : (get : GetMore) (command : Result Command Refusal) → plan_of r (id_of r (r.count + 1)) request.more command ≡ needs_batch get
+      → command ≡ Ok (more_command get)
+  batch_asked get (Err refusal) e = absurd (cc)
+  batch_asked get (Ok hello_command) e = absurd (cc)
+  batch_asked get (Ok (legacy_command legacy)) e = absurd (cc)
+  batch_asked get (Ok ping_command) e = absurd (cc)
+  batch_asked get (Ok end_sessions_command) e = absurd (cc)
+  batch_asked get (Ok (write_command write)) e = absurd (cc)
+  batch_asked get (Ok (find_command find)) e = absurd (cc)
+  batch_asked get (Ok (count_command read)) e = absurd (cc)
+  batch_asked get (Ok (more_command own)) e = let same : own ≡ get = cc in ap (λ g. Ok (more_command g)) same
+  batch_asked get (Ok (kill_command kill)) e = absurd (cc)
+
+  end_asked : (kill : KillCursors) (command : Result Command Refusal) → plan_of r (id_of r (r.count + 1)) request.more command ≡ needs_end kill
+      → command ≡ Ok (kill_command kill)
+  end_asked kill (Err refusal) e = absurd (cc)
+  end_asked kill (Ok hello_command) e = absurd (cc)
+  end_asked kill (Ok (legacy_command legacy)) e = absurd (cc)
+  end_asked kill (Ok ping_command) e = absurd (cc)
+  end_asked kill (Ok end_sessions_command) e = absurd (cc)
+  end_asked kill (Ok (write_command write)) e = absurd (cc)
+  end_asked kill (Ok (find_command find)) e = absurd (cc)
+  end_asked kill (Ok (count_command read)) e = absurd (cc)
+  end_asked kill (Ok (more_command get)) e = absurd (cc)
+  end_asked kill (Ok (kill_command own)) e = let same : own ≡ kill = cc in ap (λ k. Ok (kill_command k)) same
+
+  -- the cursor among those of all
+  found_all : (n : ℤ) (namespace : List ℕ) (found : Option Cursor) → open_cursor (id_of r (r.count + 1)) n namespace r.cursors ≡ found
+      → open_cursor (id_of r (r.count + 1)) n namespace book.cursors ≡ found
+  found_all n namespace found e =
+      sym (open_own (id_of r (r.count + 1)) n namespace book.cursors) ∙ ap (λ l. open_cursor (id_of r (r.count + 1)) n namespace l) mine.own ∙ e
+
+  more_owes : (get : GetMore) (c : Cursor) (batch : Batch) (next : List Cursor)
+      → plan_of r (id_of r (r.count + 1)) request.more (command_of request) ≡ needs_batch get
+      → open_cursor (id_of r (r.count + 1)) get.cursor get.namespace r.cursors ≡ Some c → ShowsNext (id_of r (r.count + 1)) get.size r.cursors c batch next
+      → Owes w book at (record { state = router_state r; kept = kept })
+      (record { written = []; mail = []; taken = taken_now r link number request ∷ []; replies = Plain (next_answer batch) ∷ [] })
+      (router_state (took r (unless_silent request r.cursors next) []))
+  more_owes get c batch next plan found shows =
+      told_at_once (next_answer batch) (unless_silent request r.cursors next)
+      (unless_silent request book.cursors (with_remaining (id_of r (r.count + 1)) c.number (drop (length batch.documents) c.remaining) book.cursors))
+      (turns request.more)
+      (next_below r.time batch (subst (λ n. n ≤ r.time) (sym shows.time)
+      (open_past (id_of r (r.count + 1)) get.cursor get.namespace r.gave r.time book.cursors c (found_all get.cursor get.namespace (Some c) found) mine.given)))
+      (λ v. record {
+        right = right_more get c batch (with_remaining (id_of r (r.count + 1)) c.number (drop (length batch.documents) c.remaining) book.cursors)
+            (batch_asked get (command_of request) plan) (found_all get.cursor get.namespace (Some c) found)
+            (record { batch_of = shows.batch_of; number = shows.number; name = shows.name; time = shows.time; rest = refl }) refl;
+        settled = tt;
+      })
+    where
+      turns : (b : Bool) → Turns book.cursors
+          (if b then book.cursors else with_remaining (id_of r (r.count + 1)) c.number (drop (length batch.documents) c.remaining) book.cursors) at
+          (took r (if b then r.cursors else next) [])
+      turns true = turns_kept []
+      turns false =
+          subst (λ n. Turns book.cursors (with_remaining (id_of r (r.count + 1)) c.number (drop (length batch.documents) c.remaining) book.cursors) n
+          (took r next [])) h.state.own
+          (turns_left book.cursors r (took r next []) (id_of r (r.count + 1)) c.number (drop (length batch.documents) c.remaining) mine refl refl refl
+          shows.rest refl refl (omega arith))
+
+  missing_owes : (get : GetMore) → plan_of r (id_of r (r.count + 1)) request.more (command_of request) ≡ needs_batch get
+      → open_cursor (id_of r (r.count + 1)) get.cursor get.namespace r.cursors ≡ None
+      → Owes w book at (record { state = router_state r; kept = kept })
+      (record {
+        written = [];
+        mail = [];
+        taken = taken_now r link number request ∷ [];
+        replies = Plain (refusal_answer (record { error = cursor_not_found; evidence = cursor_evidence get.cursor })) ∷ [];
+      })
+      (router_state (took r r.cursors []))
+  missing_owes get plan none =
+      told_at_once (refusal_answer (record { error = cursor_not_found; evidence = cursor_evidence get.cursor })) r.cursors book.cursors (turns_kept [])
+      (refusal_below r.time (record { error = cursor_not_found; evidence = cursor_evidence get.cursor }))
+      (λ v. record {
+        right = right_no_cursor get (batch_asked get (command_of request) plan) (found_all get.cursor get.namespace None none) refl;
+        settled = tt;
+      })
+
+  kill_owes : (kill : KillCursors) (killed missing : List ℤ) (next : List Cursor)
+      → plan_of r (id_of r (r.count + 1)) request.more (command_of request) ≡ needs_end kill
+      → Kills (id_of r (r.count + 1)) kill.namespace r.cursors kill.cursors killed missing next
+      → Owes w book at (record { state = router_state r; kept = kept })
+      (record { written = []; mail = []; taken = taken_now r link number request ∷ []; replies = Plain (killed_answer killed missing) ∷ [] })
+      (router_state (took r next []))
+  kill_owes kill killed missing next plan ends =
+      let k = kills_all (id_of r (r.count + 1)) kill.namespace r.cursors book.cursors kill.cursors killed missing next ends mine.own in
+      told_at_once (killed_answer killed missing) next k.after
+      (subst (λ n. Turns book.cursors k.after n (took r next [])) h.state.own
+      (turns_closed book.cursors r (took r next []) (id_of r (r.count + 1)) kill.namespace kill.cursors killed missing next mine refl refl k refl refl refl
+      refl (omega arith)))
+      (killed_below r.time killed missing)
+      (λ v. record { right = right_kill kill killed missing k.after (end_asked kill (command_of request) plan) k.closes refl; settled = tt })
+
+  -- a request that has work to do
+  abbrev Asking : List ℕ → Work → Open
+  Asking namespace work = opened_request r link number request namespace work
+
+  work_owes : (namespace : List ℕ) (work : Work) (news : List Choice) → ((v : View) → IsPlanned v r New (needs namespace work))
+      → AllByRecursion (λ (c : Choice). c.id ≡ id_of r (r.count + 1)) news
+      → ((v : View) → v.chosen ≡ book.chosen ++ news → HasTime v New (id_of r (r.count + 1)) r.time (wait_of r r.time namespace work) work
+      × (is_ahead r.time work ≡ false → IsDecided v (id_of r (r.count + 1)) work))
+      → Owes w book at (record { state = router_state r; kept = kept })
+      (record { written = []; mail = asks_for r r.time (r.count + 1) namespace work; taken = taken_now r link number request ∷ []; replies = [] })
+      (router_state (took r r.cursors (Asking namespace work ∷ [])))
+  work_owes namespace work news does chose timed =
+      takes_owes w book at kept r good h link number request begun news r.cursors book.cursors (Asking namespace work ∷ [])
+      (asks_for r r.time (r.count + 1) namespace work) [] chose (turns_kept (Asking namespace work ∷ []))
+      (tt, tt) (refl, tt) tt tt tt tt (inl (counts_behind (r.count + 1) r.requests (Asking namespace work ∷ []) (in_first (r.count + 1) [])))
+      (λ v behind chosen cursors. record {
+        requests = (opens v chosen, tt);
+        letters = asks_fit v (w.asked ++ New ∷ []) w.given r r.time (met_later (view_of w.nodes book) v w.given r.time behind.0 h.met) (r.count + 1)
+            namespace work
+            (record { request = New; taken = taken; own = refl; past = omega arith; does = (does v).0; seen = (does v).1; decided = (timed v chosen).1 })
+            (known_tables w book at kept r good h v behind r.time (omega arith));
+        answers = subst (λ l. AnswersFit v (w.asked ++ New ∷ []) (w.answered ++ []) book.cursors [] l) (sym cursors) (no_answer book.cursors);
+      })
+    where
+      opens : (v : View) → v.chosen ≡ book.chosen ++ news
+          → IsOpenOf v (w.asked ++ New ∷ []) (w.answered ++ []) (took r r.cursors (opened_request r link number request namespace work ∷ []))
           (opened_request r link number request namespace work)
-      opens v behind = record {
+      opens v chosen = record {
         request = New;
         taken = taken;
         own = refl;
@@ -138,37 +314,79 @@ module _ (w : World) (at : ℕ) (kept : List Kept) (r : Router) (good : Good w)
         number = refl;
         asks = refl;
         past = omega arith;
-        reached = waits (is_ahead r.time work) refl;
-        silent = rw (append-nil w.answered) (new_answer w at kept r good h);
+        reached = (timed v chosen).0;
+        silent = rw (append-nil w.answered) (new_answer w book at kept r good h);
         work = (does v).0;
         seen = (does v).1;
       }
 
+  take_owes : (namespace : List ℕ) (work : Work) → plan_of r (id_of r (r.count + 1)) request.more (command_of request) ≡ needs namespace work
+      → Owes w book at (record { state = router_state r; kept = kept })
+      (record { written = []; mail = asks_for r r.time (r.count + 1) namespace work; taken = taken_now r link number request ∷ []; replies = [] })
+      (router_state (took r r.cursors (Asking namespace work ∷ [])))
+  take_owes namespace work plan = by_ahead (is_ahead r.time work) refl
+    where
+      does : (v : View) → IsPlanned v r New (needs namespace work)
+      does v = planned v r New refl request.more namespace work (command_of request) refl refl plan
+
+      none_yet : (v : View) → v.chosen ≡ book.chosen ++ [] → chosen_time (id_of r (r.count + 1)) v.chosen ≡ None
+      none_yet v same = ap (λ l. chosen_time (id_of r (r.count + 1)) l) (same ∙ append-nil book.chosen) ∙ undecided w book at kept r good h
+
+      by_ahead : (b : Bool) → is_ahead r.time work ≡ b
+          → Owes w book at (record { state = router_state r; kept = kept })
+          (record { written = []; mail = asks_for r r.time (r.count + 1) namespace work; taken = taken_now r link number request ∷ []; replies = [] })
+          (router_state (took r r.cursors (opened_request r link number request namespace work ∷ [])))
+      by_ahead true ahead =
+          work_owes namespace work [] does tt
+          (λ v same. (
+            inl (ap (λ b. if b then for_time else wait_by (table_for r.tables namespace work)) ahead, (does v).2 ahead (none_yet v same)),
+            λ e.
+                true_false (sym ahead ∙ e),
+          ))
+        where
+          true_false : {X : Type 0} → true ≡ false → X
+          true_false e = absurd (cc)
+      by_ahead false reached =
+          work_owes namespace work (choice_of (id_of r (r.count + 1)) work) does (choice_own (id_of r (r.count + 1)) work)
+          (λ v same.
+          let d = choice_decides v (id_of r (r.count + 1)) book.chosen work (undecided w book at kept r good h) same in
+          (inr (waits_not r r.time namespace work reached, reached, d), λ e. d))
+
 -- ALL ROWS
 
-pub router_owes : (w : World) (at : ℕ) (kept : List Kept) (r q : Router) (i : Input) (f : Effect) → Good w
+pub router_owes : (w : World) (book : Book) (at : ℕ) (kept : List Kept) (r q : Router) (i : Input) (f : Effect) → Good w book
     → slice_get w.nodes at ≡ Some (record { state = router_state r; kept = kept })
-    → HeldFits (view_of w.nodes) w.asked w.answered w.given at (record { state = router_state r; kept = kept }) → InputFits w i → RouterRow r i f q
-    → Owes w at (record { state = router_state r; kept = kept }) f (router_state q)
-router_owes w at kept _ _ _ _ good here h comes (router_begin r none) = begin_owes w at kept r good h none
-router_owes w at kept _ _ _ _ good here h comes (router_opened r begun) = stays_owes w at kept r good h r.time (omega arith) h.met
-router_owes w at kept _ _ _ _ good here h comes
-    (router_plain r link number request answer begun plan) = plain_owes w at kept r good h link number request begun answer plan
-router_owes w at kept _ _ _ _ good here h comes
-    (router_take r link number request namespace work begun plan) = take_owes w at kept r good h link number request begun namespace work plan
-router_owes w at kept _ _ _ _ good here h comes
-    (router_learn r m namespace create told table says) = learn_owes w at kept r good h m comes.0 comes.1 namespace create told table says
-router_owes w at kept _ _ _ _ good here h comes (router_reach r m id q time half says found work wait reached) =
-    reach_owes w at kept r good h m comes.0 comes.1 q time half (open_of_found r id q found).stands work reached
-router_owes w at kept _ _ _ _ good here h comes (router_ahead r m id q time half says found work wait ahead) =
-    ahead_owes w at kept r good h m comes.0 comes.1 q time half (open_of_found r id q found).stands work ahead
-router_owes w at kept _ _ _ _ good here h comes (router_note r m id dones q kind ordered statements answers says found work news open_yet) =
-    note_owes w at kept r good h m comes.0 comes.1 id dones q kind ordered statements answers says (open_of_found r id q found) work open_yet
-router_owes w at kept _ _ _ _ good here h comes (router_wrote r m id dones q kind ordered statements answers says found work news whole) =
-    wrote_owes w at kept r good h m comes.0 comes.1 id dones q kind ordered statements answers says (open_of_found r id q found) work whole
-router_owes w at kept _ _ _ _ good here h comes (router_read r m id rows q time half says found work) =
-    read_owes w at kept r good h m comes.0 comes.1 id rows q time half says (open_of_found r id q found) work
-router_owes w at kept _ _ _ _ good here h comes (router_late r m late) = stays_owes w at kept r good h (heard r m) (omega arith)
-    (heard_met w at kept r good h m comes.0 comes.1)
-router_owes w at kept _ _ _ _ good here h comes (router_skip r m none) = stays_owes w at kept r good h r.time (omega arith) h.met
-router_owes w at kept _ _ _ _ good here h comes (router_moment r moment begun) = again_owes w at kept r good h moment comes
+    → HeldFits (view_of w.nodes book) w.asked w.answered w.given at (record { state = router_state r; kept = kept }) → InputFits w book i → RouterRow r i f q
+    → Owes w book at (record { state = router_state r; kept = kept }) f (router_state q)
+router_owes w book at kept _ _ _ _ good here h comes (router_begin r none) = begin_owes w book at kept r good h none
+router_owes w book at kept _ _ _ _ good here h comes (router_opened r begun) = stays_owes w book at kept r good h r.time (omega arith) h.met
+router_owes w book at kept _ _ _ _ good here h comes
+    (router_plain r link number request answer begun plan) = plain_owes w book at kept r good h link number request begun answer plan
+router_owes w book at kept _ _ _ _ good here h comes (router_more r link number request get c batch next begun plan found shows) =
+    more_owes w book at kept r good h link number request begun get c batch next plan found shows
+router_owes w book at kept _ _ _ _ good here h comes (router_no_cursor r link number request get begun plan none) =
+    missing_owes w book at kept r good h link number request begun get plan none
+router_owes w book at kept _ _ _ _ good here h comes (router_kill r link number request kill killed missing next begun plan ends) =
+    kill_owes w book at kept r good h link number request begun kill killed missing next plan ends
+router_owes w book at kept _ _ _ _ good here h comes
+    (router_take r link number request namespace work begun plan) = take_owes w book at kept r good h link number request begun namespace work plan
+router_owes w book at kept _ _ _ _ good here h comes
+    (router_learn r m namespace create told table says) = learn_owes w book at kept r good h m comes namespace create told table says
+router_owes w book at kept _ _ _ _ good here h comes (router_reach r m id q named time stages telling says found work wait reached) =
+    reach_owes w book at kept r good h m comes q named time stages telling (open_of_found r id q found).stands work wait reached
+router_owes w book at kept _ _ _ _ good here h comes (router_ahead r m id q named time stages telling says found work wait ahead) =
+    ahead_owes w book at kept r good h m comes id q named time stages telling says (open_of_found r id q found) work wait ahead
+router_owes w book at kept _ _ _ _ good here h comes (router_note r m id dones q kind ordered statements answers says found work news open_yet) =
+    note_owes w book at kept r good h m comes id dones q kind ordered statements answers says (open_of_found r id q found) work open_yet
+router_owes w book at kept _ _ _ _ good here h comes (router_wrote r m id dones q kind ordered statements answers says found work news whole) =
+    wrote_owes w book at kept r good h m comes id dones q kind ordered statements answers says (open_of_found r id q found) work news whole
+router_owes w book at kept _ _ _ _ good here h comes (router_read r m id rows q named time stages telling out answer f says found work merged tells) =
+    read_owes w book at kept r good h m comes id rows q named time stages telling out answer f says (open_of_found r id q found) work merged tells
+router_owes w book at kept _ _ _ _ good here h comes (router_excess r m id n q named time stages telling says found work) =
+    much_owes w book at kept r good h m comes id n q named time stages telling says (open_of_found r id q found) work
+router_owes w book at kept _ _ _ _ good here h comes (router_overflow r m id q named time stages telling says found work) =
+    absurd (none_overflows w book at kept r good h m comes id says)
+router_owes w book at kept _ _ _ _ good here h comes (router_late r m late) = stays_owes w book at kept r good h (heard r m) (omega arith)
+    (heard_met w book at kept r good h m comes)
+router_owes w book at kept _ _ _ _ good here h comes (router_skip r m none) = stays_owes w book at kept r good h r.time (omega arith) h.met
+router_owes w book at kept _ _ _ _ good here h comes (router_moment r moment begun) = again_owes w book at kept r good h moment comes

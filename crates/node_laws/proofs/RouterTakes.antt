@@ -1,26 +1,30 @@
 -- A router's life begins, and a request comes.
 use Rattle.std.proofs.Common.{◌≡◌, ◌≢◌, inl, inr, ℕ, ℤ, ◌+◌, ◌<◌, ◌≤◌, List, [], ◌∷◌, ◌++◌, refl, sym, ap, subst, ◌∙◌, arith, append-nil, Bool}
-use Rattle.std.specs.Prelude.{true, false}
+use Rattle.std.specs.Prelude.{None, true, false}
 use Rattle.std.specs.List.{AllByRecursion}
-use Rattle.history_model.proofs.Lists.{all_weaken, all_append, all_at, in_back, in_prefix}
+use Rattle.history_model.proofs.Lists.{all_weaken, all_append, all_at, in_back, in_first, in_prefix}
 use Rattle.node_model.specs.Requests.{Request}
 use Rattle.node_model.specs.History.{IsIn}
 use Rattle.node_model.specs.Exchanges.{RequestId, Asked, Answered}
 use Rattle.node_model.specs.OneHistory.{IsNotBefore, ids_asked, ids_told, AreDifferent}
 use Rattle.node_model.specs.Journal.{Kept, kept_life}
 use Rattle.node_model.specs.Letters.{Letter, Reply, writes}
+use Rattle.node_model.specs.Cursors.{Cursor}
 use Rattle.node_model.specs.States.{Open, Router, router_state}
-use Rattle.node_model.specs.RouterRows.{id_of, begins, takes, taken_now}
+use Rattle.node_model.specs.RouterRows.{id_of, begins, takes, with_cursors, taken_now}
 use Rattle.node_model.specs.World.{World, answered_by}
-use Rattle.node_laws.proofs.Views.{View, view_of}
-use Rattle.node_laws.proofs.Facts.{IsOpenOf, IsBy, ToldBelow, counts_of, AreDifferentCounts, IsClosedOrOpen, RouterFits, HeldFits, AnswerFits, Good}
-use Rattle.node_laws.proofs.Owes.{Owes}
+use Rattle.node_laws.proofs.Views.{Choice, Book, View, view_of, chosen_time}
+use Rattle.node_laws.proofs.Facts.{IsOpenOf, IsBy, ToldBelow, counts_of, AreDifferentCounts, IsClosedOrOpen, RouterFits, CursorsFit, HeldFits, AnswersFit}
+use Rattle.node_laws.proofs.Facts.{no_answer, one_answer, Good}
+use Rattle.node_laws.proofs.Owes.{IsSaid, Owes}
+use Rattle.node_laws.proofs.Lists.{all_mapped, map_longer}
+use Rattle.node_laws.proofs.Choices.{none_longer, none_of_others}
+use Rattle.node_laws.proofs.Turns.{Turns}
 use Rattle.node_laws.proofs.Growth.{met_later}
 use Rattle.node_laws.proofs.Others.{open_grows, closed_grows}
-use Rattle.node_laws.proofs.RouterAsks.{IsSaid}
 use Rattle.node_laws.proofs.RouterAnswers.{as_answered}
 use Rattle.node_laws.proofs.OpenFacts.{of_this_life, by_weaken, open_rises}
-use Rattle.node_laws.proofs.RouterLater.{of_answers, once_more}
+use Rattle.node_laws.proofs.RouterLater.{of_answers, met_answers, once_more}
 use Rattle.node_laws.proofs.RouterForms.{IsBehind, risen_open, known_tables}
 
 -- of a life that did not begin there is nothing
@@ -85,25 +89,29 @@ asked_now now r link number request = record {
   request = request;
 }
 
--- what a row gives where it takes a request
-pub record TakesFit (v : View) (w : World) (asked : List Asked) (answered : List Answered) (r : Router)
-    (more : List Open) (mail : List Letter) (replies : List Reply) : Type 0 where
-  pub requests : AllByRecursion (IsOpenOf v asked answered r) more
-  pub letters : AllByRecursion (IsSaid v asked w.given) mail
-  pub answers : AllByRecursion (λ x. AnswerFits v asked (as_answered w.now x)) replies
+-- the router with a request more, and these cursors
+abbrev pub took : Router → List Cursor → List Open → Router
+took r own more = with_cursors own (takes r more)
 
-module _ (w : World) (at : ℕ) (kept : List Kept) (r : Router) (good : Good w)
-    (h : HeldFits (view_of w.nodes) w.asked w.answered w.given at (record { state = router_state r; kept = kept })) where
-  mine : RouterFits (view_of w.nodes) w.asked w.answered at r
+-- what a row gives where it takes a request
+pub record TakesFit (v : View) (w : World) (book : Book) (asked : List Asked) (answered : List Answered) (s : Router)
+    (more : List Open) (mail : List Letter) (replies : List Reply) : Type 0 where
+  pub requests : AllByRecursion (IsOpenOf v asked answered s) more
+  pub letters : AllByRecursion (IsSaid v asked w.given) mail
+  pub answers : AnswersFit v asked answered book.cursors (answered_by w.now replies) v.cursors
+
+module _ (w : World) (book : Book) (at : ℕ) (kept : List Kept) (r : Router) (good : Good w book)
+    (h : HeldFits (view_of w.nodes book) w.asked w.answered w.given at (record { state = router_state r; kept = kept })) where
+  mine : RouterFits (view_of w.nodes book) w.asked w.answered at r
   mine = h.state
 
   -- A LIFE BEGINS
 
-  begun_fits : (v : View) → IsBehind w at kept r good h v → r.begun ≡ false → RouterFits v w.asked w.answered at (begins r)
-  begun_fits v behind none = record {
+  begun_fits : (v : View) → IsBehind w book at kept r good h v → v.chosen ≡ book.chosen ++ [] → r.begun ≡ false → RouterFits v w.asked w.answered at (begins r)
+  begun_fits v behind same none = record {
     own = mine.own;
     place = mine.place;
-    requests = risen_open w at kept r good h v behind (begins r) (omega arith);
+    requests = risen_open w book at kept r good h v behind same (begins r) (omega arith);
     different = mine.different;
     counted = all_weaken (λ (a : Asked). a.id.router ≡ at → IsBy a.id.life r.life r.begun (a.id.count ≤ r.count))
         (λ (a : Asked). a.id.router ≡ at → IsBy a.id.life r.life true (a.id.count ≤ 0)) w.asked
@@ -111,14 +119,15 @@ module _ (w : World) (at : ℕ) (kept : List Kept) (r : Router) (good : Good w)
     told = all_weaken (λ (t : Answered). t.id.router ≡ at → IsBy t.id.life r.life r.begun (ToldBelow r.time t))
         (λ (t : Answered). t.id.router ≡ at → IsBy t.id.life r.life true (ToldBelow r.time t)) w.answered
         (λ t c e. before t.id.life r.life r.begun (ToldBelow r.time t) (ToldBelow r.time t) none (c e)) mine.told;
-    tables = known_tables w at kept r good h v behind r.time (omega arith);
+    tables = known_tables w book at kept r good h v behind r.time (omega arith);
     closed = mine.closed;
     risen = all_weaken (λ (a : Asked). a.id.router ≡ at → IsBy a.id.life r.life r.begun (a.time ≤ r.time))
         (λ (a : Asked). a.id.router ≡ at → IsBy a.id.life r.life true (a.time ≤ r.time)) w.asked
         (λ a c e. before a.id.life r.life r.begun (a.time ≤ r.time) (a.time ≤ r.time) none (c e)) mine.risen;
   }
 
-  pub begin_owes : r.begun ≡ false → Owes w at (record { state = router_state r; kept = kept }) (writes (kept_life r.life ∷ []) []) (router_state (begins r))
+  pub begin_owes : r.begun ≡ false
+      → Owes w book at (record { state = router_state r; kept = kept }) (writes (kept_life r.life ∷ []) []) (router_state (begins r))
   begin_owes none = record {
     kind = tt;
     rises = (tt, tt);
@@ -129,12 +138,20 @@ module _ (w : World) (at : ℕ) (kept : List Kept) (r : Router) (good : Good w)
     once = rw (append-nil w.answered) good.once;
     fresh = tt;
     in_order = tt;
-    owed = λ v grows others journal bound. record {
-      node = rw (append-nil w.asked, append-nil w.answered)
-          (record { state = begun_fits v (grows, others) none; met = met_later (view_of w.nodes) v w.given r.time grows h.met });
+    news = [];
+    chose = tt;
+    cursors = book.cursors;
+    elsewhere = λ router other. refl;
+    owed = λ v grows others journal bound chosen cursors. record {
+      node = rw (append-nil w.asked, append-nil w.answered) (record {
+        state = begun_fits v (grows, others) chosen none;
+        met = met_later (view_of w.nodes book) v w.given r.time grows h.met;
+        cursors = subst (λ l. CursorsFit l at (begins r)) (sym cursors) (record { own = h.cursors.own; given = h.cursors.given; most = h.cursors.most });
+      });
       letters = tt;
-      answers = tt;
+      answers = subst (λ l. AnswersFit v (w.asked ++ []) (w.answered ++ []) book.cursors [] l) (sym cursors) (no_answer book.cursors);
       known = tt;
+      met = tt;
     };
   }
 
@@ -148,17 +165,32 @@ module _ (w : World) (at : ℕ) (kept : List Kept) (r : Router) (good : Good w)
       (ap (λ (i : RequestId). i.life) e) (ap (λ (i : RequestId). i.count) e)) mine.counted
 
   -- nor was it told
+  none_told : (v : View) (asked : List Asked) (answered : List Answered) (cursors last : List Cursor) (told : List Answered)
+      → AnswersFit v asked answered cursors told last
+      → AllByRecursion (λ (b : Asked). b.id ≢ id_of r (r.count + 1)) asked → AllByRecursion (λ (x : Answered). x.id ≢ id_of r (r.count + 1)) told
+  none_told v asked answered _ _ _ (no_answer cursors) all = tt
+  none_told v asked answered _ _ _ (one_answer cursors next last t rest f others) all = (
+    (λ e. all_at (λ (b : Asked). b.id ≢ id_of r (r.count + 1)) f.request asked all f.taken (f.own ∙ e)),
+    none_told v asked answered next last rest others all,
+  )
+
   pub new_answer : AllByRecursion (λ (x : Answered). x.id ≢ id_of r (r.count + 1)) w.answered
-  new_answer =
-      all_weaken (AnswerFits (view_of w.nodes) w.asked) (λ (x : Answered). x.id ≢ id_of r (r.count + 1)) w.answered
-      (λ x f e. all_at (λ (b : Asked). b.id ≢ id_of r (r.count + 1)) f.right.request w.asked new_number f.right.taken (f.right.own ∙ e)) good.answers
+  new_answer = none_told (view_of w.nodes book) w.asked w.answered [] book.cursors w.answered good.answers new_number
+
+  -- nor is a time decided for it
+  pub undecided : chosen_time (id_of r (r.count + 1)) book.chosen ≡ None
+  undecided =
+      none_of_others (id_of r (r.count + 1)) book.chosen
+      (all_weaken (λ (c : Choice). IsIn c.id (ids_asked w.asked)) (λ (c : Choice). c.id ≢ id_of r (r.count + 1)) book.chosen
+      (λ c i e. all_at (λ n. n ≢ id_of r (r.count + 1)) c.id (ids_asked w.asked)
+      (all_mapped (λ n. n ≢ id_of r (r.count + 1)) (λ (a : Asked). a.id) w.asked new_number) i e) good.decided)
 
   -- an open request has another
-  open_other : (q : Open) → IsOpenOf (view_of w.nodes) w.asked w.answered r q → id_of r (r.count + 1) ≢ id_of r q.count
+  open_other : (q : Open) → IsOpenOf (view_of w.nodes book) w.asked w.answered r q → id_of r (r.count + 1) ≢ id_of r q.count
   open_other q o e = all_at (λ (b : Asked). b.id ≢ id_of r (r.count + 1)) o.request w.asked new_number o.taken (o.own ∙ sym e)
 
   open_counts : AllByRecursion (λ (q : Open). q.count ≢ r.count + 1) r.requests
-  open_counts = all_weaken (IsOpenOf (view_of w.nodes) w.asked w.answered r) (λ (q : Open). q.count ≢ r.count + 1) r.requests
+  open_counts = all_weaken (IsOpenOf (view_of w.nodes book) w.asked w.answered r) (λ (q : Open). q.count ≢ r.count + 1) r.requests
       (λ q o e. open_other q o (ap (λ n. id_of r n) (sym e))) mine.requests
 
   module _ (link : ℕ) (number : ℤ) (request : Request) (begun : r.begun ≡ true) where
@@ -177,21 +209,23 @@ module _ (w : World) (at : ℕ) (kept : List Kept) (r : Router) (good : Good w)
         (λ (b : Asked). b.id.router ≡ r.me → b.id.life ≡ r.life → b.came < w.now → b.time ≤ r.time) w.asked
         (λ b c router life step. (of_this_life b.id.life r.life r.begun (b.time ≤ r.time) life (c (router ∙ mine.own))).1) mine.risen
 
-    taken_fits : (v : View) → IsBehind w at kept r good h v → (more : List Open) (mail : List Letter) (replies : List Reply)
+    taken_fits : (v : View) → IsBehind w book at kept r good h v → (news : List Choice) → v.chosen ≡ book.chosen ++ news
+        → AllByRecursion (λ (c : Choice). c.id ≡ id_of r (r.count + 1)) news
+        → (own : List Cursor) (more : List Open) (mail : List Letter) (replies : List Reply)
         → AreDifferentCounts (counts_of more) → AllByRecursion (λ (q : Open). q.count ≡ r.count + 1) more
         → AllByRecursion (λ (x : Answered). x.id ≡ id_of r (r.count + 1)) (answered_by w.now replies)
         → AllByRecursion (ToldBelow r.time) (answered_by w.now replies)
         → IsClosedOrOpen (r.requests ++ more) (w.answered ++ answered_by w.now replies) (asked_now w.now r link number request)
-        → TakesFit v w (w.asked ++ News) (w.answered ++ answered_by w.now replies) (takes r more) more mail replies
-        → RouterFits v (w.asked ++ News) (w.answered ++ answered_by w.now replies) at (takes r more)
-    taken_fits v behind more mail replies apart counts names below closed row = record {
+        → TakesFit v w book (w.asked ++ News) (w.answered ++ answered_by w.now replies) (took r own more) more mail replies
+        → RouterFits v (w.asked ++ News) (w.answered ++ answered_by w.now replies) at (took r own more)
+    taken_fits v behind news same chose own more mail replies apart counts names below closed row = record {
       own = mine.own;
       place = mine.place;
-      requests = all_append (IsOpenOf v (w.asked ++ News) (w.answered ++ answered_by w.now replies) (takes r more)) r.requests more
-          (all_weaken (IsOpenOf (view_of w.nodes) w.asked w.answered r)
-          (IsOpenOf v (w.asked ++ News) (w.answered ++ answered_by w.now replies) (takes r more)) r.requests
-          (λ q o. open_rises v (w.asked ++ News) (w.answered ++ answered_by w.now replies) r (takes r more) q (omega arith)
-          (open_grows (view_of w.nodes) v w.asked News w.answered (answered_by w.now replies) r q behind.0
+      requests = all_append (IsOpenOf v (w.asked ++ News) (w.answered ++ answered_by w.now replies) (took r own more)) r.requests more
+          (all_weaken (IsOpenOf (view_of w.nodes book) w.asked w.answered r)
+          (IsOpenOf v (w.asked ++ News) (w.answered ++ answered_by w.now replies) (took r own more)) r.requests
+          (λ q o. open_rises v (w.asked ++ News) (w.answered ++ answered_by w.now replies) r (took r own more) q (omega arith)
+          (open_grows (view_of w.nodes book) v w.asked News w.answered (answered_by w.now replies) r q behind.0 (λ e. still_none q o e)
           (all_weaken (λ (x : Answered). x.id ≡ id_of r (r.count + 1)) (λ (x : Answered). x.id ≢ id_of r q.count) (answered_by w.now replies)
           (λ x same e. open_other q o (sym same ∙ e)) names) o)) mine.requests)
           row.requests;
@@ -204,7 +238,7 @@ module _ (w : World) (at : ℕ) (kept : List Kept) (r : Router) (good : Good w)
       told = all_append (λ (t : Answered). t.id.router ≡ at → IsBy t.id.life r.life r.begun (ToldBelow r.time t)) w.answered
           (answered_by w.now replies) mine.told
           (told_new (answered_by w.now replies) names below);
-      tables = known_tables w at kept r good h v behind r.time (omega arith);
+      tables = known_tables w book at kept r good h v behind r.time (omega arith);
       closed = all_append (λ (a : Asked). a.id.router ≡ at → a.id.life ≡ r.life → IsClosedOrOpen (r.requests ++ more)
           (w.answered ++ answered_by w.now replies) a) w.asked News
           (all_weaken (λ (a : Asked). a.id.router ≡ at → a.id.life ≡ r.life → IsClosedOrOpen r.requests w.answered a)
@@ -215,6 +249,15 @@ module _ (w : World) (at : ℕ) (kept : List Kept) (r : Router) (good : Good w)
           ((λ e. inr (refl, begun, omega arith)), tt);
     }
       where
+        still_none : (q : Open) → IsOpenOf (view_of w.nodes book) w.asked w.answered r q → chosen_time (id_of r q.count) book.chosen ≡ None
+            → chosen_time (id_of r q.count) v.chosen ≡ None
+        still_none q o e =
+            ap (λ l. chosen_time (id_of r q.count) l) same
+            ∙ none_longer (id_of r q.count) book.chosen news e
+            (none_of_others (id_of r q.count) news
+            (all_weaken (λ (c : Choice). c.id ≡ id_of r (r.count + 1)) (λ (c : Choice). c.id ≢ id_of r q.count) news
+            (λ c is x. open_other q o (sym is ∙ x)) chose))
+
         still : (a : Asked) → IsClosedOrOpen r.requests (w.answered ++ answered_by w.now replies) a
             → IsClosedOrOpen (r.requests ++ more) (w.answered ++ answered_by w.now replies) a
         still a (inl i) = inl (counts_longer a.id.count r.requests more i)
@@ -225,16 +268,19 @@ module _ (w : World) (at : ℕ) (kept : List Kept) (r : Router) (good : Good w)
         told_new [] names below = tt
         told_new (t ∷ news) names below = ((λ e. inr (ap (λ (i : RequestId). i.life) names.0, begun, below.0)), told_new news names.1 below.1)
 
-    pub takes_owes : (more : List Open) (mail : List Letter) (replies : List Reply) → AreDifferentCounts (counts_of more)
+    -- what it leaves beside its facts: the time that it decides, and the cursors
+    pub takes_owes : (news : List Choice) (own after : List Cursor) (more : List Open) (mail : List Letter) (replies : List Reply)
+        → AllByRecursion (λ (c : Choice). c.id ≡ id_of r (r.count + 1)) news → Turns book.cursors after at (took r own more)
+        → AreDifferentCounts (counts_of more)
         → AllByRecursion (λ (q : Open). q.count ≡ r.count + 1) more
         → AllByRecursion (λ (x : Reply). x.id ≡ id_of r (r.count + 1)) replies → AreDifferent (ids_told (answered_by w.now replies))
-        → AllByRecursion (λ x. ToldBelow r.time (as_answered w.now x)) replies
+        → AllByRecursion (λ x. ToldBelow r.time (as_answered w.now x)) replies → AllByRecursion (λ (x : Reply). x.time ≡ r.time) replies
         → IsClosedOrOpen (r.requests ++ more) (w.answered ++ answered_by w.now replies) (asked_now w.now r link number request)
-        → ((v : View) → IsBehind w at kept r good h v
-        → TakesFit v w (w.asked ++ News) (w.answered ++ answered_by w.now replies) (takes r more) more mail replies)
-        → Owes w at (record { state = router_state r; kept = kept })
-        (record { written = []; mail = mail; taken = taken_now r link number request ∷ []; replies = replies }) (router_state (takes r more))
-    takes_owes more mail replies apart counts names once below closed row = record {
+        → ((v : View) → IsBehind w book at kept r good h v → v.chosen ≡ book.chosen ++ news → v.cursors ≡ after
+        → TakesFit v w book (w.asked ++ News) (w.answered ++ answered_by w.now replies) (took r own more) more mail replies)
+        → Owes w book at (record { state = router_state r; kept = kept })
+        (record { written = []; mail = mail; taken = taken_now r link number request ∷ []; replies = replies }) (router_state (took r own more))
+    takes_owes news own after more mail replies chose turns apart counts names once below times closed row = record {
       kind = tt;
       rises = tt;
       later = omega arith;
@@ -249,14 +295,27 @@ module _ (w : World) (at : ℕ) (kept : List Kept) (r : Router) (good : Good w)
           (of_answers (λ (t : Answered). t.id ≡ id_of r (r.count + 1)) w.now replies names));
       fresh = (not_before, tt);
       in_order = (in_turn, tt);
-      owed = λ v grows others journal bound. let given_row = row v (grows, others) in record {
+      news = news;
+      chose = all_weaken (λ (c : Choice). c.id ≡ id_of r (r.count + 1)) (λ (c : Choice). (c.id.router ≡ at) × IsIn c.id (ids_asked (w.asked ++ News))) news
+          (λ c e. (ap (λ (i : RequestId). i.router) e ∙ mine.own, subst (λ i. IsIn i (ids_asked (w.asked ++ News))) (sym e) asked_too)) chose;
+      cursors = after;
+      elsewhere = turns.elsewhere;
+      owed = λ v grows others journal bound chosen cursors. let given_row = row v (grows, others) chosen cursors in record {
         node = record {
-          state = taken_fits v (grows, others) more mail replies apart counts (of_answers (λ (t : Answered). t.id ≡ id_of r (r.count + 1)) w.now replies names)
+          state = taken_fits v (grows, others) news chosen chose own more mail replies apart counts
+              (of_answers (λ (t : Answered). t.id ≡ id_of r (r.count + 1)) w.now replies names)
               (of_answers (ToldBelow r.time) w.now replies below) closed given_row;
-          met = met_later (view_of w.nodes) v w.given r.time grows h.met;
+          met = met_later (view_of w.nodes book) v w.given r.time grows h.met;
+          cursors = subst (λ l. CursorsFit l at (took r own more)) (sym cursors) turns.fits;
         };
         letters = given_row.letters;
-        answers = of_answers (AnswerFits v (w.asked ++ News)) w.now replies given_row.answers;
-        known = (met_later (view_of w.nodes) v w.given r.time grows h.met, tt);
+        answers = given_row.answers;
+        known = (met_later (view_of w.nodes book) v w.given r.time grows h.met, tt);
+        met = met_answers v w.given w.now r.time replies (met_later (view_of w.nodes book) v w.given r.time grows h.met) times;
       };
     }
+      where
+        asked_too : IsIn (id_of r (r.count + 1)) (ids_asked (w.asked ++ News))
+        asked_too =
+            subst (λ l. IsIn (id_of r (r.count + 1)) l) (sym (map_longer (λ (a : Asked). a.id) w.asked News))
+            (in_back (id_of r (r.count + 1)) (ids_asked w.asked) (id_of r (r.count + 1) ∷ []) (in_first (id_of r (r.count + 1)) []))

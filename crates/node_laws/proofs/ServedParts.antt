@@ -1,9 +1,11 @@
--- Where statements are served that are the next ones of a request, a prefix of its statements stands before and after.
+-- Where statements of a request without a client's number are served that are its next ones, a prefix of its statements stands before
+-- and after.
 use Rattle.std.proofs.Common.{◌≡◌, ◌≢◌, ◌⊎◌, inl, inr, ℕ, ◌+◌, ◌<◌, ◌≤◌, List, [], ◌∷◌, ◌++◌, refl, sym, ap, subst, ◌∙◌, arith, append_assoc, append-nil}
 use Rattle.std.proofs.Common.{Bool}
-use Rattle.std.specs.Prelude.{Some, None, true, false, length, drop, if◌then◌else◌}
+use Rattle.std.specs.Prelude.{pos, Option, Some, None, true, false, length, drop, int_lt, if◌then◌else◌}
 use Rattle.std.specs.List.{AllByRecursion}
 use Rattle.history_model.proofs.Lists.{all_weaken, all_append, all_at, in_cons, in_none}
+use Rattle.node_model.specs.Writes.{ClientNumber}
 use Rattle.node_model.specs.History.{StatementNumber, Operation, Entry, IsIn}
 use Rattle.node_model.specs.Exchanges.{RequestId, number_for, is_session_of, entries_by}
 use Rattle.node_model.specs.Outcomes.{Done, done_of}
@@ -13,7 +15,8 @@ use Rattle.node_model.specs.Service.{seen_before, entry_for, Serves, serves_no_m
 use Rattle.node_model.specs.RouterRows.{statements_from}
 use Rattle.node_laws.proofs.Lists.{all_behind}
 use Rattle.node_laws.proofs.Growth.{entries_by_longer}
-use Rattle.node_laws.proofs.SeenStatements.{seen_found, unseen_new, own_session, entry_by, all_by}
+use Rattle.node_laws.proofs.NotedOutcomes.{HasNoOther}
+use Rattle.node_laws.proofs.SeenStatements.{true_false, IsFound, found_entry, found_older, seen_found, IsNewBehind, unseen_new, own_session, entry_by, all_by}
 
 -- IN FRONT OF AN INDEX, AND BEHIND IT
 
@@ -24,9 +27,9 @@ AreBelow index entries = AllByRecursion (λ (e : Entry). e.number.index < index)
 abbrev pub GoOn : Bool → List Entry → Type 0
 GoOn ordered entries = AllByRecursion (λ (e : Entry). ends ordered (done_of e) ≡ false) entries
 
-index_of : (id : RequestId) (namespace : List ℕ) (index : ℕ) (operation : Operation) (e : Entry) → IsStatement id namespace index operation e
+index_of : (id : RequestId) (namespace : List ℕ) (index : ℕ) (operation : Operation) (e : Entry) → IsStatement (number_for None id index) namespace operation e
     → e.number.index ≡ index
-index_of id namespace index operation e s = ap (λ (n : StatementNumber). n.index) s.number
+index_of id namespace index operation e s = ap (λ (n : StatementNumber). n.index) s.same_number
 
 -- the entries in front of others have the first indices
 pub front_below : (id : RequestId) (namespace : List ℕ) (ordered : Bool) (index : ℕ) (operations : List Operation) (front back : List Entry)
@@ -73,9 +76,6 @@ other_back id namespace ordered index (d ∷ operations) (e ∷ front) back othe
       other_back id namespace ordered (index + 1) operations front back other goes.1 all.2
           (subst (λ k. AreStatements id namespace ordered k (drop (length front) operations) other) n new),
     )
-  where
-    true_false : true ≡ false → ⊥
-    true_false e = cc
 
 -- THE NEXT STATEMENT
 
@@ -85,17 +85,23 @@ pub record Stands (id : RequestId) (namespace : List ℕ) (ordered : Bool) (entr
   pub split : entries_by id entries ≡ front ++ back
   pub below : AreBelow index front
   pub from : AreStatements id namespace ordered index operations back
+  pub zero : AllByRecursion HasNoOther entries
 
--- the entry of the next statement, where it was seen, is the first behind the front
-seen_first : (id : RequestId) (namespace : List ℕ) (ordered : Bool) (entries : List Entry) (index : ℕ) (operations : List Operation) (front back : List Entry)
+-- the next statement, where it was seen: its entry is the first behind the front
+pub record IsFirst (back : List Entry) (d : Done) : Type 0 where
+  pub entry : Entry
+  pub more : List Entry
+  pub first : back ≡ entry ∷ more
+  pub says : d ≡ done_of entry
+
+first_behind : (id : RequestId) (namespace : List ℕ) (ordered : Bool) (entries : List Entry) (index : ℕ) (operations : List Operation) (front back : List Entry)
     (e : Entry)
-    → Stands id namespace ordered entries index operations front back → seen_before (number_for id index) entries ≡ Some e → (more : List Entry)
+    → Stands id namespace ordered entries index operations front back → IsIn e entries → e.number ≡ number_for None id index → (more : List Entry)
     × (back ≡ e ∷ more)
-seen_first id namespace ordered entries index operations front back e s seen =
-    let f = seen_found (number_for id index) entries e seen in
-    let own : is_session_of id e.number.session ≡ true = ap (λ (n : StatementNumber). is_session_of id n.session) f.numbered ∙ own_session id in
-    let at : e.number.index ≡ index = ap (λ (n : StatementNumber). n.index) f.numbered in
-    by_back front back s.below operations s.from at (subst (λ l. IsIn e l) s.split (entry_by id e entries f.stands own))
+first_behind id namespace ordered entries index operations front back e s stands numbered =
+    let own : is_session_of id e.number.session ≡ true = ap (λ (n : StatementNumber). is_session_of id n.session) numbered ∙ own_session id in
+    let at : e.number.index ≡ index = ap (λ (n : StatementNumber). n.index) numbered in
+    by_back front back s.below operations s.from at (subst (λ l. IsIn e l) s.split (entry_by id e entries stands own))
   where
     in_back_part : (front back : List Entry) → AreBelow index front → e.number.index ≡ index → IsIn e (front ++ back) → IsIn e back
     in_back_part [] back below at i = i
@@ -118,23 +124,35 @@ seen_first id namespace ordered entries index operations front back e s seen =
             all_at (λ (c : Entry). index + 1 ≤ c.number.index) e back
             (from_index id namespace ordered (index + 1) (index + 1) operations back (omega arith) all.2) j in omega arith)
 
+pub seen_first : (id : RequestId) (namespace : List ℕ) (ordered : Bool) (entries : List Entry) (index : ℕ) (operations : List Operation)
+    (front back : List Entry) (d : Done)
+    → Stands id namespace ordered entries index operations front back → IsFound entries (number_for None id index) d → IsFirst back d
+seen_first id namespace ordered entries index operations front back _ s (found_entry e stands numbered) =
+    let f = first_behind id namespace ordered entries index operations front back e s stands numbered in
+    record { entry = e; more = f.0; first = f.1; says = refl }
+seen_first id namespace ordered entries index operations front back _ s (found_older e stands session less) =
+    let none : e.number.transaction ≡ pos 0 = all_at HasNoOther e entries s.zero stands id.router id.life id.count session in
+    absurd (true_false (sym less ∙ ap (λ n. int_lt (pos 0) n) none))
+
 -- where it was not seen, nothing stands behind the front
 unseen_none : (id : RequestId) (namespace : List ℕ) (ordered : Bool) (entries : List Entry) (index : ℕ) (operations : List Operation) (front back : List Entry)
-    → Stands id namespace ordered entries index operations front back → seen_before (number_for id index) entries ≡ None → back ≡ []
+    → Stands id namespace ordered entries index operations front back → seen_before (number_for None id index) entries ≡ None → back ≡ []
 unseen_none id namespace ordered entries index operations front back s new =
-    by_back operations back s.from (all_behind (λ (d : Entry). d.number ≢ number_for id index) front back
-    (subst (λ l. AllByRecursion (λ (d : Entry). d.number ≢ number_for id index) l) s.split
-    (all_by (λ (d : Entry). d.number ≢ number_for id index) id entries (unseen_new (number_for id index) entries new))))
+    by_back operations back s.from (all_behind (λ (d : Entry). d.number ≢ number_for None id index) front back
+    (subst (λ l. AllByRecursion (λ (d : Entry). d.number ≢ number_for None id index) l) s.split
+    (all_by (λ (d : Entry). d.number ≢ number_for None id index) id entries
+    (all_weaken (IsNewBehind (number_for None id index) entries) (λ (d : Entry). d.number ≢ number_for None id index) entries (λ d n. n.0)
+    (unseen_new (number_for None id index) entries new)))))
   where
     by_back : (operations : List Operation) (back : List Entry) → AreStatements id namespace ordered index operations back
-        → AllByRecursion (λ (d : Entry). d.number ≢ number_for id index) back → back ≡ []
+        → AllByRecursion (λ (d : Entry). d.number ≢ number_for None id index) back → back ≡ []
     by_back operations [] all others = refl
     by_back [] (d ∷ back) all others = absurd all
-    by_back (operation ∷ operations) (d ∷ back) all others = absurd (others.0 all.0.number)
+    by_back (operation ∷ operations) (d ∷ back) all others = absurd (others.0 all.0.same_number)
 
 -- with the entry of this index behind it the front is below the next one
 below_next : (id : RequestId) (namespace : List ℕ) (index : ℕ) (operation : Operation) (front : List Entry) (e : Entry) → AreBelow index front
-    → IsStatement id namespace index operation e → AreBelow (index + 1) (front ++ e ∷ [])
+    → IsStatement (number_for None id index) namespace operation e → AreBelow (index + 1) (front ++ e ∷ [])
 below_next id namespace index operation front e below is =
     let i : e.number.index ≡ index = index_of id namespace index operation e is in
     all_append (λ (d : Entry). d.number.index < index + 1) front (e ∷ [])
@@ -155,24 +173,23 @@ next_again id namespace ordered entries index operation operations front back mo
       split = s.split ∙ ap (λ l. front ++ l) same ∙ sym (append_assoc front (e ∷ []) more);
       below = below_next id namespace index operation front e s.below from.0;
       from = from.2;
+      zero = s.zero;
     }) in
     subst (λ l. AreStatements id namespace ordered index (operation ∷ operations) (l ++ made)) (sym same)
     (from.0, (λ h. absurd (true_false (sym h ∙ on))), behind)
-  where
-    true_false : true ≡ false → ⊥
-    true_false e = cc
 
 -- the entry of one of a request's own statements is one of the request's
 own_first : (id : RequestId) (namespace : List ℕ) (index : ℕ) (operation : Operation) (e : Entry) (entries : List Entry)
-    → IsStatement id namespace index operation e → entries_by id (e ∷ entries) ≡ e ∷ entries_by id entries
+    → IsStatement (number_for None id index) namespace operation e → entries_by id (e ∷ entries) ≡ e ∷ entries_by id entries
 own_first id namespace index operation e entries is =
     ap (λ t. if t then e ∷ entries_by id entries else entries_by id entries)
-    (ap (λ (n : StatementNumber). is_session_of id n.session) is.number ∙ own_session id)
+    (ap (λ (n : StatementNumber). is_session_of id n.session) is.same_number ∙ own_session id)
 
 -- where it is new, its entry stands alone behind the front
 next_new : (id : RequestId) (namespace : List ℕ) (ordered : Bool) (entries : List Entry) (index : ℕ) (operation : Operation) (operations : List Operation)
     (front made : List Entry) (e : Entry)
-    → IsStatement id namespace index operation e → ends ordered (done_of e) ≡ false → Stands id namespace ordered entries index (operation ∷ operations) front []
+    → IsStatement (number_for None id index) namespace operation e → ends ordered (done_of e) ≡ false
+    → Stands id namespace ordered entries index (operation ∷ operations) front []
     → (Stands id namespace ordered (entries ++ e ∷ []) (index + 1) operations (front ++ e ∷ []) []
     → AreStatements id namespace ordered (index + 1) operations (entries_by id made))
     → AreStatements id namespace ordered index (operation ∷ operations) (entries_by id (e ∷ made))
@@ -182,50 +199,57 @@ next_new id namespace ordered entries index operation operations front made e is
           ∙ ap (λ l. front ++ l) (own_first id namespace index operation e [] is) ∙ sym (append-nil (front ++ e ∷ []));
       below = below_next id namespace index operation front e s.below is;
       from = tt;
+      zero = all_append HasNoOther entries (e ∷ []) s.zero (own_zero, tt);
     }) in
     subst (λ l. AreStatements id namespace ordered index (operation ∷ operations) l) (sym (own_first id namespace index operation e made is))
     (is, (λ h. absurd (true_false (sym h ∙ on))), behind)
   where
-    true_false : true ≡ false → ⊥
-    true_false e = cc
+    own_zero : HasNoOther e
+    own_zero node life request same = ap (λ (n : StatementNumber). n.transaction) is.same_number
 
 -- the next statement, and those behind it
-pub record Next (id : RequestId) (index : ℕ) (operation : Operation) (operations : List Operation) (s : Statement) (others : List Statement) : Type 0 where
-  pub number : s.number ≡ number_for id index
+pub record Next (given : Option ClientNumber) (id : RequestId) (index : ℕ) (operation : Operation) (operations : List Operation) (s : Statement)
+    (others : List Statement) : Type 0 where
+  pub number : s.number ≡ number_for given id index
   pub does : s.operation ≡ operation
-  pub others_are : statements_from id (index + 1) operations ≡ others
+  pub others_are : statements_from given id (index + 1) operations ≡ others
 
-next_is : (id : RequestId) (index : ℕ) (operation : Operation) (operations : List Operation) (s : Statement) (others : List Statement)
-    → statements_from id index (operation ∷ operations) ≡ s ∷ others → Next id index operation operations s others
-next_is id index operation operations s others e =
-    let first : record { number = number_for id index; operation = operation } ≡ s = cc in
+pub next_is : (given : Option ClientNumber) (id : RequestId) (index : ℕ) (operation : Operation) (operations : List Operation) (s : Statement)
+    (others : List Statement)
+    → statements_from given id index (operation ∷ operations) ≡ s ∷ others → Next given id index operation operations s others
+next_is given id index operation operations s others e =
+    let first : record { number = number_for given id index; operation = operation } ≡ s = cc in
     record { number = ap (λ (x : Statement). x.number) (sym first); does = ap (λ (x : Statement). x.operation) (sym first); others_are = cc }
 
 entry_is : (id : RequestId) (index : ℕ) (operation : Operation) (operations : List Operation) (s : Statement) (others : List Statement) (entries : List Entry)
-    (time shard : ℕ) (namespace : List ℕ) → Next id index operation operations s others
-    → IsStatement id namespace index operation (entry_for entries time shard namespace s)
-entry_is id index operation operations s others entries time shard namespace n = record { number = n.number; name = refl; does = n.does }
+    (time shard : ℕ) (namespace : List ℕ) → Next None id index operation operations s others
+    → IsStatement (number_for None id index) namespace operation (entry_for entries time shard namespace s)
+entry_is id index operation operations s others entries time shard namespace n = record { same_number = n.number; name = refl; does = n.does }
 
 pub serves_stands : (id : RequestId) (shard : ℕ) (namespace : List ℕ) (ordered : Bool) (entries : List Entry) (time : ℕ) (statements : List Statement)
     (dones : List Done) (made : List Entry) (last : ℕ) → Serves shard namespace ordered entries time statements dones made last
-    → (index : ℕ) (operations : List Operation) (later : List Statement) (front back : List Entry) → statements_from id index operations ≡ statements ++ later
+    → (index : ℕ) (operations : List Operation) (later : List Statement) (front back : List Entry)
+    → statements_from None id index operations ≡ statements ++ later
     → Stands id namespace ordered entries index operations front back
     → AreStatements id namespace ordered index operations (back ++ entries_by id made)
 serves_stands id shard namespace ordered _ _ _ _ _ _ (serves_no_more entries time rest) index operations later front back next s =
     subst (λ l. AreStatements id namespace ordered index operations l) (sym (append-nil back)) s.from
-serves_stands id shard namespace ordered _ _ _ _ _ _ (serves_again entries time st rest e dones made last seen on more) index [] later front back next s =
+serves_stands id shard namespace ordered _ _ _ _ _ _ (serves_again entries time st rest d dones made last seen on more) index [] later front back next s =
     absurd (cc)
-serves_stands id shard namespace ordered _ _ _ _ _ _ (serves_again entries time st rest e dones made last seen on more) index
+serves_stands id shard namespace ordered _ _ _ _ _ _ (serves_again entries time st rest d dones made last seen on more) index
     (operation ∷ operations) later front back next s =
-    let n = next_is id index operation operations st (rest ++ later) next in
-    let f = seen_first id namespace ordered entries index (operation ∷ operations) front back e s (subst (λ k. seen_before k entries ≡ Some e) n.number seen) in
-    next_again id namespace ordered entries index operation operations front back f.0 (entries_by id made) e f.1 on s
-    (λ t. serves_stands id shard namespace ordered entries time rest dones made last more (index + 1) operations later (front ++ e ∷ []) f.0 n.others_are t)
+    let n = next_is None id index operation operations st (rest ++ later) next in
+    let f = seen_first id namespace ordered entries index (operation ∷ operations) front back d s
+    (seen_found (number_for None id index) entries d (subst (λ k. seen_before k entries ≡ Some d) n.number seen)) in
+    next_again id namespace ordered entries index operation operations front back f.more (entries_by id made) f.entry f.first
+    (ap (λ x. ends ordered x) (sym f.says) ∙ on) s
+    (λ t. serves_stands id shard namespace ordered entries time rest dones made last more (index + 1) operations later (front ++ f.entry ∷ []) f.more
+    n.others_are t)
 serves_stands id shard namespace ordered _ _ _ _ _ _ (serves_new entries time st rest dones made last new on more) index [] later front back next s =
     absurd (cc)
 serves_stands id shard namespace ordered _ _ _ _ _ _ (serves_new entries time st rest dones made last new on more) index
     (operation ∷ operations) later front back next s =
-    let n = next_is id index operation operations st (rest ++ later) next in
+    let n = next_is None id index operation operations st (rest ++ later) next in
     let none = unseen_none id namespace ordered entries index (operation ∷ operations) front back s (subst (λ k. seen_before k entries ≡ None) n.number new) in
     let e : Entry = entry_for entries (time + 1) shard namespace st in
     subst (λ l. AreStatements id namespace ordered index (operation ∷ operations)
@@ -239,9 +263,9 @@ serves_stands id shard namespace ordered _ _ _ _ _ _ (ends_again entries time st
     subst (λ l. AreStatements id namespace ordered index operations l) (sym (append-nil back)) s.from
 serves_stands id shard namespace ordered _ _ _ _ _ _ (ends_new entries time st rest new over) index [] later front back next s = absurd (cc)
 serves_stands id shard namespace ordered _ _ _ _ _ _ (ends_new entries time st rest new over) index (operation ∷ operations) later front back next s =
-    let n = next_is id index operation operations st (rest ++ later) next in
+    let n = next_is None id index operation operations st (rest ++ later) next in
     let none = unseen_none id namespace ordered entries index (operation ∷ operations) front back s (subst (λ k. seen_before k entries ≡ None) n.number new) in
-    let is : IsStatement id namespace index operation (entry_for entries (time + 1) shard namespace st) =
+    let is : IsStatement (number_for None id index) namespace operation (entry_for entries (time + 1) shard namespace st) =
     entry_is id index operation operations st (rest ++ later) entries (time + 1) shard namespace n in
     subst (λ l. AreStatements id namespace ordered index (operation ∷ operations)
     (l ++ entries_by id (entry_for entries (time + 1) shard namespace st ∷ []))) (sym none)

@@ -1,16 +1,19 @@
--- What serving statements leaves: entries that rise, each as its operation tells, each once, and outcomes of entries that stand.
-use Rattle.std.proofs.Common.{◌≡◌, ◌≢◌, ◌⊎◌, inl, inr, ℕ, ◌+◌, ◌<◌, ◌≤◌, List, [], ◌∷◌, ◌++◌, refl, sym, ap, subst, ◌∙◌, arith, append_assoc, append-nil}
+-- What serving statements leaves: entries that rise, each as its operation tells, each once, and what their statements are told.
+use Rattle.std.proofs.Common.{◌≡◌, ◌⊎◌, inl, inr, ℕ, ◌+◌, ◌<◌, ◌≤◌, List, [], ◌∷◌, ◌++◌, refl, sym, ap, subst, ◌∙◌, arith, append_assoc, append-nil}
 use Rattle.std.proofs.Common.{Bool}
-use Rattle.std.specs.Prelude.{Some, None, true}
+use Rattle.std.specs.Prelude.{None, length, int_lt}
 use Rattle.std.specs.List.{AllByRecursion}
 use Rattle.history_model.proofs.Lists.{all_weaken, all_append, all_at, in_first, in_later, in_back, in_prefix}
+use Rattle.node_model.specs.Writes.{WriteCommand}
 use Rattle.node_model.specs.History.{StatementNumber, Entry, IsIn, IsBefore, IsSameStatement, Follows, LegalAfter, Legal}
-use Rattle.node_model.specs.Exchanges.{RequestId, is_session_of, entries_by}
+use Rattle.node_model.specs.Exchanges.{RequestId, number_for}
 use Rattle.node_model.specs.Outcomes.{Done, done_of}
+use Rattle.node_model.specs.OneHistory.{KeepsNumbers, AreNumbered}
 use Rattle.node_model.specs.Letters.{Statement}
 use Rattle.node_model.specs.Service.{seen_before, entry_for, Serves, serves_no_more, serves_again, serves_new, ends_again, ends_new, Repeats}
 use Rattle.node_model.specs.Service.{repeats_no_more, repeats, ends_repeat}
-use Rattle.node_laws.proofs.SeenStatements.{seen_found, unseen_new, entry_by}
+use Rattle.node_laws.proofs.WriteFacts.{by_entry, by_older, IsDoneAt, OnlyLast}
+use Rattle.node_laws.proofs.SeenStatements.{true_false, IsFound, found_entry, found_older, seen_found, IsNewBehind, unseen_new}
 
 -- the entries are not above a time
 abbrev pub AreUpTo : ℕ → List Entry → Type 0
@@ -20,7 +23,7 @@ pub up_to_later : (a b : ℕ) (entries : List Entry) → a ≤ b → AreUpTo a e
 up_to_later a b entries le all = all_weaken (λ (e : Entry). e.time ≤ a) (λ (e : Entry). e.time ≤ b) entries (λ e h. omega arith) all
 
 -- with one more, at the next time
-up_to_next : (time : ℕ) (entries : List Entry) (e : Entry) → e.time ≡ time + 1 → AreUpTo time entries → AreUpTo (time + 1) (entries ++ e ∷ [])
+pub up_to_next : (time : ℕ) (entries : List Entry) (e : Entry) → e.time ≡ time + 1 → AreUpTo time entries → AreUpTo (time + 1) (entries ++ e ∷ [])
 up_to_next time entries e at all = all_append (λ (d : Entry). d.time ≤ time + 1) entries (e ∷ []) (up_to_later time (time + 1) entries (omega arith) all)
     ((omega arith), tt)
 
@@ -73,8 +76,8 @@ new_follows shard namespace entries time s new past =
       rises = all_weaken (λ (d : Entry). d.time ≤ time) (λ (d : Entry). IsBefore d (entry_for entries (time + 1) shard namespace s)) entries
           (λ d h. inl (omega arith)) past;
       told = refl;
-      once = all_weaken (λ (d : Entry). d.number ≢ s.number) (λ (d : Entry). ¬ IsSameStatement d (entry_for entries (time + 1) shard namespace s)) entries
-          (λ d other same. other same.number) (unseen_new s.number entries new);
+      once = all_weaken (IsNewBehind s.number entries) (λ (d : Entry). ¬ IsSameStatement d (entry_for entries (time + 1) shard namespace s)) entries
+          (λ d other same. other.0 same.number) (unseen_new s.number entries new);
     }
 
 pub serves_legal : (shard : ℕ) (namespace : List ℕ) (ordered : Bool) (entries : List Entry) (time : ℕ) (statements : List Statement) (dones : List Done)
@@ -102,6 +105,37 @@ legal_joined_after earlier (e ∷ entries) made legal next = (
 pub legal_joined : (entries made : List Entry) → Legal entries → LegalAfter entries made → Legal (entries ++ made)
 legal_joined entries made legal next = legal_joined_after [] entries made legal next
 
+-- NUMBERS
+
+numbered_push : (entries : List Entry) (e : Entry) → AreNumbered entries → AllByRecursion (λ (d : Entry). KeepsNumbers d e) entries
+    → AreNumbered (entries ++ e ∷ [])
+numbered_push [] e numbered all = (tt, tt)
+numbered_push (d ∷ entries) e numbered all =
+    (all_append (KeepsNumbers d) entries (e ∷ []) numbered.0 (all.0, tt), numbered_push entries e numbered.1 all.1)
+
+-- a new statement's entry keeps the numbers
+new_numbered : (shard : ℕ) (namespace : List ℕ) (entries : List Entry) (time : ℕ) (s : Statement) → seen_before s.number entries ≡ None → AreNumbered entries
+    → AreNumbered (entries ++ entry_for entries time shard namespace s ∷ [])
+new_numbered shard namespace entries time s new numbered =
+    numbered_push entries (entry_for entries time shard namespace s) numbered
+    (all_weaken (IsNewBehind s.number entries) (λ (d : Entry). KeepsNumbers d (entry_for entries time shard namespace s)) entries
+    (λ d n. record { apart = λ same e. n.0 (sym e); rises = λ same session. n.1 session }) (unseen_new s.number entries new))
+
+pub serves_numbered : (shard : ℕ) (namespace : List ℕ) (ordered : Bool) (entries : List Entry) (time : ℕ) (statements : List Statement) (dones : List Done)
+    (made : List Entry) (last : ℕ) → Serves shard namespace ordered entries time statements dones made last → AreNumbered entries
+    → AreNumbered (entries ++ made)
+serves_numbered shard namespace ordered _ _ _ _ _ _ (serves_no_more entries time rest) numbered = subst (λ l. AreNumbered l) (sym (append-nil entries)) numbered
+serves_numbered shard namespace ordered _ _ _ _ _ _ (serves_again entries time s rest d dones made last seen on more) numbered =
+    serves_numbered shard namespace ordered entries time rest dones made last more numbered
+serves_numbered shard namespace ordered _ _ _ _ _ _ (serves_new entries time s rest dones made last new on more) numbered =
+    subst (λ l. AreNumbered l) (append_assoc entries (entry_for entries (time + 1) shard namespace s ∷ []) made)
+    (serves_numbered shard namespace ordered (entries ++ entry_for entries (time + 1) shard namespace s ∷ []) (time + 1) rest dones made last more
+    (new_numbered shard namespace entries (time + 1) s new numbered))
+serves_numbered shard namespace ordered _ _ _ _ _ _ (ends_again entries time s rest d seen over) numbered =
+    subst (λ l. AreNumbered l) (sym (append-nil entries)) numbered
+serves_numbered shard namespace ordered _ _ _ _ _ _ (ends_new entries time s rest new over) numbered =
+    new_numbered shard namespace entries (time + 1) s new numbered
+
 -- ENTRIES OF STATEMENTS
 
 abbrev pub statement_of : Entry → Statement
@@ -128,62 +162,104 @@ serves_entries P shard namespace ordered _ _ _ _ _ _ (ends_new entries time s re
 
 -- WHAT IS TOLD
 
--- the statements are numbered by the request
-abbrev pub AreOwn : RequestId → List Statement → Type 0
-AreOwn id statements = AllByRecursion (λ (s : Statement). is_session_of id s.number.session ≡ true) statements
+-- the statement is one of a write, by its number
+pub record IsOf (write : WriteCommand) (id : RequestId) (s : Statement) : Type 0 where
+  pub numbered : s.number ≡ number_for write.number id s.number.index
+  pub within : s.number.index < length write.operations
 
--- the outcome is that of an entry which the request made, not above a time
-pub record IsTold (id : RequestId) (history : List Entry) (last : ℕ) (d : Done) : Type 0 where
-  pub entry : Entry
-  pub stands : IsIn entry (entries_by id history)
-  pub outcome : d ≡ done_of entry
-  pub past : entry.time ≤ last
+abbrev pub AreOf : WriteCommand → RequestId → List Statement → Type 0
+AreOf write id statements = AllByRecursion (IsOf write id) statements
 
--- what an entry that stands was told is told
-told_entry : (id : RequestId) (history : List Entry) (last : ℕ) (e : Entry) → IsIn e history → is_session_of id e.number.session ≡ true → e.time ≤ last
-    → IsTold id history last (done_of e)
-told_entry id history last e stands own past = record { entry = e; stands = entry_by id e history stands own; outcome = refl; past = past }
+module _ (write : WriteCommand) (id : RequestId) where
+  -- an entry under the number of a statement answers it
+  told_entry : (history : List Entry) (last : ℕ) (s : Statement) (e : Entry) → IsOf write id s → IsIn e history → e.number ≡ s.number → e.time ≤ last
+      → IsDoneAt history last write id (done_of e)
+  told_entry history last s e of stands same past =
+      let index : s.number.index ≡ e.number.index = ap (λ (n : StatementNumber). n.index) (sym same) in
+      let within = of.within in
+      record {
+        within = omega (arith, index);
+        answer = by_entry e stands (same ∙ of.numbered ∙ ap (λ n. number_for write.number id n) index) past;
+      }
 
-told_again : (id : RequestId) (entries more : List Entry) (time last : ℕ) (s : Statement) (e : Entry) → seen_before s.number entries ≡ Some e
-    → is_session_of id s.number.session ≡ true → AreUpTo time entries → time ≤ last → IsTold id (entries ++ more) last (done_of e)
-told_again id entries more time last s e seen own past le =
-    let f = seen_found s.number entries e seen in
-    let early : e.time ≤ time = all_at (λ (d : Entry). d.time ≤ time) e entries past f.stands in
-    told_entry id (entries ++ more) last e (in_prefix e entries more f.stands) (ap (λ (n : StatementNumber). is_session_of id n.session) f.numbered ∙ own)
-    (omega arith)
+  -- so does what was found of one
+  told_found : (entries more : List Entry) (time last : ℕ) (s : Statement) (d : Done) → IsOf write id s → IsFound entries s.number d → AreUpTo time entries
+      → time ≤ last → IsDoneAt (entries ++ more) last write id d
+  told_found entries more time last s _ of (found_entry e stands same) past le =
+      let early : e.time ≤ time = all_at (λ (d : Entry). d.time ≤ time) e entries past stands in
+      told_entry (entries ++ more) last s e of (in_prefix e entries more stands) same (omega arith)
+  told_found entries more time last s _ of (found_older e stands session less) past le =
+      let early : e.time ≤ time = all_at (λ (d : Entry). d.time ≤ time) e entries past stands in
+      record {
+        within = of.within;
+        answer = by_older e (in_prefix e entries more stands) (session ∙ ap (λ (n : StatementNumber). n.session) of.numbered)
+            (ap (λ (n : StatementNumber). int_lt n.transaction e.number.transaction) (sym of.numbered) ∙ less) (omega arith);
+      }
 
-pub serves_told : (id : RequestId) (shard : ℕ) (namespace : List ℕ) (ordered : Bool) (entries : List Entry) (time : ℕ) (statements : List Statement)
-    (dones : List Done) (made : List Entry) (last : ℕ) → Serves shard namespace ordered entries time statements dones made last → AreOwn id statements
-    → AreUpTo time entries → AllByRecursion (IsTold id (entries ++ made) last) dones
-serves_told id shard namespace ordered _ _ _ _ _ _ (serves_no_more entries time rest) own past = tt
-serves_told id shard namespace ordered _ _ _ _ _ _ (serves_again entries time s rest e dones made last seen on more) own past =
-    let r = serves_rises shard namespace ordered entries time rest dones made last more in (
-      told_again id entries made time last s e seen own.0 past r.later,
-      serves_told id shard namespace ordered entries time rest dones made last more own.1 past,
-    )
-serves_told id shard namespace ordered _ _ _ _ _ _ (serves_new entries time s rest dones made last new on more) own past =
-    let e : Entry = entry_for entries (time + 1) shard namespace s in
-    let r = serves_rises shard namespace ordered (entries ++ entry_for entries (time + 1) shard namespace s ∷ []) (time + 1) rest dones made last more in (
-      told_entry id (entries ++ entry_for entries (time + 1) shard namespace s ∷ made) last e (in_back e entries (e ∷ made) (in_first e made)) own.0 r.later,
-      subst (λ l. AllByRecursion (IsTold id l last) dones) (append_assoc entries (entry_for entries (time + 1) shard namespace s ∷ []) made)
-          (serves_told id shard namespace ordered (entries ++ entry_for entries (time + 1) shard namespace s ∷ [])
-          (time + 1) rest dones made last more own.1 (up_to_next time entries (entry_for entries (time + 1) shard namespace s) refl past)),
-    )
-serves_told id shard namespace ordered _ _ _ _ _ _ (ends_again entries time s rest e seen over) own past =
-    (told_again id entries [] time time s e seen own.0 past (omega arith), tt)
-serves_told id shard namespace ordered _ _ _ _ _ _ (ends_new entries time s rest new over) own past =
-    let e : Entry = entry_for entries (time + 1) shard namespace s in (
-      told_entry id (entries ++ entry_for entries (time + 1) shard namespace s ∷ []) (time + 1) e (in_back e entries (e ∷ []) (in_first e [])) own.0
-          (omega arith),
-      tt,
-    )
+  pub serves_told : (shard : ℕ) (namespace : List ℕ) (ordered : Bool) (entries : List Entry) (time : ℕ) (statements : List Statement)
+      (dones : List Done) (made : List Entry) (last : ℕ) → Serves shard namespace ordered entries time statements dones made last → AreOf write id statements
+      → AreUpTo time entries → AllByRecursion (IsDoneAt (entries ++ made) last write id) dones
+  serves_told shard namespace ordered _ _ _ _ _ _ (serves_no_more entries time rest) own past = tt
+  serves_told shard namespace ordered _ _ _ _ _ _ (serves_again entries time s rest d dones made last seen on more) own past =
+      let r = serves_rises shard namespace ordered entries time rest dones made last more in (
+        told_found entries made time last s d own.0 (seen_found s.number entries d seen) past r.later,
+        serves_told shard namespace ordered entries time rest dones made last more own.1 past,
+      )
+  serves_told shard namespace ordered _ _ _ _ _ _ (serves_new entries time s rest dones made last new on more) own past =
+      let e : Entry = entry_for entries (time + 1) shard namespace s in
+      let r = serves_rises shard namespace ordered (entries ++ entry_for entries (time + 1) shard namespace s ∷ []) (time + 1) rest dones made last more in (
+        told_entry (entries ++ entry_for entries (time + 1) shard namespace s ∷ made) last s e own.0 (in_back e entries (e ∷ made) (in_first e made)) refl
+            r.later,
+        subst (λ l. AllByRecursion (IsDoneAt l last write id) dones) (append_assoc entries (entry_for entries (time + 1) shard namespace s ∷ []) made)
+            (serves_told shard namespace ordered (entries ++ entry_for entries (time + 1) shard namespace s ∷ [])
+            (time + 1) rest dones made last more own.1 (up_to_next time entries (entry_for entries (time + 1) shard namespace s) refl past)),
+      )
+  serves_told shard namespace ordered _ _ _ _ _ _ (ends_again entries time s rest d seen over) own past =
+      (told_found entries [] time time s d own.0 (seen_found s.number entries d seen) past (omega arith), tt)
+  serves_told shard namespace ordered _ _ _ _ _ _ (ends_new entries time s rest new over) own past =
+      let e : Entry = entry_for entries (time + 1) shard namespace s in (
+        told_entry (entries ++ entry_for entries (time + 1) shard namespace s ∷ []) (time + 1) s e own.0 (in_back e entries (e ∷ []) (in_first e [])) refl
+            (omega arith),
+        tt,
+      )
 
-pub repeats_told : (id : RequestId) (ordered : Bool) (entries : List Entry) (time : ℕ) (statements : List Statement) (dones : List Done)
-    → Repeats ordered entries statements dones → AreOwn id statements → AreUpTo time entries → AllByRecursion (IsTold id entries time) dones
-repeats_told id ordered entries time _ _ (repeats_no_more rest) own past = tt
-repeats_told id ordered entries time _ _ (repeats s rest e dones seen on more) own past = (
-  subst (λ l. IsTold id l time (done_of e)) (append-nil entries) (told_again id entries [] time time s e seen own.0 past (omega arith)),
-  repeats_told id ordered entries time rest dones more own.1 past,
+  repeats_more : (ordered : Bool) (entries : List Entry) (time : ℕ) (statements : List Statement) (dones : List Done)
+      → Repeats ordered entries statements dones → AreOf write id statements → AreUpTo time entries
+      → AllByRecursion (IsDoneAt (entries ++ []) time write id) dones
+  repeats_more ordered entries time _ _ (repeats_no_more rest) own past = tt
+  repeats_more ordered entries time _ _ (repeats s rest d dones seen on more) own past = (
+    told_found entries [] time time s d own.0 (seen_found s.number entries d seen) past (omega arith),
+    repeats_more ordered entries time rest dones more own.1 past,
+  )
+  repeats_more ordered entries time _ _ (ends_repeat s rest d seen over) own past =
+      (told_found entries [] time time s d own.0 (seen_found s.number entries d seen) past (omega arith), tt)
+
+  pub repeats_told : (ordered : Bool) (entries : List Entry) (time : ℕ) (statements : List Statement) (dones : List Done)
+      → Repeats ordered entries statements dones → AreOf write id statements → AreUpTo time entries → AllByRecursion (IsDoneAt entries time write id) dones
+  repeats_told ordered entries time statements dones repeated own past =
+      subst (λ l. AllByRecursion (IsDoneAt l time write id) dones) (append-nil entries)
+      (repeats_more ordered entries time statements dones repeated own past)
+
+-- THE LAST
+
+-- only the last of what is told ends the command
+pub serves_last : (shard : ℕ) (namespace : List ℕ) (ordered : Bool) (entries : List Entry) (time : ℕ) (statements : List Statement)
+    (dones : List Done) (made : List Entry) (last : ℕ) → Serves shard namespace ordered entries time statements dones made last → OnlyLast ordered dones
+serves_last shard namespace ordered _ _ _ _ _ _ (serves_no_more entries time rest) = tt
+serves_last shard namespace ordered _ _ _ _ _ _ (serves_again entries time s rest d dones made last seen on more) =
+    ((λ over. absurd (true_false (sym over ∙ on))), serves_last shard namespace ordered entries time rest dones made last more)
+serves_last shard namespace ordered _ _ _ _ _ _ (serves_new entries time s rest dones made last new on more) = (
+  (λ over. absurd (true_false (sym over ∙ on))),
+  serves_last shard namespace ordered (entries ++ entry_for entries (time + 1) shard namespace s ∷ []) (time + 1) rest dones made last more,
 )
-repeats_told id ordered entries time _ _ (ends_repeat s rest e seen over) own past =
-    (subst (λ l. IsTold id l time (done_of e)) (append-nil entries) (told_again id entries [] time time s e seen own.0 past (omega arith)), tt)
+serves_last shard namespace ordered _ _ _ _ _ _ (ends_again entries time s rest d seen over) = ((λ h. refl), tt)
+serves_last shard namespace ordered _ _ _ _ _ _ (ends_new entries time s rest new over) = ((λ h. refl), tt)
+
+pub repeats_last : (ordered : Bool) (entries : List Entry) (statements : List Statement) (dones : List Done) → Repeats ordered entries statements dones
+    → OnlyLast ordered dones
+repeats_last ordered entries _ _ (repeats_no_more rest) = tt
+repeats_last ordered entries _ _ (repeats s rest d dones seen on more) = (
+  (λ over. absurd (true_false (sym over ∙ on))),
+  repeats_last ordered entries rest dones more,
+)
+repeats_last ordered entries _ _ (ends_repeat s rest d seen over) = ((λ h. refl), tt)

@@ -1,45 +1,52 @@
 -- What a step of a shard owes: quiet steps, later times, asks that wait, and what is found of a read.
-use Rattle.std.proofs.Common.{◌≡◌, ℕ, ◌≤◌, List, [], ◌∷◌, ◌++◌, refl, sym, ap, subst, ◌∙◌, arith, append-nil, Bool}
-use Rattle.std.specs.Prelude.{Option, Some, None, true, false}
+use Rattle.std.proofs.Common.{◌≡◌, ℕ, ◌≤◌, List, [], ◌∷◌, ◌++◌, refl, sym, subst, ◌∙◌, arith, append-nil, Bool}
+use Rattle.std.specs.Prelude.{Option, Some, None, Ok, true, false}
 use Rattle.std.specs.List.{AllByRecursion}
 use Rattle.std.specs.Str.{bytes_eq}
 use Rattle.history_model.proofs.Lists.{all_weaken}
 use Rattle.node_model.specs.Tree.{Fields}
 use Rattle.node_model.specs.Tables.{first_shard}
-use Rattle.node_model.specs.History.{Entry, IsIn, document_at}
-use Rattle.node_model.specs.Exchanges.{RequestId, Asked, entries_by}
+use Rattle.node_model.specs.Halves.{Half}
+use Rattle.node_model.specs.History.{Entry, IsIn}
+use Rattle.node_model.specs.Writes.{WriteCommand}
+use Rattle.node_model.specs.Command.{write_command, command_of}
+use Rattle.node_model.specs.Exchanges.{RequestId, Asked}
 use Rattle.node_model.specs.Outcomes.{Done}
-use Rattle.node_model.specs.Right.{found, time_read}
 use Rattle.node_model.specs.OneHistory.{IsPlaced, Given, ids_asked, ids_told, AreDifferent}
 use Rattle.node_model.specs.Journal.{Kept}
-use Rattle.node_model.specs.Letters.{Half, key_half, Body, table_ask, table_told, write_ask, write_done, read_ask, half_ask, read_rows, stale, time_ask}
+use Rattle.node_model.specs.Letters.{Statement, Body, table_ask, table_told, write_ask, write_done, read_ask, half_ask, read_rows, stale, time_ask}
 use Rattle.node_model.specs.Letters.{time_told, Letter}
 use Rattle.node_model.specs.States.{Shard, NodeState, time_of_node}
-use Rattle.node_model.specs.Service.{documents_at, IsHalf}
 use Rattle.node_model.specs.ShardRows.{at_later, says, Ask, ask_in, wants_table, asks_table, asks_again}
 use Rattle.node_model.specs.World.{Held, World}
-use Rattle.node_laws.proofs.Views.{View, view_of, entries_in, creations_in, IsAbove, Later}
-use Rattle.node_laws.proofs.Facts.{IsKnownTable, IsOwned, IsReadOf, IsShown, IsDoneBy, BodyFits, LetterFits, ParkedFits, ShardFits, HeldFits, IsMet}
+use Rattle.node_laws.proofs.Views.{Book, View, view_of, entries_in, creations_in, IsAbove, Later}
+use Rattle.node_laws.proofs.ReadFacts.{IsShown}
+use Rattle.node_laws.proofs.WriteFacts.{IsDoneAt, OnlyLast}
+use Rattle.node_laws.proofs.Facts.{IsKnownTable, IsOwned, HasBegun, IsDoneOf, BodyFits, LetterFits, ParkedFits, ShardFits, StateFits, OwnCursors, IsMet}
+use Rattle.node_laws.proofs.Facts.{TellsAll}
 use Rattle.node_laws.proofs.Facts.{SameKind, Good}
-use Rattle.node_laws.proofs.Owes.{Owes}
-use Rattle.node_laws.proofs.Growth.{known_grows, owned_grows, shown_grows, letter_grows, placed_grows}
+use Rattle.node_laws.proofs.Owes.{IsSaid, Owes}
+use Rattle.node_laws.proofs.CatalogueRows.{no_answers}
+use Rattle.node_laws.proofs.Growth.{answers_later, begun_grows, known_grows, owned_grows, shown_grows, letter_grows, placed_grows}
 use Rattle.node_laws.proofs.Journals.{later_self}
-use Rattle.node_laws.proofs.ServedStatements.{up_to_later, IsTold}
+use Rattle.node_laws.proofs.ServedStatements.{up_to_later}
 use Rattle.node_laws.proofs.RequestParts.{owned_by_first}
 
 -- A STEP THAT TAKES AND TELLS NOTHING
 
 -- the node fits behind the step, and so do the messages that it sends
 pub record Leaves (v : View) (w : World) (at : ℕ) (kept : List Kept) (mail : List Letter) (new : NodeState) : Type 0 where
-  pub node : HeldFits v w.asked w.answered w.given at (record { state = new; kept = kept })
-  pub letters : AllByRecursion (λ (m : Letter). LetterFits v w.asked m × IsMet v w.given m.time) mail
+  pub node : StateFits v w.asked w.answered at kept new
+  pub met : IsMet v w.given (time_of_node new)
+  pub cursors : OwnCursors v.cursors at new
+  pub letters : AllByRecursion (IsSaid v w.asked w.given) mail
 
-pub wrote : (w : World) (at : ℕ) (old : Held) (written : List Kept) (mail : List Letter) (new : NodeState) → Good w → SameKind old.state new
+pub wrote : (w : World) (book : Book) (at : ℕ) (old : Held) (written : List Kept) (mail : List Letter) (new : NodeState) → Good w book → SameKind old.state new
     → AllByRecursion (IsAbove (time_of_node old.state)) written → time_of_node old.state ≤ time_of_node new
-    → ((v : View) → Later (view_of w.nodes) v → v.journal at ≡ old.kept ++ written → v.bound at ≡ time_of_node new
+    → ((v : View) → Later (view_of w.nodes book) v → v.journal at ≡ old.kept ++ written → v.bound at ≡ time_of_node new
     → Leaves v w at (old.kept ++ written) mail new)
-    → Owes w at old (record { written = written; mail = mail; taken = []; replies = [] }) new
-wrote w at old written mail new good kind rises later leaves = record {
+    → Owes w book at old (record { written = written; mail = mail; taken = []; replies = [] }) new
+wrote w book at old written mail new good kind rises later leaves = record {
   kind = kind;
   rises = rises;
   later = later;
@@ -49,23 +56,27 @@ wrote w at old written mail new good kind rises later leaves = record {
   once = subst (λ l. AreDifferent (ids_told l)) (sym (append-nil w.answered)) good.once;
   fresh = tt;
   in_order = tt;
-  owed = λ v grows others journal bound.
+  news = [];
+  chose = tt;
+  cursors = book.cursors;
+  elsewhere = λ router other. refl;
+  owed = λ v grows others journal bound chosen cursors.
       let l = leaves v grows journal bound in
       record {
-        node = subst (λ a. HeldFits v a (w.answered ++ []) w.given at (record { state = new; kept = old.kept ++ written })) (sym (append-nil w.asked))
-            (subst (λ a. HeldFits v w.asked a w.given at (record { state = new; kept = old.kept ++ written })) (sym (append-nil w.answered)) l.node);
-        letters = subst (λ a. AllByRecursion (λ (m : Letter). LetterFits v a m × IsMet v w.given m.time) mail) (sym (append-nil w.asked)) l.letters;
-        answers = tt;
+        node = rw (append-nil w.asked, append-nil w.answered) (record { state = l.node; met = l.met; cursors = l.cursors });
+        letters = rw (append-nil w.asked) l.letters;
+        answers = no_answers v (w.asked ++ []) (w.answered ++ []) book.cursors cursors;
         known = tt;
+        met = tt;
       };
 }
 
 -- and writes nothing
-pub quiet : (w : World) (at : ℕ) (old : Held) (mail : List Letter) (new : NodeState) → Good w → SameKind old.state new
+pub quiet : (w : World) (book : Book) (at : ℕ) (old : Held) (mail : List Letter) (new : NodeState) → Good w book → SameKind old.state new
     → time_of_node old.state ≤ time_of_node new
-    → ((v : View) → Later (view_of w.nodes) v → v.journal at ≡ old.kept → v.bound at ≡ time_of_node new → Leaves v w at old.kept mail new)
-    → Owes w at old (record { written = []; mail = mail; taken = []; replies = [] }) new
-quiet w at old mail new good kind later leaves = wrote w at old [] mail new good kind tt later
+    → ((v : View) → Later (view_of w.nodes book) v → v.journal at ≡ old.kept → v.bound at ≡ time_of_node new → Leaves v w at old.kept mail new)
+    → Owes w book at old (record { written = []; mail = mail; taken = []; replies = [] }) new
+quiet w book at old mail new good kind later leaves = wrote w book at old [] mail new good kind tt later
     (λ v grows journal bound. subst (λ k. Leaves v w at k mail new) (sym (append-nil old.kept)) (leaves v grows (journal ∙ append-nil old.kept) bound))
 
 -- LATER TIMES
@@ -76,21 +87,12 @@ letter_later u v asked m later f = subst (λ a. LetterFits v a m) (append-nil as
 pub parked_later : (u v : View) (asked : List Asked) (a b : ℕ) (m : Letter) → Later u v → a ≤ b → ParkedFits u asked a m → ParkedFits v asked b m
 parked_later u v asked a b m later le f = (letter_later u v asked m later f.0, (let h = f.1 in omega arith), f.2)
 
-pub shown_later : (u v : View) (asked : List Asked) (sender a b : ℕ) (id : RequestId) (rows : List Fields) → Later u v → a ≤ b
-    → IsShown u asked sender a id rows → IsShown v asked sender b id rows
-shown_later u v asked sender a b id rows later le s =
-    let h = subst (λ l. IsShown v l sender a id rows) (append-nil asked) (shown_grows u v asked [] sender a id rows later s) in
-    record {
-      request = h.request;
-      find = h.find;
-      taken = h.taken;
-      own = h.own;
-      asks = h.asks;
-      owner = h.owner;
-      rows_are = h.rows_are;
-      settled = h.settled;
-      past = let p = h.past in omega arith;
-    }
+pub shown_later : (u v : View) (asked : List Asked) (sender a b : ℕ) (id : RequestId) (namespace : List ℕ) (at : ℕ) (half : Half) (documents : List Fields)
+    → Later u v → a ≤ b
+    → IsShown u asked sender a id namespace at half documents → IsShown v asked sender b id namespace at half documents
+shown_later u v asked sender a b id namespace at half documents later le s =
+    subst (λ l. IsShown v l sender b id namespace at half documents) (append-nil asked)
+    (shown_grows u v asked [] sender a b id namespace at half documents later le s)
 
 -- a shard that keeps its entries and what waits, at a later time
 pub shard_later : (u v : View) (asked : List Asked) (at time : ℕ) (kept : List Kept) (s : Shard) → Later u v → s.time ≤ time → ShardFits u asked at kept s
@@ -102,6 +104,7 @@ shard_later u v asked at time kept s later le f = record {
   past = up_to_later s.time time s.entries le f.past;
   legal = f.legal;
   sent = f.sent;
+  numbers = f.numbers;
   placed = all_weaken (IsPlaced (creations_in u)) (IsPlaced (creations_in v)) s.entries (λ e p. placed_grows u v e later p) f.placed;
   parts = f.parts;
   tables = all_weaken (IsKnownTable u s.time) (IsKnownTable v time) s.tables (λ t k. known_grows u v s.time time t later le k) f.tables;
@@ -119,7 +122,7 @@ pub ask_receiver : (v : View) (asked : List Asked) (sender receiver time : ℕ) 
 ask_receiver v asked sender receiver time (write_ask id turn ordered namespace [] sent) a is f = absurd (no_ask is)
 ask_receiver v asked sender receiver time (write_ask id turn ordered namespace (s ∷ statements) sent) a is f =
     owned_by_first v time namespace receiver s f.owned.0
-ask_receiver v asked sender receiver time (read_ask id turn namespace moment half sent) a is f = f.4
+ask_receiver v asked sender receiver time (read_ask id turn namespace moment half sent) a is f = f.2
 ask_receiver v asked sender receiver time (table_ask namespace create moment) a is f = absurd (no_ask is)
 ask_receiver v asked sender receiver time (table_told namespace create moment table) a is f = absurd (no_ask is)
 ask_receiver v asked sender receiver time (write_done id dones) a is f = absurd (no_ask is)
@@ -136,14 +139,13 @@ ask_retried v asked sender other receiver early late (write_ask id turn ordered 
   request = f.request;
   write = f.write;
   front = f.front;
-  standing = f.standing;
   back = f.back;
   taken = f.taken;
   own = f.own;
   asks = f.asks;
   order = f.order;
   name = f.name;
-  stands = f.stands;
+  answered = answers_later v v early late f.write id 0 f.front (later_self v) le f.answered;
   goes_on = f.goes_on;
   next = f.next;
   owned = all_weaken (IsOwned v early namespace receiver) (IsOwned v late namespace receiver) statements
@@ -151,7 +153,7 @@ ask_retried v asked sender other receiver early late (write_ask id turn ordered 
   fresh = let h = f.fresh in omega arith;
 }
 ask_retried v asked sender other receiver early late (read_ask id turn namespace moment half sent) a is le f =
-    (f.0, f.1, f.2, (let h = f.3 in omega arith), f.4)
+    (f.0, (let h = f.1 in omega arith), f.2)
 ask_retried v asked sender other receiver early late (table_ask namespace create moment) a is le f = absurd (no_ask is)
 ask_retried v asked sender other receiver early late (table_told namespace create moment table) a is le f = absurd (no_ask is)
 ask_retried v asked sender other receiver early late (write_done id dones) a is le f = absurd (no_ask is)
@@ -177,42 +179,59 @@ retried_fits v asked s early time namespace m own le p wants =
 
 -- messages that ask for tables fit at a time that was met
 pub asks_again_fit : (v : View) (asked : List Asked) (given : List Given) (s : Shard) (time : ℕ) (parked : List Letter) → IsMet v given time
-    → AllByRecursion (λ (m : Letter). LetterFits v asked m × IsMet v given m.time) (asks_again s time parked)
+    → AllByRecursion (IsSaid v asked given) (asks_again s time parked)
 asks_again_fit v asked given s time [] met = tt
 asks_again_fit v asked given s time (m ∷ parked) met = by_ask (ask_in m.body) (asks_again_fit v asked given s time parked met)
   where
-    by_ask : (o : Option Ask) → AllByRecursion (λ (l : Letter). LetterFits v asked l × IsMet v given l.time) (asks_again s time parked)
-        → AllByRecursion (λ (l : Letter). LetterFits v asked l × IsMet v given l.time)
+    by_ask : (o : Option Ask) → AllByRecursion (IsSaid v asked given) (asks_again s time parked)
+        → AllByRecursion (IsSaid v asked given)
         (elim o as (λ (x : Option Ask). List Letter) [ None ↦ asks_again s time parked | Some a ↦ asks_table s time a.namespace ∷ asks_again s time parked ])
     by_ask None more = more
-    by_ask (Some a) more = ((tt, met), more)
+    by_ask (Some a) more = ((tt, met, tt), more)
 
 -- WHAT IS SENT BACK
 
-pub told_done : (v : View) (at last : ℕ) (id : RequestId) (history : List Entry) (dones : List Done) → entries_in v at ≡ history
-    → AllByRecursion (IsTold id history last) dones → AllByRecursion (IsDoneBy v at last id) dones
-told_done v at last id history dones same all = all_weaken (IsTold id history last) (IsDoneBy v at last id) dones
-    (λ d t. record { entry = t.entry; stands = subst (λ l. IsIn t.entry (entries_by id l)) (sym same) t.stands; outcome = t.outcome; past = t.past }) all
+-- what statements of a request are told, by these entries
+pub record AreToldBy (v : View) (asked : List Asked) (history : List Entry) (time : ℕ) (id : RequestId) (dones : List Done) : Type 0 where
+  pub request : Asked
+  pub write : WriteCommand
+  pub taken : IsIn request asked
+  pub own : request.id ≡ id
+  pub asks : command_of request.request ≡ Ok (write_command write)
+  pub each : AllByRecursion (IsDoneAt history time write id) dones
+  pub last : OnlyLast write.ordered dones
+  pub begun : HasBegun v time write.namespace
 
--- the documents of a read are what the shard has to show for it
-pub documents_shown : (v : View) (asked : List Asked) (at time : ℕ) (id : RequestId) (namespace : List ℕ) (moment : ℕ) (half : Half) (history : List Entry)
-    → at ≡ first_shard → entries_in v at ≡ history → time ≤ v.bound at
-    → (r : IsReadOf asked id half) → namespace ≡ r.find.namespace → moment ≡ time_read r.request r.find → moment ≤ time
-    → IsShown v asked at time id (documents_at history namespace moment half)
-documents_shown v asked at time id namespace moment half history place same early r name of past = record {
-  request = r.request;
-  find = r.find;
-  taken = r.taken;
-  own = r.own;
-  asks = r.asks;
-  owner = place;
-  rows_are = ap (λ h. documents_at history namespace moment h) r.shows
-      ∙ ap (λ n. found (document_at history n (Some r.find.key) moment)) name
-      ∙ ap (λ t. found (document_at history r.find.namespace (Some r.find.key) t)) of
-      ∙ ap (λ l. found (document_at l r.find.namespace (Some r.find.key) (time_read r.request r.find))) (sym same);
-  settled = omega arith;
-  past = omega arith;
+-- by those that stand in a later view
+pub told_done : (u v : View) (asked : List Asked) (sender time : ℕ) (id : RequestId) (history : List Entry) (dones : List Done) → Later u v
+    → entries_in v sender ≡ history → AreToldBy u asked history time id dones → IsDoneOf v asked sender time id dones
+told_done u v asked sender time id history dones later same t = record {
+  request = t.request;
+  write = t.write;
+  taken = t.taken;
+  own = t.own;
+  asks = t.asks;
+  each = subst (λ l. AllByRecursion (IsDoneAt l time t.write id) dones) (sym same) t.each;
+  last = t.last;
+  begun = begun_grows u v time t.write.namespace later t.begun;
 }
 
-pub half_same : (half : Half) (documents rows : List Fields) → IsHalf half documents rows → rows ≡ documents
-half_same (key_half key) documents rows e = e
+-- a collection began where statements are asked of the shard that owns them
+pub begun_owned : (v : View) (early time : ℕ) (namespace other : List ℕ) (receiver : ℕ) (s : Statement) → early ≤ time → namespace ≡ other
+    → IsOwned v early namespace receiver s → HasBegun v time other
+begun_owned v early time namespace other receiver s le name o =
+    record { creation = o.creation; begun = o.begun; name = o.name ∙ name; before = let h = o.before in omega arith }
+
+-- what waited tells no time
+pub tells_none : (v : View) (time : ℕ) (namespace : List ℕ) (b : Body)
+    → (elim (ask_in b) as (λ (x : Option Ask). Bool) [ None ↦ false | Some a ↦ bytes_eq a.namespace namespace ]) ≡ true → TellsAll v time b
+tells_none v time namespace (time_told id) h = absurd (cc)
+tells_none v time namespace (table_ask name create moment) h = tt
+tells_none v time namespace (table_told name create moment table) h = tt
+tells_none v time namespace (write_ask id turn ordered name statements sent) h = tt
+tells_none v time namespace (write_done id dones) h = tt
+tells_none v time namespace (read_ask id turn name moment half sent) h = tt
+tells_none v time namespace (half_ask id turn name moment half documents) h = tt
+tells_none v time namespace (read_rows id turn rows) h = tt
+tells_none v time namespace (stale id turn met) h = tt
+tells_none v time namespace (time_ask id) h = tt

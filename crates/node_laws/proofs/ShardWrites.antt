@@ -1,41 +1,45 @@
 -- Where a shard serves an ask and keeps its entries, all facts stay.
-use Rattle.std.proofs.Common.{◌≡◌, ◌⊎◌, inl, inr, ℕ, ◌<◌, ◌≤◌, List, [], ◌∷◌, ◌++◌, refl, sym, ap, subst, ◌∙◌, arith, Bool}
-use Rattle.std.specs.Prelude.{Some, true, map}
+use Rattle.std.proofs.Common.{◌≡◌, ◌⊎◌, inl, inr, ℕ, ◌+◌, ◌<◌, ◌≤◌, List, [], ◌∷◌, ◌++◌, refl, sym, ap, subst, ◌∙◌, arith, append-nil, Bool}
+use Rattle.std.specs.Prelude.{Some, None, true, map, length, drop}
 use Rattle.std.specs.List.{AllByRecursion, slice_get}
-use Rattle.history_model.proofs.Lists.{all_weaken, all_both, all_append, all_at, in_back}
+use Rattle.history_model.proofs.Lists.{all_weaken, all_both, all_append, all_at, in_back, in_prefix}
 use Rattle.node_model.specs.Tables.{first_shard}
 use Rattle.node_model.specs.History.{Operation, Entry, IsIn, Legal}
-use Rattle.node_model.specs.Exchanges.{RequestId, is_session_of, entries_by}
+use Rattle.node_model.specs.Exchanges.{RequestId, Asked, entries_by}
 use Rattle.node_model.specs.Outcomes.{Done}
-use Rattle.node_model.specs.Right.{AreStatements, told_by}
-use Rattle.node_model.specs.OneHistory.{WasSent, StandsInPart, IsPlaced}
+use Rattle.node_model.specs.Right.{AreStatements, IsPart}
+use Rattle.node_model.specs.OneHistory.{StandsInPart, IsPlaced, AreNumbered}
 use Rattle.node_model.specs.Journal.{Kept, kept_entry, entries_kept}
 use Rattle.node_model.specs.Letters.{Statement, write_done, Letter}
 use Rattle.node_model.specs.States.{Shard, shard_state}
-use Rattle.node_model.specs.Service.{Serves}
+use Rattle.node_model.specs.Service.{Serves, serves_no_more, serves_again, serves_new, ends_again, ends_new}
+use Rattle.node_model.specs.RouterRows.{statements_from}
 use Rattle.node_model.specs.ShardRows.{heard, says}
 use Rattle.node_model.specs.World.{Held, World, journal_at}
 use Rattle.node_model.proofs.Journals.{journal_got}
-use Rattle.node_laws.proofs.Views.{View, view_of, entries_in, creations_in, IsAbove}
-use Rattle.node_laws.proofs.Facts.{IsKnownTable, IsOwned, IsWriteOf, IsDoneBy, ParkedFits, ShardFits, IsMet, Good}
+use Rattle.node_laws.proofs.Views.{Book, View, view_of, entries_in, creations_in, IsAbove}
+use Rattle.node_laws.proofs.WriteFacts.{AreAnswers, OnlyLast, AreDoneBefore, WasMade}
+use Rattle.node_laws.proofs.Facts.{IsKnownTable, IsOwned, IsWriteOf, HasBegun, IsDoneOf, ParkedFits, ShardFits, IsMet, Good}
 use Rattle.node_laws.proofs.Owes.{Owes}
 use Rattle.node_laws.proofs.Lists.{all_mapped}
-use Rattle.node_laws.proofs.Growth.{entries_longer, known_grows, placed_grows, met_later}
-use Rattle.node_laws.proofs.ServedStatements.{AreUpTo, Rises, IsTold, IsEntryOf, AreOwn, up_to_later, serves_rises, serves_legal, legal_joined}
-use Rattle.node_laws.proofs.ServedStatements.{serves_entries, serves_told}
-use Rattle.node_laws.proofs.RequestParts.{owned_placed, ask_own, request_part, parts_longer}
-use Rattle.node_laws.proofs.ShardSteps.{wrote, parked_later}
-use Rattle.node_laws.proofs.ShardSteps.{told_done}
+use Rattle.node_laws.proofs.Growth.{entries_longer, entry_grows, known_grows, placed_grows, met_later}
+use Rattle.node_laws.proofs.NotedOutcomes.{HasNoOther, made_no_other, answers_stand}
+use Rattle.node_laws.proofs.ServedStatements.{AreUpTo, Rises, IsEntryOf, up_to_later, serves_rises, serves_legal, serves_numbered, legal_joined}
+use Rattle.node_laws.proofs.ServedStatements.{serves_entries, serves_told, serves_last}
+use Rattle.node_laws.proofs.MadeEntries.{drop_statements, parted, few_answers, front_done, IsMadeAt, serves_made}
+use Rattle.node_laws.proofs.RequestParts.{owned_placed, ask_own, request_part, IsBy, parts_longer}
+use Rattle.node_laws.proofs.ShardSteps.{wrote, parked_later, AreToldBy}
+use Rattle.node_laws.proofs.ShardSteps.{told_done, begun_owned}
 
 abbrev pub held_shard : Shard → List Kept → Held
 held_shard s kept = record { state = shard_state s; kept = kept }
 
 -- a shard that fits in a world, at its place
-pub record Stood (w : World) (at : ℕ) (kept : List Kept) (s : Shard) : Type 0 where
-  pub good : Good w
+pub record Stood (w : World) (book : Book) (at : ℕ) (kept : List Kept) (s : Shard) : Type 0 where
+  pub good : Good w book
   pub here : slice_get w.nodes at ≡ Some (held_shard s kept)
-  pub fits : ShardFits (view_of w.nodes) w.asked at kept s
-  pub met : IsMet (view_of w.nodes) w.given s.time
+  pub fits : ShardFits (view_of w.nodes book) w.asked at kept s
+  pub met : IsMet (view_of w.nodes book) w.given s.time
 
 pub heard_later : (s : Shard) (m : Letter) → s.time ≤ heard s m
 heard_later s m = omega arith
@@ -48,124 +52,206 @@ kept_above : (time : ℕ) (made : List Entry) → AllByRecursion (λ (e : Entry)
 kept_above time made all = all_mapped (IsAbove time) kept_entry made all
 
 -- what is served of an ask that fits
-pub record Served (w : World) (at : ℕ) (s : Shard) (time : ℕ) (id : RequestId) (dones : List Done) (made : List Entry) (last : ℕ) : Type 0 where
+pub record Served (w : World) (book : Book) (at : ℕ) (s : Shard) (time : ℕ) (id : RequestId) (dones : List Done) (made : List Entry) (last : ℕ) : Type 0 where
   pub rises : Rises time made last
   pub past : AreUpTo last (s.entries ++ made)
   pub legal : Legal (s.entries ++ made)
-  pub sent : AllByRecursion (WasSent w.asked) made
-  pub placed : AllByRecursion (IsPlaced (creations_in (view_of w.nodes))) made
+  pub sent : AllByRecursion (WasMade (s.entries ++ made) w.asked) made
+  pub numbers : AreNumbered (s.entries ++ made)
+  pub placed : AllByRecursion (IsPlaced (creations_in (view_of w.nodes book))) made
   pub parts : AllByRecursion (StandsInPart (s.entries ++ made)) w.asked
-  pub told : AllByRecursion (IsTold id (s.entries ++ made) last) dones
+  pub told : AreToldBy (view_of w.nodes book) w.asked (s.entries ++ made) last id dones
 
 -- what stands at the shard's place are its entries
-shard_entries : (w : World) (at : ℕ) (kept : List Kept) (s : Shard) → Stood w at kept s → entries_in (view_of w.nodes) first_shard ≡ s.entries
-shard_entries w at kept s is = ap (λ n. entries_kept (journal_at w.nodes n)) (sym is.fits.place)
+shard_entries : (w : World) (book : Book) (at : ℕ) (kept : List Kept) (s : Shard) → Stood w book at kept s
+    → entries_in (view_of w.nodes book) first_shard ≡ s.entries
+shard_entries w book at kept s is = ap (λ n. entries_kept (journal_at w.nodes n)) (sym is.fits.place)
     ∙ ap (λ k. entries_kept k) (journal_got w.nodes at (held_shard s kept) is.here) ∙ sym is.fits.entries
 
-part_moved : (a b : RequestId) (from into : List ℕ) (x y : Bool) (operations : List Operation) (entries : List Entry) → a ≡ b → from ≡ into → x ≡ y
-    → AreStatements a from x 0 operations (entries_by a entries) → AreStatements b into y 0 operations (entries_by b entries)
-part_moved a b from into x y operations entries id name order part =
-    subst (λ n. AreStatements n into y 0 operations (entries_by n entries)) id
-    (subst (λ n. AreStatements a n y 0 operations (entries_by a entries)) name
-    (subst (λ o. AreStatements a from o 0 operations (entries_by a entries)) order part))
+part_moved : (a : RequestId) (from into : List ℕ) (x y : Bool) (operations : List Operation) (entries : List Entry) → from ≡ into → x ≡ y
+    → AreStatements a from x 0 operations (entries_by a entries) → AreStatements a into y 0 operations (entries_by a entries)
+part_moved a from into x y operations entries name order part =
+    subst (λ n. AreStatements a n y 0 operations (entries_by a entries)) name
+    (subst (λ o. AreStatements a from o 0 operations (entries_by a entries)) order part)
+
+-- the statements that are served, where some are told
+pub first_served : (shard : ℕ) (namespace : List ℕ) (ordered : Bool) (entries : List Entry) (time : ℕ) (statements : List Statement) (dones : List Done)
+    (made : List Entry) (last : ℕ) → Serves shard namespace ordered entries time statements dones made last
+    → (dones ≡ []) ⊎ ((s : Statement) × (rest : List Statement) × (statements ≡ s ∷ rest))
+first_served shard namespace ordered _ _ _ _ _ _ (serves_no_more entries time rest) = inl refl
+first_served shard namespace ordered _ _ _ _ _ _ (serves_again entries time s rest d dones made last seen on more) = inr (s, rest, refl)
+first_served shard namespace ordered _ _ _ _ _ _ (serves_new entries time s rest dones made last new on more) = inr (s, rest, refl)
+first_served shard namespace ordered _ _ _ _ _ _ (ends_again entries time s rest d seen over) = inr (s, rest, refl)
+first_served shard namespace ordered _ _ _ _ _ _ (ends_new entries time s rest new over) = inr (s, rest, refl)
+
+-- where some are told, the collection began
+pub begun_by : (v : View) (asked : List Asked) (receiver early time : ℕ) (id : RequestId) (ordered : Bool) (namespace : List ℕ) (statements : List Statement)
+    (d : Done) (dones : List Done)
+    → early ≤ time → (ask : IsWriteOf v asked receiver early id ordered namespace statements)
+    → (d ∷ dones ≡ []) ⊎ ((s : Statement) × (rest : List Statement) × (statements ≡ s ∷ rest)) → HasBegun v time ask.write.namespace
+begun_by v asked receiver early time id ordered namespace statements d dones le ask (inl none) = absurd (cc)
+begun_by v asked receiver early time id ordered namespace statements d dones le ask (inr (s, rest, same)) =
+    begun_owned v early time namespace ask.write.namespace receiver s le ask.name
+    (subst (λ l. AllByRecursion (IsOwned v early namespace receiver) l) same ask.owned).0
+
+-- an entry that was made for a request was so among more entries
+pub longer_made : (old new : List Entry) (asked : List Asked) (e : Entry) → ((d : Entry) → IsIn d old → IsIn d new) → WasMade old asked e → WasMade new asked e
+longer_made old new asked e stays m = subst (λ l. WasMade new l e) (append-nil asked) (entry_grows old new asked [] e stays m)
 
 -- the last time is one that was met: that of the message, or of the last entry
-last_met : (w : World) (at : ℕ) (v : View) (time last : ℕ) (made entries : List Entry) → first_shard ≡ at → entries_in v at ≡ entries ++ made
+last_met : (w : World) (book : Book) (at : ℕ) (v : View) (time last : ℕ) (made entries : List Entry) → first_shard ≡ at → entries_in v at ≡ entries ++ made
     → IsMet v w.given time → (last ≡ time) ⊎ ((e : Entry) × IsIn e made × (last ≡ e.time)) → IsMet v w.given last
-last_met w at v time last made entries place same met (inl e) = subst (λ t. IsMet v w.given t) (sym e) met
-last_met w at v time last made entries place same met (inr (e, i, t)) =
+last_met w book at v time last made entries place same met (inl e) = subst (λ t. IsMet v w.given t) (sym e) met
+last_met w book at v time last made entries place same met (inr (e, i, t)) =
     inr (inr (inr (e, subst (λ l. IsIn e l) (sym (ap (λ n. entries_in v n) place ∙ same)) (in_back e entries made i), t)))
 
-pub served : (w : World) (at : ℕ) (kept : List Kept) (s : Shard) (receiver time : ℕ) (id : RequestId) (ordered : Bool) (namespace : List ℕ)
-    (statements : List Statement) (dones : List Done) (made : List Entry) (last : ℕ)
-    → Stood w at kept s → IsWriteOf (view_of w.nodes) w.asked receiver time id ordered namespace statements → (now : ℕ) → s.time ≤ now → time ≤ now
-    → Serves s.me namespace ordered s.entries now statements dones made last → Served w at s now id dones made last
-served w at kept s receiver time id ordered namespace statements dones made last is ask now later reached serves =
-    let u : View = view_of w.nodes in
-    let rises = serves_rises s.me namespace ordered s.entries now statements dones made last serves in
-    let up_to : AreUpTo now s.entries = up_to_later s.time now s.entries later is.fits.past in
-    let own : AreOwn id statements = ask_own u w.asked receiver time id ordered namespace statements ask in
-    let first : s.me ≡ first_shard = is.fits.own ∙ is.fits.place in
-    let mine : AllByRecursion (IsEntryOf s.me namespace (λ (x : Statement). is_session_of id x.number.session ≡ true)) made =
-    serves_entries (λ (x : Statement). is_session_of id x.number.session ≡ true) s.me namespace ordered s.entries now statements dones made last serves own in
-    let owned : AllByRecursion (IsEntryOf s.me namespace (IsOwned u time namespace receiver)) made =
-    serves_entries (IsOwned u time namespace receiver) s.me namespace ordered s.entries now statements dones made last serves ask.owned in
-    let before : AreStatements id namespace ordered 0 ask.write.operations (entries_by id s.entries) =
-    part_moved ask.request.id id ask.write.namespace namespace ask.write.ordered ordered ask.write.operations s.entries ask.own (sym ask.name)
-    (sym ask.order) (all_at (StandsInPart s.entries) ask.request w.asked is.fits.parts ask.taken ask.write ask.asks) in
-    let part : AreStatements id namespace ordered 0 ask.write.operations (entries_by id (s.entries ++ made)) =
-    request_part id s.me namespace ordered ask.write.operations s.entries now statements dones made last serves ask.front ask.standing ask.back
-    (ap (λ l. told_by id l) (sym (shard_entries w at kept s is)) ∙ ask.stands) ask.goes_on ask.next before in
-    record {
-      rises = rises;
-      past = all_append (λ (e : Entry). e.time ≤ last) s.entries made (up_to_later now last s.entries rises.later up_to) rises.past;
-      legal = legal_joined s.entries made is.fits.legal (serves_legal s.me namespace ordered s.entries now statements dones made last serves up_to);
-      sent = all_both (IsEntryOf s.me namespace (λ (x : Statement). is_session_of id x.number.session ≡ true)) (λ (e : Entry). now < e.time)
-          (WasSent w.asked) made
-          (λ e h above. record {
-            request = ask.request;
-            taken = ask.taken;
-            writes = record { write = ask.write; asks = ask.asks; name = sym ask.name ∙ sym h.1 };
-            own = ap (λ n. is_session_of n e.number.session) ask.own ∙ h.2;
-            later = let f = ask.fresh in omega arith;
-          }) mine rises.above;
-      placed = all_both (IsEntryOf s.me namespace (IsOwned u time namespace receiver)) (λ (e : Entry). now < e.time) (IsPlaced (creations_in u)) made
-          (λ e h above. owned_placed u time namespace receiver e (h.0 ∙ first, h.1, h.2) (omega arith)) owned rises.above;
-      parts = parts_longer w.asked s.entries made ask.request ask.write is.good.one ask.taken ask.asks
-          (all_weaken (IsEntryOf s.me namespace (λ (x : Statement). is_session_of id x.number.session ≡ true))
-          (λ (e : Entry). is_session_of ask.request.id e.number.session ≡ true) made
-          (λ e h. ap (λ n. is_session_of n e.number.session) ask.own ∙ h.2) mine)
-          (part_moved id ask.request.id namespace ask.write.namespace ordered ask.write.ordered ask.write.operations (s.entries ++ made)
-          (sym ask.own) ask.name ask.order part) is.fits.parts;
-      told = serves_told id s.me namespace ordered s.entries now statements dones made last serves own up_to;
-    }
+module _ (w : World) (book : Book) (at : ℕ) (kept : List Kept) (s : Shard) (is : Stood w book at kept s)
+    (receiver early now : ℕ) (id : RequestId) (ordered : Bool) (namespace : List ℕ) (statements : List Statement) (dones : List Done) (made : List Entry)
+    (last : ℕ) (ask : IsWriteOf (view_of w.nodes book) w.asked receiver early id ordered namespace statements) (later : s.time ≤ now) (reached : early ≤ now)
+    (serves : Serves s.me namespace ordered s.entries now statements dones made last) where
+  abbrev Own : Asked
+  Own = ask.request
+
+  past : AreUpTo now s.entries
+  past = up_to_later s.time now s.entries later is.fits.past
+
+  -- what was told before, at the request's own number
+  before : AreAnswers s.entries early ask.write Own.id 0 ask.front
+  before =
+      subst (λ i. AreAnswers s.entries early ask.write i 0 ask.front) (sym ask.own)
+      (subst (λ l. AreAnswers l early ask.write id 0 ask.front) (shard_entries w book at kept s is) ask.answered)
+
+  next : drop (length ask.front) (statements_from ask.write.number Own.id 0 ask.write.operations) ≡ statements ++ ask.back
+  next = subst (λ i. drop (length ask.front) (statements_from ask.write.number i 0 ask.write.operations) ≡ statements ++ ask.back) (sym ask.own) ask.next
+
+  done_before : ordered ≡ true → AreDoneBefore s.entries (now + 1) ask.write Own.id (length ask.front)
+  done_before in_order = λ i below.
+      let d = front_done s.entries early ask.write Own.id ordered 0 ask.front in_order before ask.goes_on i (omega arith) (omega arith) in
+      let at = d.past in
+      (d.entry, d.stands, d.numbered, d.good, omega (arith, at, reached))
+
+  made_at : AllByRecursion (IsMadeAt Own ask.write ordered (s.entries ++ made)) made
+  made_at =
+      let few = few_answers s.entries early ask.write Own.id 0 ask.front before (omega arith) in
+      let p = parted ask.write.operations (length ask.front) (omega (arith, few)) in
+      let zero_at : length ask.front ≡ 0 + length ask.front = omega arith in
+      serves_made Own ask.write s.me namespace ordered ask.name s.entries now statements dones made last serves (length ask.front) p.front
+      (drop (length ask.front) ask.write.operations) ask.back p.both p.count
+      (ap (λ n. statements_from ask.write.number Own.id n (drop (length ask.front) ask.write.operations)) zero_at
+      ∙ sym (drop_statements ask.write.number Own.id 0 (length ask.front) ask.write.operations) ∙ next) past done_before
+
+  -- of a request without a client's number a prefix stands
+  part_stands : ask.write.number ≡ None → IsPart (s.entries ++ made) Own.id ask.write
+  part_stands none =
+      let part : IsPart s.entries Own.id ask.write = all_at (StandsInPart s.entries) Own w.asked is.fits.parts ask.taken ask.write ask.asks none in
+      let zero : AllByRecursion HasNoOther s.entries = all_weaken (WasMade s.entries w.asked) HasNoOther s.entries
+      (λ e m. made_no_other s.entries w.asked e m) is.fits.sent in
+      let told = answers_stand s.entries early ask.write Own.id ask.front none zero part before in
+      part_moved Own.id namespace ask.write.namespace ordered ask.write.ordered ask.write.operations (s.entries ++ made) ask.name ask.order
+      (request_part Own.id s.me namespace ordered ask.write.operations s.entries now statements dones made last serves ask.front told.0 ask.back told.1
+      ask.goes_on zero (subst (λ g. drop (length ask.front) (statements_from g Own.id 0 ask.write.operations) ≡ statements ++ ask.back) none next)
+      (part_moved Own.id ask.write.namespace namespace ask.write.ordered ordered ask.write.operations s.entries (sym ask.name) (sym ask.order) part))
+
+  served_all : HasBegun (view_of w.nodes book) last ask.write.namespace → Served w book at s now id dones made last
+  served_all begun =
+      let u : View = view_of w.nodes book in
+      let rises = serves_rises s.me namespace ordered s.entries now statements dones made last serves in
+      let first : s.me ≡ first_shard = is.fits.own ∙ is.fits.place in
+      let owned : AllByRecursion (IsEntryOf s.me namespace (IsOwned u early namespace receiver)) made =
+      serves_entries (IsOwned u early namespace receiver) s.me namespace ordered s.entries now statements dones made last serves ask.owned in
+      record {
+        rises = rises;
+        past = all_append (λ (e : Entry). e.time ≤ last) s.entries made (up_to_later now last s.entries rises.later past) rises.past;
+        legal = legal_joined s.entries made is.fits.legal (serves_legal s.me namespace ordered s.entries now statements dones made last serves past);
+        sent = all_both (IsMadeAt Own ask.write ordered (s.entries ++ made)) (λ (e : Entry). now < e.time) (WasMade (s.entries ++ made) w.asked) made
+            (λ e h above. record {
+              request = Own;
+              taken = ask.taken;
+              sends = record { write = ask.write; index = h.index; asks = ask.asks; entry = h.entry };
+              later = let f = ask.fresh in omega (arith, f, above, reached);
+              reached = λ in_order. h.reached (ask.order ∙ in_order);
+            }) made_at rises.above;
+        numbers = serves_numbered s.me namespace ordered s.entries now statements dones made last serves is.fits.numbers;
+        placed = all_both (IsEntryOf s.me namespace (IsOwned u early namespace receiver)) (λ (e : Entry). now < e.time) (IsPlaced (creations_in u)) made
+            (λ e h above. owned_placed u early namespace receiver e (h.0 ∙ first, h.1, h.2) (omega arith)) owned rises.above;
+        parts = parts_longer w.asked s.entries made Own ask.write is.good.one ask.taken ask.asks
+            (all_weaken (IsMadeAt Own ask.write ordered (s.entries ++ made)) (IsBy ask.write.number Own.id) made
+            (λ e h. (h.index, h.entry.statement.same_number)) made_at)
+            part_stands is.fits.parts;
+        told = record {
+          request = Own;
+          write = ask.write;
+          taken = ask.taken;
+          own = ask.own;
+          asks = ask.asks;
+          each = serves_told ask.write id s.me namespace ordered s.entries now statements dones made last serves
+              (ask_own u w.asked receiver early id ordered namespace statements ask) past;
+          last = subst (λ b. OnlyLast b dones) ask.order (serves_last s.me namespace ordered s.entries now statements dones made last serves);
+          begun = begun;
+        };
+      }
+
+pub served : (w : World) (book : Book) (at : ℕ) (kept : List Kept) (s : Shard) (receiver time : ℕ) (id : RequestId) (ordered : Bool) (namespace : List ℕ)
+    (statements : List Statement) (d : Done) (dones : List Done) (made : List Entry) (last : ℕ)
+    → Stood w book at kept s → IsWriteOf (view_of w.nodes book) w.asked receiver time id ordered namespace statements → (now : ℕ) → s.time ≤ now → time ≤ now
+    → Serves s.me namespace ordered s.entries now statements (d ∷ dones) made last → Served w book at s now id (d ∷ dones) made last
+served w book at kept s receiver time id ordered namespace statements d dones made last is ask now later reached serves =
+    let rises = serves_rises s.me namespace ordered s.entries now statements (d ∷ dones) made last serves in
+    let risen = rises.later in
+    served_all w book at kept s is receiver time now id ordered namespace statements (d ∷ dones) made last ask later reached serves
+    (begun_by (view_of w.nodes book) w.asked receiver time last id ordered namespace statements d dones (omega arith) ask
+    (first_served s.me namespace ordered s.entries now statements (d ∷ dones) made last serves))
 
 -- where served entries are kept, the shard fits and answers
-pub writes_all : (w : World) (at : ℕ) (kept : List Kept) (s : Shard) (m : Letter) (id : RequestId) (dones : List Done) (made : List Entry) (last : ℕ)
-    → Stood w at kept s → IsMet (view_of w.nodes) w.given (heard s m) → Served w at s (heard s m) id dones made last
-    → Owes w at (held_shard s kept) (record {
+pub writes_all : (w : World) (book : Book) (at : ℕ) (kept : List Kept) (s : Shard) (m : Letter) (id : RequestId) (dones : List Done)
+    (made : List Entry) (last : ℕ)
+    → Stood w book at kept s → IsMet (view_of w.nodes book) w.given (heard s m) → Served w book at s (heard s m) id dones made last
+    → Owes w book at (held_shard s kept) (record {
       written = map kept_entry made;
       mail = says s id.router last (write_done id dones) ∷ [];
       taken = [];
       replies = [];
     }) (shard_state (record { me = s.me; time = last; tables = s.tables; entries = s.entries ++ made; parked = s.parked }))
-writes_all w at kept s m id dones made last is met h =
-    let u : View = view_of w.nodes in
+writes_all w book at kept s m id dones made last is met h =
+    let u : View = view_of w.nodes book in
     let le : s.time ≤ last = let l = h.rises.later in omega arith in
     let longer : entries_kept (kept ++ map kept_entry made) ≡ s.entries ++ made = entries_longer kept (map kept_entry made)
     ∙ ap (λ l. l ++ entries_kept (map kept_entry made)) (sym is.fits.entries) ∙ ap (λ l. s.entries ++ l) (entries_only made) in
-    wrote w at (held_shard s kept) (map kept_entry made) (says s id.router last (write_done id dones) ∷ []) _ is.good tt
+    wrote w book at (held_shard s kept) (map kept_entry made) (says s id.router last (write_done id dones) ∷ []) _ is.good tt
     (kept_above s.time made (all_weaken (λ (e : Entry). heard s m < e.time) (λ (e : Entry). s.time < e.time) made (λ e l. omega arith) h.rises.above)) le
     (λ v grows journal bound.
     let entries : entries_in v at ≡ s.entries ++ made = ap (λ k. entries_kept k) journal ∙ longer in
-    let reached : IsMet v w.given last = last_met w at v (heard s m) last made s.entries (sym is.fits.place) entries
+    let reached : IsMet v w.given last = last_met w book at v (heard s m) last made s.entries (sym is.fits.place) entries
     (met_later u v w.given (heard s m) grows met) h.rises.reached in
     record {
       node = record {
-        state = record {
-          own = is.fits.own;
-          place = is.fits.place;
-          entries = sym longer;
-          past = h.past;
-          legal = h.legal;
-          sent = all_append (WasSent w.asked) s.entries made is.fits.sent h.sent;
-          placed = all_weaken (IsPlaced (creations_in u)) (IsPlaced (creations_in v)) (s.entries ++ made) (λ e p. placed_grows u v e grows p)
-              (all_append (IsPlaced (creations_in u)) s.entries made is.fits.placed h.placed);
-          parts = h.parts;
-          tables = all_weaken (IsKnownTable u s.time) (IsKnownTable v last) s.tables (λ t k. known_grows u v s.time last t grows le k) is.fits.tables;
-          parked = all_weaken (ParkedFits u w.asked s.time) (ParkedFits v w.asked last) s.parked
-              (λ l p. parked_later u v w.asked s.time last l grows le p) is.fits.parked;
-        };
-        met = reached;
+        own = is.fits.own;
+        place = is.fits.place;
+        entries = sym longer;
+        past = h.past;
+        legal = h.legal;
+        sent = all_append (WasMade (s.entries ++ made) w.asked) s.entries made
+            (all_weaken (WasMade s.entries w.asked) (WasMade (s.entries ++ made) w.asked) s.entries
+            (λ e m. longer_made s.entries (s.entries ++ made) w.asked e (λ d i. in_prefix d s.entries made i) m) is.fits.sent) h.sent;
+        numbers = h.numbers;
+        placed = all_weaken (IsPlaced (creations_in u)) (IsPlaced (creations_in v)) (s.entries ++ made) (λ e p. placed_grows u v e grows p)
+            (all_append (IsPlaced (creations_in u)) s.entries made is.fits.placed h.placed);
+        parts = h.parts;
+        tables = all_weaken (IsKnownTable u s.time) (IsKnownTable v last) s.tables (λ t k. known_grows u v s.time last t grows le k) is.fits.tables;
+        parked = all_weaken (ParkedFits u w.asked s.time) (ParkedFits v w.asked last) s.parked
+            (λ l p. parked_later u v w.asked s.time last l grows le p) is.fits.parked;
       };
+      met = reached;
+      cursors = tt;
       letters = (
         (
           (
             is.fits.own ∙ is.fits.place,
-            subst (λ n. AllByRecursion (IsDoneBy v n last id) dones) (sym is.fits.own)
-                (told_done v at last id (s.entries ++ made) dones entries h.told),
+            subst (λ n. IsDoneOf v w.asked n last id dones) (sym is.fits.own)
+                (told_done u v w.asked at last id (s.entries ++ made) dones grows entries h.told),
           ),
           reached,
+          tt,
         ),
         tt,
       );

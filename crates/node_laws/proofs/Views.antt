@@ -1,16 +1,35 @@
 -- What the journals keep and which times the nodes have, by place, and how both grow.
 use Rattle.std.proofs.Common.{◌≡◌, ℕ, zero, suc, ◌<◌, ◌≤◌, List, [], ◌∷◌, ◌++◌}
+use Rattle.std.specs.Prelude.{Option, Some, None, if◌then◌else◌}
 use Rattle.std.specs.List.{AllByRecursion}
 use Rattle.node_model.specs.Catalogue.{Creation}
 use Rattle.node_model.specs.History.{Entry}
+use Rattle.node_model.specs.Exchanges.{RequestId, same_request}
+use Rattle.node_model.specs.Cursors.{Cursor}
 use Rattle.node_model.specs.Journal.{Kept, kept_table, kept_entry, kept_creation, kept_life, kept_block, entries_kept, creations_kept}
 use Rattle.node_model.specs.States.{time_of_node}
 use Rattle.node_model.specs.World.{Held, journal_at}
 
--- by place: what the journal keeps, and the time up to which it says all
+-- the time that a request reads at
+pub record Choice : Type 0 where
+  pub id : RequestId
+  pub at : ℕ
+
+-- What is noted of a run beside its world: the times that reads were decided for, and the cursors behind all that was told.
+pub record Book : Type 0 where
+  pub chosen : List Choice
+  pub cursors : List Cursor
+
+-- by place: what the journal keeps, and the time up to which it says all; and what is noted
 pub record View : Type 0 where
   pub journal : ℕ → List Kept
   pub bound : ℕ → ℕ
+  pub chosen : List Choice
+  pub cursors : List Cursor
+
+abbrev pub chosen_time : RequestId → List Choice → Option ℕ
+chosen_time id [] = None
+chosen_time id (c ∷ chosen) = if same_request c.id id then Some c.at else chosen_time id chosen
 
 -- the time of the node at a place
 abbrev pub time_at : List Held → ℕ → ℕ
@@ -18,8 +37,8 @@ time_at [] at = 0
 time_at (h ∷ nodes) zero = time_of_node h.state
 time_at (h ∷ nodes) (suc at) = time_at nodes at
 
-abbrev pub view_of : List Held → View
-view_of nodes = record { journal = λ at. journal_at nodes at; bound = λ at. time_at nodes at }
+abbrev pub view_of : List Held → Book → View
+view_of nodes book = record { journal = λ at. journal_at nodes at; bound = λ at. time_at nodes at; chosen = book.chosen; cursors = book.cursors }
 
 abbrev pub entries_in : View → ℕ → List Entry
 entries_in v at = entries_kept (v.journal at)
@@ -42,7 +61,13 @@ pub record Longer (time : ℕ) (old new : List Kept) : Type 0 where
   pub same : new ≡ old ++ written
   pub rises : AllByRecursion (IsAbove time) written
 
--- each journal is longer, and no time falls
+-- more times are decided
+pub record More (old new : List Choice) : Type 0 where
+  pub news : List Choice
+  pub same : new ≡ old ++ news
+
+-- each journal is longer, no time falls, and what was decided stays so
 pub record Later (v w : View) : Type 0 where
   pub longer : (at : ℕ) → Longer (v.bound at) (v.journal at) (w.journal at)
   pub times : (at : ℕ) → v.bound at ≤ w.bound at
+  pub decided : More v.chosen w.chosen

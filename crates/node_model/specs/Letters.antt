@@ -1,7 +1,8 @@
 -- What nodes tell each other, and what a node takes and gives in one step. Nodes are numbered: the catalogue is 0, shards and then
 -- routers follow.
-use Rattle.std.specs.Prelude.{ℕ, ℤ, List, [], ◌∷◌, ◌++◌, Bool, Option}
-use Rattle.reply_model.specs.Tree.{Datum, Fields}
+use Rattle.std.specs.Prelude.{ℕ, ℤ, List, [], ◌∷◌, ◌++◌, Bool, Option, Result}
+use Rattle.reply_model.specs.Tree.{Fields}
+use Rattle.pipeline_model.specs.Halves.{Half, Rows}
 use Rattle.reply_model.specs.Requests.{Request}
 use Rattle.reply_model.specs.History.{StatementNumber, Operation}
 use Rattle.reply_model.specs.Tables.{Table}
@@ -21,9 +22,10 @@ pub record Statement : Type 0 where
   pub number : StatementNumber
   pub operation : Operation
 
--- what a read asks each shard to make of its documents: so far, to show those under a key
-pub data Half : Type 0 where
-  key_half : Datum → Half
+-- why a half gives no rows: a sum is outside int64, or they would have so many bytes, which is too much
+pub data HalfFault : Type 0 where
+  half_overflow : HalfFault
+  half_excess : ℕ → HalfFault
 
 -- A turn is one more try of a request that met a stale table.
 pub data Body : Type 0 where
@@ -39,8 +41,8 @@ pub data Body : Type 0 where
   read_ask : RequestId → (turn : ℕ) → (namespace : List ℕ) → (at : ℕ) → Half → Sent → Body
   -- from a shard to itself: the documents to make it of
   half_ask : RequestId → (turn : ℕ) → (namespace : List ℕ) → (at : ℕ) → Half → List Fields → Body
-  -- the answer
-  read_rows : RequestId → (turn : ℕ) → List Fields → Body
+  -- the answer: the rows, or why there are none
+  read_rows : RequestId → (turn : ℕ) → Result Rows HalfFault → Body
   -- the answer to an ask that was sent with an older table than the shard's; the version of that
   stale : RequestId → (turn : ℕ) → Version → Body
   -- to a shard, for a read of a time that the router has not reached: its time; and the answer

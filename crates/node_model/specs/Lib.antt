@@ -13,7 +13,16 @@ pub use Rattle.reply_model.specs.Exchanges
 pub use Rattle.reply_model.specs.Catalogue
 pub use Rattle.reply_model.specs.Command
 pub use Rattle.reply_model.specs.Errors
+pub use Rattle.reply_model.specs.Reading
 pub use Rattle.reply_model.specs.Find
+pub use Rattle.reply_model.specs.Cursors
+pub use Rattle.reply_model.specs.Reads
+pub use Rattle.history_model.specs.Documents
+pub use Rattle.pipeline_model.specs.Stages
+pub use Rattle.pipeline_model.specs.Halves
+pub use Rattle.pipeline_model.specs.Lengths
+pub use Rattle.pipeline_model.specs.Runs
+pub use Rattle.pipeline_model.specs.Split
 pub use Rattle.reply_model.specs.History
 pub use Rattle.reply_model.specs.Statements
 pub use Rattle.reply_model.specs.Writes

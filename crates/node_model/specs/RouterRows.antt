@@ -1,25 +1,36 @@
 -- What a router may do in a step.
-use Rattle.std.specs.Prelude.{◌≡◌, ◌≢◌, ◌<◌, ◌≤◌, ℕ, ℤ, ◌+◌, max, List, [], ◌∷◌, ◌++◌, length, drop, map, Bool, true, false, ◌==◌, ◌&&◌, Option, Some, None, Result, Ok, Err, nat_lt, if◌then◌else◌}
+use Rattle.std.specs.Prelude.{◌≡◌, ◌≢◌, ◌<◌, ◌≤◌, ◌⊎◌, ℕ, ℤ, pos, ◌+◌, ◌*◌, max, List, [], ◌∷◌, ◌++◌, length, drop, map, Bool, true, false, ◌==◌, ◌&&◌, ◌||◌, codes, Option, Some, None, Result, Ok, Err, nat_lt, if◌then◌else◌}
 use Rattle.std.specs.List.{flat_map}
 use Rattle.std.specs.Str.{bytes_eq}
-use Rattle.reply_model.specs.Tree.{Datum, Fields}
+use Rattle.std.specs.Option.{unwrap_or}
+use Rattle.reply_model.specs.Tree.{Datum, null_value, Fields}
 use Rattle.reply_model.specs.Requests.{Request}
 use Rattle.reply_model.specs.Times.{time_of_moment}
-use Rattle.reply_model.specs.Refusals.{Refusal, time_ahead}
-use Rattle.reply_model.specs.Writes.{WriteKind}
-use Rattle.reply_model.specs.Find.{Find}
-use Rattle.reply_model.specs.Command.{Command, hello_command, legacy_command, ping_command, end_sessions_command, write_command, find_command, command_of}
-use Rattle.reply_model.specs.Answers.{Answer, hello_answer, legacy_answer, done_answer, find_answer, refusal_answer, answer_document}
+use Rattle.reply_model.specs.Refusals.{Refusal, bytes_evidence, cursor_evidence, time_ahead, without_evidence}
+use Rattle.reply_model.specs.Writes.{ClientNumber, WriteKind}
+use Rattle.reply_model.specs.Reading.{Reading}
+use Rattle.command_model.specs.Cursors.{Batch, GetMore, KillCursors}
+use Rattle.reply_model.specs.Errors.{cursor_not_found, overflow, query_exceeded_memory}
+use Rattle.reply_model.specs.Cursors.{Cursor, open_cursor, ShowsNext, Kills}
+use Rattle.pipeline_model.specs.Batches.{IsBatch}
+use Rattle.pipeline_model.specs.Stages.{Stage}
+use Rattle.pipeline_model.specs.Halves.{Half, Rows, MergesInTurn}
+use Rattle.pipeline_model.specs.Split.{split}
+use Rattle.pipeline_model.specs.Lengths.{excess_of_answer}
+use Rattle.pipeline_model.specs.Runs.{Outcome, listed, overflowed, count_documents}
+use Rattle.reply_model.specs.Keys.{Span, point_span, range_span}
+use Rattle.reply_model.specs.Command.{Command, hello_command, legacy_command, ping_command, end_sessions_command, write_command, find_command, count_command, more_command, kill_command, command_of}
+use Rattle.reply_model.specs.Answers.{Answer, hello_answer, legacy_answer, done_answer, first_answer, next_answer, count_answer, killed_answer, refusal_answer, answer_document}
 use Rattle.reply_model.specs.History.{Operation, key_written}
 use Rattle.reply_model.specs.Tables.{Table, first_shard, table_of, with_table, owner_now, owner_at}
 use Rattle.reply_model.specs.Verdicts.{sent_by}
 use Rattle.reply_model.specs.Versions.{Version}
 use Rattle.reply_model.specs.Exchanges.{RequestId, same_request, number_for}
 use Rattle.reply_model.specs.Outcomes.{Done, answer_of}
-use Rattle.reply_model.specs.Right.{ends}
-use Rattle.node_model.specs.Journal.{kept_life}
-use Rattle.node_model.specs.Letters.{At, no_time, at_time, Statement, Half, key_half, Body, table_ask, table_told, write_ask, write_done, read_ask, half_ask, read_rows, stale, time_ask, time_told, Letter, Input, client_input, letter_input, moment_input, opened_input, Taken, Reply, Effect, nothing, sends, writes}
-use Rattle.node_model.specs.States.{Work, writing, reading, Wait, for_time, for_table, for_shards, Open, Router, open_with, without, replaced}
+use Rattle.reply_model.specs.Right.{ends, unless_silent, usual_size}
+use Rattle.node_model.specs.Journal.{Kept, kept_block, kept_life}
+use Rattle.node_model.specs.Letters.{At, no_time, at_time, Statement, half_overflow, half_excess, Body, table_ask, table_told, write_ask, write_done, read_ask, half_ask, read_rows, stale, time_ask, time_told, Letter, Input, client_input, letter_input, moment_input, opened_input, Taken, Reply, Effect, nothing, sends, writes}
+use Rattle.node_model.specs.States.{Telling, in_batches, as_number, Work, writing, reading, Wait, for_time, for_table, for_shards, Open, Router, open_with, without, replaced}
 
 -- THE STATE
 
@@ -32,27 +43,36 @@ id_of r count = record { router = r.me; life = r.life; count = count }
 -- WHAT A REQUEST HAS TO DO
 
 -- the statements of a write, numbered from this index on
-abbrev pub statements_from : RequestId → ℕ → List Operation → List Statement
-statements_from id index [] = []
-statements_from id index (operation ∷ operations) = record { number = number_for id index; operation = operation } ∷ statements_from id (index + 1) operations
+abbrev pub statements_from : Option ClientNumber → RequestId → ℕ → List Operation → List Statement
+statements_from given id index [] = []
+statements_from given id index (operation ∷ operations) = record { number = number_for given id index; operation = operation } ∷ statements_from given id (index + 1) operations
 
--- a command is answered at once, or there is work to do on a collection first
+-- a command is answered at once, or is about cursors, or there is work to do on a collection first
 pub data Plan : Type 0 where
   at_once : Answer → Plan
   needs : (namespace : List ℕ) → Work → Plan
+  needs_batch : GetMore → Plan
+  needs_end : KillCursors → Plan
 
--- a find is of the time that it names, or else of the router's time
-abbrev pub plan_find : Router → Find → Plan
-plan_find r find = needs find.namespace (reading (elim find.at [ None ↦ r.time | Some named ↦ named ]) (key_half find.key))
+-- a read is of the time that it names, or else of the router's time, which must have come to the one that is to be reached
+abbrev pub plan_read : Router → Reading → Telling → Plan
+plan_read r read telling = needs read.namespace (elim read.at [
+  | None ↦ reading false (max r.time (unwrap_or read.after 0)) read.stages telling
+  | Some named ↦ reading true named read.stages telling
+])
 
-abbrev pub plan_of : Router → RequestId → Result Command Refusal → Plan
-plan_of r id (Err refusal) = at_once (refusal_answer refusal)
-plan_of r id (Ok hello_command) = at_once (hello_answer r.moment)
-plan_of r id (Ok (legacy_command legacy)) = at_once (legacy_answer r.moment legacy.shows_hello_ok)
-plan_of r id (Ok ping_command) = at_once done_answer
-plan_of r id (Ok end_sessions_command) = at_once done_answer
-plan_of r id (Ok (write_command write)) = needs write.namespace (writing write.kind write.ordered (statements_from id 0 write.operations) [])
-plan_of r id (Ok (find_command find)) = plan_find r find
+abbrev pub plan_of : Router → RequestId → (silent : Bool) → Result Command Refusal → Plan
+plan_of r id silent (Err refusal) = at_once (refusal_answer refusal)
+plan_of r id silent (Ok hello_command) = at_once (hello_answer r.moment)
+plan_of r id silent (Ok (legacy_command legacy)) = at_once (legacy_answer r.moment legacy.shows_hello_ok)
+plan_of r id silent (Ok ping_command) = at_once done_answer
+plan_of r id silent (Ok end_sessions_command) = at_once done_answer
+plan_of r id silent (Ok (write_command write)) = needs write.namespace (writing write.kind write.ordered (statements_from write.number id 0 write.operations) [])
+plan_of r id silent (Ok (find_command find)) =
+    plan_read r find.reading (in_batches (unwrap_or find.batches.size usual_size) (find.batches.single || silent))
+plan_of r id silent (Ok (count_command read)) = plan_read r read as_number
+plan_of r id silent (Ok (more_command more)) = needs_batch more
+plan_of r id silent (Ok (kill_command kill)) = needs_end kill
 
 -- WHAT IT ASKS FOR
 
@@ -83,11 +103,13 @@ asks_to_write r time id namespace t ordered (s ∷ statements) = elim (owner_of_
   | Some shard ↦ says r shard time (write_ask id 1 ordered namespace (run_to t shard (s ∷ statements)) (sent_by t shard)) ∷ []
 ]
 
-abbrev pub owner_of_half : Table → ℕ → Half → Option ℕ
-owner_of_half t at (key_half key) = owner_at t key at
+-- so far one shard owns all keys of a span: that of the key, or of the least key
+abbrev pub owner_of_span : Table → ℕ → Span → Option ℕ
+owner_of_span t at (point_span key) = owner_at t key at
+owner_of_span t at (range_span range) = owner_at t null_value at
 
 abbrev pub asks_to_read : Router → ℕ → RequestId → (namespace : List ℕ) → Table → ℕ → Half → List Letter
-asks_to_read r time id namespace t at half = elim (owner_of_half t at half) [
+asks_to_read r time id namespace t at half = elim (owner_of_span t at half.span) [
   | None ↦ []
   | Some shard ↦ says r shard time (read_ask id 1 namespace at half (sent_by t shard)) ∷ []
 ]
@@ -95,17 +117,17 @@ asks_to_read r time id namespace t at half = elim (owner_of_half t at half) [
 -- what a request asks the shards for, by a table
 abbrev pub asks_shards : Router → ℕ → (count : ℕ) → (namespace : List ℕ) → Table → Work → List Letter
 asks_shards r time count namespace t (writing kind ordered statements answers) = asks_to_write r time (id_of r count) namespace t ordered (unanswered statements answers)
-asks_shards r time count namespace t (reading at half) = asks_to_read r time (id_of r count) namespace t at half
+asks_shards r time count namespace t (reading named at stages telling) = asks_to_read r time (id_of r count) namespace t at (split stages).0
 
 -- what it asks the catalogue for: a write begins its collection
 abbrev pub asks_table : Router → ℕ → (namespace : List ℕ) → Work → Letter
 asks_table r time namespace (writing kind ordered statements answers) = says r 0 time (table_ask namespace true no_time)
-asks_table r time namespace (reading at half) = says r 0 time (table_ask namespace false (at_time at))
+asks_table r time namespace (reading named at stages telling) = says r 0 time (table_ask namespace false (at_time at))
 
 -- a table is enough where it says who owned what is read at its time
 abbrev pub is_enough : Table → Work → Bool
 is_enough t (writing kind ordered statements answers) = true
-is_enough t (reading at half) = elim (owner_of_half t at half) [ None ↦ false | Some shard ↦ true ]
+is_enough t (reading named at stages telling) = elim (owner_of_span t at (split stages).0.span) [ None ↦ false | Some shard ↦ true ]
 
 abbrev pub enough_of : Option Table → Work → Option Table
 enough_of None work = None
@@ -122,7 +144,12 @@ asks_times r time id = says r first_shard time (time_ask id) ∷ []
 -- it reads at a time that is not reached
 abbrev pub is_ahead : ℕ → Work → Bool
 is_ahead time (writing kind ordered statements answers) = false
-is_ahead time (reading at half) = nat_lt time at
+is_ahead time (reading named at stages telling) = nat_lt time at
+
+-- a read that names no time is of the time that is reached
+abbrev pub reached : ℕ → Work → Work
+reached time (writing kind ordered statements answers) = writing kind ordered statements answers
+reached time (reading named at stages telling) = reading named (if named then at else time) stages telling
 
 -- by the table that it can go on with, if that is there
 abbrev pub wait_by : Option Table → Wait
@@ -185,8 +212,10 @@ pub data Next : Type 0 where
   stays : Open → List Letter → Next
   is_told : Reply → Next
 
-abbrev pub empty_answer : Open → ℕ → Answer
-empty_answer q at = find_answer q.namespace [] at
+-- what is told of a collection that is not there
+abbrev pub empty_answer : Open → ℕ → Telling → Answer
+empty_answer q at (in_batches size single) = first_answer (record { cursor = pos 0; namespace = q.namespace; documents = []; time = at })
+empty_answer q at as_number = count_answer 0 at
 
 abbrev pub is_for_table : Wait → Bool
 is_for_table for_time = false
@@ -197,7 +226,7 @@ is_for_table for_shards = false
 abbrev pub next_without : Router → ℕ → At → Open → Next
 next_without r time told q = elim q.work [
   | writing kind ordered statements answers ↦ stays q []
-  | reading at half ↦ if is_for told at then is_told (reply_to r time q (empty_answer q at)) else stays q []
+  | reading named at stages telling ↦ if is_for told at then is_told (reply_to r time q (empty_answer q at telling)) else stays q []
 ]
 
 abbrev pub next_waiting : Router → ℕ → At → Open → Option Table → Next
@@ -226,7 +255,7 @@ adopted (Some t) tables = with_table t tables
 
 -- the router after a table was told
 abbrev pub knows : Router → ℕ → List Table → List Open → Router
-knows r time tables requests = record { me = r.me; time = time; life = r.life; begun = r.begun; moment = r.moment; count = r.count; tables = tables; requests = requests }
+knows r time tables requests = record { me = r.me; time = time; life = r.life; begun = r.begun; moment = r.moment; count = r.count; tables = tables; requests = requests; cursors = r.cursors; blocks = r.blocks; gave = r.gave }
 
 -- AT A MOMENT
 
@@ -256,17 +285,17 @@ open_of r id = if same_request id (id_of r id.count) then open_with id.count r.r
 -- outcomes are news to an open write where they answer more of its statements
 abbrev pub AreNoNews : Option Open → List Done → Type 0
 AreNoNews None dones = Unit {0}
-AreNoNews (Some q) dones = elim q.work [ writing kind ordered statements answers ↦ noted answers dones ≡ answers | reading at half ↦ Unit {0} ]
+AreNoNews (Some q) dones = elim q.work [ writing kind ordered statements answers ↦ noted answers dones ≡ answers | reading named at stages telling ↦ Unit {0} ]
 
 -- rows are news to an open read, of the turn that it is in
 abbrev pub IsNoRead : Option Open → (turn : ℕ) → Type 0
 IsNoRead None turn = Unit {0}
-IsNoRead (Some q) turn = elim q.work [ writing kind ordered statements answers ↦ Unit {0} | reading at half ↦ turn ≢ 1 ]
+IsNoRead (Some q) turn = elim q.work [ writing kind ordered statements answers ↦ Unit {0} | reading named at stages telling ↦ turn ≢ 1 ]
 
 -- a time is news to a read that waits for it
 abbrev pub IsNotAwaited : Option Open → Type 0
 IsNotAwaited None = Unit {0}
-IsNotAwaited (Some q) = elim q.work [ writing kind ordered statements answers ↦ Unit {0} | reading at half ↦ q.wait ≢ for_time ]
+IsNotAwaited (Some q) = elim q.work [ writing kind ordered statements answers ↦ Unit {0} | reading named at stages telling ↦ q.wait ≢ for_time ]
 
 -- a message comes too late for what it tells
 abbrev pub IsLate : Router → Body → Type 0
@@ -278,14 +307,77 @@ IsLate r body = ⊥
 
 -- the router in its life
 abbrev pub begins : Router → Router
-begins r = record { me = r.me; time = r.time; life = r.life; begun = true; moment = r.moment; count = 0; tables = r.tables; requests = r.requests }
+begins r = record { me = r.me; time = r.time; life = r.life; begun = true; moment = r.moment; count = 0; tables = r.tables; requests = r.requests; cursors = r.cursors; blocks = r.blocks; gave = r.gave }
 
 -- the router after it took one more request
 abbrev pub takes : Router → List Open → Router
-takes r more = record { me = r.me; time = r.time; life = r.life; begun = r.begun; moment = r.moment; count = r.count + 1; tables = r.tables; requests = r.requests ++ more }
+takes r more = record { me = r.me; time = r.time; life = r.life; begun = r.begun; moment = r.moment; count = r.count + 1; tables = r.tables; requests = r.requests ++ more; cursors = r.cursors; blocks = r.blocks; gave = r.gave }
+
+abbrev pub answers_at_once : Router → (link : ℕ) → (number : ℤ) → Request → Answer → Effect
+answers_at_once r link number request answer = record {
+  written = [];
+  mail = [];
+  taken = taken_now r link number request ∷ [];
+  replies = record { id = id_of r (r.count + 1); link = link; number = number; request = request; time = r.time; document = answer_document answer } ∷ [];
+}
+
+abbrev pub with_cursors : List Cursor → Router → Router
+with_cursors cursors r = record { me = r.me; time = r.time; life = r.life; begun = r.begun; moment = r.moment; count = r.count; tables = r.tables; requests = r.requests; cursors = cursors; blocks = r.blocks; gave = r.gave }
 
 abbrev pub answers_now : Reply → Effect
 answers_now reply = record { written = []; mail = []; taken = []; replies = reply ∷ [] }
+
+abbrev pub too_much : ℕ → Refusal
+too_much n = record { error = query_exceeded_memory; evidence = bytes_evidence n }
+
+-- the cursors that a router has, and the block of numbers that it wrote for a new one, if it did
+pub record Opened : Type 0 where
+  pub written : List Kept
+  pub cursors : List Cursor
+  pub blocks : ℕ
+  pub gave : ℕ
+
+abbrev pub opens : Opened → Router → Router
+opens f r = record { me = r.me; time = r.time; life = r.life; begun = r.begun; moment = r.moment; count = r.count; tables = r.tables; requests = r.requests; cursors = f.cursors; blocks = f.blocks; gave = f.gave }
+
+abbrev pub as_before : Router → Opened
+as_before r = record { written = []; cursors = r.cursors; blocks = r.blocks; gave = r.gave }
+
+-- the numbers of a block
+abbrev pub block_size : ℕ
+block_size = 64
+
+-- one more number is given: a new block is begun where the blocks that were written have none left
+abbrev pub gives_number : Router → List Cursor → Opened
+gives_number r cursors =
+    if nat_lt r.gave (block_size * r.blocks) then record { written = []; cursors = cursors; blocks = r.blocks; gave = r.gave + 1 }
+    else record { written = kept_block r.blocks ∷ []; cursors = cursors; blocks = r.blocks + 1; gave = block_size * r.blocks + 1 }
+
+-- the number that is given next
+abbrev pub next_number : Router → ℕ
+next_number r = if nat_lt r.gave (block_size * r.blocks) then r.gave + 1 else block_size * r.blocks + 1
+
+abbrev pub new_cursor : Router → Open → (at : ℕ) → List Fields → Cursor
+new_cursor r q at rest = record { router = r.me; life = r.life; number = pos (next_number r); namespace = q.namespace; time = at; remaining = rest }
+
+abbrev pub batch_of : Open → (at : ℕ) → (cursor : ℤ) → List Fields → Batch
+batch_of q at cursor documents = record { cursor = cursor; namespace = q.namespace; documents = documents; time = at }
+
+-- what an open read is told of an outcome, and which cursors there are then
+pub data Tells (r : Router) (q : Open) (at : ℕ) : Telling → Outcome → Answer → Opened → Type 0 where
+  tells_overflow : (telling : Telling) → Tells r q at telling overflowed (refusal_answer (without_evidence overflow)) (as_before r)
+  tells_excess : (telling : Telling) (documents : List Fields) (n : ℕ) → excess_of_answer documents ≡ Some n
+      → Tells r q at telling (listed documents) (refusal_answer (too_much n)) (as_before r)
+  tells_number : (n : ℕ) → Tells r q at as_number (listed (count_documents (codes "n") n)) (count_answer n at) (as_before r)
+  -- all documents, or as many as are asked for
+  tells_batch : (size : ℕ) (single : Bool) (documents batch : List Fields) → excess_of_answer documents ≡ None → IsBatch (Some size) documents batch
+      → (drop (length batch) documents ≡ []) ⊎ (single ≡ true)
+      → Tells r q at (in_batches size single) (listed documents) (first_answer (batch_of q at (pos 0) batch)) (as_before r)
+  -- the others by a cursor
+  tells_cursor : (size : ℕ) (documents batch : List Fields) → excess_of_answer documents ≡ None → IsBatch (Some size) documents batch
+      → drop (length batch) documents ≢ []
+      → Tells r q at (in_batches size false) (listed documents) (first_answer (batch_of q at (pos (next_number r)) batch))
+      (gives_number r (r.cursors ++ new_cursor r q at (drop (length batch) documents) ∷ []))
 
 pub data RouterRow : Router → Input → Effect → Router → Type 0 where
   -- a life begins
@@ -293,13 +385,25 @@ pub data RouterRow : Router → Input → Effect → Router → Type 0 where
   router_opened : (r : Router) → r.begun ≡ true → RouterRow r opened_input nothing r
   -- a request that is answered at once
   router_plain : (r : Router) (link : ℕ) (number : ℤ) (request : Request) (answer : Answer) → r.begun ≡ true
-      → plan_of r (id_of r (r.count + 1)) (command_of request) ≡ at_once answer
-      → RouterRow r (client_input link number request)
-      (record { written = []; mail = []; taken = taken_now r link number request ∷ []; replies = record { id = id_of r (r.count + 1); link = link; number = number; request = request; time = r.time; document = answer_document answer } ∷ [] })
-      (takes r [])
+      → plan_of r (id_of r (r.count + 1)) request.more (command_of request) ≡ at_once answer
+      → RouterRow r (client_input link number request) (answers_at_once r link number request answer) (takes r [])
+  -- the next batch of a cursor is asked for; a request that gets no reply leaves it as it is
+  router_more : (r : Router) (link : ℕ) (number : ℤ) (request : Request) (more : GetMore) (c : Cursor) (batch : Batch) (next : List Cursor) → r.begun ≡ true
+      → plan_of r (id_of r (r.count + 1)) request.more (command_of request) ≡ needs_batch more
+      → open_cursor (id_of r (r.count + 1)) more.cursor more.namespace r.cursors ≡ Some c → ShowsNext (id_of r (r.count + 1)) more.size r.cursors c batch next
+      → RouterRow r (client_input link number request) (answers_at_once r link number request (next_answer batch))
+      (with_cursors (unless_silent request r.cursors next) (takes r []))
+  router_no_cursor : (r : Router) (link : ℕ) (number : ℤ) (request : Request) (more : GetMore) → r.begun ≡ true
+      → plan_of r (id_of r (r.count + 1)) request.more (command_of request) ≡ needs_batch more
+      → open_cursor (id_of r (r.count + 1)) more.cursor more.namespace r.cursors ≡ None
+      → RouterRow r (client_input link number request) (answers_at_once r link number request (refusal_answer (record { error = cursor_not_found; evidence = cursor_evidence more.cursor }))) (takes r [])
+  router_kill : (r : Router) (link : ℕ) (number : ℤ) (request : Request) (kill : KillCursors) (killed missing : List ℤ) (next : List Cursor) → r.begun ≡ true
+      → plan_of r (id_of r (r.count + 1)) request.more (command_of request) ≡ needs_end kill
+      → Kills (id_of r (r.count + 1)) kill.namespace r.cursors kill.cursors killed missing next
+      → RouterRow r (client_input link number request) (answers_at_once r link number request (killed_answer killed missing)) (with_cursors next (takes r []))
   -- a request that has work to do
   router_take : (r : Router) (link : ℕ) (number : ℤ) (request : Request) (namespace : List ℕ) (work : Work) → r.begun ≡ true
-      → plan_of r (id_of r (r.count + 1)) (command_of request) ≡ needs namespace work
+      → plan_of r (id_of r (r.count + 1)) request.more (command_of request) ≡ needs namespace work
       → RouterRow r (client_input link number request)
       (record { written = []; mail = asks_for r r.time (r.count + 1) namespace work; taken = taken_now r link number request ∷ []; replies = [] })
       (takes r (opened_request r link number request namespace work ∷ []))
@@ -314,13 +418,13 @@ pub data RouterRow : Router → Input → Effect → Router → Type 0 where
       })
       (knows r (heard r m) (adopted table r.tables) (flat_map (λ q. stay_in (next_of r (heard r m) (adopted table r.tables) namespace at q)) r.requests))
   -- the time that a read waited for is reached, and it goes on
-  router_reach : (r : Router) (m : Letter) (id : RequestId) (q : Open) (at : ℕ) (half : Half) → m.body ≡ time_told id
-      → open_of r id ≡ Some q → q.work ≡ reading at half → q.wait ≡ for_time → at ≤ heard r m
-      → RouterRow r (letter_input m) (sends (asks_for r (heard r m) q.count q.namespace q.work))
-      (knows r (heard r m) r.tables (replaced (going_on r (heard r m) q q.work) r.requests))
+  router_reach : (r : Router) (m : Letter) (id : RequestId) (q : Open) (named : Bool) (at : ℕ) (stages : List Stage) (telling : Telling) → m.body ≡ time_told id
+      → open_of r id ≡ Some q → q.work ≡ reading named at stages telling → q.wait ≡ for_time → at ≤ heard r m
+      → RouterRow r (letter_input m) (sends (asks_for r (heard r m) q.count q.namespace (reached (heard r m) q.work)))
+      (knows r (heard r m) r.tables (replaced (going_on r (heard r m) q (reached (heard r m) q.work)) r.requests))
   -- every shard told its time, and the time of the read is ahead
-  router_ahead : (r : Router) (m : Letter) (id : RequestId) (q : Open) (at : ℕ) (half : Half) → m.body ≡ time_told id
-      → open_of r id ≡ Some q → q.work ≡ reading at half → q.wait ≡ for_time → heard r m < at
+  router_ahead : (r : Router) (m : Letter) (id : RequestId) (q : Open) (named : Bool) (at : ℕ) (stages : List Stage) (telling : Telling) → m.body ≡ time_told id
+      → open_of r id ≡ Some q → q.work ≡ reading named at stages telling → q.wait ≡ for_time → heard r m < at
       → RouterRow r (letter_input m) (answers_now (reply_to r (heard r m) q (refusal_answer (time_ahead (heard r m)))))
       (knows r (heard r m) r.tables (without q.count r.requests))
   -- some statements are answered, and the next are asked for
@@ -333,14 +437,23 @@ pub data RouterRow : Router → Input → Effect → Router → Type 0 where
   router_wrote : (r : Router) (m : Letter) (id : RequestId) (dones : List Done) (q : Open) (kind : WriteKind) (ordered : Bool) (statements : List Statement) (answers : List Done) → m.body ≡ write_done id dones
       → open_of r id ≡ Some q → q.work ≡ writing kind ordered statements answers
       → noted answers dones ≢ answers → is_answered ordered statements (noted answers dones) ≡ true
-      → RouterRow r (letter_input m) (answers_now (reply_to r (heard r m) q (answer_of kind (noted answers dones)))) (knows r (heard r m) r.tables (without q.count r.requests))
-  -- a read has its documents
-  router_read : (r : Router) (m : Letter) (id : RequestId) (rows : List Fields) (q : Open) (at : ℕ) (half : Half) → m.body ≡ read_rows id 1 rows
-      → open_of r id ≡ Some q → q.work ≡ reading at half
-      → RouterRow r (letter_input m) (answers_now (reply_to r (heard r m) q (find_answer q.namespace rows at))) (knows r (heard r m) r.tables (without q.count r.requests))
+      → RouterRow r (letter_input m) (answers_now (reply_to r (heard r m) q (answer_of kind (heard r m) (noted answers dones)))) (knows r (heard r m) r.tables (without q.count r.requests))
+  -- a read has its rows
+  router_read : (r : Router) (m : Letter) (id : RequestId) (rows : Rows) (q : Open) (named : Bool) (at : ℕ) (stages : List Stage) (telling : Telling) (out : Outcome) (answer : Answer) (f : Opened)
+      → m.body ≡ read_rows id 1 (Ok rows) → open_of r id ≡ Some q → q.work ≡ reading named at stages telling
+      → MergesInTurn (split stages).1 (rows ∷ []) out → Tells r q at telling out answer f
+      → RouterRow r (letter_input m) (record { written = f.written; mail = []; taken = []; replies = reply_to r (heard r m) q answer ∷ [] })
+      (opens f (knows r (heard r m) r.tables (without q.count r.requests)))
+  -- its rows are too much
+  router_excess : (r : Router) (m : Letter) (id : RequestId) (n : ℕ) (q : Open) (named : Bool) (at : ℕ) (stages : List Stage) (telling : Telling) → m.body ≡ read_rows id 1 (Err (half_excess n))
+      → open_of r id ≡ Some q → q.work ≡ reading named at stages telling
+      → RouterRow r (letter_input m) (answers_now (reply_to r (heard r m) q (refusal_answer (too_much n)))) (knows r (heard r m) r.tables (without q.count r.requests))
+  router_overflow : (r : Router) (m : Letter) (id : RequestId) (q : Open) (named : Bool) (at : ℕ) (stages : List Stage) (telling : Telling) → m.body ≡ read_rows id 1 (Err half_overflow)
+      → open_of r id ≡ Some q → q.work ≡ reading named at stages telling
+      → RouterRow r (letter_input m) (answers_now (reply_to r (heard r m) q (refusal_answer (without_evidence overflow)))) (knows r (heard r m) r.tables (without q.count r.requests))
   router_late : (r : Router) (m : Letter) → IsLate r m.body → RouterRow r (letter_input m) nothing (knows r (heard r m) r.tables r.requests)
   -- a message of another kind has no effect
   router_skip : (r : Router) (m : Letter) → TellsNothing m.body → RouterRow r (letter_input m) nothing r
   router_moment : (r : Router) (moment : ℕ) → r.begun ≡ true
       → RouterRow r (moment_input moment) (sends (flat_map (λ q. asks_again r (max r.time (time_of_moment moment)) q) r.requests))
-      (record { me = r.me; time = max r.time (time_of_moment moment); life = r.life; begun = r.begun; moment = moment; count = r.count; tables = r.tables; requests = r.requests })
+      (record { me = r.me; time = max r.time (time_of_moment moment); life = r.life; begun = r.begun; moment = moment; count = r.count; tables = r.tables; requests = r.requests; cursors = r.cursors; blocks = r.blocks; gave = r.gave })

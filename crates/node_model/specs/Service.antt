@@ -1,16 +1,26 @@
 -- How a shard serves statements and reads on what it keeps.
-use Rattle.std.specs.Prelude.{◌≡◌, ℕ, ◌+◌, List, [], ◌∷◌, ◌++◌, Bool, true, false, Option, Some, None, if◌then◌else◌}
+use Rattle.std.specs.Prelude.{◌≡◌, ℕ, ◌+◌, List, [], ◌∷◌, ◌++◌, Bool, true, false, Option, Some, None, filter, if◌then◌else◌}
 use Rattle.reply_model.specs.Tree.{Fields}
-pub use Rattle.reply_model.specs.Notes.{same_session, same_number}
-use Rattle.reply_model.specs.History.{StatementNumber, Operation, key_written, effect, Entry, document_left, document_at}
-use Rattle.reply_model.specs.Outcomes.{Done, done_of}
-use Rattle.reply_model.specs.Right.{ends, found}
-use Rattle.node_model.specs.Letters.{Statement, Half, key_half}
+use Rattle.reply_model.specs.Notes.{Seen, new_statement, done_before, older_than, notes_of, seen}
+use Rattle.reply_model.specs.History.{StatementNumber, Operation, Outcome, key_written, effect, Entry, document_left}
+use Rattle.reply_model.specs.Outcomes.{Done, done_of, was_done, is_older}
+use Rattle.reply_model.specs.Right.{ends}
+use Rattle.pipeline_model.specs.Halves.{Half, may_stand_in}
+use Rattle.history_model.specs.Documents as documents
+use Rattle.node_model.specs.Letters.{Statement}
 
--- the entry of a statement, where it was seen before
-abbrev pub seen_before : StatementNumber → List Entry → Option Entry
-seen_before number [] = None
-seen_before number (e ∷ entries) = if same_number e.number number then Some e else seen_before number entries
+-- what a number is against the entries of a shard
+abbrev pub seen_by : List Entry → StatementNumber → Seen Outcome
+seen_by entries number = seen (notes_of entries) number
+
+-- what the statement of a number is told without an entry, where it is not new
+abbrev pub told_again : StatementNumber → Seen Outcome → Option Done
+told_again number new_statement = None
+told_again number (done_before time outcome) = Some (record { index = number.index; answer = was_done time outcome })
+told_again number (older_than greatest) = Some (record { index = number.index; answer = is_older greatest })
+
+abbrev pub seen_before : StatementNumber → List Entry → Option Done
+seen_before number entries = told_again number (seen_by entries number)
 
 -- the entry of a new statement, behind these at a time
 abbrev pub entry_for : List Entry → (time shard : ℕ) → (namespace : List ℕ) → Statement → Entry
@@ -24,20 +34,20 @@ entry_for entries time shard namespace s = record {
 }
 
 -- Statements are served one after another, behind these entries at this time: one that was seen before is told what its entry was
--- told, and a new one makes an entry at the next time. The first error ends an ordered command. What is left is served later.
+-- told, one of an older transaction that it is, and a new one makes an entry at the next time. The first error ends an ordered command. What is left is served later.
 pub data Serves (shard : ℕ) (namespace : List ℕ) (ordered : Bool) : (entries : List Entry) → (time : ℕ) → List Statement → List Done → (made : List Entry) → (last : ℕ) → Type 0 where
   serves_no_more : (entries : List Entry) (time : ℕ) (rest : List Statement) → Serves shard namespace ordered entries time rest [] [] time
-  serves_again : (entries : List Entry) (time : ℕ) (s : Statement) (rest : List Statement) (e : Entry) (dones : List Done) (made : List Entry) (last : ℕ)
-      → seen_before s.number entries ≡ Some e → ends ordered (done_of e) ≡ false
+  serves_again : (entries : List Entry) (time : ℕ) (s : Statement) (rest : List Statement) (d : Done) (dones : List Done) (made : List Entry) (last : ℕ)
+      → seen_before s.number entries ≡ Some d → ends ordered d ≡ false
       → Serves shard namespace ordered entries time rest dones made last
-      → Serves shard namespace ordered entries time (s ∷ rest) (done_of e ∷ dones) made last
+      → Serves shard namespace ordered entries time (s ∷ rest) (d ∷ dones) made last
   serves_new : (entries : List Entry) (time : ℕ) (s : Statement) (rest : List Statement) (dones : List Done) (made : List Entry) (last : ℕ)
       → seen_before s.number entries ≡ None → ends ordered (done_of (entry_for entries (time + 1) shard namespace s)) ≡ false
       → Serves shard namespace ordered (entries ++ entry_for entries (time + 1) shard namespace s ∷ []) (time + 1) rest dones made last
       → Serves shard namespace ordered entries time (s ∷ rest) (done_of (entry_for entries (time + 1) shard namespace s) ∷ dones) (entry_for entries (time + 1) shard namespace s ∷ made) last
-  ends_again : (entries : List Entry) (time : ℕ) (s : Statement) (rest : List Statement) (e : Entry)
-      → seen_before s.number entries ≡ Some e → ends ordered (done_of e) ≡ true
-      → Serves shard namespace ordered entries time (s ∷ rest) (done_of e ∷ []) [] time
+  ends_again : (entries : List Entry) (time : ℕ) (s : Statement) (rest : List Statement) (d : Done)
+      → seen_before s.number entries ≡ Some d → ends ordered d ≡ true
+      → Serves shard namespace ordered entries time (s ∷ rest) (d ∷ []) [] time
   ends_new : (entries : List Entry) (time : ℕ) (s : Statement) (rest : List Statement)
       → seen_before s.number entries ≡ None → ends ordered (done_of (entry_for entries (time + 1) shard namespace s)) ≡ true
       → Serves shard namespace ordered entries time (s ∷ rest) (done_of (entry_for entries (time + 1) shard namespace s) ∷ []) (entry_for entries (time + 1) shard namespace s ∷ []) (time + 1)
@@ -45,13 +55,9 @@ pub data Serves (shard : ℕ) (namespace : List ℕ) (ordered : Bool) : (entries
 -- all of these statements were seen before, and are told what their entries were told; what is left is served later
 pub data Repeats (ordered : Bool) (entries : List Entry) : List Statement → List Done → Type 0 where
   repeats_no_more : (rest : List Statement) → Repeats ordered entries rest []
-  repeats : (s : Statement) (rest : List Statement) (e : Entry) (dones : List Done) → seen_before s.number entries ≡ Some e → ends ordered (done_of e) ≡ false → Repeats ordered entries rest dones → Repeats ordered entries (s ∷ rest) (done_of e ∷ dones)
-  ends_repeat : (s : Statement) (rest : List Statement) (e : Entry) → seen_before s.number entries ≡ Some e → ends ordered (done_of e) ≡ true → Repeats ordered entries (s ∷ rest) (done_of e ∷ [])
+  repeats : (s : Statement) (rest : List Statement) (d : Done) (dones : List Done) → seen_before s.number entries ≡ Some d → ends ordered d ≡ false → Repeats ordered entries rest dones → Repeats ordered entries (s ∷ rest) (d ∷ dones)
+  ends_repeat : (s : Statement) (rest : List Statement) (d : Done) → seen_before s.number entries ≡ Some d → ends ordered d ≡ true → Repeats ordered entries (s ∷ rest) (d ∷ [])
 
--- the documents of a half at a time
+-- the documents of a half at a time: those that may stand in its span
 abbrev pub documents_at : List Entry → (namespace : List ℕ) → (at : ℕ) → Half → List Fields
-documents_at entries namespace at (key_half key) = found (document_at entries namespace (Some key) at)
-
--- these rows are what a half makes of these documents
-abbrev pub IsHalf : Half → List Fields → List Fields → Type 0
-IsHalf (key_half key) documents rows = rows ≡ documents
+documents_at entries namespace at half = filter (may_stand_in half.span) (documents.documents_at entries namespace at)

@@ -1,5 +1,5 @@
 -- What a shard may do in a step.
-use Rattle.std.specs.Prelude.{◌≡◌, ◌≢◌, ◌⊎◌, ℕ, ℤ, ◌+◌, max, List, [], ◌∷◌, ◌++◌, map, filter, not, Bool, true, false, ◌==◌, ◌&&◌, Option, Some, None, is_some}
+use Rattle.std.specs.Prelude.{◌≡◌, ◌≢◌, ◌⊎◌, ◌≤◌, ◌^◌, ℕ, ℤ, ◌+◌, max, List, [], ◌∷◌, ◌++◌, map, filter, not, Bool, true, false, ◌==◌, ◌&&◌, Option, Some, None, is_some, Ok, Err}
 use Rattle.std.specs.List.{list_any}
 use Rattle.std.specs.Str.{bytes_eq}
 use Rattle.reply_model.specs.Tree.{Fields}
@@ -12,9 +12,12 @@ use Rattle.reply_model.specs.Verdicts.{Sent, Verdict, fits, shard_is_old, router
 use Rattle.reply_model.specs.Exchanges.{RequestId, same_request}
 use Rattle.reply_model.specs.Outcomes.{Done}
 use Rattle.node_model.specs.Journal.{Kept, kept_table, kept_entry}
-use Rattle.node_model.specs.Letters.{At, no_time, Statement, Half, Body, table_ask, table_told, write_ask, write_done, read_ask, half_ask, read_rows, stale, time_ask, time_told, Letter, Input, client_input, letter_input, moment_input, opened_input, Effect, nothing, sends, writes}
+use Rattle.pipeline_model.specs.Halves.{Half, Rows, IsHalf}
+use Rattle.pipeline_model.specs.Lengths.{excess_of_half}
+use Rattle.pipeline_model.specs.Runs.{Runs, overflowed}
+use Rattle.node_model.specs.Letters.{At, no_time, Statement, half_overflow, half_excess, Body, table_ask, table_told, write_ask, write_done, read_ask, half_ask, read_rows, stale, time_ask, time_told, Letter, Input, client_input, letter_input, moment_input, opened_input, Effect, nothing, sends, writes}
 use Rattle.node_model.specs.States.{Shard}
-use Rattle.node_model.specs.Service.{seen_before, Serves, Repeats, documents_at, IsHalf}
+use Rattle.node_model.specs.Service.{seen_before, Serves, Repeats, documents_at}
 
 abbrev pub heard : Shard → Letter → ℕ
 heard s m = max s.time m.time
@@ -96,6 +99,10 @@ abbrev pub IsNoNews : Option Table → Shard → List ℕ → Type 0
 IsNoNews None s namespace = Unit {0}
 IsNoNews (Some t) s namespace = is_news t (table_of t.namespace s.tables) ≡ false
 
+-- A length is told exactly below 2^63; of others a reply shows no more than that they are not below.
+abbrev pub IsTold : (length n : ℕ) → Type 0
+IsTold length n = (n ≡ length) ⊎ ((2 ^ 63 ≤ length) × (2 ^ 63 ≤ n))
+
 pub data ShardRow : Shard → Input → Effect → Shard → Type 0 where
   -- the statements are served on the table that they were sent with, at least one
   shard_write : (s : Shard) (m : Letter) (id : RequestId) (turn : ℕ) (ordered : Bool) (namespace : List ℕ) (statements : List Statement) (sent : Sent) (d : Done) (dones : List Done) (made : List Entry) (last : ℕ)
@@ -128,9 +135,17 @@ pub data ShardRow : Shard → Input → Effect → Shard → Type 0 where
   shard_read : (s : Shard) (m : Letter) (id : RequestId) (turn : ℕ) (namespace : List ℕ) (at : ℕ) (half : Half) (sent : Sent)
       → m.body ≡ read_ask id turn namespace at half sent → verdict_of sent s.me (table_of namespace s.tables) ≡ fits
       → ShardRow s (letter_input m) (sends (says s s.me (heard s m) (half_ask id turn namespace at half (documents_at s.entries namespace at half)) ∷ [])) (at_later s (heard s m))
-  shard_rows : (s : Shard) (m : Letter) (id : RequestId) (turn : ℕ) (namespace : List ℕ) (at : ℕ) (half : Half) (documents rows : List Fields)
-      → m.body ≡ half_ask id turn namespace at half documents → IsHalf half documents rows
-      → ShardRow s (letter_input m) (sends (says s id.router (heard s m) (read_rows id turn rows) ∷ [])) (at_later s (heard s m))
+  shard_rows : (s : Shard) (m : Letter) (id : RequestId) (turn : ℕ) (namespace : List ℕ) (at : ℕ) (half : Half) (documents : List Fields) (rows : Rows)
+      → m.body ≡ half_ask id turn namespace at half documents → IsHalf half documents rows → excess_of_half rows ≡ None
+      → ShardRow s (letter_input m) (sends (says s id.router (heard s m) (read_rows id turn (Ok rows)) ∷ [])) (at_later s (heard s m))
+  -- the half gives too much
+  shard_excess : (s : Shard) (m : Letter) (id : RequestId) (turn : ℕ) (namespace : List ℕ) (at : ℕ) (half : Half) (documents : List Fields) (rows : Rows) (length n : ℕ)
+      → m.body ≡ half_ask id turn namespace at half documents → IsHalf half documents rows → excess_of_half rows ≡ Some length → IsTold length n
+      → ShardRow s (letter_input m) (sends (says s id.router (heard s m) (read_rows id turn (Err (half_excess n))) ∷ [])) (at_later s (heard s m))
+  -- the half has no rows: no half that a pipeline is split into is such
+  shard_overflow : (s : Shard) (m : Letter) (id : RequestId) (turn : ℕ) (namespace : List ℕ) (at : ℕ) (half : Half) (documents : List Fields)
+      → m.body ≡ half_ask id turn namespace at half documents → Runs half.stages documents overflowed
+      → ShardRow s (letter_input m) (sends (says s id.router (heard s m) (read_rows id turn (Err half_overflow)) ∷ [])) (at_later s (heard s m))
   -- the time is told
   shard_time : (s : Shard) (m : Letter) (id : RequestId) → m.body ≡ time_ask id
       → ShardRow s (letter_input m) (sends (says s id.router (heard s m) (time_told id) ∷ [])) (at_later s (heard s m))

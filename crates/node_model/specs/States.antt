@@ -5,7 +5,9 @@ use Rattle.reply_model.specs.History.{Entry}
 use Rattle.reply_model.specs.Tables.{Table}
 use Rattle.reply_model.specs.Outcomes.{Done}
 use Rattle.reply_model.specs.Writes.{WriteKind}
-use Rattle.node_model.specs.Letters.{Letter, Statement, Half}
+use Rattle.pipeline_model.specs.Stages.{Stage}
+use Rattle.reply_model.specs.Cursors.{Cursor}
+use Rattle.node_model.specs.Letters.{Letter, Statement}
 
 pub record Catalogue : Type 0 where
   pub me : ℕ
@@ -20,11 +22,18 @@ pub record Shard : Type 0 where
   pub entries : List Entry
   pub parked : List Letter
 
+-- how what is read is told: in batches, of which the first has so many documents at most, and is the only one where `single`; or as the
+-- number of documents
+pub data Telling : Type 0 where
+  in_batches : (size : ℕ) → (single : Bool) → Telling
+  as_number : Telling
+
 -- what a request has to do before it is told
 pub data Work : Type 0 where
   -- the statements of a write of this kind, and what the first of them were told
   writing : WriteKind → (ordered : Bool) → (statements : List Statement) → (answers : List Done) → Work
-  reading : (at : ℕ) → Half → Work
+  -- what stages make of the documents at a time; where none is `named` it is that of the router that reaches this one
+  reading : (named : Bool) → (at : ℕ) → List Stage → Telling → Work
 
 -- what an open request waits for: the time that it reads at, its table, or the shards
 pub data Wait : Type 0 where
@@ -43,7 +52,8 @@ pub record Open : Type 0 where
   pub work : Work
 
 -- `life` is the one that the router is in, or will begin where `begun` is false; `moment` is the last that it was given; `count` counts
--- the requests that it took in this life.
+-- the requests that it took in this life; `cursors` are those that it opened in it. Cursors have numbers from 1 on, in blocks of 64: so many
+-- `blocks` it has written in all its lives, and the last number that it `gave`: a life begins with the last of the blocks before it.
 pub record Router : Type 0 where
   pub me : ℕ
   pub time : ℕ
@@ -53,6 +63,9 @@ pub record Router : Type 0 where
   pub count : ℕ
   pub tables : List Table
   pub requests : List Open
+  pub cursors : List Cursor
+  pub blocks : ℕ
+  pub gave : ℕ
 
 pub data NodeState : Type 0 where
   catalogue_state : Catalogue → NodeState
@@ -86,4 +99,4 @@ abbrev pub new_shard : ℕ → Shard
 new_shard me = record { me = me; time = 0; tables = []; entries = []; parked = [] }
 
 abbrev pub new_router : ℕ → Router
-new_router me = record { me = me; time = 0; life = 1; begun = false; moment = 0; count = 0; tables = []; requests = [] }
+new_router me = record { me = me; time = 0; life = 1; begun = false; moment = 0; count = 0; tables = []; requests = []; cursors = []; blocks = 0; gave = 0 }

@@ -4,20 +4,27 @@ use Rattle.std.specs.Prelude.{Option, Some, None, true, false, if◌then◌else�
 use Rattle.std.specs.List.{AllByRecursion}
 use Rattle.std.proofs.lemmas.Bool.Decides.{Decides-eqb}
 use Rattle.node_model.specs.Tree.{Datum}
-use Rattle.node_model.specs.Keys.{is_key}
+use Rattle.node_model.specs.Keys.{is_key, Span}
+use Rattle.node_model.specs.Halves.{Half}
+use Rattle.node_model.specs.Split.{split}
 use Rattle.node_model.specs.Catalogue.{Creation}
-use Rattle.node_model.specs.Tables.{Table, first_table, first_shard, table_of, owner_now, owner_at}
+use Rattle.node_model.specs.Tables.{Table, first_table, first_shard, table_of, owner_now}
 use Rattle.node_model.specs.Verdicts.{sent_by}
 use Rattle.node_model.specs.History.{Operation, key_written}
+use Rattle.node_model.specs.Writes.{ClientNumber}
 use Rattle.node_model.specs.Exchanges.{RequestId, number_for}
 use Rattle.node_model.specs.Outcomes.{Done}
 use Rattle.node_model.specs.Right.{ends}
-use Rattle.node_model.specs.Letters.{no_time, at_time, Statement, Half, key_half, write_ask, read_ask, time_ask, Letter}
+use Rattle.node_model.specs.Letters.{no_time, at_time, Statement, write_ask, read_ask, time_ask, Letter}
 use Rattle.node_model.specs.States.{Router, Work, writing, reading, for_time, for_table, Open}
-use Rattle.node_model.specs.RouterRows.{id_of, statements_from, owner_of_statement, is_on, run_to, says, asks_to_write, owner_of_half, asks_to_read, asks_shards, asks_table, is_enough, enough_of, table_for, asks_times, is_ahead, wait_by, asks_by, wait_of, asks_for, is_answered}
-use Rattle.chunk_model.proofs.FirstTables.{every_key, only_at}
+use Rattle.node_model.specs.RouterRows.{id_of, statements_from, owner_of_statement, is_on, run_to, says, asks_to_write, owner_of_span, asks_to_read}
+use Rattle.node_model.specs.RouterRows.{asks_shards, asks_table, is_enough, enough_of, table_for, asks_times, is_ahead, wait_by, asks_by, wait_of, asks_for}
+use Rattle.node_model.specs.RouterRows.{is_answered}
+use Rattle.chunk_model.proofs.FirstTables.{every_key}
 use Rattle.command_model.proofs.Judged.{HasKey}
-use Rattle.node_progress.proofs.WrittenKeys.{written_key}
+use Rattle.reply_model.proofs.SpanDocuments.{written_is_key}
+use Rattle.node_laws.proofs.RouterAsks.{only_span}
+use Rattle.node_laws.proofs.MadeEntries.{index_at}
 use Rattle.node_progress.proofs.Leads.{AskFits, IsReading, HasNext, IsGoing, IsNext, Leads}
 
 -- one message, which has this property
@@ -51,7 +58,7 @@ to_write r time id namespace t ordered s more owner =
     ∙ ap (λ o. says r first_shard time
     (write_ask id 1 ordered namespace (if is_on first_shard o then s ∷ run_to t first_shard more else []) (sent_by t first_shard)) ∷ []) owner
 
-to_read : (r : Router) (time : ℕ) (id : RequestId) (namespace : List ℕ) (t : Table) (at : ℕ) (half : Half) → owner_of_half t at half ≡ Some first_shard
+to_read : (r : Router) (time : ℕ) (id : RequestId) (namespace : List ℕ) (t : Table) (at : ℕ) (half : Half) → owner_of_span t at half.span ≡ Some first_shard
     → asks_to_read r time id namespace t at half ≡ says r first_shard time (read_ask id 1 namespace at half (sent_by t first_shard)) ∷ []
 to_read r time id namespace t at half owner =
     ap (λ o. elim o as (λ (o : Option ℕ). List Letter) [
@@ -60,14 +67,14 @@ to_read r time id namespace t at half owner =
           (read_ask id 1 namespace at half (sent_by t shard)) ∷ []
     ]) owner
 
-half_owner : (t : Table) (at : ℕ) (half : Half) → IsFirst t
-    → (elim (owner_of_half t at half) as (λ (o : Option ℕ). Bool) [ None ↦ false | Some shard ↦ true ]) ≡ true → owner_of_half t at half ≡ Some first_shard
-half_owner t at (key_half key) (c, same) enough = by_owner (owner_at t key at) refl enough
+span_owner : (t : Table) (at : ℕ) (span : Span) → IsFirst t
+    → (elim (owner_of_span t at span) as (λ (o : Option ℕ). Bool) [ None ↦ false | Some shard ↦ true ]) ≡ true → owner_of_span t at span ≡ Some first_shard
+span_owner t at span (c, same) enough = by_owner (owner_of_span t at span) refl enough
   where
-    by_owner : (o : Option ℕ) → owner_at t key at ≡ o → (elim o as (λ (o : Option ℕ). Bool) [ None ↦ false | Some shard ↦ true ]) ≡ true
+    by_owner : (o : Option ℕ) → owner_of_span t at span ≡ o → (elim o as (λ (o : Option ℕ). Bool) [ None ↦ false | Some shard ↦ true ]) ≡ true
         → o ≡ Some first_shard
     by_owner None is enough = absurd (cc enough)
-    by_owner (Some shard) is enough = ap (λ n. Some n) (only_at c key at shard (ap (λ u. owner_at u key at) (sym same) ∙ is)).0
+    by_owner (Some shard) is enough = ap (λ n. Some n) (only_span c at shard span (ap (λ u. owner_of_span u at span) (sym same) ∙ is))
 
 module _ (r u : Router) (time : ℕ) (q : Open) (me : u.me ≡ r.me) (own : id_of u q.count ≡ id_of r q.count) where
   -- by its table, the shard is asked for what comes next
@@ -92,9 +99,9 @@ module _ (r u : Router) (time : ℕ) (q : Open) (me : u.me ≡ r.me) (own : id_o
           ),
         );
       }
-      by_work (reading at half) same going enough = record {
-        letter = says r first_shard time (read_ask (id_of r q.count) 1 q.namespace at half (sent_by t first_shard));
-        is = to_read r time (id_of r q.count) q.namespace t at half (half_owner t at half first enough);
+      by_work (reading named at stages telling) same going enough = record {
+        letter = says r first_shard time (read_ask (id_of r q.count) 1 q.namespace at (split stages).0 (sent_by t first_shard));
+        is = to_read r time (id_of r q.count) q.namespace t at (split stages).0 (span_owner t at (split stages).0.span first enough);
         leads = (refl, (sym own, refl, refl, subst (λ w. IsReading w) (sym same) tt, record { table = t; there = there; versions = refl }));
       }
 
@@ -102,14 +109,14 @@ module _ (r u : Router) (time : ℕ) (q : Open) (me : u.me ≡ r.me) (own : id_o
 
   table_leads : q.wait ≡ for_table → (work : Work) → q.work ≡ work → Leads u q [] (asks_table r time q.namespace work)
   table_leads waits (writing kind ordered statements answers) same = (refl, sym me, refl, waits, subst (λ w. AskFits true no_time w) (sym same) refl)
-  table_leads waits (reading at half) same =
+  table_leads waits (reading named at stages telling) same =
       (refl, sym me, refl, waits, subst (λ w. AskFits false (at_time at) w) (sym same) (refl, (Decides-eqb at at).1 refl))
 
   -- WHAT COMES FIRST
 
   ahead_reads : (work : Work) → is_ahead time work ≡ true → IsReading work
   ahead_reads (writing kind ordered statements answers) is = absurd (cc is)
-  ahead_reads (reading at half) is = tt
+  ahead_reads (reading named at stages telling) is = tt
 
   pub asks_lead : u.tables ≡ r.tables → ((t : Table) → table_of q.namespace r.tables ≡ Some t → IsFirst t) → IsGoing q.work
       → q.wait ≡ wait_of r time q.namespace q.work
@@ -145,22 +152,24 @@ module _ (r u : Router) (time : ℕ) (q : Open) (me : u.me ≡ r.me) (own : id_o
 
 -- the statements are those of operations with keys
 pub record AreStated (statements : List Statement) : Type 0 where
+  pub given : Option ClientNumber
   pub id : RequestId
   pub operations : List Operation
-  pub are : statements ≡ statements_from id 0 operations
+  pub are : statements ≡ statements_from given id 0 operations
   pub keys : AllByRecursion HasKey operations
 
-next_from : (id : RequestId) (index count : ℕ) (operations : List Operation) (first : Statement) (more : List Statement) → AllByRecursion HasKey operations
-    → drop count (statements_from id index operations) ≡ first ∷ more
+next_from : (given : Option ClientNumber) (id : RequestId) (index count : ℕ) (operations : List Operation) (first : Statement) (more : List Statement)
+    → AllByRecursion HasKey operations
+    → drop count (statements_from given id index operations) ≡ first ∷ more
     → (first.number.index ≡ index + count) × (key : Datum) × (key_written first.operation ≡ Some key) × (is_key key ≡ true)
-next_from id index zero [] first more keys left = absurd (cc left)
-next_from id index (suc n) [] first more keys left = absurd (cc left)
-next_from id index zero (operation ∷ operations) first more keys left =
-    let same : record { number = number_for id index; operation = operation } ≡ first = cc left in
-    let at_index : first.number.index ≡ index = ap (λ (s : Statement). s.number.index) (sym same) in
-    (omega (arith, at_index), keys.0.0, ap (λ (s : Statement). key_written s.operation) (sym same) ∙ keys.0.1, written_key operation keys.0.0 keys.0.1)
-next_from id index (suc n) (operation ∷ operations) first more keys left =
-    let rest = next_from id (index + 1) n operations first more keys.1 left in
+next_from given id index zero [] first more keys left = absurd (cc left)
+next_from given id index (suc n) [] first more keys left = absurd (cc left)
+next_from given id index zero (operation ∷ operations) first more keys left =
+    let same : record { number = number_for given id index; operation = operation } ≡ first = cc left in
+    let at_index : first.number.index ≡ index = ap (λ (s : Statement). s.number.index) (sym same) ∙ sym (index_at given id index) in
+    (omega (arith, at_index), keys.0.0, ap (λ (s : Statement). key_written s.operation) (sym same) ∙ keys.0.1, written_is_key operation keys.0.0 keys.0.1)
+next_from given id index (suc n) (operation ∷ operations) first more keys left =
+    let rest = next_from given id (index + 1) n operations first more keys.1 left in
     let at_index : first.number.index ≡ index + 1 + n = rest.0 in
     (omega (arith, at_index), rest.1, rest.2, rest.3)
 
@@ -181,6 +190,6 @@ pub going_of : (ordered : Bool) (statements : List Statement) (answers : List Do
     → HasNext statements (length answers)
 going_of ordered statements answers stated open_still =
     let left = some_left ordered statements answers open_still in
-    let next = next_from stated.id 0 (length answers) stated.operations left.0 left.1 stated.keys
+    let next = next_from stated.given stated.id 0 (length answers) stated.operations left.0 left.1 stated.keys
     (ap (λ l. drop (length answers) l) (sym stated.are) ∙ left.2) in
     record { first = left.0; more = left.1; left = left.2; numbered = (let n = next.0 in omega (arith, n)); key = next.1; written = next.2; is = next.3 }

@@ -2,7 +2,8 @@
 use Rattle.std.proofs.Common.{◌≡◌, ◌≢◌, ◌⊎◌, inl, inr, ℕ, ◌+◌, List, [], ◌∷◌, refl, sym, ap, subst, ◌∙◌, Bool}
 use Rattle.std.specs.Prelude.{Option, Some, None, true, false, IsSome}
 use Rattle.node_model.specs.Tables.{Table, first_table, table_of}
-use Rattle.node_model.specs.Letters.{At, Body, table_ask, table_told, write_ask, write_done, read_ask, half_ask, read_rows, stale, time_ask, time_told, Letter, letter_input, Effect}
+use Rattle.node_model.specs.Letters.{At, Body, table_ask, table_told, write_ask, write_done, read_ask, half_ask, read_rows, stale, time_ask, time_told}
+use Rattle.node_model.specs.Letters.{Letter, letter_input, Effect}
 use Rattle.node_model.specs.States.{Catalogue, Router, Work, writing, reading, Open}
 use Rattle.node_model.specs.CatalogueRows.{CatalogueRow, catalogue_create, catalogue_tell, catalogue_skip, begun_at, heard, told, AsksNothing}
 use Rattle.node_laws.proofs.KnownTables.{table_found}
@@ -14,7 +15,7 @@ IsKnownThere r q c = (t : Table) → table_of q.namespace r.tables ≡ Some t �
 
 begun_fits : (namespace : List ℕ) (at : At) (t : Table) (work : Work) → t.namespace ≡ namespace → AskFits true at work → ToldFits namespace at (Some t) work
 begun_fits namespace at t (writing kind ordered statements answers) name fits = record { table = t; is = refl; name = name }
-begun_fits namespace at t (reading time half) name fits = fits.1
+begun_fits namespace at t (reading named time stages telling) name fits = fits.1
 
 told_fits : (namespace : List ℕ) (create : Bool) (at : At) (o : Option Table) (tables : List Table) (work : Work) → table_of namespace tables ≡ o
     → (create ≡ false) ⊎ IsSome o → AskFits create at work → ToldFits namespace at o work
@@ -22,7 +23,7 @@ told_fits namespace create at (Some t) tables (writing kind ordered statements a
     record { table = t; is = refl; name = (table_found namespace tables t is).name }
 told_fits namespace create at None tables (writing kind ordered statements answers) is (inl not_begun) fits = absurd (cc (not_begun, fits))
 told_fits namespace create at None tables (writing kind ordered statements answers) is (inr some) fits = absurd (cc some)
-told_fits namespace create at o tables (reading time half) is there fits = fits.1
+told_fits namespace create at o tables (reading named time stages telling) is there fits = fits.1
 
 told_there : (namespace : List ℕ) (o : Option Table) (tables : List Table) → table_of namespace tables ≡ o → (o ≡ None → ⊥) → HasTable namespace o
 told_there namespace (Some t) tables is some = record { table = t; is = refl; name = (table_found namespace tables t is).name }

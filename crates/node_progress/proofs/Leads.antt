@@ -7,7 +7,8 @@ use Rattle.node_model.specs.Keys.{is_key}
 use Rattle.node_model.specs.History.{key_written}
 use Rattle.node_model.specs.Tables.{Table, table_of, first_shard}
 use Rattle.node_model.specs.Verdicts.{Sent, sent_by}
-use Rattle.node_model.specs.Letters.{At, Statement, Body, table_ask, table_told, write_ask, write_done, read_ask, half_ask, read_rows, stale, time_ask, time_told, Letter, Effect}
+use Rattle.node_model.specs.Letters.{At, Statement, Body, table_ask, table_told, write_ask, write_done, read_ask, half_ask, read_rows, stale, time_ask}
+use Rattle.node_model.specs.Letters.{time_told, Letter, Effect}
 use Rattle.node_model.specs.States.{Shard, Router, Work, writing, reading, for_time, for_table, Open}
 use Rattle.node_model.specs.RouterRows.{id_of, is_for}
 
@@ -15,7 +16,7 @@ use Rattle.node_model.specs.RouterRows.{id_of, is_for}
 
 abbrev pub IsReading : Work → Type 0
 IsReading (writing kind ordered statements answers) = ⊥
-IsReading (reading at half) = Unit {0}
+IsReading (reading named at stages telling) = Unit {0}
 
 -- of these statements so many are answered: there is a next one, which has that index and a key
 pub record HasNext (statements : List Statement) (count : ℕ) : Type 0 where
@@ -29,12 +30,12 @@ pub record HasNext (statements : List Statement) (count : ℕ) : Type 0 where
 
 abbrev pub IsGoing : Work → Type 0
 IsGoing (writing kind ordered statements answers) = HasNext statements (length answers)
-IsGoing (reading at half) = Unit {0}
+IsGoing (reading named at stages telling) = Unit {0}
 
 -- the next answer is that with this index
 abbrev pub IsNext : Work → ℕ → Type 0
 IsNext (writing kind ordered statements answers) index = index ≡ length answers
-IsNext (reading at half) index = ⊥
+IsNext (reading named at stages telling) index = ⊥
 
 -- ASKS
 
@@ -63,7 +64,7 @@ IsAskOf r q (time_told id) = ⊥
 -- a table is asked for as the work wants it
 abbrev pub AskFits : (create : Bool) → At → Work → Type 0
 AskFits create at (writing kind ordered statements answers) = create ≡ true
-AskFits create at (reading time half) = (create ≡ false) × (is_for at time ≡ true)
+AskFits create at (reading named time stages telling) = (create ≡ false) × (is_for at time ≡ true)
 
 -- the table of the collection is told
 pub record HasTable (namespace : List ℕ) (told : Option Table) : Type 0 where
@@ -74,7 +75,7 @@ pub record HasTable (namespace : List ℕ) (told : Option Table) : Type 0 where
 -- a table is told as the work wants it
 abbrev pub ToldFits : (namespace : List ℕ) → At → Option Table → Work → Type 0
 ToldFits namespace at table (writing kind ordered statements answers) = HasTable namespace table
-ToldFits namespace at table (reading time half) = is_for at time ≡ true
+ToldFits namespace at table (reading named time stages telling) = is_for at time ≡ true
 
 abbrev pub LeadsBody : Router → Open → (to from : ℕ) → Body → Type 0
 LeadsBody r q to from (table_ask namespace create at) = (to ≡ 0) × (from ≡ r.me) × (namespace ≡ q.namespace) × (q.wait ≡ for_table) × AskFits create at q.work

@@ -1,4 +1,3 @@
-pub mod WrittenKeys
 pub mod Leads
 pub mod Receivers
 pub mod CatalogueLeads

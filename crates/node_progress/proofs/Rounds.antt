@@ -1,23 +1,25 @@
 -- Behind each round every request is answered.
-use Rattle.std.proofs.Common.{◌≡◌, ◌⊎◌, inl, inr, ℕ, zero, suc, ◌+◌, List, [], ◌∷◌, length, refl, sym, subst, ◌∙◌, arith}
+use Rattle.std.proofs.Common.{◌≡◌, ◌⊎◌, inl, inr, ℕ, zero, suc, ◌+◌, List, [], ◌∷◌, length, refl, sym, ap, subst, ◌∙◌, arith}
 use Rattle.std.specs.Prelude.{Ok}
 use Rattle.std.specs.List.{AllByRecursion}
 use Rattle.std.proofs.lemmas.Option.{slice_get_within}
-use Rattle.history_model.proofs.Lists.{all_at, in_first, in_later, in_cons, in_none, in_prefix}
-use Rattle.node_model.specs.Writes.{WriteCommand}
-use Rattle.node_model.specs.Command.{write_command, command_of}
+use Rattle.history_model.proofs.Lists.{in_first, in_later, in_cons, in_none, in_prefix}
 use Rattle.node_model.specs.Tables.{first_shard}
+use Rattle.node_model.specs.Command.{write_command, command_of}
+use Rattle.node_model.specs.Catalogue.{Creation}
+use Rattle.node_model.specs.Right.{IsWhole}
 use Rattle.node_model.specs.History.{Entry, IsIn}
 use Rattle.node_model.specs.Exchanges.{RequestId, Asked, Answered}
-use Rattle.node_model.specs.Right.{IsWhole, IsRight, right_write, right_find, right_ahead, right_hello, right_legacy, right_ping, right_end_sessions, right_refusal}
-use Rattle.node_model.specs.OneHistory.{IsRightOf, ids_told}
-use Rattle.node_model.specs.Journal.{entries_kept}
-use Rattle.node_model.specs.World.{World, asked_by, answered_by, Moves, Event, client_event, deliver_event, Happens, comes, delivers, passes, begins as was_opened, Run, stands, goes, start, journal_at}
+use Rattle.node_model.specs.OneHistory.{ids_told}
+use Rattle.node_model.specs.Journal.{entries_kept, creations_kept}
+use Rattle.node_model.specs.World.{World, asked_by, answered_by, Moves, Event, client_event, deliver_event, Happens, comes, delivers, passes}
+use Rattle.node_model.specs.World.{begins as was_opened, Run, stands, goes, start, journal_at}
 use Rattle.node_model.specs.Letters.{Input}
 use Rattle.node_model.specs.Schedule.{openings, moments_given, Delivers, delivers_none, delivers_next, Round, IsRound, Pipes, opens, serves}
+use Rattle.node_model.proofs.Requests.{one_asked}
 use Rattle.node_laws.proofs.Lists.{all_within}
 use Rattle.node_laws.proofs.Others.{told_more}
-use Rattle.node_model.proofs.Requests.{one_asked}
+use Rattle.reply_model.proofs.Freshness.{told_to, told_write}
 use Rattle.node_laws.proofs.Runs.{StaysTrue, happens_keeps, run_keeps, start_good, start_moments, makes_one_history}
 use Rattle.node_progress.specs.Completion.{IsAnswered, IsServed, AreAnswered}
 use Rattle.node_progress.proofs.Idle.{Idle, IsStillEvent, run_idle, start_idle}
@@ -44,7 +46,8 @@ delivers_stage : (u : World) (next : ℕ) (events : List Event) (w : World) (lat
     → StaysTrue w × Stage w later
 delivers_stage _ _ _ _ _ good stage (delivers_none w next) = (good, stage)
 delivers_stage _ _ _ _ _ good stage (delivers_next u v w next later at events h more) =
-    delivers_stage v (next + 1) events w later (happens_keeps u v (deliver_event at next) good h) (delivery_keeps u v next at good.0 stage h) more
+    delivers_stage v (next + 1) events w later (happens_keeps u v (deliver_event at next) good h)
+    (delivery_keeps u v good.0.book next at good.0.good stage h) more
 
 round_idle : (u : World) (next : ℕ) (r : Round) (events : List Event) (w : World) → StaysTrue u → Idle u next → IsRound u next r events w
     → StaysTrue w × Idle w (length w.sent)
@@ -54,10 +57,11 @@ round_idle u next r events w good idle round =
     let end =
     delivers_stage round.asked next round.deliveries w (length w.sent)
     (happens_keeps round.given round.asked (client_event r.at r.link r.number r.request) given round.comes)
-    (request_stage round.given round.asked next r.at r.link r.number r.request given.0 quiet round.comes) round.settles in
+    (request_stage round.given round.asked given.0.book next r.at r.link r.number r.request given.0.good quiet round.comes) round.settles in
     (end.0, all_there w (length w.sent) refl end.1)
 
-pub pipes_idle : (routers : ℕ) (rounds : List Round) (events : List Event) (w : World) (next : ℕ) → Pipes routers rounds events w next → StaysTrue w × Idle w next
+pub pipes_idle : (routers : ℕ) (rounds : List Round) (events : List Event) (w : World) (next : ℕ) → Pipes routers rounds events w next
+    → StaysTrue w × Idle w next
 pipes_idle routers _ _ _ _ (opens w run) = (
   run_keeps (start routers) w (openings 0 (length (start routers).nodes)) (start_good routers, start_moments routers) run,
   run_idle (start routers) (openings 0 (length (start routers).nodes)) w 0 (openings_still 0 (length (start routers).nodes)) (start_idle routers) run,
@@ -77,28 +81,23 @@ told_in id (t ∷ answered) there = by_place (in_cons id t.id (ids_told answered
     by_place (inl same) later = (t, in_first t answered, sym same)
     by_place (inr there) later = let x = later there in (x.0, in_later x.0 t answered x.1, x.2)
 
-right_whole : (history : List Entry) (a : Asked) (t : Answered) (write : WriteCommand) → command_of a.request ≡ Ok (write_command write) → IsRight history a t
-    → IsWhole history a.id write
-right_whole history a t write is (right_write other asks whole told) = let same : other ≡ write =
-    cc (asks, is) in subst (λ x. IsWhole history a.id x) same whole
-right_whole history a t write is (right_find find asks early told) = absurd (cc (asks, is))
-right_whole history a t write is (right_ahead find named asks at early told) = absurd (cc (asks, is))
-right_whole history a t write is (right_hello asks told) = absurd (cc (asks, is))
-right_whole history a t write is (right_legacy legacy asks told) = absurd (cc (asks, is))
-right_whole history a t write is (right_ping asks told) = absurd (cc (asks, is))
-right_whole history a t write is (right_end_sessions asks told) = absurd (cc (asks, is))
-right_whole history a t write is (right_refusal refusal asks told) = absurd (cc (asks, is))
-
 -- a write that was answered was served whole
 answered_served : (w : World) → StaysTrue w → (a : Asked) → IsIn a w.asked → IsAnswered w.answered a
-    → IsServed (entries_kept (journal_at w.nodes first_shard)) a
-answered_served w good a taken done write asks =
+    → IsServed (entries_kept (journal_at w.nodes first_shard)) w.asked w.answered a
+answered_served w good a taken done = λ write asks.
+    let creations : List Creation = creations_kept (journal_at w.nodes 0) in
+    let history : List Entry = entries_kept (journal_at w.nodes first_shard) in
     let one = makes_one_history w good in
     let told = told_in a.id w.answered done in
-    let right = all_at (IsRightOf (entries_kept (journal_at w.nodes first_shard)) w.asked) told.0 w.answered one.right told.1 in
-    let same : right.request ≡ a = one_asked right.request a w.asked one.one right.taken taken (right.own ∙ told.2) in
-    right_whole (entries_kept (journal_at w.nodes first_shard)) a told.0 write asks
-    (subst (λ x. IsRight (entries_kept (journal_at w.nodes first_shard)) x told.0) same right.right)
+    let to = told_to w.given creations history w.asked w.answered one told.0 told.1 in
+    let same : to.request ≡ a = one_asked to.request a w.asked one.one to.is.taken taken (to.is.own ∙ told.2) in
+    let its : command_of told.0.request ≡ Ok (write_command write) = ap (λ q. command_of q) (sym to.same) ∙ ap (λ (b : Asked). command_of b.request) same
+    ∙ asks in
+    let x = told_write w.given creations history w.asked w.answered one told.0 write told.1 its in
+    record {
+      whole = λ none. subst (λ id. IsWhole history id write) told.2 (x.whole none);
+      tells = record { answer = told.0; told = told.1; own = told.2; dones = x.dones; tells = x.tells };
+    }
 
 pub piped_requests_are_answered : (routers : ℕ) (rounds : List Round) (events : List Event) (w : World) (next : ℕ) → Pipes routers rounds events w next
     → AreAnswered w
@@ -106,7 +105,7 @@ piped_requests_are_answered routers rounds events w next pipes =
     let there = pipes_idle routers rounds events w next pipes in
     record {
       answered = there.1.asked;
-      served = all_within (IsAnswered w.answered) (IsServed (entries_kept (journal_at w.nodes first_shard))) w.asked
+      served = all_within (IsAnswered w.answered) (IsServed (entries_kept (journal_at w.nodes first_shard)) w.asked w.answered) w.asked
           (λ a taken done. answered_served w there.0 a taken done) there.1.asked;
       quiet = there.1.nodes;
     }
@@ -135,13 +134,13 @@ run_stays _ _ _ a was (goes u v w e es h run) = run_stays v es w a (happens_stay
 
 pub earlier_requests_stay_answered : (routers : ℕ) (rounds : List Round) (events : List Event) (u : World) (next : ℕ) → Pipes routers rounds events u next
     → (more : List Event) (w : World) → Run u more w
-    → AllByRecursion (IsAnswered w.answered) u.asked × AllByRecursion (IsServed (entries_kept (journal_at w.nodes first_shard))) u.asked
+    → AllByRecursion (IsAnswered w.answered) u.asked × AllByRecursion (IsServed (entries_kept (journal_at w.nodes first_shard)) w.asked w.answered) u.asked
 earlier_requests_stay_answered routers rounds events u next pipes more w run =
     let there = pipes_idle routers rounds events u next pipes in
     let good = run_keeps u w more there.0 run in (
       all_within (IsAnswered u.answered) (IsAnswered w.answered) u.asked
           (λ a taken done. (run_stays u more w a (record { taken = taken; done = done }) run).done) there.1.asked,
-      all_within (IsAnswered u.answered) (IsServed (entries_kept (journal_at w.nodes first_shard))) u.asked
+      all_within (IsAnswered u.answered) (IsServed (entries_kept (journal_at w.nodes first_shard)) w.asked w.answered) u.asked
           (λ a taken done.
           let now = run_stays u more w a (record { taken = taken; done = done }) run in
           answered_served w good a now.taken now.done) there.1.asked,

@@ -1,5 +1,6 @@
 -- A router leads on, or tells the answer.
-use Rattle.std.proofs.Common.{◌≡◌, ◌≢◌, ◌⊎◌, inl, inr, ℕ, ◌+◌, ◌≤◌, List, [], ◌∷◌, ◌++◌, length, refl, sym, ap, subst, ◌∙◌, arith, append-nil, length-append, Bool}
+use Rattle.std.proofs.Common.{◌≡◌, ◌≢◌, ◌⊎◌, inl, inr, ℕ, ◌+◌, ◌≤◌, List, [], ◌∷◌, ◌++◌, length, refl, sym, ap, subst, ◌∙◌, arith, append-nil, length-append}
+use Rattle.std.proofs.Common.{Bool}
 use Rattle.std.specs.Prelude.{Option, Some, None, true, false, ◌==◌, ◌&&◌, if◌then◌else◌}
 use Rattle.std.specs.List.{AllByRecursion, flat_map}
 use Rattle.std.specs.Str.{bytes_eq}
@@ -11,9 +12,13 @@ use Rattle.node_model.specs.Writes.{WriteKind}
 use Rattle.node_model.specs.History.{IsIn}
 use Rattle.node_model.specs.Exchanges.{RequestId}
 use Rattle.node_model.specs.Outcomes.{Done}
-use Rattle.node_model.specs.Letters.{At, Statement, Body, table_ask, table_told, write_ask, write_done, read_ask, half_ask, read_rows, stale, time_ask, time_told, Letter, letter_input, Reply, Effect, sends}
+use Rattle.node_model.specs.Letters.{At, Statement, Body, table_ask, table_told, write_ask, write_done, read_ask, half_ask, read_rows, stale, time_ask}
+use Rattle.node_model.specs.Letters.{time_told, Letter, letter_input, Reply, Effect, sends}
 use Rattle.node_model.specs.States.{Router, Work, writing, reading, for_time, for_table, for_shards, Open, open_with, without, replaced}
-use Rattle.node_model.specs.RouterRows.{id_of, heard, open_of, noted, with_work, going_on, asks_for, is_enough, enough_of, table_for, adopted, is_for, is_for_table, Next, stays, is_told, next_of, next_waiting, stay_in, letters_in, replies_in, reply_to, empty_answer, knows, AreNoNews, IsNoRead, IsNotAwaited, IsLate, TellsNothing, answers_now, RouterRow, router_learn, router_reach, router_ahead, router_note, router_wrote, router_read, router_late, router_skip}
+use Rattle.node_model.specs.RouterRows.{id_of, heard, open_of, noted, reached, with_work, going_on, asks_for, is_enough, enough_of, table_for, adopted}
+use Rattle.node_model.specs.RouterRows.{is_for, is_for_table, Next, stays, is_told, next_of, next_waiting, stay_in, letters_in, replies_in, reply_to}
+use Rattle.node_model.specs.RouterRows.{empty_answer, knows, AreNoNews, IsNoRead, IsNotAwaited, IsLate, TellsNothing, RouterRow, router_learn, router_reach}
+use Rattle.node_model.specs.RouterRows.{router_ahead, router_note, router_wrote, router_read, router_excess, router_overflow, router_late, router_skip}
 use Rattle.node_laws.proofs.KnownTables.{table_found, table_there, all_adopted}
 use Rattle.node_laws.proofs.OpenRequests.{open_of_found}
 use Rattle.node_laws.proofs.SeenStatements.{own_session}
@@ -25,7 +30,7 @@ use Rattle.node_progress.proofs.Asks.{Sends, IsFirst, shards_lead, asks_lead, Ar
 
 abbrev pub IsStated : Work → Type 0
 IsStated (writing kind ordered statements answers) = AreStated statements
-IsStated (reading at half) = Unit {0}
+IsStated (reading named at stages telling) = Unit {0}
 
 -- a router has this open request and no other
 pub record HasOne (r : Router) (q : Open) : Type 0 where
@@ -89,7 +94,7 @@ without_table : (r : Router) (q : Open) (at : At) (table : Option Table) (time :
     → ToldFits q.namespace at table work → table_for (adopted table r.tables) q.namespace work ≡ None
     → Becomes r q u (elim work as (λ (w : Work). Next) [
       | writing kind ordered statements answers ↦ stays q []
-      | reading told half ↦ if is_for at told then is_told (reply_to r time q (empty_answer q told)) else stays q []
+      | reading named told stages telling ↦ if is_for at told then is_told (reply_to r time q (empty_answer q told telling)) else stays q []
     ])
 without_table r q at table time u (writing kind ordered statements answers) same fits none =
     let there = table_there q.namespace fits.table r.tables fits.name in
@@ -97,8 +102,8 @@ without_table r q at table time u (writing kind ordered statements answers) same
     ap (λ o. table_for (adopted o r.tables) q.namespace (writing kind ordered statements answers)) fits.is
     ∙ ap (λ o. enough_of o (writing kind ordered statements answers)) there.1 in
     absurd (cc (some, none))
-without_table r q at table time u (reading told half) same fits none =
-    subst (λ (b : Bool). Becomes r q u (if b then is_told (reply_to r time q (empty_answer q told)) else stays q [])) (sym fits) refl
+without_table r q at table time u (reading named told stages telling) same fits none =
+    subst (λ (b : Bool). Becomes r q u (if b then is_told (reply_to r time q (empty_answer q told telling)) else stays q [])) (sym fits) refl
 
 enough_found : (o : Option Table) (work : Work) (t : Table) → enough_of o work ≡ Some t → (o ≡ Some t) × (is_enough t work ≡ true)
 enough_found None work t got = absurd (cc got)
@@ -163,10 +168,10 @@ going_goes r q p time work one same going =
     (ap (λ l. replaced (going_on r time q work) l) one.only ∙ replaced_one q (going_on r time q work) refl) refl going
     (record { letter = s.letter; mail = s.is; taken = refl; replies = refl; leads = s.leads }))
 
-over_goes : (r : Router) (q p : Open) (time : ℕ) (reply : Reply) → HasOne r q → p ≡ q → reply.id ≡ id_of r p.count
-    → Goes r q (answers_now reply) (knows r time r.tables (without p.count r.requests))
-over_goes r q p time reply one same own =
-    is_over reply (ap (λ l. without p.count l) one.only ∙ (ap (λ (x : Open). without x.count (q ∷ [])) same ∙ without_one q)) refl refl refl
+over_goes : (r : Router) (q p : Open) (reply : Reply) (f : Effect) (t : Router) → HasOne r q → p ≡ q → reply.id ≡ id_of r p.count
+    → t.requests ≡ without p.count r.requests → f.mail ≡ [] → f.taken ≡ [] → f.replies ≡ reply ∷ [] → Goes r q f t
+over_goes r q p reply f t one same own left mail taken replies =
+    is_over reply (left ∙ (ap (λ l. without p.count l) one.only ∙ (ap (λ (x : Open). without x.count (q ∷ [])) same ∙ without_one q))) mail taken replies
     (own ∙ ap (λ (x : Open). id_of r x.count) same)
 
 -- WHAT DOES NOT COME
@@ -193,25 +198,26 @@ news_come : (q : Open) (d : Done) (dones : List Done) → IsNext q.work d.index 
 news_come q d dones next late = by_work q.work next late
   where
     by_work : (work : Work) → IsNext work d.index
-        → (elim work as (λ (w : Work). Type 0) [ writing kind ordered statements answers ↦ noted answers (d ∷ dones) ≡ answers | reading at half ↦ Unit {0} ]) → ⊥
+        → (elim work as (λ (w : Work). Type 0)
+        [ writing kind ordered statements answers ↦ noted answers (d ∷ dones) ≡ answers | reading named at stages telling ↦ Unit {0} ]) → ⊥
     by_work (writing kind ordered statements answers) next late = noted_more answers dones d next late
-    by_work (reading at half) next late = next
+    by_work (reading named at stages telling) next late = next
 
 rows_come : (q : Open) (turn : ℕ) → IsReading q.work → turn ≡ 1 → IsNoRead (Some q) turn → ⊥
 rows_come q turn reads is late = by_work q.work reads late
   where
     by_work : (work : Work) → IsReading work
-        → (elim work as (λ (w : Work). Type 0) [ writing kind ordered statements answers ↦ Unit {0} | reading at half ↦ turn ≢ 1 ]) → ⊥
+        → (elim work as (λ (w : Work). Type 0) [ writing kind ordered statements answers ↦ Unit {0} | reading named at stages telling ↦ turn ≢ 1 ]) → ⊥
     by_work (writing kind ordered statements answers) reads late = reads
-    by_work (reading at half) reads late = late is
+    by_work (reading named at stages telling) reads late = late is
 
 time_comes : (q : Open) → IsReading q.work → q.wait ≡ for_time → IsNotAwaited (Some q) → ⊥
 time_comes q reads waits late = by_work q.work reads late
   where
     by_work : (work : Work) → IsReading work
-        → (elim work as (λ (w : Work). Type 0) [ writing kind ordered statements answers ↦ Unit {0} | reading at half ↦ q.wait ≢ for_time ]) → ⊥
+        → (elim work as (λ (w : Work). Type 0) [ writing kind ordered statements answers ↦ Unit {0} | reading named at stages telling ↦ q.wait ≢ for_time ]) → ⊥
     by_work (writing kind ordered statements answers) reads late = reads
-    by_work (reading at half) reads late = late waits
+    by_work (reading named at stages telling) reads late = late waits
 
 not_late : (r : Router) (q : Open) (to from : ℕ) (b : Body) → r.requests ≡ q ∷ [] → IsLate r b → LeadsBody r q to from b → ⊥
 not_late r q to from (table_ask namespace create at) only late leads = late
@@ -242,7 +248,8 @@ not_skipped r q to from (stale id turn met) place not_zero not_one none leads = 
 
 -- A ROW
 
-stated_of : (q : Open) (kind : WriteKind) (ordered : Bool) (statements : List Statement) (answers : List Done) → q.work ≡ writing kind ordered statements answers → IsStated q.work
+stated_of : (q : Open) (kind : WriteKind) (ordered : Bool) (statements : List Statement) (answers : List Done)
+    → q.work ≡ writing kind ordered statements answers → IsStated q.work
     → AreStated statements
 stated_of q kind ordered statements answers is stated = subst (λ w. IsStated w) is stated
 
@@ -252,19 +259,24 @@ router_goes : (r : Router) (q : Open) (m : Letter) (f : Effect) (t : Router) →
 router_goes _ q _ _ _ place not_zero not_one one first leads (router_learn r m namespace create at table says) =
     learn_goes r q m namespace create at table one (λ t is. first namespace create at t (says ∙ ap (λ o. table_told namespace create at o) is))
     (subst (λ b. LeadsBody r q m.receiver m.sender b) says leads)
-router_goes _ q _ _ _ place not_zero not_one one first leads (router_reach r m id p at half says found work waits reached) =
-    let same = open_is r q p id one.only found in
-    going_goes r q p (heard r m) p.work one same (subst (λ (x : Open). IsGoing x.work) (sym same) one.going)
-router_goes _ q _ _ _ place not_zero not_one one first leads (router_ahead r m id p at half says found work waits ahead) =
-    over_goes r q p (heard r m) _ one (open_is r q p id one.only found) refl
+router_goes _ q _ _ _ place not_zero not_one one first leads (router_reach r m id p named at stages telling says found work waits le) =
+    going_goes r q p (heard r m) (reached (heard r m) p.work) one (open_is r q p id one.only found)
+    (subst (λ w. IsGoing (reached (heard r m) w)) (sym work) tt)
+router_goes _ q _ _ _ place not_zero not_one one first leads (router_ahead r m id p named at stages telling says found work waits ahead) =
+    over_goes r q p _ _ _ one (open_is r q p id one.only found) refl refl refl refl refl
 router_goes _ q _ _ _ place not_zero not_one one first leads (router_note r m id dones p kind ordered statements answers says found work news more) =
     let same = open_is r q p id one.only found in
     going_goes r q p (heard r m) (writing kind ordered statements (noted answers dones)) one same
-    (going_of ordered statements (noted answers dones) (stated_of q kind ordered statements answers (ap (λ (x : Open). x.work) (sym same) ∙ work) one.stated) more)
+    (going_of ordered statements (noted answers dones)
+    (stated_of q kind ordered statements answers (ap (λ (x : Open). x.work) (sym same) ∙ work) one.stated) more)
 router_goes _ q _ _ _ place not_zero not_one one first leads (router_wrote r m id dones p kind ordered statements answers says found work news all) =
-    over_goes r q p (heard r m) _ one (open_is r q p id one.only found) refl
-router_goes _ q _ _ _ place not_zero not_one one first leads (router_read r m id rows p at half says found work) =
-    over_goes r q p (heard r m) _ one (open_is r q p id one.only found) refl
+    over_goes r q p _ _ _ one (open_is r q p id one.only found) refl refl refl refl refl
+router_goes _ q _ _ _ place not_zero not_one one first leads (router_read r m id rows p named at stages telling out answer f says found work merged tells) =
+    over_goes r q p _ _ _ one (open_is r q p id one.only found) refl refl refl refl refl
+router_goes _ q _ _ _ place not_zero not_one one first leads (router_excess r m id n p named at stages telling says found work) =
+    over_goes r q p _ _ _ one (open_is r q p id one.only found) refl refl refl refl refl
+router_goes _ q _ _ _ place not_zero not_one one first leads (router_overflow r m id p named at stages telling says found work) =
+    over_goes r q p _ _ _ one (open_is r q p id one.only found) refl refl refl refl refl
 router_goes _ q _ _ _ place not_zero not_one one first leads (router_late r m late) = absurd (not_late r q m.receiver m.sender m.body one.only late leads)
 router_goes _ q _ _ _ place not_zero not_one one first leads (router_skip r m none) =
     absurd (not_skipped r q m.receiver m.sender m.body place not_zero not_one none leads)

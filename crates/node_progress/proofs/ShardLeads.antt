@@ -1,6 +1,6 @@
 -- The shard leads on.
 use Rattle.std.proofs.Common.{◌≡◌, ◌≢◌, ◌⊎◌, inl, inr, ℕ, List, [], ◌∷◌, ◌++◌, refl, sym, ap, subst, ◌∙◌, Bool}
-use Rattle.std.specs.Prelude.{Option, Some, None, true, false, filter, not, if◌then◌else◌}
+use Rattle.std.specs.Prelude.{Option, Some, None, Ok, Err, true, false, filter, not, if◌then◌else◌}
 use Rattle.std.specs.Str.{bytes_eq}
 use Rattle.std.proofs.lemmas.Slice.Eq.{bytes_eq-Decides}
 use Rattle.node_model.specs.History.{StatementNumber, Entry}
@@ -8,13 +8,16 @@ use Rattle.node_model.specs.Tables.{Table, first_shard, table_of}
 use Rattle.node_model.specs.Verdicts.{Sent, fits, shard_is_old, router_is_old, sent_by, verdict_of}
 use Rattle.node_model.specs.Versions.{Version}
 use Rattle.node_model.specs.Exchanges.{RequestId}
-use Rattle.node_model.specs.Outcomes.{Done, done_of}
-use Rattle.node_model.specs.Letters.{Statement, Body, table_ask, table_told, write_ask, write_done, read_ask, half_ask, read_rows, stale, time_ask, time_told, Letter, letter_input, Effect}
+use Rattle.node_model.specs.Outcomes.{Done}
+use Rattle.node_model.specs.Letters.{Statement, half_overflow, half_excess, Body, table_ask, table_told, write_ask, write_done, read_ask, half_ask, read_rows}
+use Rattle.node_model.specs.Letters.{stale, time_ask, time_told, Letter, letter_input, Effect}
 use Rattle.node_model.specs.States.{Shard, Router, Open}
 use Rattle.node_model.specs.Service.{seen_before, Serves, serves_again, serves_new, ends_again, ends_new, Repeats, repeats, ends_repeat, documents_at}
-use Rattle.node_model.specs.ShardRows.{Ask, is_parked, ask_in, wants_table, tries, says, heard, AsksNothing, IsNoNews, is_news, asks_table as asks_for_table, ShardRow, shard_write, shard_repeat, shard_empty, shard_park, shard_waits, shard_stale, shard_read, shard_rows, shard_time, shard_learn, shard_known, shard_skip}
+use Rattle.node_model.specs.ShardRows.{Ask, is_parked, ask_in, wants_table, tries, says, heard, AsksNothing, IsNoNews, is_news, asks_table as asks_for_table}
+use Rattle.node_model.specs.ShardRows.{ShardRow, shard_write, shard_repeat, shard_empty, shard_park, shard_waits, shard_stale, shard_read, shard_rows}
+use Rattle.node_model.specs.ShardRows.{shard_excess, shard_overflow, shard_time, shard_learn, shard_known, shard_skip}
 use Rattle.chunk_model.proofs.OwnTables.{own_table as table_fits}
-use Rattle.node_laws.proofs.SeenStatements.{seen_found}
+use Rattle.node_laws.proofs.SeenStatements.{IsFound, found_entry, found_older, seen_found}
 use Rattle.node_progress.proofs.Leads.{IsNext, HasSent, IsAskOf, HasTable, LeadsBody, Fetches, Leads, Parks, Passes}
 
 -- the shard's table of the collection is the router's, where both have one
@@ -129,8 +132,12 @@ abbrev IsOfFirst : List Statement → Done → Type 0
 IsOfFirst [] d = ⊥
 IsOfFirst (s ∷ more) d = d.index ≡ s.number.index
 
-seen_index : (s : Statement) (entries : List Entry) (e : Entry) → seen_before s.number entries ≡ Some e → (done_of e).index ≡ s.number.index
-seen_index s entries e some = ap (λ (n : StatementNumber). n.index) (seen_found s.number entries e some).numbered
+found_index : (entries : List Entry) (number : StatementNumber) (d : Done) → IsFound entries number d → d.index ≡ number.index
+found_index entries number _ (found_entry e stands same) = ap (λ (n : StatementNumber). n.index) same
+found_index entries number _ (found_older e stands session less) = refl
+
+seen_index : (s : Statement) (entries : List Entry) (d : Done) → seen_before s.number entries ≡ Some d → d.index ≡ s.number.index
+seen_index s entries d some = found_index entries s.number d (seen_found s.number entries d some)
 
 served_first : (shard : ℕ) (namespace : List ℕ) (ordered : Bool) (entries : List Entry) (time : ℕ) (statements : List Statement) (d : Done)
     (dones : List Done) (made : List Entry) (last : ℕ)
@@ -250,13 +257,39 @@ unparked r q _ _ _ _ place me own parks one leads (shard_read s m id turn namesp
         leads = (me, l.1.0, l.1.2, l.1.3);
       };
     }
-unparked r q _ _ _ _ place me own parks one leads (shard_rows s m id turn namespace at half documents rows is makes) =
+unparked r q _ _ _ _ place me own parks one leads (shard_rows s m id turn namespace at half documents rows is makes few) =
     let l = subst (λ b. LeadsBody r q m.receiver m.sender b) is leads in
     record {
       parked = [];
       parks = (parks.0, inl refl);
       passes = record {
-        letter = says s id.router (heard s m) (read_rows id turn rows);
+        letter = says s id.router (heard s m) (read_rows id turn (Ok rows));
+        mail = refl;
+        taken = refl;
+        replies = refl;
+        leads = (ap (λ (i : RequestId). i.router) l.1, l.1, l.2, l.3);
+      };
+    }
+unparked r q _ _ _ _ place me own parks one leads (shard_excess s m id turn namespace at half documents rows length n is makes much told) =
+    let l = subst (λ b. LeadsBody r q m.receiver m.sender b) is leads in
+    record {
+      parked = [];
+      parks = (parks.0, inl refl);
+      passes = record {
+        letter = says s id.router (heard s m) (read_rows id turn (Err (half_excess n)));
+        mail = refl;
+        taken = refl;
+        replies = refl;
+        leads = (ap (λ (i : RequestId). i.router) l.1, l.1, l.2, l.3);
+      };
+    }
+unparked r q _ _ _ _ place me own parks one leads (shard_overflow s m id turn namespace at half documents is runs) =
+    let l = subst (λ b. LeadsBody r q m.receiver m.sender b) is leads in
+    record {
+      parked = [];
+      parks = (parks.0, inl refl);
+      passes = record {
+        letter = says s id.router (heard s m) (read_rows id turn (Err half_overflow));
         mail = refl;
         taken = refl;
         replies = refl;
@@ -317,7 +350,11 @@ parked_one r q p _ _ _ _ place me parks ask leads (shard_waits s m a is not_seen
 parked_one r q p _ _ _ _ place me parks ask leads (shard_stale s m a met is not_seen old) = absurd (fetch_no_ask q m.receiver m.sender m.body a is leads)
 parked_one r q p _ _ _ _ place me parks ask leads (shard_read s m id turn namespace at half sent is verdict) =
     absurd (subst (λ b. Fetches q m.receiver m.sender b) is leads)
-parked_one r q p _ _ _ _ place me parks ask leads (shard_rows s m id turn namespace at half documents rows is makes) =
+parked_one r q p _ _ _ _ place me parks ask leads (shard_rows s m id turn namespace at half documents rows is makes few) =
+    absurd (subst (λ b. Fetches q m.receiver m.sender b) is leads)
+parked_one r q p _ _ _ _ place me parks ask leads (shard_excess s m id turn namespace at half documents rows length n is makes much told) =
+    absurd (subst (λ b. Fetches q m.receiver m.sender b) is leads)
+parked_one r q p _ _ _ _ place me parks ask leads (shard_overflow s m id turn namespace at half documents is runs) =
     absurd (subst (λ b. Fetches q m.receiver m.sender b) is leads)
 parked_one r q p _ _ _ _ place me parks ask leads (shard_time s m id is) = absurd (subst (λ b. Fetches q m.receiver m.sender b) is leads)
 parked_one r q p _ _ _ _ place me parks ask leads (shard_learn s m namespace create at t is news) =

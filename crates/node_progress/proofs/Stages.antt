@@ -1,5 +1,6 @@
 -- One request is under way, or none is; a delivery keeps that.
-use Rattle.std.proofs.Common.{◌≡◌, ◌≢◌, ◌⊎◌, inl, inr, ℕ, zero, suc, ◌+◌, ◌<◌, List, [], ◌∷◌, ◌++◌, length, refl, sym, ap, subst, ◌∙◌, arith, append-nil, length-append, Bool}
+use Rattle.std.proofs.Common.{◌≡◌, ◌≢◌, ◌⊎◌, inl, inr, ℕ, zero, suc, ◌+◌, ◌<◌, List, [], ◌∷◌, ◌++◌, length, refl, sym, ap, subst, ◌∙◌, arith, append-nil}
+use Rattle.std.proofs.Common.{length-append, Bool}
 use Rattle.std.specs.Prelude.{Some}
 use Rattle.std.specs.List.{AllByRecursion, slice_get, slice_set}
 use Rattle.std.proofs.lemmas.Option.{slice_get_within}
@@ -17,13 +18,13 @@ use Rattle.node_model.specs.Steps.{Step, catalogue_step, shard_step, router_step
 use Rattle.node_model.specs.World.{Held, World, asked_by, answered_by, after, is_given, tick, Moves, journal_at, Happens, delivers, deliver_event}
 use Rattle.command_model.proofs.Taken.{operations_with_keys}
 use Rattle.node_model.proofs.Journals.{journal_got}
-use Rattle.node_laws.proofs.Views.{View, view_of, creations_in}
+use Rattle.node_laws.proofs.Views.{Book, View, view_of, creations_in}
 use Rattle.node_laws.proofs.Places.{EachAt, each_get, each_set}
-use Rattle.node_laws.proofs.Facts.{IsKnownTable, BodyFits, LetterFits, WorkFits, IsOpenOf, CatalogueFits, ShardFits, RouterFits, StateFits, HeldFits, IsMet, Good}
+use Rattle.node_laws.proofs.Facts.{IsKnownTable, BodyFits, WorkFits, IsOpenOf, CatalogueFits, ShardFits, RouterFits, StateFits, HeldFits, SentFits, Good}
 use Rattle.node_laws.proofs.Lists.{map_longer}
 use Rattle.node_laws.proofs.KnownTables.{table_found, one_creation}
 use Rattle.node_laws.proofs.CatalogueRows.{table_missing}
-use Rattle.node_laws.proofs.Neighbours.{the_begun}
+use Rattle.node_laws.proofs.Keeps.{the_begun}
 use Rattle.node_laws.proofs.Others.{told_more}
 use Rattle.node_laws.proofs.Runs.{fits_here, get_set, got_is_in}
 use Rattle.node_progress.specs.Completion.{IsQuiet, IsAnswered}
@@ -166,53 +167,54 @@ known_name v time namespace tables t all got =
     let k = all_at (IsKnownTable v time) t tables all found.stands in
     (k.creation, k.begun, k.table, ap (λ (u : Table). u.namespace) (sym k.table) ∙ found.name)
 
-fits_router : (w : World) (at : ℕ) (r : Router) (kept : List Kept) → Good w → slice_get w.nodes at ≡ Some (record { state = router_state r; kept = kept })
-    → RouterFits (view_of w.nodes) w.asked w.answered at r
-fits_router w at r kept good here = (fits_here w at (record { state = router_state r; kept = kept }) good here).state
+fits_router : (w : World) (book : Book) (at : ℕ) (r : Router) (kept : List Kept) → Good w book
+    → slice_get w.nodes at ≡ Some (record { state = router_state r; kept = kept })
+    → RouterFits (view_of w.nodes book) w.asked w.answered at r
+fits_router w book at r kept good here = (fits_here w book at (record { state = router_state r; kept = kept }) good here).state
 
-catalogue_knows : (w : World) (next p : ℕ) (kept : List Kept) (c : Catalogue) → Good w → (s : Waits w next)
+catalogue_knows : (w : World) (book : Book) (next p : ℕ) (kept : List Kept) (c : Catalogue) → Good w book → (s : Waits w next)
     → slice_get w.nodes p ≡ Some (record { state = catalogue_state c; kept = kept }) → IsKnownThere s.router s.request c
-catalogue_knows w next p kept c good s here t there missing =
-    let fits : CatalogueFits w.asked p kept c = (fits_here w p (record { state = catalogue_state c; kept = kept }) good here).state in
-    let r = fits_router w s.at s.router s.kept good s.here in
-    let k = known_name (view_of w.nodes) s.router.time s.request.namespace s.router.tables t r.tables there in
+catalogue_knows w book next p kept c good s here t there missing =
+    let fits : CatalogueFits w.asked p kept c = (fits_here w book p (record { state = catalogue_state c; kept = kept }) good here).state in
+    let r = fits_router w book s.at s.router s.kept good s.here in
+    let k = known_name (view_of w.nodes book) s.router.time s.request.namespace s.router.tables t r.tables there in
     let journal : journal_at w.nodes 0 ≡ kept =
     ap (λ n. journal_at w.nodes n) (sym fits.place) ∙ journal_got w.nodes p (record { state = catalogue_state c; kept = kept }) here in
     let none = table_missing s.request.namespace (creations_kept kept) (ap (λ l. table_of s.request.namespace l) (sym fits.tables) ∙ missing) in
     all_at (λ (d : Creation). d.namespace ≢ s.request.namespace) k.0 (creations_kept kept) none (subst (λ l. IsIn k.0 (creations_kept l)) journal k.1) k.3
 
-shard_agrees : (w : World) (next p : ℕ) (kept : List Kept) (x : Shard) → Good w → (s : Waits w next)
+shard_agrees : (w : World) (book : Book) (next p : ℕ) (kept : List Kept) (x : Shard) → Good w book → (s : Waits w next)
     → slice_get w.nodes p ≡ Some (record { state = shard_state x; kept = kept }) → AreOne s.router s.request x
-shard_agrees w next p kept x good s here t u there own =
-    let fits : ShardFits (view_of w.nodes) w.asked p kept x = (fits_here w p (record { state = shard_state x; kept = kept }) good here).state in
-    let r = fits_router w s.at s.router s.kept good s.here in
-    let k = known_name (view_of w.nodes) s.router.time s.request.namespace s.router.tables t r.tables there in
-    let l = known_name (view_of w.nodes) x.time s.request.namespace x.tables u fits.tables own in
-    let names = (the_begun (view_of w.nodes) w.asked w.answered w.given w.nodes good.order good.nodes).names in
-    l.2 ∙ (ap (λ c. first_table c) (one_creation l.0 k.0 (creations_in (view_of w.nodes)) names l.1 k.1 (l.3 ∙ sym k.3)) ∙ sym k.2)
+shard_agrees w book next p kept x good s here t u there own =
+    let fits : ShardFits (view_of w.nodes book) w.asked p kept x = (fits_here w book p (record { state = shard_state x; kept = kept }) good here).state in
+    let r = fits_router w book s.at s.router s.kept good s.here in
+    let k = known_name (view_of w.nodes book) s.router.time s.request.namespace s.router.tables t r.tables there in
+    let l = known_name (view_of w.nodes book) x.time s.request.namespace x.tables u fits.tables own in
+    let names = (the_begun (view_of w.nodes book) w.asked w.answered w.given w.nodes good.order good.nodes).names in
+    l.2 ∙ (ap (λ c. first_table c) (one_creation l.0 k.0 (creations_in (view_of w.nodes book)) names l.1 k.1 (l.3 ∙ sym k.3)) ∙ sym k.2)
 
-stated_work : (v : View) (a : Asked) (namespace : List ℕ) (work : Work) → WorkFits v a namespace work → IsStated work
-stated_work v a namespace (writing kind ordered statements answers) fits =
-    record { id = a.id; operations = fits.0.operations; are = fits.5; keys = operations_with_keys a.request fits.0 fits.1 }
-stated_work v a namespace (reading at half) fits = tt
+stated_work : (a : Asked) (namespace : List ℕ) (work : Work) → WorkFits a namespace work → IsStated work
+stated_work a namespace (writing kind ordered statements answers) fits =
+    record { given = fits.0.number; id = a.id; operations = fits.0.operations; are = fits.5; keys = operations_with_keys a.request fits.0 fits.1 }
+stated_work a namespace (reading named at stages telling) fits = tt
 
-has_one : (w : World) (next : ℕ) → Good w → (s : Waits w next) → HasOne s.router s.request
-has_one w next good s =
-    let r = fits_router w s.at s.router s.kept good s.here in
-    let o = all_at (IsOpenOf (view_of w.nodes) w.asked w.answered s.router) s.request s.router.requests r.requests
+has_one : (w : World) (book : Book) (next : ℕ) → Good w book → (s : Waits w next) → HasOne s.router s.request
+has_one w book next good s =
+    let r = fits_router w book s.at s.router s.kept good s.here in
+    let o = all_at (IsOpenOf (view_of w.nodes book) w.asked w.answered s.router) s.request s.router.requests r.requests
     (subst (λ l. IsIn s.request l) (sym s.only) (in_first s.request [])) in
     record {
       only = s.only;
       going = s.going;
-      stated = stated_work (view_of w.nodes) o.request s.request.namespace s.request.work o.work;
-      tables = first_of_known (view_of w.nodes) s.router.time s.router.tables r.tables;
+      stated = stated_work o.request s.request.namespace s.request.work o.work;
+      tables = first_of_known (view_of w.nodes book) s.router.time s.router.tables r.tables;
     }
 
-told_first : (w : World) (m : Letter) → Good w → IsIn m w.sent → (namespace : List ℕ) (create : Bool) (at : At) (t : Table)
+told_first : (w : World) (book : Book) (m : Letter) → Good w book → IsIn m w.sent → (namespace : List ℕ) (create : Bool) (at : At) (t : Table)
     → m.body ≡ table_told namespace create at (Some t) → IsFirst t
-told_first w m good there namespace create at t says =
-    let fits = (all_at (λ (m : Letter). LetterFits (view_of w.nodes) w.asked m × IsMet (view_of w.nodes) w.given m.time) m w.sent good.letters there).0 in
-    let table = subst (λ b. BodyFits (view_of w.nodes) w.asked m.sender m.receiver m.time b) says fits in
+told_first w book m good there namespace create at t says =
+    let fits = (all_at (SentFits (view_of w.nodes book) w.asked w.answered w.given) m w.sent good.letters there).0 in
+    let table = subst (λ b. BodyFits (view_of w.nodes book) w.asked m.sender m.receiver m.time b) says fits in
     (table.0.creation, table.0.table)
 
 -- A DELIVERY
@@ -243,19 +245,19 @@ both_each P Q i (x ∷ xs) p q = ((p.0, q.0), both_each P Q (i + 1) xs p.1 q.1)
 abbrev pub Stage : World → ℕ → Type 0
 Stage w next = Idle w next ⊎ Waits w next
 
-module _ (w : World) (next p : ℕ) (i : Input) (good : Good w) (s : Waits w next) where
+module _ (w : World) (book : Book) (next p : ℕ) (i : Input) (good : Good w book) (s : Waits w next) where
   from_zero : 0 + p ≡ p
   from_zero = omega arith
 
   -- the router's place is not that of the catalogue or the shard
   elsewhere : (n : ℕ) → p ≡ n → n < 2 → s.at ≢ p
   elsewhere n is less same =
-      let place = (fits_router w s.at s.router s.kept good s.here).place in
+      let place = (fits_router w book s.at s.router s.kept good s.here).place in
       omega (arith, place, same, is, less)
 
   not_me : (n : ℕ) → n < 2 → s.router.me ≢ n
   not_me n less same =
-      let fits = fits_router w s.at s.router s.kept good s.here in
+      let fits = fits_router w book s.at s.router s.kept good s.here in
       let own = fits.own in
       let place = fits.place in
       omega (arith, own, place, same, less)
@@ -301,12 +303,12 @@ module _ (w : World) (next p : ℕ) (i : Input) (good : Good w) (s : Waits w nex
   by_router kept r t f here place none (is_over reply requests mail taken replies own) =
       inl (is_idle w next p i (record { state = router_state r; kept = kept }) f (router_state t) s reply
       (all_of_each (λ (h : Held). IsQuiet h.state) 0 (slice_set w.nodes p (record { state = router_state t; kept = kept ++ f.written }))
-      (each_set (λ j (h : Held). HeldFits (view_of w.nodes) w.asked w.answered w.given j h × IsElse s.at s.parked s.request.namespace j h.state)
+      (each_set (λ j (h : Held). HeldFits (view_of w.nodes book) w.asked w.answered w.given j h × IsElse s.at s.parked s.request.namespace j h.state)
       (λ j (h : Held). IsQuiet h.state) 0 p w.nodes (record { state = router_state t; kept = kept ++ f.written })
-      (λ j h other e. else_quiet (view_of w.nodes) w.asked w.answered s.at s.parked s.request.namespace j h.kept h.state none
+      (λ j h other e. else_quiet (view_of w.nodes book) w.asked w.answered s.at s.parked s.request.namespace j h.kept h.state none
       (λ same. other (same ∙ (sym place ∙ sym from_zero))) e.0.state e.1)
       requests
-      (both_each (HeldFits (view_of w.nodes) w.asked w.answered w.given)
+      (both_each (HeldFits (view_of w.nodes book) w.asked w.answered w.given)
       (λ j (h : Held). IsElse s.at s.parked s.request.namespace j h.state) 0 w.nodes good.nodes s.nodes)))
       mail taken replies own)
 
@@ -320,51 +322,54 @@ same_router nodes p at r u kept more place here there =
     let states : router_state r ≡ router_state u = ap (λ (h : Held). h.state) held in
     cc states
 
-step_stage : (w : World) (next : ℕ) → Good w → (s : Waits w next) → (p : ℕ) (kept : List Kept) (old : NodeState) (f : Effect) (new : NodeState)
+step_stage : (w : World) (book : Book) (next : ℕ) → Good w book → (s : Waits w next)
+    → (p : ℕ) (kept : List Kept) (old : NodeState) (f : Effect) (new : NodeState)
     → slice_get w.nodes p ≡ Some (record { state = old; kept = kept })
     → s.letter.receiver ≡ p → Step old (letter_input s.letter) f new
     → Stage (tick (after (is_given w p (letter_input s.letter)) p (record { state = old; kept = kept }) f new)) (next + 1)
-step_stage w next good s p kept _ _ _ here to (catalogue_step c d i f own row) =
-    let fits : CatalogueFits w.asked p kept c = (fits_here w p (record { state = catalogue_state c; kept = kept }) good here).state in
-    by_catalogue w next p (letter_input s.letter) good s kept c d f here fits.place
-    (catalogue_leads s.router s.request s.parked c s.letter f d (to ∙ fits.place) (not_me w next p (letter_input s.letter) good s 0 (omega arith))
-    (catalogue_knows w next p kept c good s here) s.leads row)
-step_stage w next good s p kept _ _ _ here to (shard_step x y i f own row) =
-    let fits : ShardFits (view_of w.nodes) w.asked p kept x = (fits_here w p (record { state = shard_state x; kept = kept }) good here).state in
+step_stage w book next good s p kept _ _ _ here to (catalogue_step c d i f own row) =
+    let fits : CatalogueFits w.asked p kept c = (fits_here w book p (record { state = catalogue_state c; kept = kept }) good here).state in
+    by_catalogue w book next p (letter_input s.letter) good s kept c d f here fits.place
+    (catalogue_leads s.router s.request s.parked c s.letter f d (to ∙ fits.place) (not_me w book next p (letter_input s.letter) good s 0 (omega arith))
+    (catalogue_knows w book next p kept c good s here) s.leads row)
+step_stage w book next good s p kept _ _ _ here to (shard_step x y i f own row) =
+    let fits : ShardFits (view_of w.nodes book) w.asked p kept x = (fits_here w book p (record { state = shard_state x; kept = kept }) good here).state in
     let from_zero : 0 + p ≡ p = omega arith in
     let parks = (each_get (λ j (h : Held). IsElse s.at s.parked s.request.namespace j h.state) 0 p w.nodes
     (record { state = shard_state x; kept = kept }) s.nodes here) (from_zero ∙ fits.place) in
-    by_shard w next p (letter_input s.letter) good s kept x y f here fits.place
+    by_shard w book next p (letter_input s.letter) good s kept x y f here fits.place
     (shard_leads s.router s.request s.parked x s.letter f y (to ∙ fits.place) (fits.own ∙ fits.place)
-    (not_me w next p (letter_input s.letter) good s 1 (omega arith)) parks (shard_agrees w next p kept x good s here) s.leads row)
-step_stage w next good s p kept _ _ _ here to (router_step r t i f own row) =
-    let fits = fits_router w p r kept good here in
-    let home = fits_router w s.at s.router s.kept good s.here in
+    (not_me w book next p (letter_input s.letter) good s 1 (omega arith)) parks (shard_agrees w book next p kept x good s here) s.leads row)
+step_stage w book next good s p kept _ _ _ here to (router_step r t i f own row) =
+    let fits = fits_router w book p r kept good here in
+    let home = fits_router w book s.at s.router s.kept good s.here in
     let place : p ≡ s.router.me =
     router_place p s.router.me fits.place
     (subst (λ k. (k ≡ 0) ⊎ ((k ≡ 1) ⊎ (k ≡ s.router.me))) to (goes_to s.router s.request s.parked s.letter s.leads)) in
     let same : r ≡ s.router = same_router w.nodes p s.at r s.router kept s.kept (place ∙ home.own) here s.here in
-    let goes = router_leads s.router s.request s.parked s.letter f t (to ∙ place) (not_me w next p (letter_input s.letter) good s 0 (omega arith))
-    (not_me w next p (letter_input s.letter) good s 1 (omega arith)) (has_one w next good s)
-    (told_first w s.letter good (got_is_in w.sent next s.letter s.got)) s.leads (subst (λ x. RouterRow x (letter_input s.letter) f t) same row) in
-    by_router w next p (letter_input s.letter) good s kept r t f here (place ∙ home.own) goes.1 goes.0
-step_stage w next good s p kept _ _ _ here to (begin_step r q i f early before row) = absurd before
-step_stage w next good s p kept old _ _ here to (other_step x m other) =
-    absurd (other (to ∙ sym (is_at (view_of w.nodes) w.asked w.answered p kept x (fits_here w p (record { state = x; kept = kept }) good here).state)))
+    let goes = router_leads s.router s.request s.parked s.letter f t (to ∙ place) (not_me w book next p (letter_input s.letter) good s 0 (omega arith))
+    (not_me w book next p (letter_input s.letter) good s 1 (omega arith)) (has_one w book next good s)
+    (told_first w book s.letter good (got_is_in w.sent next s.letter s.got)) s.leads (subst (λ x. RouterRow x (letter_input s.letter) f t) same row) in
+    by_router w book next p (letter_input s.letter) good s kept r t f here (place ∙ home.own) goes.1 goes.0
+step_stage w book next good s p kept _ _ _ here to (begin_step r q i f early before row) = absurd before
+step_stage w book next good s p kept old _ _ here to (other_step x m other) =
+    absurd (other (to ∙ sym (is_at (view_of w.nodes book) w.asked w.answered p kept x
+    (fits_here w book p (record { state = x; kept = kept }) good here).state)))
 
-delivered : (w v : World) (next p : ℕ) (m : Letter) → Good w → Stage w next → slice_get w.sent next ≡ Some m → m.receiver ≡ p → Moves w p (letter_input m) v
+delivered : (w v : World) (book : Book) (next p : ℕ) (m : Letter) → Good w book → Stage w next → slice_get w.sent next ≡ Some m → m.receiver ≡ p
+    → Moves w p (letter_input m) v
     → Stage v (next + 1)
-delivered w v next p m good (inl idle) got to moves =
+delivered w v book next p m good (inl idle) got to moves =
     let b = slice_get_within w.sent next m got in
     let l = idle.left in
     absurd (omega (arith, b, l))
-delivered w v next p m good (inr s) got to moves =
+delivered w v book next p m good (inr s) got to moves =
     let both : Some s.letter ≡ Some m = sym s.got ∙ got in
     let same : s.letter ≡ m = cc both in
     subst (λ x. Stage x (next + 1)) (sym moves.then)
     (subst (λ (l : Letter). l.receiver ≡ p → Step moves.old.state (letter_input l) moves.f moves.new
     → Stage (tick (after (is_given w p (letter_input l)) p moves.old moves.f moves.new)) (next + 1)) same
-    (λ there step. step_stage w next good s p moves.old.kept moves.old.state moves.f moves.new moves.here there step) to moves.step)
+    (λ there step. step_stage w book next good s p moves.old.kept moves.old.state moves.f moves.new moves.here there step) to moves.step)
 
-pub delivery_keeps : (w v : World) (next p : ℕ) → Good w → Stage w next → Happens w (deliver_event p next) v → Stage v (next + 1)
-delivery_keeps _ _ _ _ good stage (delivers w v at which m got to moves) = delivered w v which at m good stage got to moves
+pub delivery_keeps : (w v : World) (book : Book) (next p : ℕ) → Good w book → Stage w next → Happens w (deliver_event p next) v → Stage v (next + 1)
+delivery_keeps _ _ book _ _ good stage (delivers w v at which m got to moves) = delivered w v book which at m good stage got to moves

@@ -1,24 +1,30 @@
 -- A request that comes is answered at once, or is under way.
-use Rattle.std.proofs.Common.{◌≡◌, ◌≢◌, ◌⊎◌, inl, inr, ℕ, ℤ, ◌+◌, List, [], ◌∷◌, ◌++◌, length, refl, sym, ap, subst, ◌∙◌, arith, append-nil, length-append, Bool}
-use Rattle.std.specs.Prelude.{Some, Result, Ok, Err}
+use Rattle.std.proofs.Common.{◌≡◌, ◌≢◌, ◌⊎◌, inl, inr, ℕ, ℤ, ◌+◌, List, [], ◌∷◌, ◌++◌, length, refl, sym, ap, subst, ◌∙◌, arith, append-nil, length-append}
+use Rattle.std.proofs.Common.{Bool}
+use Rattle.std.specs.Prelude.{Option, Some, None, Result, Ok, Err, true, false, max, ◌||◌}
 use Rattle.std.specs.List.{AllByRecursion, slice_get}
+use Rattle.std.specs.Option.{unwrap_or}
 use Rattle.history_model.proofs.Lists.{all_weaken, all_append, in_first, in_back}
 use Rattle.node_model.specs.Requests.{Request}
 use Rattle.node_model.specs.Refusals.{Refusal}
-use Rattle.node_model.specs.Command.{Command, hello_command, legacy_command, ping_command, end_sessions_command, write_command, find_command, command_of}
-use Rattle.node_model.specs.Writes.{WriteKind}
+use Rattle.node_model.specs.Command.{Command, hello_command, legacy_command, ping_command, end_sessions_command, write_command, find_command, count_command}
+use Rattle.node_model.specs.Command.{more_command, kill_command, command_of}
+use Rattle.node_model.specs.Reading.{Reading}
+use Rattle.node_model.specs.Right.{usual_size}
+use Rattle.node_model.specs.Writes.{ClientNumber, WriteKind}
 use Rattle.node_model.specs.History.{Operation, IsIn}
 use Rattle.node_model.specs.Exchanges.{RequestId, Asked, Answered}
 use Rattle.node_model.specs.OneHistory.{ids_told}
 use Rattle.node_model.specs.Journal.{Kept, kept_life}
 use Rattle.node_model.specs.Letters.{Letter, Input, client_input, Taken, Reply, Effect, writes, both}
-use Rattle.node_model.specs.States.{Router, Work, writing, Open, NodeState, catalogue_state, shard_state, router_state}
-use Rattle.node_model.specs.RouterRows.{needs, plan_of, statements_from, opened_request, taken_now, takes, id_of, begins as in_life, RouterRow, router_plain, router_take}
+use Rattle.node_model.specs.States.{Telling, in_batches, as_number, Router, Work, writing, reading, Open, NodeState, catalogue_state, shard_state, router_state}
+use Rattle.node_model.specs.RouterRows.{needs, plan_of, statements_from, opened_request, taken_now, takes, id_of, begins as in_life, RouterRow, router_plain}
+use Rattle.node_model.specs.RouterRows.{router_more, router_no_cursor, router_kill, router_take}
 use Rattle.node_model.specs.Steps.{Step, catalogue_step, shard_step, router_step, begin_step}
 use Rattle.node_model.specs.World.{Held, World, asked_by, answered_by, after, is_given, tick, IsRouter, Happens, comes, client_event}
 use Rattle.command_model.proofs.Taken.{some_operations, operations_with_keys}
 use Rattle.command_model.proofs.Judged.{HasKey}
-use Rattle.node_laws.proofs.Views.{view_of}
+use Rattle.node_laws.proofs.Views.{Book, view_of}
 use Rattle.node_laws.proofs.Places.{EachAt, each_set}
 use Rattle.node_laws.proofs.Facts.{RouterFits, Good}
 use Rattle.node_laws.proofs.Lists.{map_longer}
@@ -36,24 +42,40 @@ use Rattle.node_progress.proofs.Stages.{IsElse, Waits, Stage, get_behind, first_
 same_plan : {n m : List ℕ} {a b : Work} → needs n a ≡ needs m b → a ≡ b
 same_plan e = cc e
 
-write_goes : (id : RequestId) (kind : WriteKind) (ordered : Bool) (operations : List Operation) → operations ≢ [] → AllByRecursion HasKey operations
-    → IsGoing (writing kind ordered (statements_from id 0 operations) [])
-write_goes id kind ordered [] some keys = absurd (some refl)
-write_goes id kind ordered (operation ∷ operations) some keys =
-    going_of ordered (statements_from id 0 (operation ∷ operations)) [] (record { id = id; operations = operation ∷ operations; are = refl; keys = keys }) refl
+write_goes : (given : Option ClientNumber) (id : RequestId) (kind : WriteKind) (ordered : Bool) (operations : List Operation) → operations ≢ []
+    → AllByRecursion HasKey operations
+    → IsGoing (writing kind ordered (statements_from given id 0 operations) [])
+write_goes given id kind ordered [] some keys = absurd (some refl)
+write_goes given id kind ordered (operation ∷ operations) some keys =
+    going_of ordered (statements_from given id 0 (operation ∷ operations)) [] (record
+    { given = given; id = id; operations = operation ∷ operations; are = refl; keys = keys }) refl
+
+-- a read is of some time
+read_goes : (r : Router) (read : Reading) (telling : Telling) (at : Option ℕ) → IsGoing (elim at as (λ (o : Option ℕ). Work) [
+  | None ↦ reading false (max r.time (unwrap_or read.after 0)) read.stages telling
+  | Some named ↦ reading true named read.stages telling
+])
+read_goes r read telling None = tt
+read_goes r read telling (Some named) = tt
 
 -- a request with work to do has a first thing to do
-plan_goes : (r : Router) (id : RequestId) (request : Request) (namespace : List ℕ) (work : Work) (o : Result Command Refusal) → command_of request ≡ o
-    → plan_of r id o ≡ needs namespace work → IsGoing work
-plan_goes r id request namespace work (Err refusal) is plan = absurd (cc plan)
-plan_goes r id request namespace work (Ok hello_command) is plan = absurd (cc plan)
-plan_goes r id request namespace work (Ok (legacy_command legacy)) is plan = absurd (cc plan)
-plan_goes r id request namespace work (Ok ping_command) is plan = absurd (cc plan)
-plan_goes r id request namespace work (Ok end_sessions_command) is plan = absurd (cc plan)
-plan_goes r id request namespace work (Ok (write_command write)) is plan =
+plan_goes : (r : Router) (id : RequestId) (silent : Bool) (request : Request) (namespace : List ℕ) (work : Work) (o : Result Command Refusal)
+    → command_of request ≡ o
+    → plan_of r id silent o ≡ needs namespace work → IsGoing work
+plan_goes r id silent request namespace work (Err refusal) is plan = absurd (cc plan)
+plan_goes r id silent request namespace work (Ok hello_command) is plan = absurd (cc plan)
+plan_goes r id silent request namespace work (Ok (legacy_command legacy)) is plan = absurd (cc plan)
+plan_goes r id silent request namespace work (Ok ping_command) is plan = absurd (cc plan)
+plan_goes r id silent request namespace work (Ok end_sessions_command) is plan = absurd (cc plan)
+plan_goes r id silent request namespace work (Ok (write_command write)) is plan =
     subst (λ w. IsGoing w) (same_plan plan)
-    (write_goes id write.kind write.ordered write.operations (some_operations request write is) (operations_with_keys request write is))
-plan_goes r id request namespace work (Ok (find_command find)) is plan = subst (λ w. IsGoing w) (same_plan plan) tt
+    (write_goes write.number id write.kind write.ordered write.operations (some_operations request write is) (operations_with_keys request write is))
+plan_goes r id silent request namespace work (Ok (find_command find)) is plan =
+    subst (λ w. IsGoing w) (same_plan plan)
+    (read_goes r find.reading (in_batches (unwrap_or find.batches.size usual_size) (find.batches.single || silent)) find.reading.at)
+plan_goes r id silent request namespace work (Ok (count_command read)) is plan = subst (λ w. IsGoing w) (same_plan plan) (read_goes r read as_number read.at)
+plan_goes r id silent request namespace work (Ok (more_command get)) is plan = absurd (cc plan)
+plan_goes r id silent request namespace work (Ok (kill_command kill)) is plan = absurd (cc plan)
 
 -- THE ROWS
 
@@ -65,8 +87,14 @@ client_begins : (r : Router) (link : ℕ) (number : ℤ) (request : Request) (f 
     → RouterRow r (client_input link number request) f t → Begins f t
 client_begins _ _ _ _ _ _ quiet firsts (router_plain r link number request answer begun plan) =
     at_once (taken_now r link number request) _ (ap (λ l. l ++ []) quiet) refl refl refl refl
+client_begins _ _ _ _ _ _ quiet firsts (router_more r link number request get c batch next begun plan found shows) =
+    at_once (taken_now r link number request) _ (ap (λ l. l ++ []) quiet) refl refl refl refl
+client_begins _ _ _ _ _ _ quiet firsts (router_no_cursor r link number request get begun plan none) =
+    at_once (taken_now r link number request) _ (ap (λ l. l ++ []) quiet) refl refl refl refl
+client_begins _ _ _ _ _ _ quiet firsts (router_kill r link number request kill killed missing next begun plan ends) =
+    at_once (taken_now r link number request) _ (ap (λ l. l ++ []) quiet) refl refl refl refl
 client_begins _ _ _ _ _ _ quiet firsts (router_take r link number request namespace work begun plan) =
-    let going = plan_goes r (id_of r (r.count + 1)) request namespace work (command_of request) refl plan in
+    let going = plan_goes r (id_of r (r.count + 1)) request.more request namespace work (command_of request) refl plan in
     waits (taken_now r link number request) (opened_request r link number request namespace work)
     (ap (λ l. l ++ opened_request r link number request namespace work ∷ []) quiet) going refl refl
     (asks_lead r (takes r (opened_request r link number request namespace work ∷ [])) r.time
@@ -142,37 +170,39 @@ module _ (w : World) (next at : ℕ) (i : Input) (old : Held) (f : Effect) (t : 
   begun_stage (at_once x reply requests mail taken replies own) = inl (begun_idle x reply requests mail taken replies own)
   begun_stage (waits x q requests going taken own sends) = inr (begun_waits x q requests going taken own sends)
 
-client_stage : (w : World) (next at link : ℕ) (number : ℤ) (request : Request) → Good w → Idle w next
+client_stage : (w : World) (book : Book) (next at link : ℕ) (number : ℤ) (request : Request) → Good w book → Idle w next
     → (kept : List Kept) (old : NodeState) (f : Effect) (new : NodeState) → IsRouter w.nodes at
     → slice_get w.nodes at ≡ Some (record { state = old; kept = kept }) → Step old (client_input link number request) f new
     → Stage (tick (after (is_given w at (client_input link number request)) at (record { state = old; kept = kept }) f new)) next
-client_stage w next at link number request good idle kept _ _ _ is here (catalogue_step c d i f own row) =
+client_stage w book next at link number request good idle kept _ _ _ is here (catalogue_step c d i f own row) =
     let both_held : Some (record { state = catalogue_state c; kept = kept }) ≡ Some (record { state = router_state is.0; kept = is.1 }) = sym here ∙ is.2 in
     let held : record { state = catalogue_state c; kept = kept } ≡ record { state = router_state is.0; kept = is.1 } = cc both_held in
     let states : catalogue_state c ≡ router_state is.0 = ap (λ (h : Held). h.state) held in
     absurd (cc states)
-client_stage w next at link number request good idle kept _ _ _ is here (shard_step c d i f own row) =
+client_stage w book next at link number request good idle kept _ _ _ is here (shard_step c d i f own row) =
     let both_held : Some (record { state = shard_state c; kept = kept }) ≡ Some (record { state = router_state is.0; kept = is.1 }) = sym here ∙ is.2 in
     let held : record { state = shard_state c; kept = kept } ≡ record { state = router_state is.0; kept = is.1 } = cc both_held in
     let states : shard_state c ≡ router_state is.0 = ap (λ (h : Held). h.state) held in
     absurd (cc states)
-client_stage w next at link number request good idle kept _ _ _ is here (router_step r t i f own row) =
-    let fits : RouterFits (view_of w.nodes) w.asked w.answered at r = (fits_here w at (record { state = router_state r; kept = kept }) good here).state in
+client_stage w book next at link number request good idle kept _ _ _ is here (router_step r t i f own row) =
+    let fits : RouterFits (view_of w.nodes book) w.asked w.answered at r =
+    (fits_here w book at (record { state = router_state r; kept = kept }) good here).state in
     begun_stage w next at (client_input link number request) (record { state = router_state r; kept = kept }) f t idle here
     (client_begins r link number request f t
     (all_got (λ (h : Held). IsQuiet h.state) w.nodes at (record { state = router_state r; kept = kept }) here idle.nodes)
-    (first_of_known (view_of w.nodes) r.time r.tables fits.tables) row)
-client_stage w next at link number request good idle kept _ _ _ is here (begin_step r t i f early before row) =
-    let fits : RouterFits (view_of w.nodes) w.asked w.answered at r = (fits_here w at (record { state = router_state r; kept = kept }) good here).state in
+    (first_of_known (view_of w.nodes book) r.time r.tables fits.tables) row)
+client_stage w book next at link number request good idle kept _ _ _ is here (begin_step r t i f early before row) =
+    let fits : RouterFits (view_of w.nodes book) w.asked w.answered at r =
+    (fits_here w book at (record { state = router_state r; kept = kept }) good here).state in
     begun_stage w next at (client_input link number request) (record { state = router_state r; kept = kept })
     (both (writes (kept_life r.life ∷ []) []) f) t idle here
     (both_begins (writes (kept_life r.life ∷ []) []) f t refl refl refl
     (client_begins (in_life r) link number request f t
     (all_got (λ (h : Held). IsQuiet h.state) w.nodes at (record { state = router_state r; kept = kept }) here idle.nodes)
-    (first_of_known (view_of w.nodes) r.time r.tables fits.tables) row))
+    (first_of_known (view_of w.nodes book) r.time r.tables fits.tables) row))
 
-pub request_stage : (w v : World) (next at link : ℕ) (number : ℤ) (request : Request) → Good w → Idle w next
+pub request_stage : (w v : World) (book : Book) (next at link : ℕ) (number : ℤ) (request : Request) → Good w book → Idle w next
     → Happens w (client_event at link number request) v → Stage v next
-request_stage _ _ next _ _ _ _ good idle (comes w v at link number request is moves) =
+request_stage _ _ book next _ _ _ _ good idle (comes w v at link number request is moves) =
     subst (λ x. Stage x next) (sym moves.then)
-    (client_stage w next at link number request good idle moves.old.kept moves.old.state moves.f moves.new is moves.here moves.step)
+    (client_stage w book next at link number request good idle moves.old.kept moves.old.state moves.f moves.new is moves.here moves.step)

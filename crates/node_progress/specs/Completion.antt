@@ -1,12 +1,13 @@
 -- What it means that whatever was asked is answered.
-use Rattle.std.specs.Prelude.{◌≡◌, List, [], Ok}
+use Rattle.std.specs.Prelude.{◌≡◌, List, [], None, Ok}
 use Rattle.std.specs.List.{AllByRecursion}
 use Rattle.node_model.specs.Writes.{WriteCommand}
 use Rattle.node_model.specs.Command.{write_command, command_of}
 use Rattle.node_model.specs.Tables.{first_shard}
 use Rattle.node_model.specs.History.{Entry, IsIn}
 use Rattle.node_model.specs.Exchanges.{Asked, Answered}
-use Rattle.node_model.specs.Right.{IsWhole}
+use Rattle.node_model.specs.Right.{AreTold, IsWhole}
+use Rattle.node_model.specs.Outcomes.{Done}
 use Rattle.node_model.specs.OneHistory.{ids_told}
 use Rattle.node_model.specs.Journal.{entries_kept}
 use Rattle.node_model.specs.States.{NodeState, catalogue_state, shard_state, router_state}
@@ -22,12 +23,25 @@ IsQuiet (router_state r) = r.requests ≡ []
 abbrev pub IsAnswered : List Answered → Asked → Type 0
 IsAnswered answered a = IsIn a.id (ids_told answered)
 
--- of a write all statements stand, up to the error that ends an ordered one, also where no reply is put
-abbrev pub IsServed : List Entry → Asked → Type 0
-IsServed history a = (write : WriteCommand) → command_of a.request ≡ Ok (write_command write) → IsWhole history a.id write
+-- its statements, or those up to the error that ends it, are told by entries that stand
+pub record HasToldAll (history : List Entry) (asked : List Asked) (answered : List Answered) (a : Asked) (write : WriteCommand) : Type 0 where
+  pub answer : Answered
+  pub told : IsIn answer answered
+  pub own : answer.id ≡ a.id
+  pub dones : List Done
+  pub tells : AreTold history asked answer write 0 write.operations dones
 
--- Every request that was taken is answered, every write among them stands whole, and nothing is under way.
+-- Of a write without a client's number all statements stand, up to the error that ends an ordered one. Of each write the statements are told
+-- by entries that stand, under their numbers or of a greater transaction. Both also where no reply is put.
+pub record IsServedAs (history : List Entry) (asked : List Asked) (answered : List Answered) (a : Asked) (write : WriteCommand) : Type 0 where
+  pub whole : write.number ≡ None → IsWhole history a.id write
+  pub tells : HasToldAll history asked answered a write
+
+abbrev pub IsServed : List Entry → List Asked → List Answered → Asked → Type 0
+IsServed history asked answered a = (write : WriteCommand) → command_of a.request ≡ Ok (write_command write) → IsServedAs history asked answered a write
+
+-- Every request that was taken is answered, every write among them is served, and nothing is under way.
 pub record AreAnswered (w : World) : Type 0 where
   pub answered : AllByRecursion (IsAnswered w.answered) w.asked
-  pub served : AllByRecursion (IsServed (entries_kept (journal_at w.nodes first_shard))) w.asked
+  pub served : AllByRecursion (IsServed (entries_kept (journal_at w.nodes first_shard)) w.asked w.answered) w.asked
   pub quiet : AllByRecursion (λ (h : Held). IsQuiet h.state) w.nodes

@@ -1,6 +1,6 @@
 -- What the node, its messages and its inputs are by the definitions.
-use Rattle.std.specs.Prelude.{pos, [], true}
-use Rattle.node_traits.specs.Letters.{Letter, read_rows}
+use Rattle.std.specs.Prelude.{pos, [], Err, true}
+use Rattle.node_traits.specs.Letters.{Letter, half_overflow, read_rows}
 use Rattle.node_traits.specs.Letters as model
 use Rattle.node_traits.specs.Letters.{client_input, letter_input, moment_input, opened_input}
 use Rattle.node_traits.specs.Requests.{Request, msg_form, read_body}
@@ -15,7 +15,7 @@ abbrev pub idle_state : Idle → NodeState
 idle_state node = catalogue_state (record { me = node.me.0; time = 0; tables = [] })
 
 abbrev pub silent_letter : Silent → Letter
-silent_letter m = record { sender = 0; receiver = m.to.0; time = 0; body = read_rows (record { router = 0; life = 0; count = 0 }) 0 [] }
+silent_letter m = record { sender = 0; receiver = m.to.0; time = 0; body = read_rows (record { router = 0; life = 0; count = 0 }) 0 (Err half_overflow) }
 
 -- a request without a field, which wants no reply
 abbrev pub request_of_nothing : Request

@@ -14,7 +14,7 @@ use std::thread::Threads;
 /// The count of steps at the last step.
 const LAST: u64 = (1 << 56) - 1;
 
-/// Rows of no request, which a catalogue passes over.
+/// The answer to a read of no request, which a catalogue passes over.
 #[derive(Clone, Copy, Drop)]
 pub struct Silent {
     pub to: NodeId,

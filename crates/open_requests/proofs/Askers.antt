@@ -1,9 +1,9 @@
 -- What a router asks for by a table does not hang on what else it knows.
-use Rattle.std.proofs.Common.{◌≡◌, refl, ap, ℕ, List, [], ◌∷◌, Bool, true, false}
+use Rattle.std.proofs.Common.{◌≡◌, refl, ap, ℕ, List, [], ◌∷◌, Bool}
 use Rattle.std.specs.Prelude.{Option, Some, None}
 use Rattle.node_model.specs.Exchanges.{RequestId}
-use Rattle.node_model.specs.Letters.{Statement, Half}
-use Rattle.node_model.specs.RouterRows.{asks_to_write, asks_to_read, asks_shards, asks_table, asks_by, id_of, unanswered}
+use Rattle.node_model.specs.Letters.{Statement}
+use Rattle.node_model.specs.RouterRows.{asks_to_write, asks_shards, asks_table, asks_by, id_of, unanswered}
 use Rattle.node_model.specs.States.{Router, Work, writing, reading}
 use Rattle.node_model.specs.Tables.{Table}
 use Rattle.open_requests.specs.Askers.{asking}
@@ -16,11 +16,11 @@ module _ (r : Router) (time count : ℕ) (namespace : List ℕ) where
 
   pub shards_alike : (t : Table) (work : Work) → asks_shards (asking r.me r.life) time count namespace t work ≡ asks_shards r time count namespace t work
   shards_alike t (writing kind ordered statements answers) = writes_alike (id_of r count) t ordered (unanswered statements answers)
-  shards_alike t (reading at half) = refl
+  shards_alike t (reading named at stages telling) = refl
 
   pub table_alike : (work : Work) → asks_table (asking r.me r.life) time namespace work ≡ asks_table r time namespace work
   table_alike (writing kind ordered statements answers) = refl
-  table_alike (reading at half) = refl
+  table_alike (reading named at stages telling) = refl
 
   pub asked_alike : (work : Work) (table : Option Table) → asks_by (asking r.me r.life) time count namespace work table ≡ asks_by r time count namespace work table
   asked_alike work None = ap (λ m. m ∷ []) (table_alike work)

@@ -1,6 +1,6 @@
 -- Whether a write is answered hangs on how many statements it has.
 use Rattle.std.proofs.lemmas.List.{append_assoc}
-use Rattle.std.proofs.Common.{◌≡◌, refl, ap, sym, ◌∙◌, ℕ, suc, ◌-◌, List, [], ◌∷◌, ◌++◌, take, drop, map, length, get_or, Bool, true, false, if◌then◌else◌, ◌+◌, ◌<◌, add-one, drop-cons, arith}
+use Rattle.std.proofs.Common.{◌≡◌, refl, ap, sym, ◌∙◌, ℕ, suc, ◌-◌, List, [], ◌∷◌, ◌++◌, take, drop, map, length, get_or, Bool, true, if◌then◌else◌, ◌+◌, ◌<◌, add-one, drop-cons, arith}
 use Rattle.std.proofs.Math.Dec.{eqb-suc-zero}
 use Rattle.std.proofs.lemmas.List.{drop-map, length-map, take_rest}
 use Rattle.std.specs.Arc.{arc_value}
@@ -11,12 +11,12 @@ use Rattle.command_answers.specs.declared.answer.Upserted.{Upserted}
 use Rattle.command_answers.specs.Errors.{errors_meant, error_meant}
 use Rattle.command_answers.specs.Upserts.{upserted_meant, key_meant}
 use Rattle.command_model.specs.CommandSizes.{keys_length}
+use Rattle.command_model.specs.Writes.{ClientNumber}
 use Rattle.node_model.specs.Exchanges.{RequestId}
-use Rattle.node_model.specs.Errors.{ErrorCode}
 use Rattle.node_model.specs.Tree.{Datum}
 use Rattle.node_model.specs.Writes as writes
-use Rattle.node_model.specs.Outcomes.{Done, errors_of, upserted_by}
-use Rattle.node_model.specs.Refusals.{without_evidence}
+use Rattle.node_model.specs.Outcomes.{Done, errors_of, outcome_in, refusal_in, upserted_by}
+use Rattle.node_model.specs.Refusals.{Refusal}
 use Rattle.node_model.specs.Right.{ends}
 use Rattle.node_model.specs.RouterRows.{is_answered, unanswered}
 use Rattle.protocol_model.specs.Statements.{statement_meant, done_meant}
@@ -24,44 +24,56 @@ use Rattle.protocol_model.specs.declared.statement.Done as program
 use Rattle.protocol_model.specs.declared.statement.Statement.{Statement}
 use Rattle.open_requests.specs.Counts.{are_all}
 
-pub answered_by_count : (id : RequestId) (ordered : Bool) (statements : List Statement) (answers : List Done)
-    → is_answered ordered (map (λ s. statement_meant id s) statements) answers ≡ are_all ordered (length statements) answers
-answered_by_count id ordered [] [] = refl
-answered_by_count id ordered [] (d ∷ answers) = refl
-answered_by_count id ordered (s ∷ statements) [] = sym (eqb-suc-zero (length statements))
-answered_by_count id ordered (s ∷ statements) (d ∷ answers) =
+pub answered_by_count : (given : Option ClientNumber) (id : RequestId) (ordered : Bool) (statements : List Statement) (answers : List Done)
+    → is_answered ordered (map (λ s. statement_meant given id s) statements) answers ≡ are_all ordered (length statements) answers
+answered_by_count given id ordered [] [] = refl
+answered_by_count given id ordered [] (d ∷ answers) = refl
+answered_by_count given id ordered (s ∷ statements) [] = sym (eqb-suc-zero (length statements))
+answered_by_count given id ordered (s ∷ statements) (d ∷ answers) =
     let down : suc (length statements) - 1 ≡ length statements = omega arith in
-    rw (eqb-suc-zero (length statements), down) (ap (λ (b : Bool). if ends ordered d then true else b) (answered_by_count id ordered statements answers))
+    rw (eqb-suc-zero (length statements), down) (ap (λ (b : Bool). if ends ordered d then true else b) (answered_by_count given id ordered statements answers))
 
 pub errors_pushed : (errors : List WriteError) (e : WriteError) → errors_meant (errors ++ e ∷ []) ≡ errors_meant errors ++ error_meant e ∷ []
 errors_pushed [] e = refl
 errors_pushed (d ∷ errors) e = ap (λ l. error_meant d ∷ l) (errors_pushed errors e)
 
 -- the statements behind the answers
-pub left_over : (id : RequestId) (statements : List Statement) (answers : List program.Done)
-    → map (λ s. statement_meant id s) (take (length statements - length answers) (drop (length answers) statements)) ≡ unanswered (map (λ s. statement_meant id s) statements) (map done_meant answers)
-left_over id statements answers =
-    ap (λ (l : List Statement). map (λ s. statement_meant id s) l) (take_rest statements (length answers))
-    ∙ sym (drop-map (λ s. statement_meant id s) (length answers) statements)
-    ∙ ap (λ n. drop n (map (λ s. statement_meant id s) statements)) (sym (length-map answers done_meant))
+pub left_over : (given : Option ClientNumber) (id : RequestId) (statements : List Statement) (answers : List program.Done)
+    → map (λ s. statement_meant given id s) (take (length statements - length answers) (drop (length answers) statements)) ≡ unanswered (map (λ s. statement_meant given id s) statements) (map done_meant answers)
+left_over given id statements answers =
+    ap (λ (l : List Statement). map (λ s. statement_meant given id s) l) (take_rest statements (length answers))
+    ∙ sym (drop-map (λ s. statement_meant given id s) (length answers) statements)
+    ∙ ap (λ n. drop n (map (λ s. statement_meant given id s) statements)) (sym (length-map answers done_meant))
 
 pub keys_pushed : (keys : List Upserted) (u : Upserted) → upserted_meant (keys ++ u ∷ []) ≡ upserted_meant keys ++ key_meant u ∷ []
 keys_pushed [] u = refl
 keys_pushed (k ∷ keys) u = ap (λ l. key_meant k ∷ l) (keys_pushed keys u)
 
+-- the errors and the keys of a list are those of its first and of the others
 pub errors_both : (d : Done) (rest : List Done) → errors_of (d ∷ rest) ≡ errors_of (d ∷ []) ++ errors_of rest
-errors_both d rest = by_error d.outcome.error where
-  by_error : (error : Option ErrorCode) → (elim error as (λ (o : Option ErrorCode). List writes.WriteError) [ None ↦ errors_of rest | Some e ↦ record { index = d.index; refusal = without_evidence e } ∷ errors_of rest ])
-      ≡ (elim error as (λ (o : Option ErrorCode). List writes.WriteError) [ None ↦ [] | Some e ↦ record { index = d.index; refusal = without_evidence e } ∷ [] ]) ++ errors_of rest
+errors_both d rest = by_error (refusal_in d.answer) where
+  by_error : (told : Option Refusal) → (elim told as (λ (o : Option Refusal). List writes.WriteError) [ None ↦ errors_of rest | Some r ↦ record { index = d.index; refusal = r } ∷ errors_of rest ])
+      ≡ (elim told as (λ (o : Option Refusal). List writes.WriteError) [ None ↦ [] | Some r ↦ record { index = d.index; refusal = r } ∷ [] ]) ++ errors_of rest
   by_error None = refl
-  by_error (Some e) = refl
+  by_error (Some r) = refl
 
 pub keys_both : (d : Done) (rest : List Done) → upserted_by (d ∷ rest) ≡ upserted_by (d ∷ []) ++ upserted_by rest
-keys_both d rest = by_key d.outcome.upserted where
+keys_both d rest = by_key (outcome_in d.answer).upserted where
   by_key : (upserted : Option Datum) → (elim upserted as (λ (o : Option Datum). List writes.Upserted) [ None ↦ upserted_by rest | Some k ↦ record { index = d.index; key = k } ∷ upserted_by rest ])
       ≡ (elim upserted as (λ (o : Option Datum). List writes.Upserted) [ None ↦ [] | Some k ↦ record { index = d.index; key = k } ∷ [] ]) ++ upserted_by rest
   by_key None = refl
   by_key (Some k) = refl
+
+-- the error and the key of one statement
+pub error_told : (d : Done) (told : Option Refusal) → told ≡ refusal_in d.answer
+    → errors_of (d ∷ []) ≡ (elim told as (λ (o : Option Refusal). List writes.WriteError) [ None ↦ [] | Some r ↦ record { index = d.index; refusal = r } ∷ [] ])
+error_told d told is =
+    ap (λ (told : Option Refusal). elim told as (λ (o : Option Refusal). List writes.WriteError) [ None ↦ [] | Some r ↦ record { index = d.index; refusal = r } ∷ [] ]) (sym is)
+
+pub key_told : (d : Done) (upserted : Option Datum) → upserted ≡ (outcome_in d.answer).upserted
+    → upserted_by (d ∷ []) ≡ (elim upserted as (λ (o : Option Datum). List writes.Upserted) [ None ↦ [] | Some k ↦ record { index = d.index; key = k } ∷ [] ])
+key_told d upserted is =
+    ap (λ (upserted : Option Datum). elim upserted as (λ (o : Option Datum). List writes.Upserted) [ None ↦ [] | Some k ↦ record { index = d.index; key = k } ∷ [] ]) (sym is)
 
 -- one more statement is told, of a list that each adds its own to
 pub goes_on : {X : Type 0} (of : List Done → List X) → ((d : Done) (rest : List Done) → of (d ∷ rest) ≡ of (d ∷ []) ++ of rest)

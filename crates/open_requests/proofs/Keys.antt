@@ -1,10 +1,11 @@
 -- The shard that has the key that a statement writes.
-use Rattle.std.proofs.Common.{◌≡◌, refl, ap, sym, ◌∙◌, ℕ, true}
+use Rattle.std.proofs.Common.{◌≡◌, ap, ◌∙◌, ℕ, true}
 use Rattle.std.specs.Prelude.{Option, Some, None, Ok}
 use Rattle.history_model.proofs.LegalHistories.{insert_key}
 use Rattle.command_model.proofs.Judged.{key_of_write}
 use Rattle.command_model.specs.CommandSizes.{IsKeepable}
 use Rattle.command_model.specs.Statements.{key_asked_by}
+use Rattle.command_model.specs.Writes.{ClientNumber}
 use Rattle.node_model.specs.Tree.{Datum, Fields}
 use Rattle.node_model.specs.History.{Operation, insert_operation, key_read, key_written}
 use Rattle.node_model.specs.Tables.{Table, owner_now}
@@ -20,7 +21,7 @@ pub key_by_words : (operation : Operation) (key : Datum) → IsKeepable operatio
 key_by_words operation key keepable asked is =
     ap key_read keepable.reads ∙ key_of_write operation keepable.write key keepable.reads asked is
 
-pub owner_by_key : (t : Table) (id : RequestId) (index : ℕ) (operation : Operation) (key : Datum) (shard : ℕ) → key_written operation ≡ Some key → owner_now t key ≡ Some shard
-    → owner_of_statement t (record { number = number_for id index; operation = operation }) ≡ Some shard
-owner_by_key t id index operation key shard written owned =
+pub owner_by_key : (t : Table) (given : Option ClientNumber) (id : RequestId) (index : ℕ) (operation : Operation) (key : Datum) (shard : ℕ) → key_written operation ≡ Some key → owner_now t key ≡ Some shard
+    → owner_of_statement t (record { number = number_for given id index; operation = operation }) ≡ Some shard
+owner_by_key t given id index operation key shard written owned =
     ap (λ (k : Option Datum). elim k as (λ (o : Option Datum). Option ℕ) [ None ↦ None | Some x ↦ owner_now t x ]) written ∙ owned

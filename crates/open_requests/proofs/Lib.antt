@@ -1,9 +1,10 @@
 mod Keys
 mod Places
 mod Counted
+mod Times
 mod Runs
 mod Waits
 pub mod Askers
 pub mod Noted
-mod Nexts
+pub mod Nexts
 mod Turns

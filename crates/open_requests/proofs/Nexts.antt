@@ -4,9 +4,12 @@ use Rattle.std.proofs.lemmas.Slice.Eq.{bytes_eq-Decides}
 use Rattle.std.specs.Prelude.{Option, Some, None, is_some}
 use Rattle.std.specs.Str.{bytes_eq}
 use Rattle.bson_model.proofs.Booleans.{both}
+use Rattle.node_model.specs.Halves.{Half}
 use Rattle.node_model.specs.Letters.{At}
-use Rattle.node_model.specs.RouterRows.{Next, stays, next_of, next_waiting, next_without, enough_of, is_enough, is_for_table, with_work, asks_shards}
-use Rattle.node_model.specs.States.{Open, Router, Work, for_shards}
+use Rattle.node_model.specs.Split.{split}
+use Rattle.node_model.specs.Stages.{Stage}
+use Rattle.node_model.specs.RouterRows.{Next, owner_of_span, stays, next_of, next_waiting, next_without, enough_of, is_enough, is_for_table, with_work, asks_shards}
+use Rattle.node_model.specs.States.{Telling, Open, Router, Work, for_shards, reading}
 use Rattle.node_model.specs.Tables.{Table, table_of}
 use Rattle.open_requests.specs.Nexts.{IsNext}
 use Rattle.open_requests.specs.declared.tables.Next as becomes
@@ -15,6 +18,27 @@ use Rattle.open_requests.specs.declared.tables.Next.TheVariants.{Stays, GoesOn, 
 pub some_owner : (owner : Option ℕ) → (elim owner as (λ (o : Option ℕ). Bool) [ None ↦ false | Some shard ↦ true ]) ≡ is_some owner
 some_owner None = refl
 some_owner (Some shard) = refl
+
+-- a table is enough for a read where it says who had the span of its half
+pub enough_is : (t : Table) (named : Bool) (at : ℕ) (stages : List Stage) (telling : Telling) (half : Half) (b : Bool) → half ≡ (split stages).0 → b ≡ is_some (owner_of_span t at half.span)
+    → is_enough t (reading named at stages telling) ≡ b
+enough_is t named at stages telling half b same is =
+    some_owner (owner_of_span t at (split stages).0.span) ∙ sym (subst (λ (h : Half). b ≡ is_some (owner_of_span t at h.span)) same is)
+
+pub can_go : (known : Option Table) (t : Table) (work : Work) (b : Bool) → known ≡ Some t → is_enough t work ≡ b → b ≡ is_some (enough_of known work)
+can_go known t work b is enough =
+    by b ∙ ap (λ (x : Bool). is_some (if x then Some t else None)) (sym enough) ∙ ap (λ (o : Option Table). is_some (enough_of o work)) (sym is) where
+      by : (x : Bool) → x ≡ is_some (if x then Some t else None)
+      by true = refl
+      by false = refl
+
+pub enough_some : (known : Option Table) (t : Table) (work : Work) → known ≡ Some t → is_enough t work ≡ true → Some t ≡ enough_of known work
+enough_some known t work is enough =
+    ap (λ (x : Bool). if x then Some t else None) (sym enough) ∙ ap (λ (o : Option Table). enough_of o work) (sym is)
+
+pub enough_none : (known : Option Table) (t : Table) (work : Work) → known ≡ Some t → is_enough t work ≡ false → None ≡ enough_of known work
+enough_none known t work is enough =
+    ap (λ (x : Bool). if x then Some t else None) (sym enough) ∙ ap (λ (o : Option Table). enough_of o work) (sym is)
 
 module _ (r : Router) (time : ℕ) (after : List Table) (namespace : List ℕ) (told : At) (q : Open) where
   -- one that does not wait for it
@@ -58,4 +82,4 @@ module _ (r : Router) (time : ℕ) (after : List Table) (namespace : List ℕ) (
   pub next_kept : (known : Option Table) (fate other : Next) (n : becomes.Next) → fate ≡ other → IsNext r time None q other n → IsNext r time known q fate n
   next_kept known fate other Stays same is = same ∙ is
   next_kept known fate other GoesOn same is = absurd (cc is.1)
-  next_kept known fate other (IsTold at) same is = same ∙ is
+  next_kept known fate other (IsTold at telling) same is = same ∙ is

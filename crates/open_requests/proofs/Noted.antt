@@ -1,5 +1,5 @@
 -- Outcomes are news exactly where the answers become more.
-use Rattle.std.proofs.Common.{◌≡◌, ◌≢◌, refl, ap, sym, ◌∙◌, ℕ, suc, ◌+◌, List, [], ◌∷◌, ◌++◌, length, Bool, true, false, ◌==◌, if◌then◌else◌, append-nil, append_assoc, length-append, arith}
+use Rattle.std.proofs.Common.{◌≡◌, ◌≢◌, ap, sym, ◌∙◌, List, [], ◌∷◌, ◌++◌, length, Bool, true, false, ◌==◌, if◌then◌else◌, append-nil, append_assoc, length-append, arith}
 use Rattle.node_model.specs.Outcomes.{Done}
 use Rattle.node_model.specs.RouterRows.{noted}
 

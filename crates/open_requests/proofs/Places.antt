@@ -1,6 +1,6 @@
 -- Where requests stand in a list whose counts rise.
-use Rattle.std.proofs.Common.{◌≡◌, refl, ap, sym, ℕ, suc, ◌+◌, ◌≤◌, ◌<◌, List, [], ◌∷◌, ◌++◌, take, drop, map, length, Bool, true, false, ◌&&◌, ◌==◌, if◌then◌else◌, arith, nat_le, nat_lt}
-use Rattle.std.proofs.lemmas.Bool.{eqb-true, le-leb, leb-true, ltb-true, lt-ltb, lt-leb}
+use Rattle.std.proofs.Common.{◌≡◌, refl, ap, sym, ℕ, suc, ◌+◌, ◌≤◌, ◌<◌, List, [], ◌∷◌, ◌++◌, map, length, Bool, true, false, ◌&&◌, ◌==◌, if◌then◌else◌, arith, nat_lt}
+use Rattle.std.proofs.lemmas.Bool.{eqb-true, le-leb, leb-true, ltb-true, lt-ltb}
 use Rattle.std.specs.Prelude.{zero}
 use Rattle.std.specs.List.{remove}
 use Rattle.bson_model.proofs.Booleans.{both}

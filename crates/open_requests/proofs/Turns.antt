@@ -1,8 +1,7 @@
 -- The turn of one item.
-use Rattle.std.proofs.Common.{◌≡◌, refl, ap, sym, ◌∙◌, ℕ, suc, ◌+◌, ◌≤◌, ◌<◌, List, [], ◌∷◌, ◌++◌, take, drop, map, length, get_or, arith, append-nil}
+use Rattle.std.proofs.Common.{◌≡◌, refl, ap, sym, ◌∙◌, ℕ, suc, ◌≤◌, ◌<◌, List, [], ◌∷◌, ◌++◌, map, length, get_or, arith}
 use Rattle.std.specs.Prelude.{zero}
 use Rattle.std.specs.List.{flat_map, slice_set, remove}
-use Rattle.std.proofs.lemmas.List.{drop_all, take_all}
 use Rattle.open_requests.specs.Turns.{settled}
 
 module _ {X Y : Type 0} (meant : X → Y) (becomes : Y → List Y) where

@@ -1,7 +1,7 @@
 -- Changes of a request in its place.
-use Rattle.std.proofs.Common.{◌≡◌, refl, ap, sym, subst, ◌∙◌, ℕ, suc, ◌+◌, ◌≤◌, ◌<◌, List, [], ◌∷◌, map, length, get_or, Bool, true, false, ◌&&◌, ◌==◌, if◌then◌else◌, arith, nat_lt}
+use Rattle.std.proofs.Common.{◌≡◌, refl, ap, sym, ◌∙◌, ℕ, suc, ◌≤◌, ◌<◌, List, [], ◌∷◌, map, length, get_or, Bool, true, false, ◌==◌, if◌then◌else◌, arith, nat_lt}
 use Rattle.std.proofs.lemmas.Bool.{eqb-true, ltb-true}
-use Rattle.std.specs.Prelude.{Option, Some, None, zero}
+use Rattle.std.specs.Prelude.{Some, None, zero}
 use Rattle.std.specs.List.{slice_set}
 use Rattle.bson_model.proofs.Booleans.{both}
 use Rattle.node_model.specs.States.{Open, open_with, replaced}

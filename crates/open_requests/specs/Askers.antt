@@ -8,7 +8,8 @@ use Rattle.open_requests.specs.declared.asker.Asker.{Asker}
 
 -- a router of this number, in this of its lives, that knows nothing: what it asks for by a table does not hang on what it knows
 abbrev pub asking : (router life : ℕ) → Router
-asking router life = record { me = router; time = 0; life = life; begun = true; moment = 0; count = 0; tables = []; requests = [] }
+asking router life =
+    record { me = router; time = 0; life = life; begun = true; moment = 0; count = 0; tables = []; requests = []; cursors = []; blocks = 0; gave = 0 }
 
 abbrev pub asker_meant : Asker → Router
 asker_meant a = asking a.me.0 a.life

@@ -1,3 +1,4 @@
+pub mod Code
 pub mod Works
 pub mod Askers
 pub mod Lists

@@ -1,24 +1,30 @@
 //! What requests ask the shards for.
 
-ghost use Rattle.std.specs.Prelude.{◌≡◌, ◌∷◌, [], IfOk, Some, map};
+ghost use Rattle.std.specs.Prelude.{◌≡◌, ◌∷◌, [], IfOk, Option, Some, map};
 ghost use Rattle.std.specs.Option.{option_map};
+ghost use Rattle.command_answers.specs.Kinds.{given_meant};
 ghost use Rattle.node_model.specs.Exchanges as asked;
 ghost use Rattle.node_model.specs.RouterRows as rows;
 ghost use Rattle.node_model.specs.States as states;
 ghost use Rattle.node_model.specs.Writes as writes;
-ghost use Rattle.protocol_model.specs.Bodies.{half_meant};
+ghost use Rattle.pipeline_lang.specs.Halves.{half_of};
+ghost use Rattle.std.specs.Arc.{arc_value};
 ghost use Rattle.protocol_model.specs.Statements.{done_meant, statement_meant};
 ghost use Rattle.open_requests.specs.Askers.{asker_meant, letters_of};
-ghost use Rattle.open_requests.specs.Works.{work_meant};
+ghost use Rattle.open_requests.specs.Works.{read_at, work_meant};
 
 use crate::asker::Asker;
 use crate::owners::{owner_of_half, owner_of_statement};
+use crate::read::OpenRead;
 use crate::work::Work;
 use bson_values::Memory;
 use chunk_table::{Sent, Table};
 use cluster_base::{Namespace, NodeId, Time};
-use protocol_model::{Body, Done, Half, Message, ReadAsk, Statement, StatementList, WriteAsk};
+use command_answers::ClientNumber;
+use pipeline_lang::Half;
+use protocol_model::{Body, Done, Message, ReadAsk, Statement, StatementList, WriteAsk};
 use std::alloc::Global;
+use std::sync::Arc;
 
 /// The turn of a request that met no stale table.
 const FIRST_TURN: u32 = 1;
@@ -30,7 +36,8 @@ fn goes_to(
     shard: NodeId,
     statement: &Statement,
 ) -> Result<bool, Memory>
-    ensures { (id : asked.RequestId) → IfOk result (λ there. rows.is_on shard.0 (rows.owner_of_statement table.now (statement_meant id statement.now)) ≡ there) }
+    ensures { (given : Option writes.ClientNumber) (id : asked.RequestId) → IfOk result (λ there.
+        rows.is_on shard.0 (rows.owner_of_statement table.now (statement_meant given id statement.now)) ≡ there) }
 {
     let owner = owner_of_statement(alloc, table, statement)?;
     Ok(owner.0 == shard.0)
@@ -43,8 +50,8 @@ fn run_to(
     shard: NodeId,
     statements: &[Statement],
 ) -> Result<StatementList, Memory>
-    ensures { (id : asked.RequestId) → IfOk result (λ run.
-        map (λ s. statement_meant id s) run.items ≡ rows.run_to table.now shard.0 (map (λ s. statement_meant id s) statements.now)) }
+    ensures { (given : Option writes.ClientNumber) (id : asked.RequestId) → IfOk result (λ run.
+        map (λ s. statement_meant given id s) run.items ≡ rows.run_to table.now shard.0 (map (λ s. statement_meant given id s) statements.now)) }
 {
     let mut run = Vec::new(alloc);
     for statement in statements {
@@ -60,8 +67,8 @@ fn run_to(
 
 /// The statements that are not answered.
 fn unanswered<'a>(statements: &'a [Statement], answers: &[Done]) -> &'a [Statement]
-    ensures { (id : asked.RequestId) → map (λ s. statement_meant id s) result.now
-        ≡ rows.unanswered (map (λ s. statement_meant id s) statements.now) (map done_meant answers.now) }
+    ensures { (given : Option writes.ClientNumber) (id : asked.RequestId) → map (λ s. statement_meant given id s) result.now
+        ≡ rows.unanswered (map (λ s. statement_meant given id s) statements.now) (map done_meant answers.now) }
 {
     if answers.len() < statements.len() {
         &statements[answers.len()..]
@@ -79,12 +86,13 @@ impl Asker {
         count: u64,
         namespace: &Namespace,
         table: &Table,
+        number: Option<ClientNumber>,
         ordered: bool,
         statements: &[Statement],
     ) -> Result<Option<Message>, Memory>
         ensures { IfOk result (λ m. letters_of m
             ≡ rows.asks_to_write (asker_meant self) time.0 (rows.id_of (asker_meant self) count) namespace.now table.now ordered
-            (map (λ s. statement_meant (rows.id_of (asker_meant self) count) s) statements.now)) }
+            (map (λ s. statement_meant (given_meant number) (rows.id_of (asker_meant self) count) s) statements.now)) }
     {
         let [first, ..] = statements else {
             return Ok(None);
@@ -96,6 +104,7 @@ impl Asker {
             turn: FIRST_TURN,
             ordered,
             namespace: namespace.copy()?,
+            number,
             statements,
             sent: Sent::of(table, shard),
         };
@@ -110,10 +119,10 @@ impl Asker {
         namespace: &Namespace,
         table: &Table,
         at: Time,
-        half: &Half,
+        half: &Arc<Half, Global>,
     ) -> Result<Option<Message>, Memory>
         ensures { IfOk result (λ m. letters_of m
-            ≡ rows.asks_to_read (asker_meant self) time.0 (rows.id_of (asker_meant self) count) namespace.now table.now at.0 (half_meant half.now)) }
+            ≡ rows.asks_to_read (asker_meant self) time.0 (rows.id_of (asker_meant self) count) namespace.now table.now at.0 (half_of (arc_value half.now))) }
     {
         let Some(shard) = owner_of_half(table, at, half) else {
             return Ok(None);
@@ -123,7 +132,7 @@ impl Asker {
             turn: FIRST_TURN,
             namespace: namespace.copy()?,
             at,
-            half: half.copy()?,
+            half: Arc::try_clone(half)?,
             sent: Sent::of(table, shard),
         };
         Ok(Some(self.says(shard, time, Body::ReadAsk(ask))))
@@ -145,15 +154,18 @@ impl Asker {
         match work {
             Work::Writing {
                 kind: _,
+                number,
                 ordered,
                 statements,
                 answers,
             } => {
                 let statements = unanswered(statements, answers);
-                self.asks_to_write(alloc, time, count, namespace, table, *ordered, statements)
+                self.asks_to_write(
+                    alloc, time, count, namespace, table, *number, *ordered, statements,
+                )
             }
-            Work::Reading { at, half } => {
-                self.asks_to_read(time, count, namespace, table, *at, half)
+            Work::Reading(read) => {
+                self.asks_to_read(time, count, namespace, table, read.at, read.parts.half())
             }
         }
     }
@@ -165,11 +177,12 @@ impl Asker {
         namespace: &Namespace,
         work: &Work,
     ) -> Result<Message, Memory>
-        ensures { (id : asked.RequestId) → IfOk result (λ m. letters_of (Some m) ≡ rows.asks_table (asker_meant self) time.0 namespace.now (work_meant id work.now) ∷ []) }
+        ensures { (id : asked.RequestId) → IfOk result (λ m. letters_of (Some m)
+            ≡ rows.asks_table (asker_meant self) time.0 namespace.now (work_meant id work.now) ∷ []) }
     {
         match work {
             Work::Writing { .. } => self.asks_to_begin(time, namespace),
-            Work::Reading { at, .. } => self.asks_table_at(time, namespace, *at),
+            Work::Reading(read) => self.asks_table_at(time, namespace, read.at),
         }
     }
 
@@ -182,19 +195,45 @@ impl Asker {
         count: u64,
         namespace: &Namespace,
         table: Option<&Table>,
+        number: Option<ClientNumber>,
         ordered: bool,
         statements: &[Statement],
         answers: &[Done],
     ) -> Result<Option<Message>, Memory>
         ensures { (kind : writes.WriteKind) → IfOk result (λ m. letters_of m ≡ rows.asks_by (asker_meant self) time.0 count namespace.now
-            (states.writing kind ordered (map (λ s. statement_meant (rows.id_of (asker_meant self) count) s) statements.now) (map done_meant answers.now))
+            (states.writing kind ordered (map (λ s. statement_meant (given_meant number) (rows.id_of (asker_meant self) count) s) statements.now)
+            (map done_meant answers.now))
             (option_map (λ t. t.now) table.entry)) }
     {
         match table {
             None => Ok(Some(self.asks_to_begin(time, namespace)?)),
             Some(table) => {
                 let statements = unanswered(statements, answers);
-                self.asks_to_write(alloc, time, count, namespace, table, ordered, statements)
+                self.asks_to_write(
+                    alloc, time, count, namespace, table, number, ordered, statements,
+                )
+            }
+        }
+    }
+
+    /// What a read asks for at a time by the table that it can go on with, if that is there: the shards, or else the catalogue. Fails for
+    /// want of memory.
+    pub fn asks_read(
+        self,
+        time: Time,
+        count: u64,
+        namespace: &Namespace,
+        read: &OpenRead,
+        at: Time,
+        table: Option<&Table>,
+    ) -> Result<Option<Message>, Memory>
+        ensures { IfOk result (λ m. letters_of m
+            ≡ rows.asks_by (asker_meant self) time.0 count namespace.now (read_at read.now at.0) (option_map (λ t. t.now) table.entry)) }
+    {
+        match table {
+            None => Ok(Some(self.asks_table_at(time, namespace, at)?)),
+            Some(table) => {
+                self.asks_to_read(time, count, namespace, table, at, read.parts.half())
             }
         }
     }
@@ -211,7 +250,8 @@ impl Asker {
         table: Option<&Table>,
     ) -> Result<Option<Message>, Memory>
         ensures { IfOk result (λ m. letters_of m
-            ≡ rows.asks_by (asker_meant self) time.0 count namespace.now (work_meant (rows.id_of (asker_meant self) count) work.now) (option_map (λ t. t.now) table.entry)) }
+            ≡ rows.asks_by (asker_meant self) time.0 count namespace.now (work_meant (rows.id_of (asker_meant self) count) work.now)
+            (option_map (λ t. t.now) table.entry)) }
     {
         match table {
             None => Ok(Some(self.asks_table(time, namespace, work)?)),

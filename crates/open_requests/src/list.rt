@@ -7,7 +7,7 @@ use crate::tables::{Next, next_of};
 use crate::work::{OpenRequest, Wait};
 use bson_values::Memory;
 use chunk_table::Table;
-use cluster_base::Namespace;
+use cluster_base::{Namespace, Time};
 use protocol_model::{At, DoneList};
 use std::alloc::Global;
 
@@ -131,25 +131,27 @@ impl OpenList {
         }
     }
 
-    /// From now on the request with this count waits for this.
-    pub fn set_wait(&mut self, count: u64, wait: Wait)
+    /// The read with this count is of this time now, unless one was named, and waits for this.
+    pub fn reach(&mut self, count: u64, time: Time, wait: Wait)
         ensures taken { taken_of self.new ≡ taken_of self.old }
         ensures opens { (router life : ℕ) (q : states.Open) → states.open_with count (opens_of router life self.old) ≡ Some q →
-            opens_of router life self.new ≡ states.replaced (rows.with_work q (wait_meant wait) q.work) (opens_of router life self.old) }
+            opens_of router life self.new ≡ states.replaced (rows.with_work q (wait_meant wait) (rows.reached time.0 q.work)) (opens_of router life self.old) }
     {
         let place = self.place(count);
         if place < self.requests.len() {
-            self.requests[place].wait = wait;
+            self.requests[place].reach(time, wait);
         }
     }
 
     /// The write with this count has these answers now, and waits for this.
     pub fn set_answers(&mut self, count: u64, wait: Wait, answers: DoneList)
         ensures taken { taken_of self.new ≡ taken_of self.old }
-        ensures opens { (router life : ℕ) (q : states.Open) (kind : writes.WriteKind) (ordered : Bool) (statements : List letters.Statement) (before : List outcomes.Done) →
+        ensures opens { (router life : ℕ) (q : states.Open) (kind : writes.WriteKind) (ordered : Bool) (statements : List letters.Statement)
+            (before : List outcomes.Done) →
             states.open_with count (opens_of router life self.old) ≡ Some q → q.work ≡ states.writing kind ordered statements before →
             opens_of router life self.new
-            ≡ states.replaced (rows.with_work q (wait_meant wait) (states.writing kind ordered statements (map done_meant answers.items))) (opens_of router life self.old) }
+            ≡ states.replaced (rows.with_work q (wait_meant wait) (states.writing kind ordered statements (map done_meant answers.items)))
+            (opens_of router life self.old) }
     {
         let place = self.place(count);
         if place < self.requests.len() {
@@ -171,8 +173,10 @@ impl OpenList {
         ensures inside { result ≤ length self.new.requests.items }
         ensures nearer { length self.new.requests.items + place < length self.old.requests.items + result }
         ensures opens { (r : states.Router) (time : ℕ) (after : List tables.Table) → tables.table_of namespace.now after ≡ option_map (λ t. t.now) known.entry →
-            settled (λ q. open_meant r.me r.life q) (λ q. rows.stay_in (rows.next_of r time after namespace.now (at_meant told) q)) result self.new.requests.items
-            ≡ settled (λ q. open_meant r.me r.life q) (λ q. rows.stay_in (rows.next_of r time after namespace.now (at_meant told) q)) place self.old.requests.items }
+            settled (λ q. open_meant r.me r.life q) (λ q. rows.stay_in (rows.next_of r time after namespace.now (at_meant told) q)) result
+            self.new.requests.items
+            ≡ settled (λ q. open_meant r.me r.life q) (λ q. rows.stay_in (rows.next_of r time after namespace.now (at_meant told) q)) place
+            self.old.requests.items }
     {
         match next_of(namespace, told, known, &self.requests[place]) {
             Next::Stays => place + 1,
@@ -180,7 +184,7 @@ impl OpenList {
                 self.requests[place].wait = Wait::ForShards;
                 place + 1
             }
-            Next::IsTold(_) => {
+            Next::IsTold(..) => {
                 let _ = self.requests.remove(place);
                 place
             }
@@ -192,7 +196,8 @@ impl OpenList {
     pub fn learn(&mut self, namespace: &Namespace, told: At, known: Option<&Table>)
         ensures taken { taken_of self.new ≡ taken_of self.old }
         ensures opens { (r : states.Router) (time : ℕ) (after : List tables.Table) → tables.table_of namespace.now after ≡ option_map (λ t. t.now) known.entry →
-            opens_of r.me r.life self.new ≡ flat_map (λ q. rows.stay_in (rows.next_of r time after namespace.now (at_meant told) q)) (opens_of r.me r.life self.old) }
+            opens_of r.me r.life self.new
+            ≡ flat_map (λ q. rows.stay_in (rows.next_of r time after namespace.now (at_meant told) q)) (opens_of r.me r.life self.old) }
     {
         let mut place = 0;
         while place < self.requests.len() {

@@ -1,13 +1,14 @@
 //! Which shards have what requests are of.
 
-ghost use Rattle.std.specs.Prelude.{◌≡◌, Some, IfOk};
+ghost use Rattle.std.specs.Prelude.{◌≡◌, Option, Some, IfOk};
 ghost use Rattle.std.specs.Option.{option_map, is_some};
 ghost use Rattle.bson_values.specs.View.{datum_of};
 ghost use Rattle.command_model.specs.Statements.{key_asked_by};
+ghost use Rattle.command_model.specs.Writes.{ClientNumber};
 ghost use Rattle.node_model.specs.Exchanges as asked;
 ghost use Rattle.node_model.specs.History.{key_written};
 ghost use Rattle.node_model.specs.RouterRows as rows;
-ghost use Rattle.protocol_model.specs.Bodies.{half_meant};
+ghost use Rattle.pipeline_lang.specs.Halves.{half_of};
 ghost use Rattle.protocol_model.specs.Statements as protocol;
 ghost use Rattle.protocol_model.specs.Statements.{statement_meant};
 ghost use Rattle.shard_records.specs.Meanings.{operation_meant};
@@ -16,9 +17,10 @@ use bson_values::{Memory, Value};
 use chunk_table::Table;
 use cluster_base::{NodeId, Time};
 use match_expr::key_asked_in;
-use protocol_model::{Half, NewChange, Operation, Statement};
+use pipeline_lang::Half;
+use protocol_model::{NewChange, Operation, Statement};
 use std::alloc::Global;
-use value_compare::{Key, OpWords, key_of};
+use value_compare::{Key, OpWords, Span, key_of};
 
 /// What words ask the key of their document to be; none where they ask for no key.
 fn key_asked(words: &OpWords) -> Option<&Value>
@@ -68,24 +70,26 @@ pub(crate) fn owner_of_statement(
     table: &Table,
     statement: &Statement,
 ) -> Result<NodeId, Memory>
-    ensures { (id : asked.RequestId) → IfOk result (λ shard. rows.owner_of_statement table.now (statement_meant id statement.now) ≡ Some shard.0) }
+    ensures { (given : Option ClientNumber) (id : asked.RequestId) → IfOk result (λ shard.
+        rows.owner_of_statement table.now (statement_meant given id statement.now) ≡ Some shard.0) }
 {
     let key = key_of_operation(alloc, &statement.operation)?;
     Ok(table.owner_now(&key))
 }
 
-/// The shard that had what a half is of at a time, if one had it.
+/// The shard that had what a half is of at a time, if one had it: so far one shard has all keys.
 pub fn owner_of_half(table: &Table, at: Time, half: &Half) -> Option<NodeId>
-    ensures { option_map (λ shard. shard.0) result ≡ rows.owner_of_half table.now at.0 (half_meant half.now) }
+    ensures { option_map (λ shard. shard.0) result ≡ rows.owner_of_span table.now at.0 (half_of half.now).span }
 {
-    match half {
-        Half::Key(key) => table.owner_of_value(key, at),
+    match &half.span {
+        Span::Point(key) => table.owner_at(key, at),
+        Span::Range(_) => table.owner_of_value(&Value::Null, at),
     }
 }
 
 /// Whether a table says who had what a half is of at a time.
 pub fn is_enough(table: &Table, at: Time, half: &Half) -> bool
-    ensures { result ≡ is_some (rows.owner_of_half table.now at.0 (half_meant half.now)) }
+    ensures { result ≡ is_some (rows.owner_of_span table.now at.0 (half_of half.now).span) }
 {
     owner_of_half(table, at, half).is_some()
 }

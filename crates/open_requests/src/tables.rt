@@ -12,6 +12,7 @@ ghost use Rattle.open_requests.specs.Nexts.{IsNext};
 ghost use Rattle.open_requests.specs.Works.{open_meant, wait_meant, work_meant};
 
 use crate::owners::is_enough;
+use crate::read::Telling;
 use crate::work::{OpenRequest, Wait, Work};
 use chunk_table::Table;
 use cluster_base::{Namespace, Time};
@@ -24,8 +25,8 @@ pub enum Next {
     Stays,
     /// It asks the shards.
     GoesOn,
-    /// It is told that nothing is there, at this time.
-    IsTold(Time),
+    /// It is told so that nothing is there, at this time.
+    IsTold(Time, Telling),
 }
 
 /// Whether what is told for a time is the answer to a read of this one.
@@ -54,7 +55,7 @@ fn can_go_on(known: Option<&Table>, work: &Work) -> bool
         None => false,
         Some(table) => match work {
             Work::Writing { .. } => true,
-            Work::Reading { at, half } => is_enough(table, *at, half),
+            Work::Reading(read) => is_enough(table, read.at, read.parts.half()),
         },
     }
 }
@@ -66,9 +67,9 @@ fn next_without(told: At, work: &Work) -> Next
 {
     match work {
         Work::Writing { .. } => Next::Stays,
-        Work::Reading { at, .. } => {
-            if is_for(told, *at) {
-                Next::IsTold(*at)
+        Work::Reading(read) => {
+            if is_for(told, read.at) {
+                Next::IsTold(read.at, read.telling)
             } else {
                 Next::Stays
             }

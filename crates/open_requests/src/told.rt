@@ -1,18 +1,23 @@
 //! The keys and the errors that statements are told.
 
 ghost use Rattle.std.specs.Prelude.{◌≡◌, ◌≤◌, ◌++◌, ◌∷◌, [], IfOk, IsTrue, OnOk, map};
+ghost use Rattle.std.specs.Arc.{arc_value};
+ghost use Rattle.std.specs.Option.{option_map};
 ghost use Rattle.command_answers.specs.Errors.{errors_meant};
+ghost use Rattle.command_answers.specs.Refusals.{refusal_meant};
 ghost use Rattle.command_answers.specs.Upserts.{upserted_meant};
 ghost use Rattle.command_model.specs.CommandLimits.{most_bytes_upserted};
 ghost use Rattle.command_model.specs.CommandSizes.{keys_length};
 ghost use Rattle.node_model.specs.Outcomes as outcomes;
-ghost use Rattle.protocol_model.specs.Statements.{done_meant};
+ghost use Rattle.protocol_model.specs.Statements.{answer_meant, done_meant};
 
 use bson_values::Memory;
+use cluster_base::Code;
 use command_answers::{Evidence, Refusal, StatementIndex, Upserted, WriteError};
-use protocol_model::Done;
+use protocol_model::{Done, StatementAnswer};
 use std::alloc::Global;
 use std::sync::Arc;
+use value_compare::Key;
 
 /// The most bytes of the keys that the statements of one command put in.
 const MOST_BYTES_UPSERTED: usize = 250_000_000;
@@ -27,13 +32,23 @@ fn index_of(done: &Done) -> Result<StatementIndex, Memory>
     }
 }
 
+/// The key that a statement put in, if it was an upsert that did.
+fn key_of(answer: &StatementAnswer) -> Option<&Arc<Key, Global>>
+    ensures { option_map (λ k. arc_value k.now) result ≡ (outcomes.outcome_in (answer_meant answer.now)).upserted }
+{
+    match answer {
+        StatementAnswer::WasDone { outcome, .. } => outcome.upserted.as_ref(),
+        StatementAnswer::Older(_) => None,
+    }
+}
+
 /// Puts the key that a statement put in, if it was an upsert that did, behind the others. Fails for want of memory, and where its index
 /// is none that a command can have.
-#[tactic(auto, using(crate::proofs::Counted::keys_pushed))]
+#[tactic(auto, using(crate::proofs::Counted::keys_pushed, crate::proofs::Counted::key_told))]
 fn add_key(keys: &mut Vec<Upserted>, done: &Done) -> Result<(), Memory>
     ensures { OnOk result (upserted_meant keys.new.items ≡ upserted_meant keys.old.items ++ outcomes.upserted_by (done_meant done.now ∷ [])) }
 {
-    let Some(key) = &done.outcome.upserted else {
+    let Some(key) = key_of(&done.answer) else {
         return Ok(());
     };
     let index = index_of(done)?;
@@ -83,20 +98,35 @@ pub(crate) fn upserted_by(alloc: Global, dones: &[Done]) -> Result<Vec<Upserted>
     }
 }
 
+/// The error that a statement is told, if it is told one, with its evidence.
+fn refusal_of(answer: &StatementAnswer) -> Option<Refusal>
+    ensures { option_map refusal_meant result ≡ outcomes.refusal_in (answer_meant answer.now) }
+{
+    match answer {
+        StatementAnswer::WasDone { outcome, .. } => match outcome.error {
+            Some(code) => Some(Refusal {
+                code,
+                evidence: Evidence::Nothing,
+            }),
+            None => None,
+        },
+        StatementAnswer::Older(greatest) => Some(Refusal {
+            code: Code::TransactionTooOld,
+            evidence: Evidence::Number { number: *greatest },
+        }),
+    }
+}
+
 /// Puts the error that a statement is told, if it is told one, behind the others. Fails for want of memory, and where its index is
 /// none that a command can have.
-#[tactic(auto, using(crate::proofs::Counted::errors_pushed))]
+#[tactic(auto, using(crate::proofs::Counted::errors_pushed, crate::proofs::Counted::error_told))]
 fn add_error(errors: &mut Vec<WriteError>, done: &Done) -> Result<(), Memory>
     ensures { OnOk result (errors_meant errors.new.items ≡ errors_meant errors.old.items ++ outcomes.errors_of (done_meant done.now ∷ [])) }
 {
-    let Some(code) = done.outcome.error else {
+    let Some(refusal) = refusal_of(&done.answer) else {
         return Ok(());
     };
     let index = index_of(done)?;
-    let refusal = Refusal {
-        code,
-        evidence: Evidence::Nothing,
-    };
     errors.push(WriteError { index, refusal })?;
     Ok(())
 }

@@ -1,8 +1,9 @@
 //! Open requests.
 
+use crate::read::OpenRead;
 use cluster_base::{Namespace, Time};
-use command_answers::WriteKind;
-use protocol_model::{DoneList, Half, Head, StatementList};
+use command_answers::{ClientNumber, WriteKind};
+use protocol_model::{DoneList, Head, StatementList};
 
 /// What a request has to do before it is told.
 #[derive(Drop)]
@@ -10,15 +11,14 @@ pub enum Work {
     /// Its statements, of this kind, and what the first of them were told.
     Writing {
         kind: WriteKind,
+        /// The number that the client gave them, if it gave one.
+        number: Option<ClientNumber>,
         ordered: bool,
         statements: StatementList,
         answers: DoneList,
     },
-    /// To read at a time.
-    Reading {
-        at: Time,
-        half: Half,
-    },
+    /// To read.
+    Reading(OpenRead),
 }
 
 /// What an open request waits for.
@@ -73,7 +73,20 @@ impl OpenRequest {
                 answers: before,
                 ..
             } => *before = answers,
-            Work::Reading { .. } => {}
+            Work::Reading(_) => {}
+        }
+    }
+
+    // A read is of this time now, unless one is named, and waits for this.
+    pub(crate) fn reach(&mut self, time: Time, wait: Wait)
+        ensures count { self.new.count ≡ self.old.count }
+        ensures work { (router life : ℕ) → open_meant router life self.new
+            ≡ rows.with_work (open_meant router life self.old) (wait_meant wait) (rows.reached time.0 (open_meant router life self.old).work) }
+    {
+        self.wait = wait;
+        match &mut self.work {
+            Work::Writing { .. } => {}
+            Work::Reading(read) => read.reach(time),
         }
     }
 }

@@ -43,7 +43,7 @@ module _ {S : Type 0} (view : S → SeatView) (handed : List ToLink) (routers : 
       let moments : Run w (moments_given 0 (length w.nodes) r.moment) given = subst (λ (l : List Event). Run w l given) same run in
       let good = run_keeps w given (moments_given 0 (length w.nodes) r.moment) there.0 moments in
       let quiet = run_idle w (moments_given 0 (length w.nodes) r.moment) given next (moments_still 0 (length w.nodes) r.moment) there.1 moments in
-      let stage = request_stage given asked next r.at r.link r.number r.request good.0 quiet came in
+      let stage = request_stage given asked good.0.book next r.at r.link r.number r.request good.0.good quiet came in
       record {
         events = moments_given 0 (length w.nodes) r.moment ++ client_event r.at r.link r.number r.request ∷ s.events;
         end = s.end;

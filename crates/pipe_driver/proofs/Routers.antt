@@ -11,7 +11,6 @@ use Rattle.node_model.specs.World.{Held, World, IsRouter, Moves, Event, deliver_
 use Rattle.node_model.specs.World.{goes, start}
 use Rattle.node_model.specs.Schedule.{Round, Pipes, Delivers}
 use Rattle.node_model.proofs.Schedules.{pipes_run}
-use Rattle.node_laws.proofs.Facts.{Good}
 use Rattle.node_laws.proofs.Runs.{StaysTrue, fits_here, happens_keeps}
 use Rattle.node_progress.proofs.Leads.{Leads}
 use Rattle.node_progress.proofs.Receivers.{goes_to}
@@ -82,7 +81,7 @@ letter_goes v n m good (inl idle) got =
 letter_goes v n m good (inr s) got =
     let both : Some s.letter ≡ Some m = sym s.got ∙ got in
     let same : s.letter ≡ m = cc both in
-    let fits = (fits_here v s.at (record { state = router_state s.router; kept = s.kept }) good.0 s.here).state in
+    let fits = (fits_here v good.0.book s.at (record { state = router_state s.router; kept = s.kept }) good.0.good s.here).state in
     let below = slice_get_within v.nodes s.at (record { state = router_state s.router; kept = s.kept }) s.here in
     let own = fits.own in
     let place = fits.place in
@@ -96,5 +95,5 @@ pub none_lost : (u : World) (next : ℕ) (events : List Event) (w : World) (late
 none_lost u next events w later good stage settles =
     settles_delivers (λ (v : World) (n : ℕ). StaysTrue v × Stage v n)
     (λ v n m p got. letter_goes v n m p.0 p.1 got)
-    (λ v x n at p h. (happens_keeps v x (deliver_event at n) p.0 h, delivery_keeps v x n at p.0.0 p.1 h))
+    (λ v x n at p h. (happens_keeps v x (deliver_event at n) p.0 h, delivery_keeps v x p.0.0.book n at p.0.0.good p.1 h))
     u next events w later (good, stage) settles

@@ -18,8 +18,8 @@ use pipeline_lang::{Half, HalfEnd};
 use std::alloc::Global;
 use std::sync::Arc;
 
-// The documents, each shared once more. Fails for want of memory.
-fn share_all(
+/// The documents, each shared once more. Fails for want of memory.
+pub fn share_all(
     alloc: Global,
     documents: &[Arc<Document, Global>],
 ) -> Result<Vec<Arc<Document, Global>>, Memory>

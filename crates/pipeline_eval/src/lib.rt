@@ -13,7 +13,7 @@ mod tops;
 
 pub use answers::eval;
 pub use fault::EvalFault;
-pub use half::eval_half;
+pub use half::{eval_half, share_all};
 pub use lengths::MOST_BYTES_ANSWERED;
 pub use rows::{PartCount, Rows};
 pub use sorting::sorted;

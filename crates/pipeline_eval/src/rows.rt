@@ -1,8 +1,10 @@
 //! What halves give.
 
-ghost use Rattle.std.specs.Prelude.{◌≡◌, ◌<◌, ◌≤◌, ◌^◌, IfNone, IfSome};
+ghost use Rattle.std.specs.Prelude.{◌≡◌, ◌<◌, ◌≤◌, ◌^◌, IfNone, IfOk, IfSome};
+ghost use Rattle.pipeline_eval.specs.Rows.{rows_of};
 
-use bson_values::Document;
+use crate::half::share_all;
+use bson_values::{Document, Memory};
 use group_accum::PartialList;
 use std::alloc::Global;
 use std::marker::Model;
@@ -58,4 +60,17 @@ pub enum Rows {
     Partials(PartialList),
     /// Their number.
     Counted(PartCount),
+}
+
+impl Rows {
+    /// The same rows once more, which share the documents. Fails for want of memory.
+    pub fn copy(&self, alloc: Global) -> Result<Rows, Memory>
+        ensures { IfOk result (λ rows. rows_of rows ≡ rows_of self.now) }
+    {
+        match self {
+            Rows::Docs(documents) => Ok(Rows::Docs(share_all(alloc, documents)?)),
+            Rows::Partials(list) => Ok(Rows::Partials(list.copy()?)),
+            Rows::Counted(count) => Ok(Rows::Counted(PartCount { count: count.count })),
+        }
+    }
 }

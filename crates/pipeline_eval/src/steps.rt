@@ -4,7 +4,7 @@ ghost use Rattle.std.specs.Prelude.{◌≡◌, ◌++◌, IfOk, drop, filter, map
 ghost use Rattle.std.specs.Arc.{arc_value};
 ghost use Rattle.bson_values.specs.View.{datum_of};
 ghost use Rattle.query_model.specs.Holds.{holds};
-ghost use Rattle.group_accum.specs.Kept.{rows_in, spec_in};
+ghost use Rattle.group_accum.specs.GroupParts.{rows_in, spec_in};
 ghost use Rattle.pipeline_model.specs.Groups.{IsGrouped, count_value};
 ghost use Rattle.pipeline_model.specs.Projections.{project};
 ghost use Rattle.pipeline_model.specs.Runs.{count_documents};

@@ -14,6 +14,8 @@ pub mod PartRows
 pub mod PlainConstants
 pub mod RunDepths
 pub mod SampleRuns
+pub mod SmallNumbers
 pub mod SomeOutcome
 pub mod SortOrder
+pub mod StagesRead
 pub mod TopRows

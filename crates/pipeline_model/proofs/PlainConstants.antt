@@ -13,11 +13,7 @@ use Rattle.pipeline_model.specs.SortKeys.{read_sort}
 use Rattle.pipeline_model.specs.GroupSpecs.{Accumulator, GroupField, GroupSpec, is_plain_field, is_plain_group, AccumulatorName, sum_name, min_name, max_name, count_name, accumulators, accumulate, read_accumulator, GroupParts, read_group_field, read_group_fields, with_one_key, read_group}
 use Rattle.pipeline_model.specs.Stages.{Stage, limit_stage, count_stage, is_plain_stage, StageName, match_name, project_name, group_name, sort_name, skip_name, limit_name, count_name as count_stage_name, stage_names, may_count, read_natural, read_stage_of, read_stage, read_stages, read_pipeline}
 use Rattle.query_model.proofs.DocumentKeys.{IfRead, if_read, then_read}
-
--- whatever is read
-then_any : {A B : Type 0} (Q : B → Type 0) (r : Result A QueryFault) (f : A → Result B QueryFault) → ((x : A) → IfRead Q (f x)) → IfRead Q (r >>= f)
-then_any Q (Ok x) f k = k x
-then_any Q (Err e) f k = tt
+use Rattle.pipeline_model.proofs.StagesRead.{then_any, read_all}
 
 abbrev IsPlain : Operand → Type 0
 IsPlain x = is_plain x ≡ true
@@ -103,26 +99,5 @@ plain_stage_of limit_name d = then_any IsPlainStage (read_natural d) _ (λ n. if
 plain_stage_of count_stage_name (string_value s) = if_read IsPlainStage (may_count s) (Ok (count_stage s)) (Err bad_operand) refl tt
 plain_stage_of which d = tt
 
-plain_stage : (d : Datum) → IfRead IsPlainStage (read_stage d)
-plain_stage (document_value (field name d no_fields)) = then_any IsPlainStage (ok_or (named stage_names name) unknown_operator) _
-    (λ which. plain_stage_of which d)
-plain_stage d = tt
-
-abbrev ArePlainStages : List Stage → Type 0
-ArePlainStages stages = list_all is_plain_stage stages ≡ true
-
-plain_stages : (ds : List Datum) → IfRead ArePlainStages (read_stages ds)
-plain_stages [] = refl
-plain_stages (d ∷ ds) =
-    then_read IsPlainStage ArePlainStages (read_stage d) _ (plain_stage d)
-    (λ first h. then_read ArePlainStages ArePlainStages (read_stages ds) _ (plain_stages ds) (λ others k i. h i && k i))
-
-said : {A : Type 0} (P : A → Type 0) (r : Result A QueryFault) (x : A) → r ≡ Ok x → IfRead P r → P x
-said P r x e h = rw e at h
-
-plain_pipeline : (stages : Items) → IfRead ArePlainStages (read_pipeline stages)
-plain_pipeline stages = if_read ArePlainStages (nat_lt 1000 (length (elements stages))) (Err bad_operand) (read_stages (elements stages)) tt
-    (plain_stages (elements stages))
-
 pub read_plain : (array : Items) (stages : List Stage) → read_pipeline array ≡ Ok stages → list_all is_plain_stage stages ≡ true
-read_plain array stages e = said ArePlainStages (read_pipeline array) stages e (plain_pipeline array)
+read_plain = read_all is_plain_stage plain_stage_of

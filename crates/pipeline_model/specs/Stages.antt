@@ -1,6 +1,6 @@
 -- Stages, and which arrays are pipelines (MongoDB manual, "Aggregation Pipeline Stages": each stage's page; "Aggregation Pipeline
 -- Limits"). Own: seven stages.
-use Rattle.std.specs.Prelude.{ℕ, ℤ, pos, negsuc, List, [], ◌∷◌, length, Bool, true, not, ◌&&◌, ◌||◌, Result, Ok, Err, ok_or, nat_lt, ◌==◌, codes, if◌then◌else◌}
+use Rattle.std.specs.Prelude.{ℕ, ℤ, pos, negsuc, List, [], ◌∷◌, length, Bool, true, not, ◌&&◌, ◌||◌, ◌^◌, Result, Ok, Err, ok_or, nat_lt, ◌==◌, codes, if◌then◌else◌}
 use Rattle.std.specs.List.{list_any}
 use Rattle.std.specs.Str.{byte}
 use Rattle.bson_model.specs.Tree.{Datum, document_value, string_value, Items, no_fields, field}
@@ -26,6 +26,12 @@ abbrev pub is_plain_stage : Stage → Bool
 is_plain_stage (group_stage spec) = is_plain_group spec
 is_plain_stage stage = true
 
+-- how many documents are passed over or kept is a number that a message can have
+abbrev pub has_int64 : Stage → Bool
+has_int64 (skip_stage n) = nat_lt n (2 ^ 63)
+has_int64 (limit_stage n) = nat_lt n (2 ^ 63)
+has_int64 stage = true
+
 pub data StageName : Type 0 where
   match_name : StageName
   project_name : StageName
@@ -46,9 +52,9 @@ stage_names =
     ∷ (codes "$count", count_name)
     ∷ []
 
--- a whole number that is not negative
+-- a whole number that is not negative; no message has a greater one
 abbrev pub as_natural : ℤ → Result ℕ QueryFault
-as_natural (pos n) = Ok n
+as_natural (pos n) = if nat_lt n (2 ^ 63) then Ok n else Err bad_operand
 as_natural (negsuc n) = Err bad_operand
 
 abbrev pub read_natural : Datum → Result ℕ QueryFault

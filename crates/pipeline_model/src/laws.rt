@@ -6,7 +6,7 @@ ghost use Rattle.std.specs.Cmp.{IsTotalOrder};
 ghost use Rattle.bson_model.specs.Tree.{Fields, Items, document_depth};
 ghost use Rattle.pipeline_model.specs.Projections.{Projection, project};
 ghost use Rattle.pipeline_model.specs.SortKeys.{SortSpec, order_keys};
-ghost use Rattle.pipeline_model.specs.Stages.{Stage, is_plain_stage, read_pipeline};
+ghost use Rattle.pipeline_model.specs.Stages.{Stage, has_int64, is_plain_stage, read_pipeline};
 ghost use Rattle.pipeline_model.specs.Runs.{Outcome, Runs, listed, overflowed};
 ghost use Rattle.pipeline_model.specs.Halves.{Half, IsHalf, Merge, Merges, Rows, may_stand_in};
 ghost use Rattle.pipeline_model.specs.Split.{split};
@@ -18,11 +18,21 @@ pub fn each_pipeline_has_an_outcome()
 {}
 
 /// The law of halves: what the halves of any parts are merged to is an outcome that the whole pipeline has on the documents of
-/// the parts, one part after another. There may be any number of parts, none among them.
+/// the parts, one part after another. There may be any number of parts, none among them; and any number of documents, where what
+/// is passed over or kept is a number that a message can have, as in each pipeline that was read.
 pub fn halves_merge_to_the_whole()
-    ensures { (stages : List Stage) (half : Half) (merge : Merge) (parts : List (List Fields)) (rows : List Rows) (out : Outcome)
+    ensures any { (stages : List Stage) (half : Half) (merge : Merge) (parts : List (List Fields)) (rows : List Rows) (out : Outcome)
+        → split stages ≡ (half, merge) → list_all has_int64 stages ≡ true → AllZip (IsHalf half) parts rows
+        → Merges merge rows out → Runs stages (flat_map (λ part. part) parts) out }
+    ensures few { (stages : List Stage) (half : Half) (merge : Merge) (parts : List (List Fields)) (rows : List Rows) (out : Outcome)
         → split stages ≡ (half, merge) → length (flat_map (λ part. part) parts) < 2 ^ 62 → AllZip (IsHalf half) parts rows
         → Merges merge rows out → Runs stages (flat_map (λ part. part) parts) out }
+{}
+
+/// How many documents a pipeline that was read passes over or keeps is a number that a message can have.
+#[tactic(auto, using(crate::proofs::SmallNumbers::read_int64))]
+pub fn numbers_are_small()
+    ensures { (array : Items) (stages : List Stage) → read_pipeline array ≡ Ok stages → list_all has_int64 stages ≡ true }
 {}
 
 /// A document whose key is outside the half's span adds nothing, wherever it stands: to what the half gives, nor to what the

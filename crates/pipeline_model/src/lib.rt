@@ -12,6 +12,6 @@ pub mod stages;
 
 pub use laws::{
     each_pipeline_has_an_outcome, halves_merge_to_the_whole, halves_never_overflow,
-    outside_the_span_adds_nothing, pipelines_never_deepen, projections_never_deepen,
-    sort_order_is_total, there_is_one_batch,
+    numbers_are_small, outside_the_span_adds_nothing, pipelines_never_deepen,
+    projections_never_deepen, sort_order_is_total, there_is_one_batch,
 };

@@ -5,6 +5,7 @@ use cluster_base::{NameFault, Namespace, Time};
 use cursor_shelf::{Shelf, ShelfFault};
 use fixtures::{RowFault, Rows, field, number};
 use std::alloc::Global;
+use std::collections::VecDeque;
 
 /// `LENGTHS | SIZE | COUNTS`: how many documents stand in each batch of a cursor on documents of these lengths, asked for with the size,
 /// or with none where it is `none`; behind the last one the cursor is gone.
@@ -27,7 +28,7 @@ fn shelf_of(alloc: Global, lengths: &str) -> Result<Shelf, RowFault> {
     let namespace = namespace_of(alloc)?;
     let documents = long_documents(alloc, lengths)?;
     let mut shelf = Shelf::new(alloc);
-    shelf.put(1, namespace, Time(1), documents)?;
+    shelf.put(1, namespace, Time(1), VecDeque::from(documents))?;
     Ok(shelf)
 }
 
@@ -72,14 +73,18 @@ fn is_so_many(found: Option<usize>, wanted: usize) -> bool {
     }
 }
 
-// The number of documents in the next batch of the cursor, if it is open.
+// The number of documents in the next batch of the cursor, if it is open; they are taken out.
 fn next_count(
     shelf: &mut Shelf,
     namespace: &Namespace,
     size: Option<u64>,
 ) -> Result<Option<usize>, RowFault> {
-    match shelf.batch(1, namespace, size) {
-        Ok(batch) => Ok(Some(batch.documents.len())),
+    match shelf.next(1, namespace, size) {
+        Ok(batch) => {
+            let count = batch.documents.len();
+            shelf.advance(1, count);
+            Ok(Some(count))
+        }
         Err(ShelfFault::NotFound) => Ok(None),
         Err(ShelfFault::Memory) => Err(RowFault::Memory),
     }

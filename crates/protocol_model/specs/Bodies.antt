@@ -1,21 +1,26 @@
 -- What messages of the program say, by the definitions.
-use Rattle.std.specs.Prelude.{map}
+use Rattle.std.specs.Prelude.{map, Result, Ok, Err}
 use Rattle.std.specs.Arc.{arc_value}
 use Rattle.std.specs.Option.{option_map}
-use Rattle.bson_values.specs.View.{datum_of}
 use Rattle.chunk_table.specs.VerdictMeanings.{sent_meant}
 use Rattle.chunk_table.specs.Meanings.{version_meant}
+use Rattle.command_answers.specs.Kinds.{given_meant}
 use Rattle.node_traits.specs.Ids.{id_meant}
+use Rattle.pipeline_model.specs.Halves as halves
+use Rattle.pipeline_lang.specs.Halves.{half_of}
+use Rattle.pipeline_eval.specs.Rows.{rows_of}
+use Rattle.pipeline_eval.specs.declared.rows.Rows.{Rows}
 use Rattle.node_traits.specs.Letters as letters
-use Rattle.node_traits.specs.Letters.{no_time, at_time, key_half, table_ask, table_told, write_ask, write_done, read_ask, half_ask, read_rows, stale, time_ask, time_told}
+use Rattle.node_traits.specs.Letters.{no_time, at_time, half_overflow, half_excess}
+use Rattle.node_traits.specs.Letters.{table_ask, table_told, write_ask, write_done, read_ask, half_ask, read_rows, stale, time_ask, time_told}
 use Rattle.protocol_model.specs.declared.tables.At.{At}
 use Rattle.protocol_model.specs.declared.tables.At.TheVariants.{NoTime, Time}
 use Rattle.protocol_model.specs.declared.tables.TableAsk.{TableAsk}
 use Rattle.protocol_model.specs.declared.tables.TableTold.{TableTold}
 use Rattle.protocol_model.specs.declared.writes.WriteAsk.{WriteAsk}
 use Rattle.protocol_model.specs.declared.writes.WriteDone.{WriteDone}
-use Rattle.protocol_model.specs.declared.reads.Half.{Half}
-use Rattle.protocol_model.specs.declared.reads.Half.TheVariants.{Key}
+use Rattle.protocol_model.specs.declared.reads.HalfFault.{HalfFault}
+use Rattle.protocol_model.specs.declared.reads.HalfFault.TheVariants.{Overflow, TooMuch}
 use Rattle.protocol_model.specs.declared.reads.ReadAsk.{ReadAsk}
 use Rattle.protocol_model.specs.declared.reads.HalfAsk.{HalfAsk}
 use Rattle.protocol_model.specs.declared.reads.ReadRows.{ReadRows}
@@ -30,8 +35,13 @@ abbrev pub at_meant : At → letters.At
 at_meant NoTime = no_time
 at_meant (Time time) = at_time time.0
 
-abbrev pub half_meant : Half → letters.Half
-half_meant (Key value) = key_half (datum_of (arc_value value))
+abbrev pub half_fault_meant : HalfFault → letters.HalfFault
+half_fault_meant Overflow = half_overflow
+half_fault_meant (TooMuch bytes) = half_excess bytes
+
+abbrev pub rows_meant : Result Rows HalfFault → Result halves.Rows letters.HalfFault
+rows_meant (Ok rows) = Ok (rows_of rows)
+rows_meant (Err fault) = Err (half_fault_meant fault)
 
 abbrev pub table_ask_meant : TableAsk → letters.Body
 table_ask_meant a = table_ask a.namespace a.create (at_meant a.at)
@@ -40,19 +50,21 @@ abbrev pub table_told_meant : TableTold → letters.Body
 table_told_meant t = table_told t.namespace t.create (at_meant t.at) (option_map (λ table. arc_value table) t.table)
 
 abbrev pub write_ask_meant : WriteAsk → letters.Body
-write_ask_meant a = write_ask (id_meant a.id) a.turn a.ordered a.namespace (map (statement_meant (id_meant a.id)) a.statements.items) (sent_meant a.sent)
+write_ask_meant a =
+    write_ask (id_meant a.id) a.turn a.ordered a.namespace (map (statement_meant (given_meant a.number) (id_meant a.id)) a.statements.items)
+    (sent_meant a.sent)
 
 abbrev pub write_done_meant : WriteDone → letters.Body
 write_done_meant d = write_done (id_meant d.id) (map done_meant d.dones.items)
 
 abbrev pub read_ask_meant : ReadAsk → letters.Body
-read_ask_meant a = read_ask (id_meant a.id) a.turn a.namespace a.at.0 (half_meant a.half) (sent_meant a.sent)
+read_ask_meant a = read_ask (id_meant a.id) a.turn a.namespace a.at.0 (half_of (arc_value a.half)) (sent_meant a.sent)
 
 abbrev pub half_ask_meant : HalfAsk → letters.Body
-half_ask_meant a = half_ask (id_meant a.id) a.turn a.namespace a.at.0 (half_meant a.half) (map (λ d. arc_value d) a.documents.items)
+half_ask_meant a = half_ask (id_meant a.id) a.turn a.namespace a.at.0 (half_of (arc_value a.half)) (map (λ d. arc_value d) a.documents.items)
 
 abbrev pub read_rows_meant : ReadRows → letters.Body
-read_rows_meant r = read_rows (id_meant r.id) r.turn (map (λ d. arc_value d) r.rows.items)
+read_rows_meant r = read_rows (id_meant r.id) r.turn (rows_meant r.rows)
 
 abbrev pub stale_meant : Stale → letters.Body
 stale_meant s = stale (id_meant s.id) s.turn (version_meant s.met)

@@ -1,7 +1,7 @@
-//! Copies of lists, whose documents are shared.
+//! Lists, and copies of them, whose documents are shared.
 
-ghost use Rattle.std.specs.Prelude.{◌≡◌, IfOk, map};
-ghost use Rattle.std.specs.Arc.{arc_value};
+ghost use Rattle.std.specs.Prelude.{◌≡◌, IfOk, Option, map};
+ghost use Rattle.command_model.specs.Writes.{ClientNumber};
 ghost use Rattle.node_traits.specs.Exchanges.{RequestId};
 ghost use Rattle.protocol_model.specs.Statements.{done_meant, statement_meant};
 
@@ -24,7 +24,8 @@ pub(crate) fn copy_statements(
     alloc: Global,
     statements: &[Statement],
 ) -> Result<StatementList, Memory>
-    ensures { (id : RequestId) → IfOk result (λ list. map (statement_meant id) list.items ≡ map (statement_meant id) statements.now) }
+    ensures { (given : Option ClientNumber) (id : RequestId) → IfOk result (λ list. map (statement_meant given id) list.items
+        ≡ map (statement_meant given id) statements.now) }
 {
     let mut list = Vec::new(alloc);
     for statement in statements {
@@ -40,20 +41,6 @@ pub(crate) fn copy_dones(alloc: Global, dones: &[Done]) -> Result<DoneList, Memo
     let mut list = Vec::new(alloc);
     for done in dones {
         list.push(done.copy()?)?;
-    }
-    Ok(list)
-}
-
-/// The same documents once more, shared. Fails for want of memory.
-pub(crate) fn share_documents(
-    alloc: Global,
-    documents: &[Arc<Document, Global>],
-) -> Result<DocumentList, Memory>
-    ensures { IfOk result (λ list. map (λ document. arc_value document) list.items ≡ map (λ document. arc_value document) documents.now) }
-{
-    let mut list = Vec::new(alloc);
-    for document in documents {
-        list.push(Arc::try_clone(document)?)?;
     }
     Ok(list)
 }

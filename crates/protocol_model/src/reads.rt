@@ -1,51 +1,44 @@
 //! Messages on reads.
 
 ghost use Rattle.std.specs.Prelude.{◌≡◌, IfOk};
-ghost use Rattle.protocol_model.specs.Bodies.{half_ask_meant, half_meant, read_ask_meant, read_rows_meant};
+ghost use Rattle.protocol_model.specs.Bodies.{half_ask_meant, read_ask_meant, read_rows_meant};
 
-use crate::lists::{DocumentList, share_documents};
-use bson_values::{Memory, Value};
+use crate::lists::DocumentList;
+use bson_values::Memory;
 use chunk_table::Sent;
 use cluster_base::{Namespace, RequestId, Time};
+use pipeline_eval::{Rows, share_all};
+use pipeline_lang::Half;
 use std::alloc::Global;
 use std::sync::Arc;
 
-/// What a read asks each shard to make of its documents.
-#[derive(Drop)]
-pub enum Half {
-    /// To show those under a value, which need not be one that keys are.
-    Key(Arc<Value, Global>),
+/// Why a half gives no rows.
+#[derive(Clone, Copy, Debug, PartialEq, Eq, Drop)]
+pub enum HalfFault {
+    /// A sum is outside int64.
+    Overflow,
+    /// The rows have so many bytes, which are too many.
+    TooMuch { bytes: u64 },
 }
 
-impl Half {
-    /// The same half once more. Fails for want of memory.
-    pub fn copy(&self) -> Result<Half, Memory>
-        ensures { IfOk result (λ half. half_meant half ≡ half_meant self.now) }
-    {
-        match self {
-            Half::Key(value) => Ok(Half::Key(Arc::try_clone(value)?)),
-        }
-    }
-}
-
-/// To a shard: what a half shows of its documents at a time.
+/// To a shard: what a half gives of its documents at a time. The half is shared.
 #[derive(Drop)]
 pub struct ReadAsk {
     pub id: RequestId,
     pub turn: u32,
     pub namespace: Namespace,
     pub at: Time,
-    pub half: Half,
+    pub half: Arc<Half, Global>,
     pub sent: Sent,
 }
 
 impl ReadAsk {
-    /// The same once more. Fails for want of memory.
+    /// The same once more, which shares the half. Fails for want of memory.
     pub fn copy(&self) -> Result<ReadAsk, Memory>
         ensures { IfOk result (λ ask. read_ask_meant ask ≡ read_ask_meant self.now) }
     {
         let namespace = self.namespace.copy()?;
-        let half = self.half.copy()?;
+        let half = Arc::try_clone(&self.half)?;
         Ok(ReadAsk {
             id: self.id,
             turn: self.turn,
@@ -64,18 +57,18 @@ pub struct HalfAsk {
     pub turn: u32,
     pub namespace: Namespace,
     pub at: Time,
-    pub half: Half,
+    pub half: Arc<Half, Global>,
     pub documents: DocumentList,
 }
 
 impl HalfAsk {
-    /// The same once more, which shares the documents. Fails for want of memory.
+    /// The same once more, which shares the half and the documents. Fails for want of memory.
     pub fn copy(&self, alloc: Global) -> Result<HalfAsk, Memory>
         ensures { IfOk result (λ ask. half_ask_meant ask ≡ half_ask_meant self.now) }
     {
         let namespace = self.namespace.copy()?;
-        let half = self.half.copy()?;
-        let documents = share_documents(alloc, &self.documents)?;
+        let half = Arc::try_clone(&self.half)?;
+        let documents = share_all(alloc, &self.documents)?;
         Ok(HalfAsk {
             id: self.id,
             turn: self.turn,
@@ -87,20 +80,23 @@ impl HalfAsk {
     }
 }
 
-/// The answer to a read: what its half showed.
+/// The answer to a read: the rows of its half, or why there are none.
 #[derive(Drop)]
 pub struct ReadRows {
     pub id: RequestId,
     pub turn: u32,
-    pub rows: DocumentList,
+    pub rows: Result<Rows, HalfFault>,
 }
 
 impl ReadRows {
-    /// The same once more, which shares the rows. Fails for want of memory.
+    /// The same once more, which shares the documents. Fails for want of memory.
     pub fn copy(&self, alloc: Global) -> Result<ReadRows, Memory>
         ensures { IfOk result (λ told. read_rows_meant told ≡ read_rows_meant self.now) }
     {
-        let rows = share_documents(alloc, &self.rows)?;
+        let rows = match &self.rows {
+            Ok(rows) => Ok(rows.copy(alloc)?),
+            Err(fault) => Err(*fault),
+        };
         Ok(ReadRows {
             id: self.id,
             turn: self.turn,

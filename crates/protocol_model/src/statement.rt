@@ -1,8 +1,10 @@
 //! Statements of writes, and what they are told (MongoDB manual, "insert", "update", "delete").
 
-ghost use Rattle.std.specs.Prelude.{◌≡◌, IfOk};
+ghost use Rattle.std.specs.Prelude.{◌≡◌, IfOk, Option, is_some};
+ghost use Rattle.command_model.specs.Writes.{ClientNumber};
 ghost use Rattle.node_traits.specs.Exchanges.{RequestId};
-ghost use Rattle.protocol_model.specs.Statements.{done_meant, operation_meant, statement_meant};
+ghost use Rattle.node_traits.specs.Outcomes.{refusal_in};
+ghost use Rattle.protocol_model.specs.Statements.{answer_meant, done_meant, operation_meant, outcome_meant, statement_meant};
 
 use crate::change::NewChange;
 use crate::document::NewDocument;
@@ -33,7 +35,7 @@ impl Operation {
     }
 }
 
-/// A statement, with its index in its command. Its number is that of its request and this index: so far no client numbers statements.
+/// A statement, with its index in its command.
 #[derive(Drop)]
 pub struct Statement {
     pub index: u32,
@@ -43,7 +45,8 @@ pub struct Statement {
 impl Statement {
     /// The same statement once more, which shares its documents. Fails for want of memory.
     pub fn copy(&self) -> Result<Statement, Memory>
-        ensures { (id : RequestId) → IfOk result (λ statement. statement_meant id statement ≡ statement_meant id self.now) }
+        ensures { (given : Option ClientNumber) (id : RequestId) →
+            IfOk result (λ statement. statement_meant given id statement ≡ statement_meant given id self.now) }
     {
         let operation = self.operation.copy()?;
         Ok(Statement {
@@ -53,7 +56,7 @@ impl Statement {
     }
 }
 
-/// What a statement is told.
+/// What an entry tells its statement.
 #[derive(Drop)]
 pub struct Outcome {
     /// How many documents it met or put in.
@@ -66,12 +69,68 @@ pub struct Outcome {
     pub error: Option<Code>,
 }
 
-/// A statement that was done: its index in its command, the time of its entry, and what it is told.
+impl Outcome {
+    /// The same once more. Fails for want of memory.
+    fn copy(&self) -> Result<Outcome, Memory>
+        ensures { IfOk result (λ outcome. outcome_meant outcome ≡ outcome_meant self.now) }
+    {
+        let upserted = match &self.upserted {
+            Some(key) => Some(Arc::try_clone(key)?),
+            None => None,
+        };
+        Ok(Outcome {
+            count: self.count,
+            modified: self.modified,
+            upserted,
+            error: self.error,
+        })
+    }
+}
+
+/// What a statement is told.
+#[derive(Drop)]
+pub enum StatementAnswer {
+    /// It was done.
+    WasDone {
+        /// The time of its entry.
+        time: Time,
+        /// What the entry tells.
+        outcome: Outcome,
+    },
+    /// It was not done: its session has this greater transaction.
+    Older(i64),
+}
+
+impl StatementAnswer {
+    /// Whether it is an error.
+    pub fn fails(&self) -> bool
+        ensures { result ≡ is_some (refusal_in (answer_meant self.now)) }
+    {
+        match self {
+            StatementAnswer::WasDone { outcome, .. } => outcome.error.is_some(),
+            StatementAnswer::Older(_) => true,
+        }
+    }
+
+    /// The same once more. Fails for want of memory.
+    fn copy(&self) -> Result<StatementAnswer, Memory>
+        ensures { IfOk result (λ answer. answer_meant answer ≡ answer_meant self.now) }
+    {
+        match self {
+            StatementAnswer::WasDone { time, outcome } => Ok(StatementAnswer::WasDone {
+                time: *time,
+                outcome: outcome.copy()?,
+            }),
+            StatementAnswer::Older(greatest) => Ok(StatementAnswer::Older(*greatest)),
+        }
+    }
+}
+
+/// What the statement with an index in its command is told.
 #[derive(Drop)]
 pub struct Done {
     pub index: u32,
-    pub time: Time,
-    pub outcome: Outcome,
+    pub answer: StatementAnswer,
 }
 
 impl Done {
@@ -79,20 +138,10 @@ impl Done {
     pub fn copy(&self) -> Result<Done, Memory>
         ensures { IfOk result (λ done. done_meant done ≡ done_meant self.now) }
     {
-        let upserted = match &self.outcome.upserted {
-            Some(key) => Some(Arc::try_clone(key)?),
-            None => None,
-        };
-        let outcome = Outcome {
-            count: self.outcome.count,
-            modified: self.outcome.modified,
-            upserted,
-            error: self.outcome.error,
-        };
+        let answer = self.answer.copy()?;
         Ok(Done {
             index: self.index,
-            time: self.time,
-            outcome,
+            answer,
         })
     }
 }

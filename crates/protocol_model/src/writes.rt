@@ -7,15 +7,17 @@ use crate::lists::{DoneList, StatementList, copy_dones, copy_statements};
 use bson_values::Memory;
 use chunk_table::Sent;
 use cluster_base::{Namespace, RequestId};
+use command_answers::ClientNumber;
 use std::alloc::Global;
 
-/// To a shard: the statements of a request that follow one another and go there.
+/// To a shard: the statements of a request that follow one another and go there, with the number that the client gave, if it gave one.
 #[derive(Drop)]
 pub struct WriteAsk {
     pub id: RequestId,
     pub turn: u32,
     pub ordered: bool,
     pub namespace: Namespace,
+    pub number: Option<ClientNumber>,
     pub statements: StatementList,
     pub sent: Sent,
 }
@@ -32,6 +34,7 @@ impl WriteAsk {
             turn: self.turn,
             ordered: self.ordered,
             namespace,
+            number: self.number,
             statements,
             sent: self.sent,
         })

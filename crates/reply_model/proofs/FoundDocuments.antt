@@ -1,8 +1,8 @@
 -- What stands under a key at a time is what the last entry under it left, of those up to then.
-use Rattle.std.proofs.Common.{◌≡◌, ℕ, ◌<◌, ◌≤◌, ◌⊎◌, inl, inr, List, [], ◌∷◌, ◌++◌, refl, sym, ap, subst, ◌∙◌, arith}
+use Rattle.std.proofs.Common.{◌≡◌, ℕ, ◌<◌, ◌≤◌, ◌⊎◌, inl, inr, List, [], ◌∷◌, ◌++◌, refl, ap, ◌∙◌, arith}
 use Rattle.std.specs.Prelude.{true, false, Option, None, Bool, if◌then◌else◌, filter, nat_le}
 use Rattle.std.specs.List.{AllByRecursion}
-use Rattle.std.proofs.lemmas.Bool.{le-leb, lt-leb}
+use Rattle.std.proofs.lemmas.Bool.{le-leb}
 use Rattle.std.proofs.lemmas.Bool.Decides.{leb_tells}
 use Rattle.std.proofs.lemmas.List.Elements.{filter-append}
 use Rattle.command_model.specs.Tree.{Datum, Fields}
@@ -89,7 +89,8 @@ module _ (namespace : List ℕ) (key : Option Datum) where
       by_times (inl early) (inr late) later = absurd (omega (arith, early.1, late.1, less))
       by_times (inr after) (inl in_time) later =
           let passed : document_after namespace key document (e ∷ up_to time es) ≡ document_after namespace key document (up_to time es) =
-          ap (λ (hit : Bool). document_after namespace key (if hit then (effect e.operation document).0 else document) (up_to time es)) (none.0 after.1 in_time.1) in
+          ap (λ (hit : Bool). document_after namespace key (if hit then (effect e.operation document).0 else document) (up_to time es))
+          (none.0 after.1 in_time.1) in
           rw (after.0, in_time.0) (passed ∙ later document)
       by_times (inr after) (inr late) later = rw (after.0, late.0) (later document)
 

@@ -1,37 +1,74 @@
 -- What follows where history, requests and answers are one history.
-use Rattle.std.proofs.Common.{◌≡◌, ◌≢◌, ℕ, ◌+◌, ◌<◌, ◌≤◌, ◌⊎◌, inl, inr, List, [], ◌∷◌, length, refl, sym, ap, subst, ◌∙◌, arith}
-use Rattle.std.specs.Prelude.{◌++◌, Bool, true, Option, Some, None, Ok, map}
-use Rattle.command_model.specs.Tree.{Datum, Fields}
+use Rattle.std.proofs.Common.{◌≡◌, ◌≢◌, ℕ, ◌<◌, ◌≤◌, ◌⊎◌, inl, inr, List, [], ◌∷◌, refl, sym, ap, subst, ◌∙◌, arith}
+use Rattle.std.specs.Prelude.{Option, Some, None, Ok}
+use Rattle.std.specs.Option.{unwrap_or}
+use Rattle.command_model.specs.Tree.{Fields}
 use Rattle.command_model.specs.Refusals.{time_ahead}
 use Rattle.command_model.specs.ReplyParts.{operation_time}
-use Rattle.command_model.specs.Writes.{WriteCommand}
-use Rattle.command_model.specs.Find.{Find}
-use Rattle.command_model.specs.Command.{write_command, find_command, command_of}
-use Rattle.command_model.specs.Answers.{find_answer, refusal_answer, answer_document}
-use Rattle.command_model.proofs.AnswerTimes.{time_of_find}
+use Rattle.command_model.specs.Writes.{ClientNumber, WriteCommand}
+use Rattle.command_model.specs.Reading.{Reading}
+use Rattle.command_model.specs.Command.{write_command, command_of}
+use Rattle.command_model.specs.Answers.{refusal_answer, answer_document}
 use Rattle.command_model.proofs.Taken.{some_operations}
 use Rattle.chunk_model.specs.Catalogue.{Creation}
-use Rattle.history_model.specs.History.{Operation, Entry, same_key, writes_to, effect, document_left, document_at, Legal, IsIn}
-use Rattle.history_model.proofs.Lists.{all_at, in_first}
-use Rattle.history_model.proofs.LegalHistories.{same_after}
-use Rattle.reply_model.specs.Exchanges.{Asked, Answered, entries_by}
-use Rattle.reply_model.specs.Outcomes.{done_of, time_of, answer_of}
-use Rattle.reply_model.specs.Right.{IsStatement, found, AreAll, told_by, IsWhole, IsRight}
-use Rattle.reply_model.specs.OneHistory.{WasSent, StandsInPart, IsRightOf, IsNotBefore, IsFresh, IsInOrder, Given, OneHistory}
-use Rattle.reply_model.specs.Earlier.{IsTold, WasToldBefore, WasTakenBefore, IsEntryOf}
-use Rattle.reply_model.proofs.Requests.{same_session, one_asked, by_in, in_by, among}
-use Rattle.reply_model.proofs.FoundDocuments.{up_to, WritesNone, WritesNoneBetween, last_left, nothing_left, stands_since}
-use Rattle.reply_model.proofs.RightAnswers.{TellsWrite, tells_write, write_time, most, TellsFind, tells_find, tells_now, tells_named, found_documents, ahead_time}
+use Rattle.history_model.specs.History.{Operation, Outcome, Entry, IsIn}
+use Rattle.history_model.proofs.Lists.{all_at, in_cons, in_first, in_none}
+use Rattle.reply_model.specs.Exchanges.{RequestId, Asked, Answered, number_for, entries_by}
+use Rattle.reply_model.specs.Outcomes.{StatementAnswer, was_done, WasDone, Done, answer_by, time_of, answer_of}
+use Rattle.reply_model.specs.Cursors.{Cursor}
+use Rattle.reply_model.specs.Reads.{IsTimeRead}
+use Rattle.reply_model.specs.Right.{Sends, MayBeTold, AreTold, told_by, IsRight, Reads}
+use Rattle.reply_model.specs.OneHistory.{WasSent, IsPlaced, IsRightOf, AreRight, nothing_told, then_told, IsNotBefore, IsFresh, IsInOrder, Given, OneHistory}
+use Rattle.reply_model.specs.Earlier.{IsTold, WasToldBefore, WasTakenBefore}
+use Rattle.reply_model.proofs.Requests.{number_same, one_asked, by_in}
+use Rattle.reply_model.proofs.RightAnswers.{TellsWrite, right_of, write_time, most}
+use Rattle.reply_model.proofs.Statements.{on_first, one_number, IsAnswerOf, answer_of_entry, was_done_own, told_in, all_told}
+use Rattle.reply_model.proofs.ReadTimes.{shown_time, not_before, not_before_after, ahead_time, is_ahead, wanted_is}
 
-module _ (given : List Given) (creations : List Creation) (history : List Entry) (asked : List Asked) (answered : List Answered) (one : OneHistory given creations history asked answered) where
+-- each of the answers is right, with some cursors before it and after it
+pub record IsRightIn (given : List Given) (creations : List Creation) (history : List Entry) (asked : List Asked) (answered : List Answered)
+    (t : Answered) : Type 0 where
+  pub cursors : List Cursor
+  pub next : List Cursor
+  pub is : IsRightOf given creations history asked answered cursors t next
+
+pub right_in : (given : List Given) (creations : List Creation) (history : List Entry) (asked : List Asked) (answered : List Answered) (cursors : List Cursor)
+    (told : List Answered)
+    → AreRight given creations history asked answered cursors told → (t : Answered) → IsIn t told → IsRightIn given creations history asked answered t
+right_in given creations history asked answered cursors told (nothing_told c) t i = absurd (in_none t i)
+right_in given creations history asked answered cursors told (then_told c next s later right rest) t i =
+    by_place (in_cons t s later i) (λ j. right_in given creations history asked answered next later rest t j)
+  where
+    by_place : (t ≡ s) ⊎ IsIn t later → (IsIn t later → IsRightIn given creations history asked answered t) → IsRightIn given creations history asked answered t
+    by_place (inl same) more = record {
+      cursors = c;
+      next = next;
+      is = subst (λ (x : Answered). IsRightOf given creations history asked answered c x next) (sym same) right;
+    }
+    by_place (inr j) more = more j
+
+-- one request's answer, with the cursors around it
+pub record IsRightFor (creations : List Creation) (history : List Entry) (asked : List Asked) (answered : List Answered) (a : Asked)
+    (t : Answered) : Type 0 where
+  pub cursors : List Cursor
+  pub next : List Cursor
+  pub right : IsRight creations history asked answered cursors a t next
+  pub risen : a.time ≤ t.time
+
+module _ (given : List Given) (creations : List Creation) (history : List Entry) (asked : List Asked) (answered : List Answered)
+    (one : OneHistory given creations history asked answered) where
   -- REQUESTS AND THEIR ANSWERS
 
+  right_told : (t : Answered) → IsIn t answered → IsRightIn given creations history asked answered t
+  right_told t i = right_in given creations history asked answered [] answered one.right t i
+
   -- what a request is told is right, and its router's time was not lower then
-  answer_right : (a : Asked) (t : Answered) → IsTold asked answered a t → IsRight history a t × (a.time ≤ t.time)
+  pub answer_right : (a : Asked) (t : Answered) → IsTold asked answered a t → IsRightFor creations history asked answered a t
   answer_right a t told =
-      let r = all_at (IsRightOf history asked) t answered one.right told.told in
-      let same : r.request ≡ a = one_asked r.request a asked one.one r.taken told.taken (r.own ∙ sym told.own) in
-      subst (λ (b : Asked). IsRight history b t × (b.time ≤ t.time)) same (r.right, r.risen)
+      let r = right_told t told.told in
+      let same : r.is.request ≡ a = one_asked r.is.request a asked one.one r.is.taken told.taken (r.is.own ∙ sym told.own) in
+      subst (λ (b : Asked). IsRightFor creations history asked answered b t) same
+      (record { cursors = r.cursors; next = r.next; right = r.is.right; risen = r.is.risen })
 
   -- each answer is told to a request
   pub record HasRequest (t : Answered) : Type 0 where
@@ -40,62 +77,69 @@ module _ (given : List Given) (creations : List Creation) (history : List Entry)
     pub same : request.request ≡ t.request
 
   pub told_to : (t : Answered) → IsIn t answered → HasRequest t
-  told_to t i = let r = all_at (IsRightOf history asked) t answered one.right i in record { request = r.request; is = record { taken = r.taken; told = i; own = r.own }; same = r.same }
+  told_to t i = let r = (right_told t i).is in record { request = r.request; is = record { taken = r.taken; told = i; own = r.own }; same = r.same }
 
-  pub tells_its_write : (a : Asked) (t : Answered) (write : WriteCommand) → IsTold asked answered a t → command_of a.request ≡ Ok (write_command write)
-      → TellsWrite history a t write
-  tells_its_write a t write told asks = tells_write history a t write asks (answer_right a t told).0
+  tells_its_write : (a : Asked) (t : Answered) (write : WriteCommand) → IsTold asked answered a t → command_of a.request ≡ Ok (write_command write)
+      → TellsWrite history asked t.id t write
+  tells_its_write a t write told asks =
+      let r = answer_right a t told in
+      subst (λ (id : RequestId). TellsWrite history asked id t write) told.own
+      (right_of creations history asked answered r.cursors a t (Ok (write_command write)) r.next asks r.right).0
 
-  pub tells_its_find : (a : Asked) (t : Answered) (find : Find) → IsTold asked answered a t → command_of a.request ≡ Ok (find_command find)
-      → TellsFind history a t find
-  tells_its_find a t find told asks = tells_find history a t find asks (answer_right a t told).0
-
-  pub finds_now : (a : Asked) (t : Answered) (find : Find) → IsTold asked answered a t → command_of a.request ≡ Ok (find_command find) → find.at ≡ None
-      → t.document ≡ answer_document (find_answer find.namespace (found (document_at history find.namespace (Some find.key) a.time)) a.time)
-  finds_now a t find told asks none = tells_now history a t find none (tells_its_find a t find told asks)
-
-  pub finds_named : (a : Asked) (t : Answered) (find : Find) (named : ℕ) → IsTold asked answered a t → command_of a.request ≡ Ok (find_command find)
-      → find.at ≡ Some named
-      → (t.document ≡ answer_document (find_answer find.namespace (found (document_at history find.namespace (Some find.key) named)) named))
-      ⊎ ((greatest : ℕ) × (greatest < named) × (t.document ≡ answer_document (refusal_answer (time_ahead greatest))))
-  finds_named a t find named told asks some = tells_named history a t find named some (tells_its_find a t find told asks)
-
-  pub told_whole : (t : Answered) (write : WriteCommand) → IsIn t answered → command_of t.request ≡ Ok (write_command write)
-      → IsWhole history t.id write × (t.document ≡ answer_document (answer_of write.kind (told_by t.id history)))
-  told_whole t write i asks =
-      let h = told_to t i in
-      let tells = tells_its_write h.request t write h.is (ap command_of h.same ∙ asks) in
-      subst (λ id. IsWhole history id write × (t.document ≡ answer_document (answer_of write.kind (told_by id history)))) h.is.own (tells.whole, tells.says)
+  -- what a write was told
+  pub told_write : (t : Answered) (write : WriteCommand) → IsIn t answered → command_of t.request ≡ Ok (write_command write)
+      → TellsWrite history asked t.id t write
+  told_write t write i asks = let h = told_to t i in tells_its_write h.request t write h.is (ap command_of h.same ∙ asks)
 
   -- ENTRIES AND THEIR REQUESTS
 
-  -- the request that an entry is of was sent, and the entry is later than what its router knew
-  pub sent_by : (a : Asked) (e : Entry) → IsIn a asked → IsIn e (entries_by a.id history)
-      → (write : WriteCommand) × (command_of a.request ≡ Ok (write_command write)) × (a.time < e.time)
-  sent_by a e i by =
-      let own = by_in a.id history e by in
-      let s = all_at (WasSent asked) e history one.sent own.0 in
-      let same : s.request ≡ a = one_asked s.request a asked one.one s.taken i (same_session s.request.id a.id e.number.session s.own own.1) in
-      subst (λ (b : Asked). (write : WriteCommand) × (command_of b.request ≡ Ok (write_command write)) × (b.time < e.time)) same (s.writes.write, s.writes.asks, s.later)
+  pub one_entry : (d e : Entry) → IsIn d history → IsIn e history → d.number ≡ e.number → d ≡ e
+  one_entry d e i j same = one_number history one.numbers (λ x k. on_first creations x (all_at (IsPlaced creations) x history one.placed k)) d e i j same
 
-  pub sent : (e : Entry) → IsIn e history → (a : Asked) × IsIn a asked × IsEntryOf a e
-  sent e i =
-      let s = all_at (WasSent asked) e history one.sent i in
-      let part = all_at (StandsInPart history) s.request asked one.parts s.taken s.writes.write s.writes.asks in
-      let m = among s.request.id s.writes.write.namespace s.writes.write.ordered 0 s.writes.write.operations (entries_by s.request.id history) e part (in_by s.request.id history e i s.own) in
-      let from : 0 + length m.prefix ≡ length m.prefix = omega arith in
-      let statement = subst (λ n. IsStatement s.request.id s.writes.write.namespace n m.operation e) from m.statement in
-      (s.request, s.taken, record { write = s.writes.write; prefix = m.prefix; operation = m.operation; back = m.back; asks = s.writes.asks; both = m.both; statement = statement })
+  -- without a client's number it is told the entries of all its statements
+  pub tells_all : (t : Answered) (write : WriteCommand) → IsIn t answered → command_of t.request ≡ Ok (write_command write) → write.number ≡ None
+      → t.document ≡ answer_document (answer_of write.kind t.time (told_by t.id history))
+  tells_all t write i asks none =
+      let told = told_write t write i asks in
+      let whole = told.whole none in
+      let all : told.dones ≡ told_by t.id history =
+      all_told history asked t write none one_entry 0 write.operations told.dones (entries_by t.id history) told.tells whole.part whole.all
+      (λ e j. (by_in t.id history e j).0) in
+      told.says ∙ ap (λ (dones : List Done). answer_document (answer_of write.kind t.time dones)) all
 
-  -- what an answered request left is in its answer's time
-  pub in_time : (t : Answered) (e : Entry) → IsIn t answered → IsIn e (entries_by t.id history)
-      → (time : ℕ) × (operation_time (Some t.document) ≡ Some time) × (e.time ≤ time)
-  in_time t e i by =
-      let h = told_to t i in
-      let of : IsIn e (entries_by h.request.id history) = subst (λ id. IsIn e (entries_by id history)) (sym h.is.own) by in
-      let s = sent_by h.request e h.is.taken of in
-      let tells = tells_its_write h.request t s.0 h.is s.1 in
-      (time_of (told_by h.request.id history), ap (λ (d : Fields). operation_time (Some d)) tells.says ∙ write_time s.0.kind (told_by h.request.id history), most (entries_by h.request.id history) e of)
+  -- the same statement of a session has the same entry
+  pub told_again : (s t : Answered) (write again : WriteCommand) (by : ClientNumber) (first second : List Done) (d e : Done) (before now : ℕ)
+      (outcome other : Outcome)
+      → AreTold history asked s write 0 write.operations first → AreTold history asked t again 0 again.operations second → write.number ≡ Some by
+      → again.number ≡ Some by → IsIn d first → IsIn e second → d.index ≡ e.index → d.answer ≡ was_done before outcome → e.answer ≡ was_done now other
+      → (before ≡ now) × (outcome ≡ other)
+  told_again s t write again by first second d e before now outcome other told also own own_again i j index is is_again =
+      let f = entry_of s write by first d before outcome told own i is in
+      let g = entry_of t again by second e now other also own_again j is_again in
+      let same : f.entry ≡ g.entry = one_entry f.entry g.entry f.stands g.stands (f.numbered ∙ ap (λ n. number_for (Some by) s.id n) index ∙ sym g.numbered) in
+      let answers : was_done before outcome ≡ was_done now other = f.says ∙ ap answer_by same ∙ sym g.says in
+      (cc, cc)
+    where
+      entry_of : (t : Answered) (write : WriteCommand) (by : ClientNumber) (dones : List Done) (d : Done) (before : ℕ) (outcome : Outcome)
+          → AreTold history asked t write 0 write.operations dones → write.number ≡ Some by → IsIn d dones → d.answer ≡ was_done before outcome
+          → IsAnswerOf history (number_for (Some by) t.id d.index) (was_done before outcome)
+      entry_of t write by dones d before outcome told own i is =
+          let so = told_in history asked t write 0 write.operations dones d told i in
+          subst (λ (answer : StatementAnswer). IsAnswerOf history (number_for (Some by) t.id d.index) answer) is
+          (subst (λ (given : Option ClientNumber). IsAnswerOf history (number_for given t.id d.index) d.answer) own
+          (answer_of_entry history asked t write.number (number_for write.number t.id d.index) write.namespace so.operation d.answer so.may
+          (subst (λ (answer : StatementAnswer). WasDone answer) (sym is) tt)))
+
+  pub sent : (e : Entry) → IsIn e history → WasSent history asked answered e
+  sent e i = all_at (WasSent history asked answered) e history one.sent i
+
+  -- an entry under a router's own number is later than what it knew as it took the request
+  above : (a : Asked) (e : Entry) (index : ℕ) → IsIn a asked → IsIn e history → e.number ≡ number_for None a.id index → a.time < e.time
+  above a e index i j is =
+      let s = sent e j in
+      let same : s.request ≡ a = one_asked s.request a asked one.one s.taken i
+      (sym (number_same a.id s.request.id s.sends.write.number index s.sends.index (sym is ∙ s.sends.entry.statement.same_number))) in
+      subst (λ (b : Asked). b.time < e.time) same s.later
 
   -- WHAT CAME BEFORE
 
@@ -104,105 +148,101 @@ module _ (given : List Given) (creations : List Creation) (history : List Entry)
   told_before a t time i w shows = all_at (IsNotBefore a) t answered (all_at (IsFresh answered) a asked one.fresh i) w.told time w.router w.life w.before shows
 
   pub taken_before : (a b : Asked) → IsIn a asked → WasTakenBefore asked a b → b.time ≤ a.time
-  taken_before a b i w = all_at (λ (c : Asked). c.id.router ≡ a.id.router → c.id.life ≡ a.id.life → c.came < a.came → c.time ≤ a.time) b asked (all_at (IsInOrder asked) a asked one.order i) w.taken w.router w.life w.before
+  taken_before a b i w = all_at (λ (c : Asked). c.id.router ≡ a.id.router → c.id.life ≡ a.id.life → c.came < a.came → c.time ≤ a.time) b asked
+      (all_at (IsInOrder asked) a asked one.order i) w.taken w.router w.life w.before
 
-  pub writes_above_told : (a : Asked) (t : Answered) (e : Entry) (time : ℕ) → IsIn a asked → WasToldBefore answered a t → IsIn e (entries_by a.id history)
-      → operation_time (Some t.document) ≡ Some time → time < e.time
-  writes_above_told a t e time i w by shows = omega (arith, told_before a t time i w shows, (sent_by a e i by).2)
+  -- what an entry was made for, and what came before that
+  pub comes_later : (e : Entry) → IsIn e history
+      → (a : Asked) × IsIn a asked × Sends a e
+      × ((t : Answered) (time : ℕ) → WasToldBefore answered a t → operation_time (Some t.document) ≡ Some time → time < e.time)
+      × ((b : Asked) → WasTakenBefore asked a b → b.time < e.time)
+  comes_later e i =
+      let s = sent e i in (
+        s.request,
+        s.taken,
+        s.sends,
+        λ t time w shows. omega (arith, told_before s.request t time s.taken w shows, s.later),
+        λ b w. omega (arith, taken_before s.request b s.taken w, s.later),
+      )
 
-  pub writes_above_taken : (a b : Asked) (e : Entry) → IsIn a asked → WasTakenBefore asked a b → IsIn e (entries_by a.id history) → b.time < e.time
-  writes_above_taken a b e i w by = omega (arith, taken_before a b i w, (sent_by a e i by).2)
+  -- the time that an answer to a read shows
+  pub read_at : (a : Asked) (t : Answered) (reading : Reading) (now : ℕ) → IsTold asked answered a t → Reads (command_of a.request) reading
+      → operation_time (Some t.document) ≡ Some now → IsTimeRead a t reading now
+  read_at a t reading now told asks shown =
+      let r = answer_right a t told in
+      shown_time creations history asked answered r.cursors a t r.next reading now asks r.right shown
 
-  pub written_before : (a : Asked) (t : Answered) (e : Entry) → IsIn a asked → WasToldBefore answered a t → IsIn e (entries_by t.id history) → e.time ≤ a.time
-  written_before a t e i w by =
-      let m = in_time t e w.told by in
-      omega (arith, m.2, told_before a t m.0 i w m.1)
-
-  pub reads_at_least : (a : Asked) (s t : Answered) (find : Find) (before now : ℕ) → IsTold asked answered a t → WasToldBefore answered a s
-      → command_of a.request ≡ Ok (find_command find) → find.at ≡ None → operation_time (Some s.document) ≡ Some before
+  pub reads_at_least : (a : Asked) (s t : Answered) (reading : Reading) (before now : ℕ) → IsTold asked answered a t → WasToldBefore answered a s
+      → Reads (command_of a.request) reading → reading.at ≡ None → operation_time (Some s.document) ≡ Some before
       → operation_time (Some t.document) ≡ Some now → before ≤ now
-  reads_at_least a s t find before now told w asks none shows shown =
-      let says = tells_now history a t find none (tells_its_find a t find told asks) in
-      let times : Some now ≡ Some a.time = sym shown ∙ ap (λ (d : Fields). operation_time (Some d)) says ∙ time_of_find find.namespace (found (document_at history find.namespace (Some find.key) a.time)) a.time in
-      let same : now ≡ a.time = cc in
-      omega (arith, same, told_before a s before told.taken w shows)
+  reads_at_least a s t reading before now told w asks none shows shown =
+      omega (arith, not_before a t reading now (read_at a t reading now told asks shown) none, told_before a s before told.taken w shows)
+
+  pub reads_after : (a : Asked) (t : Answered) (reading : Reading) (after now : ℕ) → IsTold asked answered a t → Reads (command_of a.request) reading
+      → reading.at ≡ None → reading.after ≡ Some after → operation_time (Some t.document) ≡ Some now → after ≤ now
+  reads_after a t reading after now told asks none wants shown = not_before_after a t reading now after (read_at a t reading now told asks shown) none wants
+
+  pub reaches : (a : Asked) (s t : Answered) (write : WriteCommand) (dones : List Done) (d : Done) (before time : ℕ) (outcome : Outcome) (reading : Reading)
+      → IsTold asked answered a t → WasToldBefore answered a s → s.document ≡ answer_document (answer_of write.kind s.time dones) → IsIn d dones
+      → d.answer ≡ was_done before outcome → Reads (command_of a.request) reading → reading.at ≡ None → operation_time (Some t.document) ≡ Some time
+      → before ≤ time
+  reaches a s t write dones d before time outcome reading told w says i is asks none shown =
+      let shows : operation_time (Some s.document) ≡ Some (unwrap_or (time_of dones) s.time) = ap (λ (f : Fields). operation_time (Some f)) says
+      ∙ write_time write.kind s.time dones in
+      omega (
+        arith,
+        most dones s.time d before outcome i is,
+        told_before a s (unwrap_or (time_of dones) s.time) told.taken w shows,
+        not_before a t reading time (read_at a t reading time told asks shown) none,
+      )
 
   pub greatest_at_least : (a : Asked) (s t : Answered) (before greatest : ℕ) → IsTold asked answered a t → WasToldBefore answered a s
       → operation_time (Some s.document) ≡ Some before → t.document ≡ answer_document (refusal_answer (time_ahead greatest)) → before ≤ greatest
   greatest_at_least a s t before greatest told w shows says =
       let r = answer_right a t told in
-      omega (arith, ahead_time history a t greatest r.0 says, r.1, told_before a s before told.taken w shows)
+      omega (arith, ahead_time creations history asked answered r.cursors a t r.next greatest r.right says, r.risen, told_before a s before told.taken w shows)
 
   -- WRITES THAT COME LATER
 
-  later_by : (ordered : Bool) (operations : List Operation) (es : List Entry) (time : ℕ) → operations ≢ [] → AreAll ordered operations (map done_of es)
-      → ((e : Entry) → IsIn e es → time < e.time) → time < time_of (map done_of es)
-  later_by ordered [] es time some all above = absurd (some refl)
-  later_by ordered (operation ∷ operations) [] time some all above = absurd all
-  later_by ordered (operation ∷ operations) (e ∷ es) time some all above = omega (arith, above e (in_first e es))
+  first_told : (t : Answered) (write : WriteCommand) (operations : List Operation) (dones : List Done) → operations ≢ []
+      → AreTold history asked t write 0 operations dones
+      → (d : Done) × IsIn d dones
+  first_told t write [] dones some told = absurd (some refl)
+  first_told t write (operation ∷ operations) [] some told = absurd told
+  first_told t write (operation ∷ operations) (d ∷ dones) some told = (d, in_first d dones)
 
   pub later_told : (a : Asked) (s t : Answered) (write : WriteCommand) (before now : ℕ) → IsTold asked answered a t → WasToldBefore answered a s
-      → command_of a.request ≡ Ok (write_command write) → operation_time (Some s.document) ≡ Some before → operation_time (Some t.document) ≡ Some now
-      → before < now
-  later_told a s t write before now told w asks shows shown =
+      → command_of a.request ≡ Ok (write_command write) → write.number ≡ None → operation_time (Some s.document) ≡ Some before
+      → operation_time (Some t.document) ≡ Some now → before < now
+  later_told a s t write before now told w asks none shows shown =
       let tells = tells_its_write a t write told asks in
-      let times : Some now ≡ Some (time_of (told_by a.id history)) = sym shown ∙ ap (λ (d : Fields). operation_time (Some d)) tells.says ∙ write_time write.kind (told_by a.id history) in
-      let same : now ≡ time_of (told_by a.id history) = cc in
-      let above = later_by write.ordered write.operations (entries_by a.id history) before (some_operations a.request write asks) tells.whole.all (λ e by. writes_above_told a s e before told.taken w by shows) in
-      omega (arith, same, above)
+      let first = first_told t write write.operations tells.dones (some_operations a.request write asks) tells.tells in
+      let so = told_in history asked t write 0 write.operations tells.dones first.0 tells.tells first.1 in
+      let may = subst (λ (given : Option ClientNumber). MayBeTold history asked t given
+      (number_for given t.id first.0.index) write.namespace so.operation first.0.answer) none so.may in
+      let f = answer_of_entry history asked t None (number_for None t.id first.0.index) write.namespace so.operation first.0.answer may
+      (was_done_own history asked t (number_for None t.id first.0.index) write.namespace so.operation first.0.answer may) in
+      let times : Some now ≡ Some (unwrap_or (time_of tells.dones) t.time) = sym shown ∙ ap (λ (d : Fields). operation_time (Some d)) tells.says
+      ∙ write_time write.kind t.time tells.dones in
+      let same : now ≡ unwrap_or (time_of tells.dones) t.time = cc in
+      omega (
+        arith,
+        same,
+        most tells.dones t.time first.0 f.entry.time f.entry.outcome first.1 f.says,
+        above a f.entry first.0.index told.taken f.stands (f.numbered ∙ ap (λ (id : RequestId). number_for None id first.0.index) (sym told.own)),
+        told_before a s before told.taken w shows,
+      )
 
-  -- FINDS
+  -- TIMES THAT ARE AHEAD
 
-  -- a find that shows documents of a time found these
-  shown_at : (t : Answered) (find : Find) (documents : List Fields) (time : ℕ) → IsIn t answered → command_of t.request ≡ Ok (find_command find)
-      → t.document ≡ answer_document (find_answer find.namespace documents time)
-      → documents ≡ found (document_at history find.namespace (Some find.key) time)
-  shown_at t find documents time i asks told =
-      let h = told_to t i in
-      found_documents history h.request t find documents time (tells_its_find h.request t find h.is (ap command_of h.same ∙ asks)) told
-
-  pub shows_last : (earlier later : List Entry) (t : Answered) (e : Entry) (find : Find) (documents : List Fields) (time : ℕ)
-      → history ≡ earlier ++ e ∷ later → IsIn t answered → command_of t.request ≡ Ok (find_command find)
-      → t.document ≡ answer_document (find_answer find.namespace documents time) → e.time ≤ time
-      → writes_to find.namespace (Some find.key) e ≡ true → WritesNone find.namespace (Some find.key) time later
-      → documents ≡ found (effect e.operation (document_left find.namespace (Some find.key) earlier)).0
-  shows_last earlier later t e find documents time is i asks told early hits none =
-      let key : Option Datum = Some find.key in
-      shown_at t find documents time i asks told
-      ∙ ap (λ (l : List Entry). found (document_at l find.namespace key time)) is
-      ∙ ap (λ (o : Option Fields). found o)
-      (last_left find.namespace key earlier later e time (subst (λ (l : List Entry). Legal l) is one.legal) early hits none)
-
-  pub shows_none : (t : Answered) (find : Find) (documents : List Fields) (time : ℕ) → IsIn t answered → command_of t.request ≡ Ok (find_command find)
-      → t.document ≡ answer_document (find_answer find.namespace documents time) → WritesNone find.namespace (Some find.key) time history
-      → documents ≡ []
-  shows_none t find documents time i asks told none =
-      shown_at t find documents time i asks told
-      ∙ ap (λ (o : Option Fields). found o) (nothing_left find.namespace (Some find.key) history time none)
-
-  pub reaches : (a : Asked) (s t : Answered) (e : Entry) (find : Find) (documents : List Fields) (time : ℕ) → IsTold asked answered a t
-      → WasToldBefore answered a s → IsIn e (entries_by s.id history) → command_of a.request ≡ Ok (find_command find) → find.at ≡ None
-      → t.document ≡ answer_document (find_answer find.namespace documents time) → e.time ≤ time
-  reaches a s t e find documents time told w by asks none says =
-      let now = tells_now history a t find none (tells_its_find a t find told asks) in
-      let shown : List Fields = found (document_at history find.namespace (Some find.key) a.time) in
-      let both : Some a.time ≡ Some time =
-      sym (time_of_find find.namespace shown a.time)
-      ∙ ap (λ (d : Fields). operation_time (Some d)) (sym now ∙ says)
-      ∙ time_of_find find.namespace documents time in
-      let same : a.time ≡ time = cc in
-      omega (arith, same, written_before a s e told.taken w by)
-
-  pub shows_again : (s t : Answered) (first second : Find) (shown documents : List Fields) (before time : ℕ) → IsIn s answered → IsIn t answered
-      → command_of s.request ≡ Ok (find_command first) → command_of t.request ≡ Ok (find_command second)
-      → first.namespace ≡ second.namespace → same_key (Some first.key) (Some second.key) ≡ true
-      → s.document ≡ answer_document (find_answer first.namespace shown before)
-      → t.document ≡ answer_document (find_answer second.namespace documents time) → before ≤ time
-      → WritesNoneBetween second.namespace (Some second.key) before time history → documents ≡ shown
-  shows_again s t first second shown documents before time i j asked_first asked_second name keys told_first told_second less none =
-      let earlier : document_at history first.namespace (Some first.key) before ≡ document_at history second.namespace (Some second.key) before =
-      ap (λ n. document_at history n (Some first.key) before) name
-      ∙ same_after second.namespace (Some first.key) (Some second.key) keys None (up_to before history) in
-      shown_at t second documents time j asked_second told_second
-      ∙ ap (λ (o : Option Fields). found o) (stands_since second.namespace (Some second.key) history before time less none ∙ sym earlier)
-      ∙ sym (shown_at s first shown before i asked_first told_first)
+  pub never_ahead_of_told : (a : Asked) (s t : Answered) (write : WriteCommand) (index : ℕ) (e : Entry) (reading : Reading) (greatest : ℕ)
+      → IsTold asked answered a t
+      → IsIn s answered → s.step < a.came → command_of s.request ≡ Ok (write_command write) → IsIn e history → e.number ≡ number_for write.number s.id index
+      → operation_time (Some s.document) ≡ Some e.time → Reads (command_of a.request) reading
+      → (reading.at ≡ Some e.time) ⊎ ((reading.at ≡ None) × (reading.after ≡ Some e.time))
+      → t.document ≡ answer_document (refusal_answer (time_ahead greatest)) → ⊥
+  never_ahead_of_told a s t write index e reading greatest told i before writes j numbered shows asks wants says =
+      let r = answer_right a t told in
+      let ahead = is_ahead creations history asked answered r.cursors a t r.next reading greatest asks r.right says in
+      let same : ahead.wanted ≡ e.time = wanted_is reading ahead.wanted e.time ahead.wants wants in
+      omega (arith, same, ahead.of_all s write index e i before writes j numbered shows)

@@ -1,14 +1,14 @@
--- Numbers of requests and their entries: each entry is of one request.
-use Rattle.std.proofs.Common.{◌≡◌, ◌⊎◌, inl, inr, ℕ, ◌+◌, List, [], ◌∷◌, ◌++◌, length, refl, sym, ap, subst, ◌∙◌, arith, Bool}
-use Rattle.std.specs.Prelude.{true, false, ◌==◌, ◌&&◌, map, if◌then◌else◌}
+-- Numbers of requests and their entries: an entry under a router's own number is of one request.
+use Rattle.std.proofs.Common.{◌≡◌, ◌⊎◌, inl, inr, ℕ, List, [], ◌∷◌, ◌++◌, refl, sym, ap, subst, ◌∙◌, Bool}
+use Rattle.std.specs.Prelude.{true, false, Option, Some, None, ◌==◌, ◌&&◌, map, if◌then◌else◌}
 use Rattle.std.specs.List.{AllByRecursion}
 use Rattle.std.proofs.lemmas.Bool.{eqb-true}
-use Rattle.history_model.specs.History.{Session, client_session, router_session, StatementNumber, Operation, Entry, IsIn}
+use Rattle.command_model.specs.Writes.{ClientNumber}
+use Rattle.history_model.specs.History.{client_session, router_session, StatementNumber, Entry, IsIn}
 use Rattle.history_model.proofs.Lists.{in_cons, in_first, in_later, in_none}
 use Rattle.reply_model.specs.Exchanges.{RequestId, same_request, Asked, Answered, number_for, is_session_of, entries_by}
-use Rattle.reply_model.specs.Right.{IsStatement, AreStatements}
+use Rattle.reply_model.specs.Right.{Sends}
 use Rattle.reply_model.specs.OneHistory.{ids_asked, ids_told, AreDifferent}
-use Rattle.reply_model.specs.Earlier.{IsEntryOf}
 
 -- numbers that compare equal are one
 pub same_id : (a b : RequestId) → same_request a b ≡ true → a ≡ b
@@ -24,21 +24,22 @@ same_id a b e = by_test (a.router == b.router) (a.life == b.life) (a.count == b.
     by_test true false z p q r e = absurd (cc)
     by_test false y z p q r e = absurd (cc)
 
--- a session is of one request
-pub same_session : (a b : RequestId) (session : Session) → is_session_of a session ≡ true → is_session_of b session ≡ true → a ≡ b
-same_session a b (client_session name) own other = absurd (cc)
-same_session a b (router_session node life request) own other = sym (same_id (record { router = node; life = life; count = request }) a own) ∙ same_id (record { router = node; life = life; count = request }) b other
-
-number_same : (a b : RequestId) (i j : ℕ) → number_for a i ≡ number_for b j → a ≡ b
-number_same a b i j e =
+-- a router's own number is of one request
+pub number_same : (a b : RequestId) (given : Option ClientNumber) (i j : ℕ) → number_for None a i ≡ number_for given b j → a ≡ b
+number_same a b (Some by) i j e =
+    absurd (let s : router_session a.router a.life a.count ≡ client_session by.session = ap (λ (n : StatementNumber). n.session) e in cc)
+number_same a b None i j e =
     let s : router_session a.router a.life a.count ≡ router_session b.router b.life b.count = ap (λ (n : StatementNumber). n.session) e in
     let router : a.router ≡ b.router = cc in
     let life : a.life ≡ b.life = cc in
     let count : a.count ≡ b.count = cc in
     λ i. record { router = router i; life = life i; count = count i }
 
-pub own_entry : (a b : Asked) (e : Entry) → IsEntryOf a e → IsEntryOf b e → a.id ≡ b.id
-own_entry a b e is are = number_same a.id b.id (length is.prefix) (length are.prefix) (sym is.statement.number ∙ are.statement.number)
+pub own_entry : (a b : Asked) (e : Entry) (sends : Sends a e) → sends.write.number ≡ None → Sends b e → a.id ≡ b.id
+own_entry a b e sends own other =
+    number_same a.id b.id other.write.number sends.index other.index
+    (ap (λ (given : Option ClientNumber). number_for given a.id sends.index) (sym own) ∙ sym sends.entry.statement.same_number
+    ∙ other.entry.statement.same_number)
 
 -- of different numbers each stands in one place
 one_place : {X : Type 0} (id_of : X → RequestId) (a b : X) (xs : List X) → AreDifferent (map id_of xs) → IsIn a xs → IsIn b xs → id_of a ≡ id_of b → a ≡ b
@@ -83,7 +84,10 @@ by_in id (d ∷ history) e i = by_test (is_session_of id d.number.session) refl 
     by_place : is_session_of id d.number.session ≡ true → (e ≡ d) ⊎ IsIn e (entries_by id history)
         → (IsIn e (entries_by id history) → IsIn e history × (is_session_of id e.number.session ≡ true))
         → IsIn e (d ∷ history) × (is_session_of id e.number.session ≡ true)
-    by_place own (inl same) later = (subst (λ (x : Entry). IsIn x (d ∷ history)) (sym same) (in_first d history), ap (λ (x : Entry). is_session_of id x.number.session) same ∙ own)
+    by_place own (inl same) later = (
+      subst (λ (x : Entry). IsIn x (d ∷ history)) (sym same) (in_first d history),
+      ap (λ (x : Entry). is_session_of id x.number.session) same ∙ own,
+    )
     by_place own (inr j) later = let l = later j in (in_later e d history l.0, l.1)
 
     by_test : (test : Bool) → is_session_of id d.number.session ≡ test → IsIn e (if test then d ∷ entries_by id history else entries_by id history)
@@ -91,47 +95,3 @@ by_in id (d ∷ history) e i = by_test (is_session_of id d.number.session) refl 
         → IsIn e (d ∷ history) × (is_session_of id e.number.session ≡ true)
     by_test true own j later = by_place own (in_cons e d (entries_by id history) j) later
     by_test false own j later = let l = later j in (in_later e d history l.0, l.1)
-
-pub in_by : (id : RequestId) (history : List Entry) (e : Entry) → IsIn e history → is_session_of id e.number.session ≡ true → IsIn e (entries_by id history)
-in_by id [] e i own = absurd (in_none e i)
-in_by id (d ∷ history) e i own = by_test (is_session_of id d.number.session) refl (in_cons e d history i) (λ j. in_by id history e j own)
-  where
-    by_test : (test : Bool) → is_session_of id d.number.session ≡ test → (e ≡ d) ⊎ IsIn e history → (IsIn e history → IsIn e (entries_by id history))
-        → IsIn e (if test then d ∷ entries_by id history else entries_by id history)
-    by_test true t (inl same) later = subst (λ (x : Entry). IsIn x (d ∷ entries_by id history)) (sym same) (in_first d (entries_by id history))
-    by_test true t (inr j) later = in_later e d (entries_by id history) (later j)
-    by_test false t (inl same) later = absurd (let both : true ≡ false = sym own ∙ ap (λ (x : Entry). is_session_of id x.number.session) same ∙ t in cc)
-    by_test false t (inr j) later = later j
-
--- what stands of a write is of its statements
-pub record IsAmong (id : RequestId) (namespace : List ℕ) (index : ℕ) (operations : List Operation) (e : Entry) : Type 0 where
-  pub prefix : List Operation
-  pub operation : Operation
-  pub back : List Operation
-  pub both : operations ≡ prefix ++ operation ∷ back
-  pub statement : IsStatement id namespace (index + length prefix) operation e
-
-pub among : (id : RequestId) (namespace : List ℕ) (ordered : Bool) (index : ℕ) (operations : List Operation) (entries : List Entry) (e : Entry)
-    → AreStatements id namespace ordered index operations entries → IsIn e entries → IsAmong id namespace index operations e
-among id namespace ordered index operations [] e are i = absurd (in_none e i)
-among id namespace ordered index [] (d ∷ entries) e are i = absurd are
-among id namespace ordered index (operation ∷ operations) (d ∷ entries) e are i = by_place (in_cons e d entries i) (λ j. among id namespace ordered (index + 1) operations entries e are.2 j)
-  where
-    by_place : (e ≡ d) ⊎ IsIn e entries → (IsIn e entries → IsAmong id namespace (index + 1) operations e) → IsAmong id namespace index (operation ∷ operations) e
-    by_place (inl same) later = record {
-      prefix = [];
-      operation = operation;
-      back = operations;
-      both = refl;
-      statement = let first : index + 0 ≡ index = omega arith in subst (λ n. IsStatement id namespace n operation e) (sym first) (subst (λ (x : Entry). IsStatement id namespace index operation x) (sym same) are.0);
-    }
-    by_place (inr j) later =
-        let l = later j in
-        let next : index + 1 + length l.prefix ≡ index + length (operation ∷ l.prefix) = omega arith in
-        record {
-          prefix = operation ∷ l.prefix;
-          operation = l.operation;
-          back = l.back;
-          both = ap (λ os. operation ∷ os) l.both;
-          statement = subst (λ n. IsStatement id namespace n l.operation e) next l.statement;
-        }

@@ -1,111 +1,180 @@
 -- What right answers tell, by what the requests ask for.
-use Rattle.std.proofs.Common.{◌≡◌, ℕ, ◌<◌, ◌≤◌, ◌⊎◌, inl, inr, List, [], ◌∷◌, refl, sym, ap, subst, ◌∙◌, arith}
-use Rattle.std.specs.Prelude.{Option, Some, None, Result, Ok, map}
+use Rattle.std.proofs.Common.{◌≡◌, ℕ, ℤ, ◌≤◌, ◌⊎◌, inl, inr, List, [], ◌∷◌, refl, sym, ap, subst, ◌∙◌, arith}
+use Rattle.std.specs.Prelude.{Option, Some, None, Result, Ok, Err, codes}
+use Rattle.std.specs.Option.{unwrap_or}
 use Rattle.command_model.specs.Tree.{Fields}
-use Rattle.command_model.specs.Refusals.{Refusal, time_ahead}
+use Rattle.command_model.specs.Errors.{cursor_not_found}
+use Rattle.command_model.specs.Refusals.{Refusal, cursor_evidence}
 use Rattle.command_model.specs.ReplyParts.{operation_time}
-use Rattle.command_model.specs.Writes.{WriteCommand, WriteKind, insert_kind, update_kind, delete_kind}
+use Rattle.command_model.specs.Writes.{WriteCommand, WriteKind}
+use Rattle.command_model.specs.Reading.{Reading}
 use Rattle.command_model.specs.Find.{Find}
+use Rattle.command_model.specs.Cursors.{Batch, GetMore, KillCursors}
 use Rattle.command_model.specs.AnswerParts.{document_items}
-use Rattle.command_model.specs.Command.{Command, write_command, find_command, command_of}
-use Rattle.command_model.specs.Answers.{find_answer, refusal_answer, answer_document}
+use Rattle.command_model.specs.Command.{Command, hello_command, legacy_command, ping_command, end_sessions_command, write_command, find_command, count_command, more_command, kill_command, command_of}
+use Rattle.command_model.specs.Answers.{hello_answer, legacy_answer, done_answer, first_answer, next_answer, count_answer, killed_answer, refusal_answer, answer_document}
 use Rattle.command_model.proofs.AnswerTimes.{time_of_write}
-use Rattle.command_model.proofs.ToldRefusals.{never_ahead}
-use Rattle.history_model.specs.History.{Entry, IsIn, document_at}
+use Rattle.pipeline_model.specs.Runs.{listed, count_documents}
+use Rattle.pipeline_model.specs.Lengths.{excess_of_answer}
+use Rattle.chunk_model.specs.Catalogue.{Creation}
+use Rattle.history_model.specs.History.{Entry, IsIn, Outcome}
 use Rattle.history_model.proofs.Lists.{in_cons, in_none}
-use Rattle.reply_model.specs.Exchanges.{Asked, Answered}
-use Rattle.reply_model.specs.Outcomes.{Done, done_of, summary_of, time_of, answer_of}
-use Rattle.reply_model.specs.Right.{found, told_by, IsWhole, time_read, IsRight, right_write, right_find, right_ahead, right_hello, right_legacy, right_ping, right_end_sessions, right_refusal}
+use Rattle.reply_model.specs.Exchanges.{RequestId, Asked, Answered}
+use Rattle.reply_model.specs.Outcomes.{StatementAnswer, was_done, was_refused, Done, later, summary_of, time_of, answer_of}
+use Rattle.reply_model.specs.Cursors.{Cursor, open_cursor, ShowsFirst, ShowsNext, Kills}
+use Rattle.reply_model.specs.Reads.{IsTimeRead, MayGive}
+use Rattle.reply_model.specs.Right.{AreTold, IsWhole, usual_size, asks_for_one, unless_silent, Reads, find_reads, count_reads, IsReadRefused, IsRight, right_write, right_find, right_count, right_refused_read, right_more, right_no_cursor, right_kill, right_hello, right_legacy, right_ping, right_end_sessions, right_refusal}
 
-abbrev Commands : Type 0
-Commands = Result Command Refusal
+-- BY THE COMMAND
 
-pub same_write : (f g : WriteCommand) → Path Commands (Ok (write_command f)) (Ok (write_command g)) → f ≡ g
-same_write f g e = cc
+-- what is right of a write, by its request's number
+pub record TellsWrite (history : List Entry) (asked : List Asked) (id : RequestId) (t : Answered) (write : WriteCommand) : Type 0 where
+  pub dones : List Done
+  pub tells : AreTold history asked t write 0 write.operations dones
+  pub whole : write.number ≡ None → IsWhole history id write
+  pub says : t.document ≡ answer_document (answer_of write.kind t.time dones)
 
-same_find : (f g : Find) → Path Commands (Ok (find_command f)) (Ok (find_command g)) → f ≡ g
-same_find f g e = cc
+module _ (creations : List Creation) (history : List Entry) (asked : List Asked) (answered : List Answered) (cursors : List Cursor) (a : Asked)
+    (t : Answered) where
+  pub record TellsFirst (find : Find) (next : List Cursor) : Type 0 where
+    pub documents : List Fields
+    pub batch : Batch
+    pub time : IsTimeRead a t find.reading batch.time
+    pub gives : MayGive history find.reading batch.time (listed documents)
+    pub small : excess_of_answer documents ≡ None
+    pub name : batch.namespace ≡ find.reading.namespace
+    pub shows : ShowsFirst a.id (unwrap_or find.batches.size usual_size) (asks_for_one find.batches a.request) cursors documents batch next
+    pub says : t.document ≡ answer_document (first_answer batch)
+
+  pub record TellsCount (reading : Reading) : Type 0 where
+    pub time : ℕ
+    pub number : ℕ
+    pub read : IsTimeRead a t reading time
+    pub gives : MayGive history reading time (listed (count_documents (codes "n") number))
+    pub says : t.document ≡ answer_document (count_answer number time)
+
+  pub record TellsNext (more : GetMore) (next : List Cursor) : Type 0 where
+    pub cursor : Cursor
+    pub batch : Batch
+    pub shown : List Cursor
+    pub found : open_cursor a.id more.cursor more.namespace cursors ≡ Some cursor
+    pub shows : ShowsNext a.id more.size cursors cursor batch shown
+    pub then : next ≡ unless_silent a.request cursors shown
+    pub says : t.document ≡ answer_document (next_answer batch)
+
+  pub record TellsNoCursor (more : GetMore) : Type 0 where
+    pub closed : open_cursor a.id more.cursor more.namespace cursors ≡ None
+    pub says : t.document ≡ answer_document (refusal_answer (record { error = cursor_not_found; evidence = cursor_evidence more.cursor }))
+
+  pub record TellsKilled (kill : KillCursors) (next : List Cursor) : Type 0 where
+    pub killed : List ℤ
+    pub missing : List ℤ
+    pub kills : Kills a.id kill.namespace cursors kill.cursors killed missing next
+    pub says : t.document ≡ answer_document (killed_answer killed missing)
+
+  abbrev IsReadRefusedHere : Reading → List Cursor → Type 0
+  IsReadRefusedHere reading next = IsReadRefused creations history answered a t reading × (next ≡ cursors)
+
+  -- what is right of a request that is read as this
+  abbrev pub RightBy : Result Command Refusal → List Cursor → Type 0
+  RightBy (Ok hello_command) next = (t.document ≡ answer_document (hello_answer a.moment)) × (next ≡ cursors)
+  RightBy (Ok (legacy_command legacy)) next = (t.document ≡ answer_document (legacy_answer a.moment legacy.shows_hello_ok)) × (next ≡ cursors)
+  RightBy (Ok ping_command) next = (t.document ≡ answer_document done_answer) × (next ≡ cursors)
+  RightBy (Ok end_sessions_command) next = (t.document ≡ answer_document done_answer) × (next ≡ cursors)
+  RightBy (Ok (write_command write)) next = TellsWrite history asked a.id t write × (next ≡ cursors)
+  RightBy (Ok (find_command find)) next = TellsFirst find next ⊎ IsReadRefusedHere find.reading next
+  RightBy (Ok (count_command reading)) next = (TellsCount reading × (next ≡ cursors)) ⊎ IsReadRefusedHere reading next
+  RightBy (Ok (more_command more)) next = TellsNext more next ⊎ (TellsNoCursor more × (next ≡ cursors))
+  RightBy (Ok (kill_command kill)) next = TellsKilled kill next
+  RightBy (Err refusal) next = (t.document ≡ answer_document (refusal_answer refusal)) × (next ≡ cursors)
+
+  refused_by : (r : Result Command Refusal) (reading : Reading) → Reads r reading → IsReadRefused creations history answered a t reading → RightBy r cursors
+  refused_by r reading (find_reads find) refused = inr (refused, refl)
+  refused_by r reading (count_reads other) refused = inr (refused, refl)
+
+  -- an answer is right by what its request asks for
+  pub right_by : (next : List Cursor) → IsRight creations history asked answered cursors a t next → RightBy (command_of a.request) next
+  right_by next (right_write write dones c wants tells whole begun name at says) =
+      subst (λ r. RightBy r cursors) (sym wants) (record { dones = dones; tells = tells; whole = whole; says = says }, refl)
+  right_by next (right_find find time documents batch after wants read gives small name at shows says) =
+      subst (λ r. RightBy r after) (sym wants)
+      (inl (record {
+        documents = documents;
+        batch = batch;
+        time = subst (λ n. IsTimeRead a t find.reading n) (sym at) read;
+        gives = subst (λ n. MayGive history find.reading n (listed documents)) (sym at) gives;
+        small = small;
+        name = name;
+        shows = shows;
+        says = says;
+      }))
+  right_by next (right_count reading time n wants read gives says) =
+      subst (λ r. RightBy r cursors) (sym wants) (inl (record { time = time; number = n; read = read; gives = gives; says = says }, refl))
+  right_by next (right_refused_read reading wants refused) = refused_by (command_of a.request) reading wants refused
+  right_by next (right_more more c batch shown wants found shows says) =
+      subst (λ r. RightBy r (unless_silent a.request cursors shown)) (sym wants)
+      (inl (record { cursor = c; batch = batch; shown = shown; found = found; shows = shows; then = refl; says = says }))
+  right_by next (right_no_cursor more wants closed says) = subst (λ r. RightBy r cursors) (sym wants) (inr (record { closed = closed; says = says }, refl))
+  right_by next (right_kill kill killed missing after wants kills says) =
+      subst (λ r. RightBy r after) (sym wants) (record { killed = killed; missing = missing; kills = kills; says = says })
+  right_by next (right_hello wants says) = subst (λ r. RightBy r cursors) (sym wants) (says, refl)
+  right_by next (right_legacy legacy wants says) = subst (λ r. RightBy r cursors) (sym wants) (says, refl)
+  right_by next (right_ping wants says) = subst (λ r. RightBy r cursors) (sym wants) (says, refl)
+  right_by next (right_end_sessions wants says) = subst (λ r. RightBy r cursors) (sym wants) (says, refl)
+  right_by next (right_refusal refusal wants says) = subst (λ r. RightBy r cursors) (sym wants) (says, refl)
+
+  pub right_of : (r : Result Command Refusal) (next : List Cursor) → command_of a.request ≡ r → IsRight creations history asked answered cursors a t next
+      → RightBy r next
+  right_of r next asks right = subst (λ s. RightBy s next) asks (right_by next right)
 
 -- A WRITE
 
-pub record TellsWrite (history : List Entry) (a : Asked) (t : Answered) (write : WriteCommand) : Type 0 where
-  pub whole : IsWhole history a.id write
-  pub says : t.document ≡ answer_document (answer_of write.kind (told_by a.id history))
+-- it shows the greatest time of what was done, or else its router's
+pub write_time : (kind : WriteKind) (time : ℕ) (dones : List Done)
+    → operation_time (Some (answer_document (answer_of kind time dones))) ≡ Some (unwrap_or (time_of dones) time)
+write_time kind time dones = time_of_write kind (summary_of time dones)
 
-pub tells_write : (history : List Entry) (a : Asked) (t : Answered) (write : WriteCommand) → command_of a.request ≡ Ok (write_command write)
-    → IsRight history a t → TellsWrite history a t write
-tells_write history a t write asks (right_write other wants whole says) =
-    subst (λ (w : WriteCommand). TellsWrite history a t w) (same_write other write (sym wants ∙ asks)) (record { whole = whole; says = says })
-tells_write history a t write asks (right_find find wants past says) = absurd (let e = sym asks ∙ wants in cc)
-tells_write history a t write asks (right_ahead find named wants at ahead says) = absurd (let e = sym asks ∙ wants in cc)
-tells_write history a t write asks (right_hello wants says) = absurd (let e = sym asks ∙ wants in cc)
-tells_write history a t write asks (right_legacy legacy wants says) = absurd (let e = sym asks ∙ wants in cc)
-tells_write history a t write asks (right_ping wants says) = absurd (let e = sym asks ∙ wants in cc)
-tells_write history a t write asks (right_end_sessions wants says) = absurd (let e = sym asks ∙ wants in cc)
-tells_write history a t write asks (right_refusal refusal wants says) = absurd (let e = sym asks ∙ wants in cc)
+-- the time is one, and this one is not later
+abbrev IsReached : ℕ → Option ℕ → Type 0
+IsReached before None = ⊥
+IsReached before (Some time) = before ≤ time
 
--- it shows the greatest time of its entries
-pub write_time : (kind : WriteKind) (dones : List Done) → operation_time (Some (answer_document (answer_of kind dones))) ≡ Some (time_of dones)
-write_time kind dones = time_of_write kind (summary_of dones)
-
-pub most : (es : List Entry) (e : Entry) → IsIn e es → e.time ≤ time_of (map done_of es)
-most [] e i = absurd (in_none e i)
-most (d ∷ es) e i = by_place (in_cons e d es i) (λ j. most es e j)
+reached_by : (d : Done) (dones : List Done) (before : ℕ) (outcome : Outcome) → d.answer ≡ was_done before outcome → IsReached before (time_of (d ∷ dones))
+reached_by d dones before outcome is =
+    subst (λ (answer : StatementAnswer). IsReached before (time_of (record { index = d.index; answer = answer } ∷ dones))) (sym is) (of_rest (time_of dones))
   where
-    by_place : (e ≡ d) ⊎ IsIn e es → (IsIn e es → e.time ≤ time_of (map done_of es)) → e.time ≤ time_of (map done_of (d ∷ es))
-    by_place (inl same) later = omega (arith, ap (λ (x : Entry). x.time) same)
-    by_place (inr j) later = omega (arith, later j)
+    of_rest : (rest : Option ℕ) → before ≤ later before rest
+    of_rest None = omega arith
+    of_rest (Some other) = omega arith
 
--- A FIND
+reached_later : (d : Done) (dones : List Done) (before : ℕ) → IsReached before (time_of dones) → IsReached before (time_of (d ∷ dones))
+reached_later d dones before reached = by_answer d.answer (time_of dones) reached
+  where
+    by_answer : (answer : StatementAnswer) (rest : Option ℕ) → IsReached before rest
+        → IsReached before (elim answer as (λ (a : StatementAnswer). Option ℕ) [ was_done time outcome ↦ Some (later time rest) | was_refused refusal ↦ rest ])
+    by_answer (was_done time outcome) None is = absurd is
+    by_answer (was_done time outcome) (Some other) is = omega (arith, is)
+    by_answer (was_refused refusal) rest is = is
 
-pub data TellsFind (history : List Entry) (a : Asked) (t : Answered) (find : Find) : Type 0 where
-  tells_found : t.document ≡ answer_document (find_answer find.namespace (found (document_at history find.namespace (Some find.key) (time_read a find))) (time_read a find)) → TellsFind history a t find
-  tells_ahead : (named : ℕ) → find.at ≡ Some named → t.time < named → t.document ≡ answer_document (refusal_answer (time_ahead t.time)) → TellsFind history a t find
+reached_in : (dones : List Done) (d : Done) (before : ℕ) (outcome : Outcome) → IsIn d dones → d.answer ≡ was_done before outcome
+    → IsReached before (time_of dones)
+reached_in [] d before outcome i is = absurd (in_none d i)
+reached_in (x ∷ dones) d before outcome i is = by_place (in_cons d x dones i) (λ j. reached_in dones d before outcome j is)
+  where
+    by_place : (d ≡ x) ⊎ IsIn d dones → (IsIn d dones → IsReached before (time_of dones)) → IsReached before (time_of (x ∷ dones))
+    by_place (inl same) more = reached_by x dones before outcome (ap (λ (y : Done). y.answer) (sym same) ∙ is)
+    by_place (inr j) more = reached_later x dones before (more j)
 
-pub tells_find : (history : List Entry) (a : Asked) (t : Answered) (find : Find) → command_of a.request ≡ Ok (find_command find) → IsRight history a t
-    → TellsFind history a t find
-tells_find history a t find asks (right_find other wants past says) =
-    tells_found (says ∙ ap (λ (f : Find). answer_document (find_answer f.namespace (found (document_at history f.namespace (Some f.key) (time_read a f))) (time_read a f))) (same_find other find (sym wants ∙ asks)))
-tells_find history a t find asks (right_ahead other named wants at ahead says) = tells_ahead named (ap (λ (f : Find). f.at) (sym (same_find other find (sym wants ∙ asks))) ∙ at) ahead says
-tells_find history a t find asks (right_write write wants whole says) = absurd (let e = sym asks ∙ wants in cc)
-tells_find history a t find asks (right_hello wants says) = absurd (let e = sym asks ∙ wants in cc)
-tells_find history a t find asks (right_legacy legacy wants says) = absurd (let e = sym asks ∙ wants in cc)
-tells_find history a t find asks (right_ping wants says) = absurd (let e = sym asks ∙ wants in cc)
-tells_find history a t find asks (right_end_sessions wants says) = absurd (let e = sym asks ∙ wants in cc)
-tells_find history a t find asks (right_refusal refusal wants says) = absurd (let e = sym asks ∙ wants in cc)
+-- so the time that is shown is not before that of any statement that was done
+pub most : (dones : List Done) (time : ℕ) (d : Done) (before : ℕ) (outcome : Outcome) → IsIn d dones → d.answer ≡ was_done before outcome
+    → before ≤ unwrap_or (time_of dones) time
+most dones time d before outcome i is = of_time (time_of dones) (reached_in dones d before outcome i is)
+  where
+    of_time : (shown : Option ℕ) → IsReached before shown → before ≤ unwrap_or shown time
+    of_time None reached = absurd reached
+    of_time (Some greatest) reached = reached
 
--- a find that names no time shows the history up to the time of its router
-pub tells_now : (history : List Entry) (a : Asked) (t : Answered) (find : Find) → find.at ≡ None → TellsFind history a t find
-    → t.document ≡ answer_document (find_answer find.namespace (found (document_at history find.namespace (Some find.key) a.time)) a.time)
-tells_now history a t find none (tells_ahead named at ahead says) = absurd (let e : None ≡ Some named = sym none ∙ at in cc)
-tells_now history a t find none (tells_found says) =
-    let now : time_read a find ≡ a.time = ap (λ (o : Option ℕ). elim o as (λ (o : Option ℕ). ℕ) [ None ↦ a.time | Some named ↦ named ]) none in
-    says ∙ ap (λ time. answer_document (find_answer find.namespace (found (document_at history find.namespace (Some find.key) time)) time)) now
-
--- one that names a time shows the history up to then, or is told that it is ahead of its router's time
-pub tells_named : (history : List Entry) (a : Asked) (t : Answered) (find : Find) (named : ℕ) → find.at ≡ Some named → TellsFind history a t find
-    → (t.document ≡ answer_document (find_answer find.namespace (found (document_at history find.namespace (Some find.key) named)) named))
-    ⊎ ((greatest : ℕ) × (greatest < named) × (t.document ≡ answer_document (refusal_answer (time_ahead greatest))))
-tells_named history a t find named some (tells_ahead other at ahead says) =
-    let same : other ≡ named = (let e : Some other ≡ Some named = sym at ∙ some in cc) in
-    inr (t.time, subst (λ n. t.time < n) same ahead, says)
-tells_named history a t find named some (tells_found says) =
-    let then : time_read a find ≡ named = ap (λ (o : Option ℕ). elim o as (λ (o : Option ℕ). ℕ) [ None ↦ a.time | Some n ↦ n ]) some in
-    inl (says ∙ ap (λ time. answer_document (find_answer find.namespace (found (document_at history find.namespace (Some find.key) time)) time)) then)
-
--- one that shows documents of a time found just these up to then
-found_items : (history : List Entry) (a : Asked) (t : Answered) (find : Find) (documents : List Fields) (time : ℕ) → TellsFind history a t find
-    → t.document ≡ answer_document (find_answer find.namespace documents time)
-    → document_items (found (document_at history find.namespace (Some find.key) time)) ≡ document_items documents
-found_items history a t find documents time (tells_ahead named at ahead says) told =
-    absurd (let e : answer_document (refusal_answer (time_ahead t.time)) ≡ answer_document (find_answer find.namespace documents time) = sym says ∙ told in cc)
-found_items history a t find documents time (tells_found says) told =
-    let shown : Option Fields = document_at history find.namespace (Some find.key) (time_read a find) in
-    let e : answer_document (find_answer find.namespace (found shown) (time_read a find)) ≡ answer_document (find_answer find.namespace documents time) =
-    sym says ∙ told in
-    let times : time_read a find ≡ time = cc in
-    let items : document_items (found shown) ≡ document_items documents = cc in
-    ap (λ n. document_items (found (document_at history find.namespace (Some find.key) n))) (sym times) ∙ items
+-- BATCHES
 
 same_items : (documents others : List Fields) → document_items documents ≡ document_items others → documents ≡ others
 same_items [] [] same = refl
@@ -117,27 +186,25 @@ same_items (document ∷ documents) (other ∷ others) same =
     let more : documents ≡ others = same_items documents others rest in
     cc
 
-pub found_documents : (history : List Entry) (a : Asked) (t : Answered) (find : Find) (documents : List Fields) (time : ℕ) → TellsFind history a t find
-    → t.document ≡ answer_document (find_answer find.namespace documents time)
-    → documents ≡ found (document_at history find.namespace (Some find.key) time)
-found_documents history a t find documents time tells told =
-    sym (same_items (found (document_at history find.namespace (Some find.key) time)) documents (found_items history a t find documents time tells told))
+same_parts : (a b : Batch) → a.cursor ≡ b.cursor → a.namespace ≡ b.namespace → document_items a.documents ≡ document_items b.documents → a.time ≡ b.time → a
+    ≡ b
+same_parts a b cursor namespace items time =
+    let documents : a.documents ≡ b.documents = same_items a.documents b.documents items in
+    λ i. record { cursor = cursor i; namespace = namespace i; documents = documents i; time = time i }
 
--- A TIME THAT IS AHEAD
+-- replies that are alike tell one batch
+pub same_first : (a b : Batch) → answer_document (first_answer a) ≡ answer_document (first_answer b) → a ≡ b
+same_first a b same =
+    let cursor : a.cursor ≡ b.cursor = cc in
+    let namespace : a.namespace ≡ b.namespace = cc in
+    let items : document_items a.documents ≡ document_items b.documents = cc in
+    let time : a.time ≡ b.time = cc in
+    same_parts a b cursor namespace items time
 
-write_not_ahead : (kind : WriteKind) (dones : List Done) (s : ℕ) → answer_document (answer_of kind dones) ≡ answer_document (refusal_answer (time_ahead s)) → ⊥
-write_not_ahead insert_kind dones s same = cc
-write_not_ahead update_kind dones s same = cc
-write_not_ahead delete_kind dones s same = cc
-
-pub ahead_time : (history : List Entry) (a : Asked) (t : Answered) (s : ℕ) → IsRight history a t
-    → t.document ≡ answer_document (refusal_answer (time_ahead s)) → s ≡ t.time
-ahead_time history a t s (right_ahead find named wants at ahead says) told =
-    let e : answer_document (refusal_answer (time_ahead t.time)) ≡ answer_document (refusal_answer (time_ahead s)) = sym says ∙ told in cc
-ahead_time history a t s (right_write write wants whole says) told = absurd (write_not_ahead write.kind (told_by a.id history) s (sym says ∙ told))
-ahead_time history a t s (right_find find wants past says) told = absurd (let e : answer_document (find_answer find.namespace (found (document_at history find.namespace (Some find.key) (time_read a find))) (time_read a find)) ≡ answer_document (refusal_answer (time_ahead s)) = sym says ∙ told in cc)
-ahead_time history a t s (right_hello wants says) told = absurd (let e = sym says ∙ told in cc)
-ahead_time history a t s (right_legacy legacy wants says) told = absurd (let e = sym says ∙ told in cc)
-ahead_time history a t s (right_ping wants says) told = absurd (let e = sym says ∙ told in cc)
-ahead_time history a t s (right_end_sessions wants says) told = absurd (let e = sym says ∙ told in cc)
-ahead_time history a t s (right_refusal refusal wants says) told = absurd (never_ahead a.request refusal s wants (sym says ∙ told))
+pub same_next : (a b : Batch) → answer_document (next_answer a) ≡ answer_document (next_answer b) → a ≡ b
+same_next a b same =
+    let cursor : a.cursor ≡ b.cursor = cc in
+    let namespace : a.namespace ≡ b.namespace = cc in
+    let items : document_items a.documents ≡ document_items b.documents = cc in
+    let time : a.time ≡ b.time = cc in
+    same_parts a b cursor namespace items time

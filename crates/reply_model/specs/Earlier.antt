@@ -1,10 +1,12 @@
 -- How requests, answers and entries stand to each other.
-use Rattle.std.specs.Prelude.{◌≡◌, ◌<◌, List, ◌∷◌, ◌++◌, length, Ok}
-use Rattle.command_model.specs.Writes.{WriteCommand}
-use Rattle.command_model.specs.Command.{write_command, command_of}
-use Rattle.history_model.specs.History.{Operation, Entry, IsIn}
+use Rattle.std.specs.Prelude.{◌≡◌, ◌<◌, List, [], ◌∷◌, Bool, false, ◌&&◌, Option, Some, None}
+use Rattle.command_model.specs.Tree.{Fields}
+use Rattle.std.specs.Str.{bytes_eq}
+use Rattle.value_model.specs.Keys.{inside}
+use Rattle.pipeline_model.specs.Split.{span_of_stages}
+use Rattle.command_model.specs.Reading.{Reading}
+use Rattle.history_model.specs.History.{Entry, IsIn, key_written}
 use Rattle.reply_model.specs.Exchanges.{Asked, Answered}
-use Rattle.reply_model.specs.Right.{IsStatement}
 
 -- the request was taken, and is told this
 pub record IsTold (asked : List Asked) (answered : List Answered) (a : Asked) (t : Answered) : Type 0 where
@@ -26,12 +28,12 @@ pub record WasTakenBefore (asked : List Asked) (a b : Asked) : Type 0 where
   pub life : b.id.life ≡ a.id.life
   pub before : b.came < a.came
 
--- the entry is that of one of the request's statements
-pub record IsEntryOf (a : Asked) (e : Entry) : Type 0 where
-  pub write : WriteCommand
-  pub prefix : List Operation
-  pub operation : Operation
-  pub back : List Operation
-  pub asks : command_of a.request ≡ Ok (write_command write)
-  pub both : write.operations ≡ prefix ++ operation ∷ back
-  pub statement : IsStatement a.id write.namespace (length prefix) operation e
+-- the document, if there is one
+abbrev pub found : Option Fields → List Fields
+found None = []
+found (Some document) = document ∷ []
+
+-- the entry writes in the collection that is read, under a key that may stand in the span of the stages
+abbrev pub touches : Reading → Entry → Bool
+touches reading e =
+    bytes_eq e.namespace reading.namespace && elim (key_written e.operation) [ None ↦ false | Some key ↦ inside (span_of_stages reading.stages) key ]

@@ -1,8 +1,9 @@
 -- The requests that routers took, and what each was told.
-use Rattle.std.specs.Prelude.{ℕ, ℤ, List, [], ◌∷◌, Bool, false, ◌==◌, ◌&&◌, pos, if◌then◌else◌}
+use Rattle.std.specs.Prelude.{ℕ, ℤ, List, [], ◌∷◌, Bool, false, ◌==◌, ◌&&◌, Option, Some, None, pos, if◌then◌else◌}
 use Rattle.command_model.specs.Tree.{Fields}
 use Rattle.command_model.specs.Requests.{Request}
 use Rattle.command_model.specs.Replies.{reply_bytes}
+use Rattle.command_model.specs.Writes.{ClientNumber}
 use Rattle.history_model.specs.History.{Session, client_session, router_session, StatementNumber, Entry}
 
 -- which request it is: that of a router, in one of its lives, as the how many-th that it took
@@ -39,15 +40,16 @@ pub record Answered : Type 0 where
 abbrev pub reply_put : ℤ → Request → Fields → List ℕ
 reply_put number request document = if request.more then [] else reply_bytes request.form request.id number document
 
--- the number of a statement that the client gave none: the one with this index, from 0
-abbrev pub number_for : RequestId → ℕ → StatementNumber
-number_for id index = record { session = router_session id.router id.life id.count; transaction = pos 0; index = index }
+-- the number of the statement with this index, from 0: the client's, or the router's own for the request
+abbrev pub number_for : Option ClientNumber → RequestId → ℕ → StatementNumber
+number_for None id index = record { session = router_session id.router id.life id.count; transaction = pos 0; index = index }
+number_for (Some given) id index = record { session = client_session given.session; transaction = given.transaction; index = index }
 
 abbrev pub is_session_of : RequestId → Session → Bool
 is_session_of id (client_session name) = false
 is_session_of id (router_session node life request) = same_request (record { router = node; life = life; count = request }) id
 
--- the entries that a request made, in the order of the history
+-- the entries under the router's own numbers for a request, in the order of the history
 abbrev pub entries_by : RequestId → List Entry → List Entry
 entries_by id [] = []
 entries_by id (e ∷ history) = if is_session_of id e.number.session then e ∷ entries_by id history else entries_by id history

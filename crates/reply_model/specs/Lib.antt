@@ -1,9 +1,17 @@
 pub mod Exchanges
 pub mod Outcomes
+pub mod Cursors
+pub mod Reads
 pub mod Right
 pub mod OneHistory
 pub mod Earlier
+pub mod CursorReplies
 pub mod SampleExchanges
+pub mod SampleRetries
+pub mod SampleReads
+pub mod SampleTimes
+pub mod SampleLengths
+pub mod SampleSums
 pub use Rattle.command_model.specs.Answers
 pub use Rattle.chunk_model.specs.Catalogue
 pub use Rattle.command_model.specs.Command
@@ -11,6 +19,7 @@ pub use Rattle.chunk_model.specs.Tables
 pub use Rattle.chunk_model.specs.Verdicts
 pub use Rattle.chunk_model.specs.Versions
 pub use Rattle.command_model.specs.Errors
+pub use Rattle.command_model.specs.Reading
 pub use Rattle.command_model.specs.Find
 pub use Rattle.command_model.specs.Handshake
 pub use Rattle.history_model.specs.History

@@ -1,51 +1,90 @@
 -- What statements are told, and how their outcomes are told together (MongoDB manual, "insert", "update", "delete", "ordered").
-use Rattle.std.specs.Prelude.{ℕ, ◌+◌, List, [], ◌∷◌, Some, None, Bool, max, is_some}
+use Rattle.std.specs.Prelude.{ℕ, ℤ, ◌+◌, List, [], ◌∷◌, Option, Some, None, Bool, max, is_some}
+use Rattle.std.specs.Option.{unwrap_or}
 use Rattle.history_model.specs.History.{Outcome, Entry}
-use Rattle.command_model.specs.Refusals.{without_evidence}
+use Rattle.command_model.specs.Errors.{transaction_too_old}
+use Rattle.command_model.specs.Refusals.{Refusal, number_evidence, without_evidence}
 use Rattle.command_model.specs.Writes.{Upserted, WriteError, WriteKind, WriteSummary}
 use Rattle.command_model.specs.Answers.{Answer, write_answer}
 
--- the statement with this index was done, at this time, and is told this
+-- What a statement is told: that it was done, at this time and with this outcome; or why it was not.
+pub data StatementAnswer : Type 0 where
+  was_done : (time : ℕ) → Outcome → StatementAnswer
+  was_refused : Refusal → StatementAnswer
+
+abbrev pub WasDone : StatementAnswer → Type 0
+WasDone (was_done time outcome) = Unit {0}
+WasDone (was_refused refusal) = ⊥
+
+-- its session has a greater transaction
+abbrev pub is_older : (greatest : ℤ) → StatementAnswer
+is_older greatest = was_refused (record { error = transaction_too_old; evidence = number_evidence greatest })
+
+-- what the statement with this index is told
 pub record Done : Type 0 where
   pub index : ℕ
-  pub time : ℕ
-  pub outcome : Outcome
+  pub answer : StatementAnswer
 
--- what the statement of an entry is told
+-- what the entry of a statement is told
+abbrev pub answer_by : Entry → StatementAnswer
+answer_by e = was_done e.time e.outcome
+
 abbrev pub done_of : Entry → Done
-done_of e = record { index = e.number.index; time = e.time; outcome = e.outcome }
+done_of e = record { index = e.number.index; answer = answer_by e }
+
+-- a statement that is refused changes nothing
+abbrev pub outcome_in : StatementAnswer → Outcome
+outcome_in (was_done time outcome) = outcome
+outcome_in (was_refused refusal) = record { count = 0; modified = 0; upserted = None; error = Some refusal.error }
+
+-- the error that a statement is told, with its evidence
+abbrev pub refusal_in : StatementAnswer → Option Refusal
+refusal_in (was_done time outcome) = elim outcome.error [ None ↦ None | Some error ↦ Some (without_evidence error) ]
+refusal_in (was_refused refusal) = Some refusal
 
 -- the statement is told an error
 abbrev pub fails : Done → Bool
-fails d = is_some d.outcome.error
+fails d = is_some (refusal_in d.answer)
 
 -- how many documents were put in, met or taken out
 abbrev pub sum_of : List Done → ℕ
 sum_of [] = 0
-sum_of (d ∷ dones) = d.outcome.count + sum_of dones
+sum_of (d ∷ dones) = (outcome_in d.answer).count + sum_of dones
 
 -- how many documents were changed
 abbrev pub modified_by : List Done → ℕ
 modified_by [] = 0
-modified_by (d ∷ dones) = d.outcome.modified + modified_by dones
+modified_by (d ∷ dones) = (outcome_in d.answer).modified + modified_by dones
 
 -- the keys of the documents that upserts put in
 abbrev pub upserted_by : List Done → List Upserted
 upserted_by [] = []
-upserted_by (d ∷ dones) = elim d.outcome.upserted [ None ↦ upserted_by dones | Some key ↦ record { index = d.index; key = key } ∷ upserted_by dones ]
+upserted_by (d ∷ dones) =
+    elim (outcome_in d.answer).upserted [ None ↦ upserted_by dones | Some key ↦ record { index = d.index; key = key } ∷ upserted_by dones ]
 
 abbrev pub errors_of : List Done → List WriteError
 errors_of [] = []
-errors_of (d ∷ dones) = elim d.outcome.error [ None ↦ errors_of dones | Some error ↦ record { index = d.index; refusal = without_evidence error } ∷ errors_of dones ]
+errors_of (d ∷ dones) = elim (refusal_in d.answer) [ None ↦ errors_of dones | Some refusal ↦ record { index = d.index; refusal = refusal } ∷ errors_of dones ]
 
--- the greatest time
-abbrev pub time_of : List Done → ℕ
-time_of [] = 0
-time_of (d ∷ dones) = max d.time (time_of dones)
+abbrev pub later : ℕ → Option ℕ → ℕ
+later time None = time
+later time (Some other) = max time other
 
-abbrev pub summary_of : List Done → WriteSummary
-summary_of dones = record { count = sum_of dones; modified = modified_by dones; upserted = upserted_by dones; errors = errors_of dones; time = time_of dones }
+-- the greatest time of the entries that answered, if any did
+abbrev pub time_of : List Done → Option ℕ
+time_of [] = None
+time_of (d ∷ dones) = elim d.answer [ was_done time outcome ↦ Some (later time (time_of dones)) | was_refused refusal ↦ time_of dones ]
+
+-- the operation's time is that, or else this time of the router
+abbrev pub summary_of : (time : ℕ) → List Done → WriteSummary
+summary_of time dones = record {
+  count = sum_of dones;
+  modified = modified_by dones;
+  upserted = upserted_by dones;
+  errors = errors_of dones;
+  time = unwrap_or (time_of dones) time;
+}
 
 -- what the statements of a command are told together
-abbrev pub answer_of : WriteKind → List Done → Answer
-answer_of kind dones = write_answer kind (summary_of dones)
+abbrev pub answer_of : WriteKind → (time : ℕ) → List Done → Answer
+answer_of kind time dones = write_answer kind (summary_of time dones)

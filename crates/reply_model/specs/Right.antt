@@ -1,24 +1,29 @@
 -- Which replies are right by one history, and by what their routers knew.
-use Rattle.std.specs.Prelude.{◌≡◌, ℕ, ◌+◌, ◌<◌, ◌≤◌, List, [], ◌∷◌, map, Option, Some, None, Ok, Err, Bool, true, false, ◌&&◌}
+use Rattle.std.specs.Prelude.{◌≡◌, ℕ, ℤ, ◌+◌, ◌≤◌, List, [], ◌∷◌, ◌++◌, length, map, int_lt, Option, Some, None, Result, Ok, Err, Bool, true, false, ◌&&◌, ◌||◌, codes, if◌then◌else◌}
+use Rattle.std.specs.Option.{unwrap_or}
 use Rattle.command_model.specs.Tree.{Fields}
-use Rattle.command_model.specs.Refusals.{Refusal, time_ahead}
-use Rattle.command_model.specs.Writes.{WriteCommand}
+use Rattle.command_model.specs.Requests.{Request}
+use Rattle.command_model.specs.Errors.{cursor_not_found, overflow, query_exceeded_memory}
+use Rattle.command_model.specs.Refusals.{Refusal, bytes_evidence, cursor_evidence, time_ahead, without_evidence}
+use Rattle.command_model.specs.Writes.{ClientNumber, WriteCommand}
+use Rattle.command_model.specs.Reading.{Reading, Batches}
 use Rattle.command_model.specs.Find.{Find}
+use Rattle.command_model.specs.Cursors.{Batch, GetMore, KillCursors}
 use Rattle.command_model.specs.Handshake.{Legacy}
-use Rattle.command_model.specs.Command.{hello_command, legacy_command, ping_command, end_sessions_command, write_command, find_command, command_of}
-use Rattle.command_model.specs.Answers.{hello_answer, legacy_answer, done_answer, find_answer, refusal_answer, answer_document}
-use Rattle.history_model.specs.History.{Operation, Entry, document_at}
+use Rattle.command_model.specs.Command.{Command, hello_command, legacy_command, ping_command, end_sessions_command, write_command, find_command, count_command, more_command, kill_command, command_of}
+use Rattle.command_model.specs.Answers.{hello_answer, legacy_answer, done_answer, first_answer, next_answer, count_answer, killed_answer, refusal_answer, answer_document}
+use Rattle.pipeline_model.specs.Runs.{listed, overflowed, count_documents}
+use Rattle.history_model.specs.History.{StatementNumber, Operation, Entry, IsIn}
+use Rattle.pipeline_model.specs.Lengths.{excess_of_answer}
+use Rattle.chunk_model.specs.Catalogue.{Creation}
 use Rattle.reply_model.specs.Exchanges.{RequestId, Asked, Answered, number_for, entries_by}
-use Rattle.reply_model.specs.Outcomes.{Done, done_of, fails, answer_of}
+use Rattle.reply_model.specs.Outcomes.{StatementAnswer, is_older, Done, answer_by, done_of, fails, answer_of}
+use Rattle.reply_model.specs.Cursors.{Cursor, open_cursor, ShowsFirst, ShowsNext, Kills}
+use Rattle.reply_model.specs.Reads.{IsTimeRead, MayGive, IsExcess, IsAhead}
 
--- the document that was found, if any
-abbrev pub found : Option Fields → List Fields
-found None = []
-found (Some document) = document ∷ []
-
--- the entry is that of this statement of the request: in its namespace, in the words of the client
-pub record IsStatement (id : RequestId) (namespace : List ℕ) (index : ℕ) (operation : Operation) (e : Entry) : Type 0 where
-  pub number : e.number ≡ number_for id index
+-- the entry is that of this statement: under its number, in its namespace, in the words of the client
+pub record IsStatement (number : StatementNumber) (namespace : List ℕ) (operation : Operation) (e : Entry) : Type 0 where
+  pub same_number : e.number ≡ number
   pub name : e.namespace ≡ namespace
   pub does : e.operation ≡ operation
 
@@ -26,12 +31,62 @@ pub record IsStatement (id : RequestId) (namespace : List ℕ) (index : ℕ) (op
 abbrev pub ends : Bool → Done → Bool
 ends ordered d = ordered && fails d
 
+-- WHO SENT A STATEMENT
+
+-- the entry is that of the statement with this index of a request
+pub record IsEntryAt (a : Asked) (write : WriteCommand) (index : ℕ) (e : Entry) : Type 0 where
+  pub prefix : List Operation
+  pub operation : Operation
+  pub back : List Operation
+  pub both : write.operations ≡ prefix ++ operation ∷ back
+  pub at : length prefix ≡ index
+  pub statement : IsStatement (number_for write.number a.id index) write.namespace operation e
+
+-- the request sent the entry's statement
+pub record Sends (a : Asked) (e : Entry) : Type 0 where
+  pub write : WriteCommand
+  pub index : ℕ
+  pub asks : command_of a.request ≡ Ok (write_command write)
+  pub entry : IsEntryAt a write index e
+
+-- a request that sent it had come by then
+pub record HadSent (asked : List Asked) (e : Entry) (t : Answered) : Type 0 where
+  pub request : Asked
+  pub taken : IsIn request asked
+  pub sends : Sends request e
+  pub came : request.came ≤ t.step
+
+-- WHAT STATEMENTS ARE TOLD
+
+-- What a statement may be told: the outcome of its own entry; where a client gave the number, that of another entry under it; or that an
+-- entry of the client's session has this greater transaction. The entry is not later than what the router knows as it tells.
+pub data MayBeTold (history : List Entry) (asked : List Asked) (t : Answered) (given : Option ClientNumber) (number : StatementNumber) (namespace : List ℕ)
+    (operation : Operation) : StatementAnswer → Type 0 where
+  told_own : (e : Entry) → IsIn e history → IsStatement number namespace operation e → e.time ≤ t.time
+      → MayBeTold history asked t given number namespace operation (answer_by e)
+  told_other : (e : Entry) (by : ClientNumber) → IsIn e history → given ≡ Some by → e.number ≡ number → e.time ≤ t.time → HadSent asked e t
+      → MayBeTold history asked t given number namespace operation (answer_by e)
+  told_older : (e : Entry) (by : ClientNumber) → IsIn e history → given ≡ Some by → e.number.session ≡ number.session
+      → int_lt number.transaction e.number.transaction ≡ true → e.time ≤ t.time → HadSent asked e t
+      → MayBeTold history asked t given number namespace operation (is_older e.number.transaction)
+
+-- these are told to the statements of a write from this index on, to all, or up to the error that ends an ordered command
+abbrev pub AreTold : List Entry → List Asked → Answered → WriteCommand → ℕ → List Operation → List Done → Type 0
+AreTold history asked t write index [] dones = dones ≡ []
+AreTold history asked t write index (operation ∷ operations) [] = ⊥
+AreTold history asked t write index (operation ∷ operations) (d ∷ dones) =
+    (d.index ≡ index)
+    × MayBeTold history asked t write.number (number_for write.number t.id index) write.namespace operation d.answer
+    × elim (ends write.ordered d) [ true ↦ dones ≡ [] | false ↦ AreTold history asked t write (index + 1) operations dones ]
+
+-- WHAT STANDS OF A WRITE THAT HAS NO NUMBER FROM ITS CLIENT
+
 -- these entries are those of the statements from this index on, in their order; the first error ends an ordered command
 abbrev pub AreStatements : RequestId → List ℕ → (ordered : Bool) → ℕ → List Operation → List Entry → Type 0
 AreStatements id namespace ordered index operations [] = Unit {0}
 AreStatements id namespace ordered index [] (e ∷ entries) = ⊥
 AreStatements id namespace ordered index (operation ∷ operations) (e ∷ entries) =
-    IsStatement id namespace index operation e × (ends ordered (done_of e) ≡ true → entries ≡ [])
+    IsStatement (number_for None id index) namespace operation e × (ends ordered (done_of e) ≡ true → entries ≡ [])
     × AreStatements id namespace ordered (index + 1) operations entries
 
 -- these outcomes are those of all statements, or of those up to the error that ends an ordered command
@@ -40,7 +95,7 @@ AreAll ordered [] dones = dones ≡ []
 AreAll ordered (operation ∷ operations) [] = ⊥
 AreAll ordered (operation ∷ operations) (d ∷ dones) = elim (ends ordered d) [ true ↦ dones ≡ [] | false ↦ AreAll ordered operations dones ]
 
--- What stands of a write: the entries of a prefix of its statements, in order.
+-- the entries of a prefix of its statements, in order
 abbrev pub IsPart : List Entry → RequestId → WriteCommand → Type 0
 IsPart history id write = AreStatements id write.namespace write.ordered 0 write.operations (entries_by id history)
 
@@ -48,24 +103,75 @@ IsPart history id write = AreStatements id write.namespace write.ordered 0 write
 abbrev pub told_by : RequestId → List Entry → List Done
 told_by id history = map done_of (entries_by id history)
 
--- A write is served whole: the entries of all its statements stand, up to the error that ends an ordered one, and none else.
+-- It is served whole: the entries of all its statements stand, up to the error that ends an ordered one, and none else.
 pub record IsWhole (history : List Entry) (id : RequestId) (write : WriteCommand) : Type 0 where
   pub part : IsPart history id write
   pub all : AreAll write.ordered write.operations (told_by id history)
 
--- the time that a find is of: the one that it names, or else the time of the router that took it
-abbrev pub time_read : Asked → Find → ℕ
-time_read a find = elim find.at [ None ↦ a.time | Some named ↦ named ]
+-- WHAT READS ARE TOLD
 
--- The request is told rightly: the outcomes of the entries of its statements; or what a find has to show of the history up to its
--- time, which its router's time has reached; or the router's time, where the time that it names is ahead of that; or what is told
--- without a look at documents; or its refusal.
-pub data IsRight (history : List Entry) (a : Asked) (t : Answered) : Type 0 where
-  right_write : (write : WriteCommand) → command_of a.request ≡ Ok (write_command write) → IsWhole history a.id write → t.document ≡ answer_document (answer_of write.kind (told_by a.id history)) → IsRight history a t
-  right_find : (find : Find) → command_of a.request ≡ Ok (find_command find) → time_read a find ≤ t.time → t.document ≡ answer_document (find_answer find.namespace (found (document_at history find.namespace (Some find.key) (time_read a find))) (time_read a find)) → IsRight history a t
-  right_ahead : (find : Find) (named : ℕ) → command_of a.request ≡ Ok (find_command find) → find.at ≡ Some named → t.time < named → t.document ≡ answer_document (refusal_answer (time_ahead t.time)) → IsRight history a t
-  right_hello : command_of a.request ≡ Ok hello_command → t.document ≡ answer_document (hello_answer a.moment) → IsRight history a t
-  right_legacy : (legacy : Legacy) → command_of a.request ≡ Ok (legacy_command legacy) → t.document ≡ answer_document (legacy_answer a.moment legacy.shows_hello_ok) → IsRight history a t
-  right_ping : command_of a.request ≡ Ok ping_command → t.document ≡ answer_document done_answer → IsRight history a t
-  right_end_sessions : command_of a.request ≡ Ok end_sessions_command → t.document ≡ answer_document done_answer → IsRight history a t
-  right_refusal : (refusal : Refusal) → command_of a.request ≡ Err refusal → t.document ≡ answer_document (refusal_answer refusal) → IsRight history a t
+-- how many documents a first batch has at most, where no size is given
+abbrev pub usual_size : ℕ
+usual_size = 101
+
+-- the command reads this
+pub data Reads : Result Command Refusal → Reading → Type 0 where
+  find_reads : (find : Find) → Reads (Ok (find_command find)) find.reading
+  count_reads : (reading : Reading) → Reads (Ok (count_command reading)) reading
+
+-- a request that gets no reply asks for no other batch
+abbrev pub asks_for_one : Batches → Request → Bool
+asks_for_one batches request = batches.single || request.more
+
+-- what is read stays with a request that gets no reply
+abbrev pub unless_silent : Request → (before after : List Cursor) → List Cursor
+unless_silent request before after = if request.more then before else after
+
+-- A read is refused: it has no outcome, or too long a one, or its time is ahead of the router's, which is told.
+pub data IsReadRefused (creations : List Creation) (history : List Entry) (answered : List Answered) (a : Asked) (t : Answered)
+    (reading : Reading) : Type 0 where
+  refused_overflow : (time : ℕ) → IsTimeRead a t reading time → MayGive history reading time overflowed
+      → t.document ≡ answer_document (refusal_answer (without_evidence overflow)) → IsReadRefused creations history answered a t reading
+  refused_excess : (time n : ℕ) → IsTimeRead a t reading time → IsExcess history creations reading time n
+      → t.document ≡ answer_document (refusal_answer (record { error = query_exceeded_memory; evidence = bytes_evidence n }))
+      → IsReadRefused creations history answered a t reading
+  refused_ahead : IsAhead history answered a t reading
+      → t.document ≡ answer_document (refusal_answer (time_ahead t.time)) → IsReadRefused creations history answered a t reading
+
+-- The request is told rightly, where these cursors were opened before, and these are afterwards: what its statements may be told, in a
+-- collection that began; or a batch of what a read may give at its time, or how many documents there are, or why it is refused; or the next
+-- batch of its cursor, or that this is not open; or which cursors are closed; or what is told without a look at documents; or its refusal.
+pub data IsRight (creations : List Creation) (history : List Entry) (asked : List Asked) (answered : List Answered) (cursors : List Cursor) (a : Asked)
+    (t : Answered) : (next : List Cursor) → Type 0 where
+  right_write : (write : WriteCommand) (dones : List Done) (c : Creation) → command_of a.request ≡ Ok (write_command write)
+      → AreTold history asked t write 0 write.operations dones → (write.number ≡ None → IsWhole history a.id write)
+      → IsIn c creations → c.namespace ≡ write.namespace → c.at ≤ t.time
+      → t.document ≡ answer_document (answer_of write.kind t.time dones) → IsRight creations history asked answered cursors a t cursors
+  right_find : (find : Find) (time : ℕ) (documents : List Fields) (batch : Batch) (next : List Cursor) → command_of a.request ≡ Ok (find_command find)
+      → IsTimeRead a t find.reading time → MayGive history find.reading time (listed documents) → excess_of_answer documents ≡ None
+      → batch.namespace ≡ find.reading.namespace → batch.time ≡ time
+      → ShowsFirst a.id (unwrap_or find.batches.size usual_size) (asks_for_one find.batches a.request) cursors documents batch next
+      → t.document ≡ answer_document (first_answer batch) → IsRight creations history asked answered cursors a t next
+  right_count : (reading : Reading) (time n : ℕ) → command_of a.request ≡ Ok (count_command reading) → IsTimeRead a t reading time
+      → MayGive history reading time (listed (count_documents (codes "n") n))
+      → t.document ≡ answer_document (count_answer n time) → IsRight creations history asked answered cursors a t cursors
+  right_refused_read : (reading : Reading) → Reads (command_of a.request) reading → IsReadRefused creations history answered a t reading
+      → IsRight creations history asked answered cursors a t cursors
+  right_more : (more : GetMore) (c : Cursor) (batch : Batch) (next : List Cursor) → command_of a.request ≡ Ok (more_command more)
+      → open_cursor a.id more.cursor more.namespace cursors ≡ Some c → ShowsNext a.id more.size cursors c batch next
+      → t.document ≡ answer_document (next_answer batch) → IsRight creations history asked answered cursors a t (unless_silent a.request cursors next)
+  right_no_cursor : (more : GetMore) → command_of a.request ≡ Ok (more_command more) → open_cursor a.id more.cursor more.namespace cursors ≡ None
+      → t.document ≡ answer_document (refusal_answer (record { error = cursor_not_found; evidence = cursor_evidence more.cursor }))
+      → IsRight creations history asked answered cursors a t cursors
+  right_kill : (kill : KillCursors) (killed missing : List ℤ) (next : List Cursor) → command_of a.request ≡ Ok (kill_command kill)
+      → Kills a.id kill.namespace cursors kill.cursors killed missing next → t.document ≡ answer_document (killed_answer killed missing)
+      → IsRight creations history asked answered cursors a t next
+  right_hello : command_of a.request ≡ Ok hello_command → t.document ≡ answer_document (hello_answer a.moment)
+      → IsRight creations history asked answered cursors a t cursors
+  right_legacy : (legacy : Legacy) → command_of a.request ≡ Ok (legacy_command legacy)
+      → t.document ≡ answer_document (legacy_answer a.moment legacy.shows_hello_ok) → IsRight creations history asked answered cursors a t cursors
+  right_ping : command_of a.request ≡ Ok ping_command → t.document ≡ answer_document done_answer → IsRight creations history asked answered cursors a t cursors
+  right_end_sessions : command_of a.request ≡ Ok end_sessions_command → t.document ≡ answer_document done_answer
+      → IsRight creations history asked answered cursors a t cursors
+  right_refusal : (refusal : Refusal) → command_of a.request ≡ Err refusal → t.document ≡ answer_document (refusal_answer refusal)
+      → IsRight creations history asked answered cursors a t cursors

@@ -8,8 +8,14 @@ use Rattle.command_model.specs.Errors.{immutable_field, object_too_large, duplic
 use Rattle.command_model.specs.SampleCommands.{change_one, delete_with, number_one, set_one, taken_out, update_with}
 use Rattle.command_model.specs.SampleReplies.{done_reply, duplicate_reply}
 use Rattle.command_model.specs.SampleRequests.{deep, find_body, five, greeting, insert_body, long_five, request, shown, six, three, with_id}
+use Rattle.command_model.specs.Find.{Find}
+use Rattle.query_model.specs.Queries.{Query, no_clauses, clause, path_clause, no_tests, test, eq_test}
+use Rattle.pipeline_model.specs.Stages.{match_stage}
+use Rattle.chunk_model.specs.SampleCollections.{creation}
 use Rattle.history_model.specs.History.{router_session, insert_operation, update_operation, delete_operation, Outcome, done, fails_with, Entry}
 use Rattle.reply_model.specs.Exchanges.{RequestId, Asked, Answered}
+use Rattle.reply_model.specs.Cursors.{Cursor}
+use Rattle.reply_model.specs.Right.{IsRight}
 use Rattle.reply_model.specs.OneHistory.{Given}
 
 -- both routers, nodes 2 and 3, are given one moment, of the second 1000
@@ -52,6 +58,24 @@ entry_at counter router count index key outcome = record {
   namespace = codes "d.c";
   operation = insert_operation (with_id key);
   outcome = outcome;
+}
+
+-- It is told rightly, where nothing was told before, and no cursor is open before or afterwards.
+abbrev pub IsToldRightly : List Entry → Asked → Answered → Type 0
+IsToldRightly history a t = IsRight (creation ∷ []) history [] [] [] a t []
+
+-- it is not, whatever cursors there are afterwards
+abbrev pub IsToldWrongly : List Entry → Asked → Answered → Type 0
+IsToldWrongly history a t = (next : List Cursor) → IsRight (creation ∷ []) history [] [] [] a t next → ⊥
+
+-- the query that {_id: key} is, and the find of it, at a time where one is named
+abbrev pub id_is : Datum → Query
+id_is key = clause (path_clause (codes "_id" ∷ []) (test (eq_test key) no_tests)) no_clauses
+
+abbrev pub find_of : Datum → Option ℕ → Find
+find_of key at = record {
+  reading = record { namespace = codes "d.c"; stages = match_stage (id_is key) ∷ []; at = at; after = None };
+  batches = record { size = None; single = false };
 }
 
 -- an insert of {_id: 5} at router 2
@@ -178,7 +202,8 @@ updating key change others = field (codes "q") (document_value (with_id key)) (f
 abbrev pub upserting : Asked
 upserting = asks 2 2 4 2 (request 2 false
     (field (codes "update") (string_value (codes "c"))
-    (field (codes "updates") (array_value (document_items (updating five set_nothing no_fields ∷ updating six set_nothing (field (codes "upsert") (boolean_value true) no_fields) ∷ updating five set_key no_fields ∷ [])))
+    (field (codes "updates") (array_value (document_items (updating five set_nothing no_fields
+    ∷ updating six set_nothing (field (codes "upsert") (boolean_value true) no_fields) ∷ updating five set_key no_fields ∷ [])))
     (field (codes "ordered") (boolean_value false)
     (field (codes "$db") (string_value (codes "d")) no_fields)))))
 
@@ -197,7 +222,8 @@ upserting_reply count modified index =
     field (codes "n") (int32_value (pos count))
     (field (codes "nModified") (int32_value (pos modified))
     (field (codes "upserted") (array_value (document_items (field (codes "index") (int32_value (pos index)) (field (codes "_id") six no_fields) ∷ [])))
-    (field (codes "writeErrors") (array_value (document_items (field (codes "index") (int32_value (pos 2)) (field (codes "code") (int32_value (pos 66)) (field (codes "errmsg") (string_value (codes "ImmutableField")) no_fields)) ∷ [])))
+    (field (codes "writeErrors") (array_value (document_items (field (codes "index") (int32_value (pos 2))
+    (field (codes "code") (int32_value (pos 66)) (field (codes "errmsg") (string_value (codes "ImmutableField")) no_fields)) ∷ [])))
     (field (codes "ok") number_one
     (field (codes "operationTime") (timestamp_value (timestamp 1000 5)) no_fields)))))
 

@@ -1,6 +1,6 @@
 //! The definitions on requests, answers and entries that one can check by hand.
 
-ghost use Rattle.std.specs.Prelude.{◌≡◌, ◌∷◌, ℕ, [], codes, map, Some, None, Ok, true, false, pos};
+ghost use Rattle.std.specs.Prelude.{◌≡◌, ◌∷◌, ℕ, List, [], codes, map, Some, None, Ok, true, false, pos};
 ghost use Rattle.chunk_model.specs.SampleCollections.{creation};
 ghost use Rattle.command_model.specs.Answers.{answer_document, legacy_answer, refusal_answer};
 ghost use Rattle.command_model.specs.Command.{find_command, write_command, command_of};
@@ -16,18 +16,40 @@ ghost use Rattle.command_model.specs.SampleCommands.{change_one};
 ghost use Rattle.command_model.specs.Writes.{delete_kind, insert_kind, update_kind};
 ghost use Rattle.history_model.specs.History.{Legal, delete_operation, done, fails_with, insert_operation, update_operation};
 ghost use Rattle.reply_model.specs.Exchanges.{reply_put};
-ghost use Rattle.reply_model.specs.Earlier.{IsEntryOf};
 ghost use Rattle.reply_model.specs.OneHistory.{AreDifferent, IsFresh, IsInOrder, IsKnown, IsPlaced, IsRightOf, OneHistory, WasSent, WasWanted, ids_asked, ids_told};
-ghost use Rattle.reply_model.specs.Right.{IsPart, IsRight, IsWhole};
-ghost use Rattle.reply_model.specs.SampleExchanges.{all_asked, all_told, both_entries, changed_five, changed_reply, changing, changing_entry, deep_asked, deep_entry, deleted_reply, deleting, entry_at, finding, finding_later, first, first_entry, first_told, greeted, id_at, is_shown, is_shown_later, moments, second, second_entry, second_told, tells, third, third_told, three_asked, three_entries, three_writes, two_entries, finding_at, is_shown_at, unmet_delete, unmet_entries, upserting, upserting_entries, upserting_reply};
+ghost use Rattle.reply_model.specs.Cursors.{Cursor};
+ghost use Rattle.reply_model.specs.Right.{IsPart, IsWhole, Sends};
+ghost use Rattle.reply_model.specs.SampleExchanges.{IsToldRightly, IsToldWrongly, find_of, all_asked, all_told, both_entries, changed_five, changed_reply, changing, changing_entry, deep_asked, deep_entry, deleted_reply, deleting, entry_at, finding, finding_later, first, first_entry, first_told, greeted, id_at, is_shown, is_shown_later, moments, second, second_entry, second_told, tells, third, third_told, three_asked, three_entries, three_writes, two_entries, finding_at, is_shown_at, unmet_delete, unmet_entries, upserting, upserting_entries, upserting_reply};
 
 /// What the requests ask for.
 pub fn asked()
-    ensures insert { command_of first.request ≡ Ok (write_command (record { kind = insert_kind; namespace = codes "d.c"; operations = insert_operation (with_id five) ∷ []; ordered = true })) }
-    ensures three { command_of (three_asked true false).request ≡ Ok (write_command (record { kind = insert_kind; namespace = codes "d.c"; operations = map insert_operation three; ordered = false })) }
-    ensures update { command_of changing.request ≡ Ok (write_command (record { kind = update_kind; namespace = codes "d.c"; operations = update_operation (with_id five) change_one false ∷ []; ordered = true })) }
-    ensures delete { command_of deleting.request ≡ Ok (write_command (record { kind = delete_kind; namespace = codes "d.c"; operations = delete_operation (with_id long_five) ∷ []; ordered = true })) }
-    ensures find { command_of third.request ≡ Ok (find_command (record { namespace = codes "d.c"; key = long_five; at = None })) }
+    ensures insert { command_of first.request
+        ≡ Ok (write_command (record {
+          kind = insert_kind;
+          namespace = codes "d.c";
+          operations = insert_operation (with_id five) ∷ [];
+          ordered = true;
+          number = None;
+        })) }
+    ensures three { command_of (three_asked true false).request
+        ≡ Ok (write_command (record { kind = insert_kind; namespace = codes "d.c"; operations = map insert_operation three; ordered = false; number = None })) }
+    ensures update { command_of changing.request
+        ≡ Ok (write_command (record {
+          kind = update_kind;
+          namespace = codes "d.c";
+          operations = update_operation (with_id five) change_one false ∷ [];
+          ordered = true;
+          number = None;
+        })) }
+    ensures delete { command_of deleting.request
+        ≡ Ok (write_command (record {
+          kind = delete_kind;
+          namespace = codes "d.c";
+          operations = delete_operation (with_id long_five) ∷ [];
+          ordered = true;
+          number = None;
+        })) }
+    ensures find { command_of third.request ≡ Ok (find_command (find_of long_five None)) }
 {}
 
 /// Two inserts under one key, in both widths, at two routers, and a find of the second's key at the first router: one history. It is
@@ -47,56 +69,67 @@ pub fn one_history()
 /// Of three documents the second has the key of the first. The error ends the insert where it is ordered, and else the third document
 /// is put in. With moreToCome it is answered just so, and nothing is put.
 pub fn many_statements()
-    ensures ordered { IsRight two_entries (three_asked false true) (tells (three_asked false true) 3 3 (second_fails 1 3)) }
-    ensures unordered { IsRight three_entries (three_asked false false) (tells (three_asked false false) 3 4 (second_fails 2 4)) }
-    ensures silent { IsRight two_entries (three_asked true true) (tells (three_asked true true) 3 3 (second_fails 1 3)) }
+    ensures ordered { IsToldRightly two_entries (three_asked false true) (tells (three_asked false true) 3 3 (second_fails 1 3)) }
+    ensures unordered { IsToldRightly three_entries (three_asked false false) (tells (three_asked false false) 3 4 (second_fails 2 4)) }
+    ensures silent { IsToldRightly two_entries (three_asked true true) (tells (three_asked true true) 3 3 (second_fails 1 3)) }
     ensures nothing_put { reply_put (pos 1) (three_asked true true).request (second_fails 1 3) ≡ [] }
     ensures put { reply_put (pos 1) (three_asked false true).request (second_fails 1 3) ≡ reply_bytes msg_form (pos 1) (pos 1) (second_fails 1 3) }
-    ensures one_more { IsWhole three_entries (id_at 2 1) (record { kind = insert_kind; namespace = codes "d.c"; operations = map insert_operation three; ordered = true }) → ⊥ }
-    ensures one_less { IsWhole two_entries (id_at 2 1) (record { kind = insert_kind; namespace = codes "d.c"; operations = map insert_operation three; ordered = false }) → ⊥ }
-    ensures silent_lost { IsRight [] (three_asked true true) (tells (three_asked true true) 3 3 (second_fails 1 3)) → ⊥ }
+    ensures one_more { IsWhole three_entries (id_at 2 1)
+        (record { kind = insert_kind; namespace = codes "d.c"; operations = map insert_operation three; ordered = true; number = None }) → ⊥ }
+    ensures one_less { IsWhole two_entries (id_at 2 1)
+        (record { kind = insert_kind; namespace = codes "d.c"; operations = map insert_operation three; ordered = false; number = None }) → ⊥ }
+    ensures silent_lost { IsToldWrongly [] (three_asked true true) (tells (three_asked true true) 3 3 (second_fails 1 3)) }
 {}
 
 /// An insert of a document that is too large is told so, and ends there where it is ordered; the document isn't found.
 pub fn too_large()
-    ensures told { IsRight (deep_entry ∷ []) deep_asked (tells deep_asked 3 2 too_large_reply) }
-    ensures goes_on { IsRight (deep_entry ∷ entry_at 3 2 1 1 six done ∷ []) deep_asked (tells deep_asked 3 3 too_large_reply) → ⊥ }
-    ensures not_found { IsRight (deep_entry ∷ []) (finding five None) (is_shown five None [] 2) }
-    ensures not_shown { IsRight (deep_entry ∷ []) (finding five None) (is_shown five None (deep ∷ []) 2) → ⊥ }
+    ensures told { IsToldRightly (deep_entry ∷ []) deep_asked (tells deep_asked 3 2 too_large_reply) }
+    ensures goes_on { IsToldWrongly (deep_entry ∷ entry_at 3 2 1 1 six done ∷ []) deep_asked (tells deep_asked 3 3 too_large_reply) }
+    ensures not_found { IsToldRightly (deep_entry ∷ []) (finding five None) (is_shown five None [] 2) }
+    ensures not_shown { IsToldWrongly (deep_entry ∷ []) (finding five None) (is_shown five None (deep ∷ []) 2) }
 {}
 
 /// A handshake is told its router's last moment, and a request whose document has a fault is refused with its place.
 pub fn without_documents()
-    ensures greeting { IsRight [] greeted (tells greeted 3 0 (answer_document (legacy_answer 1000000 false))) }
-    ensures another_moment { IsRight [] greeted (tells greeted 3 0 (answer_document (legacy_answer 1000001 false))) → ⊥ }
-    ensures refused { (fault : Fault) (place : ℕ) → IsRight [] (record greeted { request = faulty fault place }) (tells greeted 3 0 (answer_document (refusal_answer (no_document_at place)))) }
-    ensures never_refused { (refusal : Refusal) → IsRight [] first (tells first 3 0 (answer_document (refusal_answer refusal))) → ⊥ }
+    ensures greeting { IsToldRightly [] greeted (tells greeted 3 0 (answer_document (legacy_answer 1000000 false))) }
+    ensures another_moment { IsToldWrongly [] greeted (tells greeted 3 0 (answer_document (legacy_answer 1000001 false))) }
+    ensures refused { (fault : Fault) (place : ℕ) → IsToldRightly [] (record greeted { request = faulty fault place })
+        (tells greeted 3 0 (answer_document (refusal_answer (no_document_at place)))) }
+    ensures never_refused { (refusal : Refusal) → IsToldWrongly [] first (tells first 3 0 (answer_document (refusal_answer refusal))) }
 {}
 
 /// Of an insert that is under way a prefix of its entries may stand, also none, but no entry behind one that is missing, and none behind
 /// the error that ends it. It is not answered by then.
 pub fn under_way()
-    ensures nothing { IsPart [] (id_at 2 1) (record { kind = insert_kind; namespace = codes "d.c"; operations = map insert_operation three; ordered = true }) }
-    ensures begun { IsPart (first_entry ∷ []) (id_at 2 1) (record { kind = insert_kind; namespace = codes "d.c"; operations = map insert_operation three; ordered = true }) }
-    ensures ended { IsPart two_entries (id_at 2 1) (record { kind = insert_kind; namespace = codes "d.c"; operations = map insert_operation three; ordered = true }) }
-    ensures first_missing { IsPart (entry_at 2 2 1 1 long_five done ∷ []) (id_at 2 1) (record { kind = insert_kind; namespace = codes "d.c"; operations = map insert_operation three; ordered = true }) → ⊥ }
-    ensures behind_error { IsPart three_entries (id_at 2 1) (record { kind = insert_kind; namespace = codes "d.c"; operations = map insert_operation three; ordered = true }) → ⊥ }
-    ensures answered_early { IsRight (first_entry ∷ []) (three_asked false true) (tells (three_asked false true) 3 2 done_reply) → ⊥ }
+    ensures nothing { IsPart [] (id_at 2 1)
+        (record { kind = insert_kind; namespace = codes "d.c"; operations = map insert_operation three; ordered = true; number = None }) }
+    ensures begun { IsPart (first_entry ∷ []) (id_at 2 1)
+        (record { kind = insert_kind; namespace = codes "d.c"; operations = map insert_operation three; ordered = true; number = None }) }
+    ensures ended { IsPart two_entries (id_at 2 1)
+        (record { kind = insert_kind; namespace = codes "d.c"; operations = map insert_operation three; ordered = true; number = None }) }
+    ensures first_missing { IsPart (entry_at 2 2 1 1 long_five done ∷ []) (id_at 2 1)
+        (record { kind = insert_kind; namespace = codes "d.c"; operations = map insert_operation three; ordered = true; number = None }) → ⊥ }
+    ensures behind_error { IsPart three_entries (id_at 2 1)
+        (record { kind = insert_kind; namespace = codes "d.c"; operations = map insert_operation three; ordered = true; number = None }) → ⊥ }
+    ensures answered_early { IsToldWrongly (first_entry ∷ []) (three_asked false true) (tells (three_asked false true) 3 2 done_reply) }
 {}
 
 /// After the first insert, at Timestamp(1000, 2), a find of either five shows the document, and one of six shows none. At Timestamp(1000,
 /// 1) nothing is there yet, and Timestamp(1000, 3) is ahead of the router's time, which is told.
 pub fn found()
-    ensures right { IsRight both_entries third third_told }
-    ensures wrong { IsRight both_entries third (is_shown long_five None [] 2) → ⊥ }
-    ensures other_key { IsRight both_entries (finding six None) (is_shown six None [] 2) }
-    ensures right_before { IsRight both_entries (finding five (Some (timestamp 1000 1))) (is_shown five (Some (timestamp 1000 1)) [] 1) }
-    ensures wrong_before { IsRight both_entries (finding five (Some (timestamp 1000 1))) (is_shown five (Some (timestamp 1000 1)) (with_id five ∷ []) 1) → ⊥ }
-    ensures old { IsRight both_entries third (is_shown long_five None [] 1) → ⊥ }
-    ensures right_ahead { IsRight both_entries (finding five (Some (timestamp 1000 3))) (tells (finding five (Some (timestamp 1000 3))) 7 2 ahead_reply) }
-    ensures not_ahead { IsRight both_entries (finding five (Some (timestamp 1000 2))) (tells (finding five (Some (timestamp 1000 2))) 7 2 ahead_reply) → ⊥ }
-    ensures another_time { IsRight both_entries (finding five (Some (timestamp 1000 3))) (tells (finding five (Some (timestamp 1000 3))) 7 1 ahead_reply) → ⊥ }
-    ensures never_named { IsRight both_entries third (tells third 7 2 ahead_reply) → ⊥ }
+    ensures right { IsToldRightly both_entries third third_told }
+    ensures wrong { IsToldWrongly both_entries third (is_shown long_five None [] 2) }
+    ensures other_key { IsToldRightly both_entries (finding six None) (is_shown six None [] 2) }
+    ensures right_before { IsToldRightly both_entries (finding five (Some (timestamp 1000 1))) (is_shown five (Some (timestamp 1000 1)) [] 1) }
+    ensures wrong_before { IsToldWrongly both_entries (finding five (Some (timestamp 1000 1)))
+        (is_shown five (Some (timestamp 1000 1)) (with_id five ∷ []) 1) }
+    ensures old { IsToldWrongly both_entries third (is_shown long_five None [] 1) }
+    ensures right_ahead { IsToldRightly both_entries (finding five (Some (timestamp 1000 3)))
+        (tells (finding five (Some (timestamp 1000 3))) 7 2 ahead_reply) }
+    ensures not_ahead { IsToldWrongly both_entries (finding five (Some (timestamp 1000 2))) (tells (finding five (Some (timestamp 1000 2))) 7 2 ahead_reply) }
+    ensures another_time { IsToldWrongly both_entries (finding five (Some (timestamp 1000 3)))
+        (tells (finding five (Some (timestamp 1000 3))) 7 1 ahead_reply) }
+    ensures never_named { IsToldWrongly both_entries third (tells third 7 2 ahead_reply) }
 {}
 
 /// An update that changed the document that it met, and a delete that took one out, are told just so. An answer with another count, and
@@ -104,56 +137,65 @@ pub fn found()
 pub fn changed()
     ensures legal { Legal three_writes }
     ensures miscounted { Legal (first_entry ∷ record changing_entry { outcome = done } ∷ []) → ⊥ }
-    ensures updated { IsRight three_writes changing (tells changing 5 3 (changed_reply 1 1)) }
-    ensures not_changed { IsRight three_writes changing (tells changing 5 3 (changed_reply 1 0)) → ⊥ }
-    ensures not_met { IsRight three_writes changing (tells changing 5 3 (changed_reply 0 0)) → ⊥ }
-    ensures another_kind { IsRight three_writes changing (tells changing 5 3 (deleted_reply 1 3)) → ⊥ }
-    ensures deleted { IsRight three_writes deleting (tells deleting 7 4 (deleted_reply 1 4)) }
-    ensures not_deleted { IsRight three_writes deleting (tells deleting 7 4 (deleted_reply 0 4)) → ⊥ }
+    ensures updated { IsToldRightly three_writes changing (tells changing 5 3 (changed_reply 1 1)) }
+    ensures not_changed { IsToldWrongly three_writes changing (tells changing 5 3 (changed_reply 1 0)) }
+    ensures not_met { IsToldWrongly three_writes changing (tells changing 5 3 (changed_reply 0 0)) }
+    ensures another_kind { IsToldWrongly three_writes changing (tells changing 5 3 (deleted_reply 1 3)) }
+    ensures deleted { IsToldRightly three_writes deleting (tells deleting 7 4 (deleted_reply 1 4)) }
+    ensures not_deleted { IsToldWrongly three_writes deleting (tells deleting 7 4 (deleted_reply 0 4)) }
 {}
 
 /// Of three updates at once the first meets a document and changes nothing, the second meets none and puts one in, and the third can't change
 /// the key of what it meets. Each of these is told. A delete that meets none has an entry and is told 0.
 pub fn updates_told()
-    ensures right { IsRight upserting_entries upserting (tells upserting 5 5 (upserting_reply 2 0 1)) }
-    ensures more_changed { IsRight upserting_entries upserting (tells upserting 5 5 (upserting_reply 2 2 1)) → ⊥ }
-    ensures more_met { IsRight upserting_entries upserting (tells upserting 5 5 (upserting_reply 3 0 1)) → ⊥ }
-    ensures another_index { IsRight upserting_entries upserting (tells upserting 5 5 (upserting_reply 2 0 0)) → ⊥ }
-    ensures unmet { IsRight unmet_entries unmet_delete (tells unmet_delete 5 3 (deleted_reply 0 3)) }
-    ensures unmet_without_entry { IsRight (first_entry ∷ []) unmet_delete (tells unmet_delete 5 3 (deleted_reply 0 3)) → ⊥ }
+    ensures right { IsToldRightly upserting_entries upserting (tells upserting 5 5 (upserting_reply 2 0 1)) }
+    ensures more_changed { IsToldWrongly upserting_entries upserting (tells upserting 5 5 (upserting_reply 2 2 1)) }
+    ensures more_met { IsToldWrongly upserting_entries upserting (tells upserting 5 5 (upserting_reply 3 0 1)) }
+    ensures another_index { IsToldWrongly upserting_entries upserting (tells upserting 5 5 (upserting_reply 2 0 0)) }
+    ensures unmet { IsToldRightly unmet_entries unmet_delete (tells unmet_delete 5 3 (deleted_reply 0 3)) }
+    ensures unmet_without_entry { IsToldWrongly (first_entry ∷ []) unmet_delete (tells unmet_delete 5 3 (deleted_reply 0 3)) }
 {}
 
 /// An entry of a statement has the client's own words.
 pub fn own_words()
-    ensures insert { IsPart (record first_entry { operation = insert_operation (with_id six) } ∷ []) (id_at 2 1) (record { kind = insert_kind; namespace = codes "d.c"; operations = map insert_operation three; ordered = true }) → ⊥ }
-    ensures update { IsPart (record changing_entry { operation = delete_operation (with_id five) } ∷ []) (id_at 2 2) (record { kind = update_kind; namespace = codes "d.c"; operations = update_operation (with_id five) change_one false ∷ []; ordered = true }) → ⊥ }
+    ensures insert { IsPart (record first_entry { operation = insert_operation (with_id six) } ∷ []) (id_at 2 1)
+        (record { kind = insert_kind; namespace = codes "d.c"; operations = map insert_operation three; ordered = true; number = None }) → ⊥ }
+    ensures update { IsPart (record changing_entry { operation = delete_operation (with_id five) } ∷ []) (id_at 2 2)
+        (record {
+          kind = update_kind;
+          namespace = codes "d.c";
+          operations = update_operation (with_id five) change_one false ∷ [];
+          ordered = true;
+          number = None;
+        }) → ⊥ }
 {}
 
 /// A find that names no time is of its router's time as that took it, also where it is told later and its document is gone by then.
 pub fn found_as_taken()
-    ensures right { IsRight three_writes (finding_at 3) (is_shown_at 3 5 (changed_five ∷ []) 3) }
-    ensures later { IsRight three_writes (finding_at 3) (is_shown_at 3 5 [] 4) → ⊥ }
+    ensures right { IsToldRightly three_writes (finding_at 3) (is_shown_at 3 5 (changed_five ∷ []) 3) }
+    ensures later { IsToldWrongly three_writes (finding_at 3) (is_shown_at 3 5 [] 4) }
 {}
 
 /// A delete at Timestamp(1000, 4): before it a find shows the document as the update left it, from its time on none.
 pub fn found_around_delete()
-    ensures before { IsRight three_writes (finding_later (Some (timestamp 1000 3))) (is_shown_later (Some (timestamp 1000 3)) (changed_five ∷ []) 3) }
-    ensures at { IsRight three_writes (finding_later (Some (timestamp 1000 4))) (is_shown_later (Some (timestamp 1000 4)) [] 4) }
-    ensures after { IsRight three_writes (finding_later None) (is_shown_later None [] 5) }
-    ensures unchanged { IsRight three_writes (finding_later (Some (timestamp 1000 3))) (is_shown_later (Some (timestamp 1000 3)) (with_id five ∷ []) 3) → ⊥ }
-    ensures gone_early { IsRight three_writes (finding_later (Some (timestamp 1000 3))) (is_shown_later (Some (timestamp 1000 3)) [] 3) → ⊥ }
-    ensures still_there { IsRight three_writes (finding_later (Some (timestamp 1000 4))) (is_shown_later (Some (timestamp 1000 4)) (changed_five ∷ []) 4) → ⊥ }
-    ensures back_again { IsRight three_writes (finding_later None) (is_shown_later None (changed_five ∷ []) 5) → ⊥ }
+    ensures before { IsToldRightly three_writes (finding_later (Some (timestamp 1000 3))) (is_shown_later (Some (timestamp 1000 3)) (changed_five ∷ []) 3) }
+    ensures at { IsToldRightly three_writes (finding_later (Some (timestamp 1000 4))) (is_shown_later (Some (timestamp 1000 4)) [] 4) }
+    ensures after { IsToldRightly three_writes (finding_later None) (is_shown_later None [] 5) }
+    ensures unchanged { IsToldWrongly three_writes (finding_later (Some (timestamp 1000 3))) (is_shown_later (Some (timestamp 1000 3)) (with_id five ∷ []) 3) }
+    ensures gone_early { IsToldWrongly three_writes (finding_later (Some (timestamp 1000 3))) (is_shown_later (Some (timestamp 1000 3)) [] 3) }
+    ensures still_there { IsToldWrongly three_writes (finding_later (Some (timestamp 1000 4)))
+        (is_shown_later (Some (timestamp 1000 4)) (changed_five ∷ []) 4) }
+    ensures back_again { IsToldWrongly three_writes (finding_later None) (is_shown_later None (changed_five ∷ []) 5) }
 {}
 
 /// Replies that are wrong: another request's, under another number, on another link, before the request came, to a request that was not
 /// taken.
 pub fn wrong_replies()
-    ensures another { IsRight both_entries first (record first_told { document = duplicate_reply }) → ⊥ }
-    ensures number { IsRightOf both_entries all_asked (record first_told { number = pos 2 }) → ⊥ }
-    ensures link { IsRightOf both_entries all_asked (record first_told { link = 1 }) → ⊥ }
-    ensures early { IsRightOf both_entries all_asked (record first_told { step = 1 }) → ⊥ }
-    ensures not_taken { IsRightOf both_entries [] first_told → ⊥ }
+    ensures another { IsToldWrongly both_entries first (record first_told { document = duplicate_reply }) }
+    ensures number { (next : List Cursor) → IsRightOf moments (creation ∷ []) both_entries all_asked [] [] (record first_told { number = pos 2 }) next → ⊥ }
+    ensures link { (next : List Cursor) → IsRightOf moments (creation ∷ []) both_entries all_asked [] [] (record first_told { link = 1 }) next → ⊥ }
+    ensures early { (next : List Cursor) → IsRightOf moments (creation ∷ []) both_entries all_asked [] [] (record first_told { step = 1 }) next → ⊥ }
+    ensures not_taken { (next : List Cursor) → IsRightOf moments (creation ∷ []) both_entries [] [] [] first_told next → ⊥ }
 {}
 
 /// What is stale: a request that comes to a router, in the life in which it had told of a time, with a lower one, or with a lower one
@@ -163,7 +205,7 @@ pub fn stale()
     ensures taken { IsInOrder (third ∷ []) (record first { came = 8 }) → ⊥ }
     ensures elsewhere { IsFresh (first_told ∷ []) second }
     ensures another_life { IsFresh (first_told ∷ []) (record second { id = record { router = 2; life = 2; count = 1 } }) }
-    ensures not_later { WasSent all_asked (entry_at 0 3 1 0 long_five done) → ⊥ }
+    ensures not_later { WasSent both_entries all_asked [] (entry_at 0 3 1 0 long_five done) → ⊥ }
 {}
 
 /// What a router knew: its last moment, and a time that was met. A time that nobody met, a moment that was given to another node or
@@ -179,7 +221,7 @@ pub fn known()
 
 /// How entries, collections and requests stand to each other.
 pub fn related()
-    ensures own { IsEntryOf first first_entry × (IsEntryOf second first_entry → ⊥) }
+    ensures own { Sends first first_entry × (Sends second first_entry → ⊥) }
     ensures placed { IsPlaced (creation ∷ []) second_entry × (IsPlaced [] second_entry → ⊥) }
     ensures misplaced { IsPlaced (creation ∷ []) (record second_entry { shard = 2 }) → ⊥ }
     ensures before_collection { IsPlaced (record creation { at = timestamp 1000 3 } ∷ []) second_entry → ⊥ }

@@ -2,9 +2,10 @@
 use Rattle.std.proofs.Common.{◌≡◌, refl, sym, subst, ℕ, List, Bool, Global, map}
 use Rattle.std.specs.Prelude.{Option, Some, None}
 use Rattle.std.specs.declared.vec.Vec.{Vec}
+use Rattle.node_model.specs.Cursors.{Cursor}
 use Rattle.node_model.specs.Letters.{Statement}
 use Rattle.node_model.specs.Outcomes.{Done}
-use Rattle.node_model.specs.RouterRows.{with_work}
+use Rattle.node_model.specs.RouterRows.{reached, with_work}
 use Rattle.node_model.specs.States.{Open, Router, Work, writing, reading, open_with, replaced}
 use Rattle.node_model.specs.Tables.{Table}
 use Rattle.node_model.specs.Writes.{WriteKind}
@@ -13,25 +14,19 @@ use Rattle.open_requests.specs.declared.work.Wait.{Wait}
 use Rattle.protocol_model.specs.Statements.{done_meant}
 use Rattle.protocol_model.specs.declared.statement.Done.{Done as StatementDone}
 use Rattle.router_node.specs.StepPlans.{opens_then}
-use Rattle.router_node.specs.declared.step_plan.Change.TheVariants.{Waits, Notes}
+use Rattle.router_node.specs.declared.step_plan.Change.TheVariants.{Reaches, Notes}
 
--- by its count, tables and open requests
-pub becomes : (me time life : ℕ) (begun : Bool) (moment a b : ℕ) (s t : List Table) (p q : List Open) → a ≡ b → s ≡ t → p ≡ q
-    → ◌≡◌ {A = Router} (record { me = me; time = time; life = life; begun = begun; moment = moment; count = a; tables = s; requests = p })
-    (record { me = me; time = time; life = life; begun = begun; moment = moment; count = b; tables = t; requests = q })
-becomes me time life begun moment a b s t p q count tables requests =
-    subst (λ (n : ℕ). ◌≡◌ {A = Router} (record { me = me; time = time; life = life; begun = begun; moment = moment; count = a; tables = s; requests = p })
-    (record { me = me; time = time; life = life; begun = begun; moment = moment; count = n; tables = t; requests = q })) count
-    (subst (λ (ts : List Table). ◌≡◌ {A = Router} (record { me = me; time = time; life = life; begun = begun; moment = moment; count = a; tables = s; requests = p })
-    (record { me = me; time = time; life = life; begun = begun; moment = moment; count = a; tables = ts; requests = q })) tables
-    (subst (λ (qs : List Open). ◌≡◌ {A = Router} (record { me = me; time = time; life = life; begun = begun; moment = moment; count = a; tables = s; requests = p })
-    (record { me = me; time = time; life = life; begun = begun; moment = moment; count = a; tables = s; requests = qs })) requests refl))
+-- by its parts
+pub becomes : (me time life : ℕ) (begun : Bool) (moment a b : ℕ) (s t : List Table) (p q : List Open) (x y : List Cursor) (j k g h : ℕ) → a ≡ b → s ≡ t → p ≡ q → x ≡ y → j ≡ k → g ≡ h
+    → ◌≡◌ {A = Router} (record { me = me; time = time; life = life; begun = begun; moment = moment; count = a; tables = s; requests = p; cursors = x; blocks = j; gave = g })
+    (record { me = me; time = time; life = life; begun = begun; moment = moment; count = b; tables = t; requests = q; cursors = y; blocks = k; gave = h })
+becomes me time life begun moment a b s t p q x y j k g h count tables requests cursors blocks gave = rw (count, tables, requests, cursors, blocks, gave) refl
 
 module _ (r : Router) (time count : ℕ) (q : Open) (found : open_with count r.requests ≡ Some q) where
-  pub opens_waits : (wait : Wait) → replaced (with_work q (wait_meant wait) q.work) r.requests ≡ opens_then r time (Waits count wait)
-  opens_waits wait =
-      subst (λ (o : Option Open). replaced (with_work q (wait_meant wait) q.work) r.requests
-      ≡ elim o as (λ _. List Open) [ None ↦ r.requests | Some x ↦ replaced (with_work x (wait_meant wait) x.work) r.requests ]) (sym found) refl
+  pub opens_reaches : (wait : Wait) → replaced (with_work q (wait_meant wait) (reached time q.work)) r.requests ≡ opens_then r time (Reaches count wait)
+  opens_reaches wait =
+      subst (λ (o : Option Open). replaced (with_work q (wait_meant wait) (reached time q.work)) r.requests
+      ≡ elim o as (λ _. List Open) [ None ↦ r.requests | Some x ↦ replaced (with_work x (wait_meant wait) (reached time x.work)) r.requests ]) (sym found) refl
 
   pub opens_notes : (wait : Wait) (answers : Vec StatementDone Global) (kind : WriteKind) (ordered : Bool) (statements : List Statement) (before : List Done) → q.work ≡ writing kind ordered statements before
       → replaced (with_work q (wait_meant wait) (writing kind ordered statements (map done_meant answers.items))) r.requests ≡ opens_then r time (Notes count wait answers)
@@ -41,11 +36,11 @@ module _ (r : Router) (time count : ℕ) (q : Open) (found : open_with count r.r
         | None ↦ r.requests
         | Some x ↦ elim x.work as (λ _. List Open) [
           | writing k a s b ↦ replaced (with_work x (wait_meant wait) (writing k a s (map done_meant answers.items))) r.requests
-          | reading at half ↦ r.requests
+          | reading named at stages telling ↦ r.requests
         ]
       ]) (sym found)
       (subst (λ (w : Work). replaced (with_work q (wait_meant wait) (writing kind ordered statements (map done_meant answers.items))) r.requests
       ≡ elim w as (λ _. List Open) [
         | writing k a s b ↦ replaced (with_work q (wait_meant wait) (writing k a s (map done_meant answers.items))) r.requests
-        | reading at half ↦ r.requests
+        | reading named at stages telling ↦ r.requests
       ]) (sym work) refl)

@@ -1,22 +1,23 @@
 -- The rows of letters that tell something to an open request.
 use Rattle.std.proofs.Common.{◌≡◌, ◌≢◌, refl, sym, subst, ℕ, ◌<◌, ◌≤◌, List, [], ◌∷◌, Bool, true, false}
-use Rattle.std.specs.Prelude.{Some, None}
-use Rattle.node_model.specs.Answers.{find_answer, refusal_answer}
+use Rattle.std.specs.Prelude.{Some, None, Result}
+use Rattle.node_model.specs.Answers.{refusal_answer}
 use Rattle.node_model.specs.Exchanges.{RequestId}
 use Rattle.node_model.specs.Letters as letters
-use Rattle.node_model.specs.Letters.{Letter, Half, letter_input, write_done, read_rows, time_told, sends}
+use Rattle.node_model.specs.Letters.{Letter, HalfFault, letter_input, write_done, read_rows, time_told, sends}
 use Rattle.node_model.specs.Outcomes.{Done, answer_of}
 use Rattle.node_model.specs.Refusals.{time_ahead}
-use Rattle.node_model.specs.RouterRows.{router_read, router_reach, router_ahead, router_note, router_wrote, heard, knows, open_of, reply_to, noted, is_answered, asks_for, going_on, answers_now, IsLate, IsNoRead, IsNotAwaited, AreNoNews}
-use Rattle.node_model.specs.States.{Open, Router, for_time, reading, writing, without, replaced}
-use Rattle.node_model.specs.Tree.{Fields}
+use Rattle.node_model.specs.RouterRows.{router_reach, router_ahead, router_note, router_wrote, heard, knows, open_of, reply_to, noted, is_answered, reached, asks_for, going_on, answers_now, IsLate, IsNoRead, IsNotAwaited, AreNoNews}
+use Rattle.node_model.specs.States.{Telling, Open, Router, for_time, reading, writing, without, replaced}
+use Rattle.node_model.specs.Halves.{Rows}
+use Rattle.node_model.specs.Stages.{Stage}
 use Rattle.node_model.specs.Writes.{WriteKind}
 use Rattle.node_traits.specs.Effects.{puts_of}
 use Rattle.node_traits.specs.declared.outputs.ToLink.{ToLink}
 use Rattle.router_node.specs.Rows.{TookRow}
 
 -- no request is open under it
-pub rows_of_none : (r : Router) (m : Letter) (id : RequestId) (turn : ℕ) (rows : List Fields) → m.body ≡ read_rows id turn rows → open_of r id ≡ None → IsLate r m.body
+pub rows_of_none : (r : Router) (m : Letter) (id : RequestId) (turn : ℕ) (rows : Result Rows HalfFault) → m.body ≡ read_rows id turn rows → open_of r id ≡ None → IsLate r m.body
 rows_of_none r m id turn rows is none = subst (λ b. IsLate r b) (sym is) (subst (λ o. IsNoRead o turn) (sym none) tt)
 
 pub time_of_none : (r : Router) (m : Letter) (id : RequestId) → m.body ≡ time_told id → open_of r id ≡ None → IsLate r m.body
@@ -26,56 +27,45 @@ pub dones_of_none : (r : Router) (m : Letter) (id : RequestId) (dones : List Don
 dones_of_none r m id dones is none = subst (λ b. IsLate r b) (sym is) (subst (λ o. AreNoNews o dones) (sym none) tt)
 
 module _ (r : Router) (m : Letter) (id : RequestId) (q : Open) (opened : open_of r id ≡ Some q) where
-  pub rows_of_write : (turn : ℕ) (rows : List Fields) (kind : WriteKind) (ordered : Bool) (statements : List letters.Statement) (answers : List Done) → m.body ≡ read_rows id turn rows
+  pub rows_of_write : (turn : ℕ) (rows : Result Rows HalfFault) (kind : WriteKind) (ordered : Bool) (statements : List letters.Statement) (answers : List Done) → m.body ≡ read_rows id turn rows
       → q.work ≡ writing kind ordered statements answers → IsLate r m.body
   rows_of_write turn rows kind ordered statements answers is work =
-      subst (λ b. IsLate r b) (sym is) (subst (λ o. IsNoRead o turn) (sym opened) (subst (λ w. elim w as (λ _. Type 0) [ writing k o s a ↦ Unit {0} | reading at half ↦ turn ≢ 1 ]) (sym work) tt))
+      subst (λ b. IsLate r b) (sym is) (subst (λ o. IsNoRead o turn) (sym opened) (subst (λ w. elim w as (λ _. Type 0) [ writing k o s a ↦ Unit {0} | reading named at stages telling ↦ turn ≢ 1 ]) (sym work) tt))
 
-  pub rows_of_turn : (turn : ℕ) (rows : List Fields) (at : ℕ) (half : Half) → m.body ≡ read_rows id turn rows → q.work ≡ reading at half → turn ≢ 1 → IsLate r m.body
-  rows_of_turn turn rows at half is work other =
-      subst (λ b. IsLate r b) (sym is) (subst (λ o. IsNoRead o turn) (sym opened) (subst (λ w. elim w as (λ _. Type 0) [ writing k o s a ↦ Unit {0} | reading at half ↦ turn ≢ 1 ]) (sym work) other))
+  pub rows_of_turn : (turn : ℕ) (rows : Result Rows HalfFault) (named : Bool) (at : ℕ) (stages : List Stage) (telling : Telling) → m.body ≡ read_rows id turn rows → q.work ≡ reading named at stages telling → turn ≢ 1 → IsLate r m.body
+  rows_of_turn turn rows named at stages telling is work other =
+      subst (λ b. IsLate r b) (sym is) (subst (λ o. IsNoRead o turn) (sym opened) (subst (λ w. elim w as (λ _. Type 0) [ writing k o s a ↦ Unit {0} | reading named at stages telling ↦ turn ≢ 1 ]) (sym work) other))
 
-  pub rows_told : (rows : List Fields) (at : ℕ) (half : Half) (replies : List ToLink) → m.body ≡ read_rows id 1 rows → q.work ≡ reading at half
-      → replies ≡ puts_of (reply_to r (heard r m) q (find_answer q.namespace rows at) ∷ [])
-      → TookRow r (letter_input m) [] replies (knows r (heard r m) r.tables (without q.count r.requests))
-  rows_told rows at half replies is work told = record {
-    effect = answers_now (reply_to r (heard r m) q (find_answer q.namespace rows at));
-    row = router_read r m id rows q at half is opened work;
-    written = refl;
-    sent = refl;
-    told = told;
-  }
-
-  pub dones_of_read : (dones : List Done) (at : ℕ) (half : Half) → m.body ≡ write_done id dones → q.work ≡ reading at half → IsLate r m.body
-  dones_of_read dones at half is work =
-      subst (λ b. IsLate r b) (sym is) (subst (λ o. AreNoNews o dones) (sym opened) (subst (λ w. elim w as (λ _. Type 0) [ writing k o s a ↦ noted a dones ≡ a | reading at half ↦ Unit {0} ]) (sym work) tt))
+  pub dones_of_read : (dones : List Done) (named : Bool) (at : ℕ) (stages : List Stage) (telling : Telling) → m.body ≡ write_done id dones → q.work ≡ reading named at stages telling → IsLate r m.body
+  dones_of_read dones named at stages telling is work =
+      subst (λ b. IsLate r b) (sym is) (subst (λ o. AreNoNews o dones) (sym opened) (subst (λ w. elim w as (λ _. Type 0) [ writing k o s a ↦ noted a dones ≡ a | reading named at stages telling ↦ Unit {0} ]) (sym work) tt))
 
   pub time_of_write : (kind : WriteKind) (ordered : Bool) (statements : List letters.Statement) (answers : List Done) → m.body ≡ time_told id → q.work ≡ writing kind ordered statements answers → IsLate r m.body
   time_of_write kind ordered statements answers is work =
-      subst (λ b. IsLate r b) (sym is) (subst (λ o. IsNotAwaited o) (sym opened) (subst (λ w. elim w as (λ _. Type 0) [ writing k o s a ↦ Unit {0} | reading at half ↦ q.wait ≢ for_time ]) (sym work) tt))
+      subst (λ b. IsLate r b) (sym is) (subst (λ o. IsNotAwaited o) (sym opened) (subst (λ w. elim w as (λ _. Type 0) [ writing k o s a ↦ Unit {0} | reading named at stages telling ↦ q.wait ≢ for_time ]) (sym work) tt))
 
-  pub time_not_awaited : (at : ℕ) (half : Half) → m.body ≡ time_told id → q.work ≡ reading at half → q.wait ≢ for_time → IsLate r m.body
-  time_not_awaited at half is work other =
-      subst (λ b. IsLate r b) (sym is) (subst (λ o. IsNotAwaited o) (sym opened) (subst (λ w. elim w as (λ _. Type 0) [ writing k o s a ↦ Unit {0} | reading at half ↦ q.wait ≢ for_time ]) (sym work) other))
+  pub time_not_awaited : (named : Bool) (at : ℕ) (stages : List Stage) (telling : Telling) → m.body ≡ time_told id → q.work ≡ reading named at stages telling → q.wait ≢ for_time → IsLate r m.body
+  time_not_awaited named at stages telling is work other =
+      subst (λ b. IsLate r b) (sym is) (subst (λ o. IsNotAwaited o) (sym opened) (subst (λ w. elim w as (λ _. Type 0) [ writing k o s a ↦ Unit {0} | reading named at stages telling ↦ q.wait ≢ for_time ]) (sym work) other))
 
-  pub time_ahead_told : (at : ℕ) (half : Half) (replies : List ToLink) → m.body ≡ time_told id → q.work ≡ reading at half → q.wait ≡ for_time → heard r m < at
+  pub time_ahead_told : (named : Bool) (at : ℕ) (stages : List Stage) (telling : Telling) (replies : List ToLink) → m.body ≡ time_told id → q.work ≡ reading named at stages telling → q.wait ≡ for_time → heard r m < at
       → replies ≡ puts_of (reply_to r (heard r m) q (refusal_answer (time_ahead (heard r m))) ∷ [])
       → TookRow r (letter_input m) [] replies (knows r (heard r m) r.tables (without q.count r.requests))
-  time_ahead_told at half replies is work waits ahead told = record {
+  time_ahead_told named at stages telling replies is work waits ahead told = record {
     effect = answers_now (reply_to r (heard r m) q (refusal_answer (time_ahead (heard r m))));
-    row = router_ahead r m id q at half is opened work waits ahead;
+    row = router_ahead r m id q named at stages telling is opened work waits ahead;
     written = refl;
     sent = refl;
     told = told;
   }
 
-  pub time_reached : (at : ℕ) (half : Half) (mail : List Letter) (next : Open) → m.body ≡ time_told id → q.work ≡ reading at half → q.wait ≡ for_time → at ≤ heard r m
-      → mail ≡ asks_for r (heard r m) q.count q.namespace q.work → next ≡ going_on r (heard r m) q q.work
+  pub time_reached : (named : Bool) (at : ℕ) (stages : List Stage) (telling : Telling) (mail : List Letter) (next : Open) → m.body ≡ time_told id → q.work ≡ reading named at stages telling → q.wait ≡ for_time → at ≤ heard r m
+      → mail ≡ asks_for r (heard r m) q.count q.namespace (reached (heard r m) q.work) → next ≡ going_on r (heard r m) q (reached (heard r m) q.work)
       → TookRow r (letter_input m) mail [] (knows r (heard r m) r.tables (replaced next r.requests))
-  time_reached at half mail next is work waits reached asked goes =
+  time_reached named at stages telling mail next is work waits come asked goes =
       subst (λ n. TookRow r (letter_input m) mail [] (knows r (heard r m) r.tables (replaced n r.requests))) (sym goes) (record {
-        effect = sends (asks_for r (heard r m) q.count q.namespace q.work);
-        row = router_reach r m id q at half is opened work waits reached;
+        effect = sends (asks_for r (heard r m) q.count q.namespace (reached (heard r m) q.work));
+        row = router_reach r m id q named at stages telling is opened work waits come;
         written = refl;
         sent = sym asked;
         told = refl;
@@ -84,13 +74,13 @@ module _ (r : Router) (m : Letter) (id : RequestId) (q : Open) (opened : open_of
   module _ (dones : List Done) (kind : WriteKind) (ordered : Bool) (statements : List letters.Statement) (answers : List Done) (is : m.body ≡ write_done id dones) (work : q.work ≡ writing kind ordered statements answers) where
     pub dones_no_news : noted answers dones ≡ answers → IsLate r m.body
     dones_no_news same =
-        subst (λ b. IsLate r b) (sym is) (subst (λ o. AreNoNews o dones) (sym opened) (subst (λ w. elim w as (λ _. Type 0) [ writing k o s a ↦ noted a dones ≡ a | reading at half ↦ Unit {0} ]) (sym work) same))
+        subst (λ b. IsLate r b) (sym is) (subst (λ o. AreNoNews o dones) (sym opened) (subst (λ w. elim w as (λ _. Type 0) [ writing k o s a ↦ noted a dones ≡ a | reading named at stages telling ↦ Unit {0} ]) (sym work) same))
 
     pub dones_wrote : (replies : List ToLink) → noted answers dones ≢ answers → is_answered ordered statements (noted answers dones) ≡ true
-        → replies ≡ puts_of (reply_to r (heard r m) q (answer_of kind (noted answers dones)) ∷ [])
+        → replies ≡ puts_of (reply_to r (heard r m) q (answer_of kind (heard r m) (noted answers dones)) ∷ [])
         → TookRow r (letter_input m) [] replies (knows r (heard r m) r.tables (without q.count r.requests))
     dones_wrote replies news all told = record {
-      effect = answers_now (reply_to r (heard r m) q (answer_of kind (noted answers dones)));
+      effect = answers_now (reply_to r (heard r m) q (answer_of kind (heard r m) (noted answers dones)));
       row = router_wrote r m id dones q kind ordered statements answers is opened work news all;
       written = refl;
       sent = refl;

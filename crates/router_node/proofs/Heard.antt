@@ -3,11 +3,12 @@ use Rattle.std.proofs.Common.{Global, ◌≡◌, refl, ap, sym, subst, ◌∙◌
 use Rattle.std.specs.Prelude.{Option, Some, None}
 use Rattle.node_model.specs.Exchanges.{RequestId, same_request}
 use Rattle.node_model.specs.Letters as letters
-use Rattle.node_model.specs.Letters.{Letter, Input, letter_input, nothing}
+use Rattle.node_model.specs.Letters.{Letter, Input, letter_input, nothing, Effect}
 use Rattle.node_model.specs.Outcomes.{Done}
-use Rattle.node_model.specs.RouterRows.{heard, knows, open_of, id_of, with_work, router_late, IsLate}
+use Rattle.node_model.specs.RouterRows.{heard, knows, open_of, id_of, reached, with_work, router_late, IsLate, RouterRow}
 use Rattle.node_model.specs.States.{Open, Router, Work, writing, reading, open_with, replaced}
 use Rattle.node_model.specs.Writes.{WriteKind}
+use Rattle.node_traits.specs.Effects.{AreSound, puts_of, spellings}
 use Rattle.node_traits.specs.declared.outputs.ToLink.{ToLink}
 use Rattle.open_requests.specs.Works.{wait_meant}
 use Rattle.open_requests.specs.declared.work.Wait.{Wait}
@@ -16,9 +17,9 @@ use Rattle.protocol_model.specs.Statements.{done_meant}
 use Rattle.protocol_model.specs.declared.statement.Done.{Done as Done_told}
 use Rattle.std.specs.declared.vec.Vec.{Vec}
 use Rattle.router_node.specs.Rows.{TookRow}
-use Rattle.router_node.specs.StepPlans.{Follows, FollowsBy, Hears, IsHeard, changed}
+use Rattle.router_node.specs.StepPlans.{Follows, FollowsBy, Hears, HearsKeeping, IsHeard, changed}
 use Rattle.router_node.specs.declared.step_plan.Change.{Change}
-use Rattle.router_node.specs.declared.step_plan.Change.TheVariants.{Stays, Waits, Notes}
+use Rattle.router_node.specs.declared.step_plan.Change.TheVariants.{Stays, Reaches, Notes}
 use Rattle.router_node.specs.declared.step_plan.StepPlan.{StepPlan}
 
 -- the change that was planned may follow
@@ -30,10 +31,25 @@ module _ (r : Router) (m : Letter) (p : StepPlan) (time : ℕ) (late : time ≡ 
   pub heard_by : (change : Change) (mail : List Letter) (replies : List ToLink) → Hears r time change mail replies p → FollowsBy r r.begun change
       → TookRow r (letter_input m) mail replies (changed r (heard r m) r.begun r.moment change) → IsHeard r m p
   heard_by change mail replies h follows took = record {
-    row = subst (λ (q : Router). TookRow r (letter_input m) (map letter_of p.mail) p.replies q) (sym (h.new ∙ ap (λ (t : ℕ). changed r t r.begun r.moment change) late))
-        (subst (λ (ls : List Letter). TookRow r (letter_input m) ls p.replies (changed r (heard r m) r.begun r.moment change)) (sym h.sent)
-        (subst (λ (rs : List ToLink). TookRow r (letter_input m) mail rs (changed r (heard r m) r.begun r.moment change)) (sym h.told) took));
-    unkept = h.unkept;
+    effect = took.effect;
+    row = subst (λ (q : Router). RouterRow r (letter_input m) took.effect q) (sym (h.new ∙ ap (λ (t : ℕ). changed r t r.begun r.moment change) late)) took.row;
+    sent = took.sent ∙ sym h.sent;
+    told = h.told ∙ took.told;
+    sound = subst (λ w. AreSound w) (sym took.written) tt;
+    spelled = h.unkept ∙ ap spellings (sym took.written);
+    follows = follows_so r p r.begun change h.begun h.is follows;
+  }
+
+  -- one that keeps something
+  pub heard_keeping : (change : Change) (replies : List ToLink) (effect : Effect) → HearsKeeping r time change replies effect.written p → FollowsBy r r.begun change
+      → RouterRow r (letter_input m) effect (changed r (heard r m) r.begun r.moment change) → effect.mail ≡ [] → replies ≡ puts_of effect.replies → AreSound effect.written → IsHeard r m p
+  heard_keeping change replies effect h follows row none told sound = record {
+    effect = effect;
+    row = subst (λ (q : Router). RouterRow r (letter_input m) effect q) (sym (h.new ∙ ap (λ (t : ℕ). changed r t r.begun r.moment change) late)) row;
+    sent = none ∙ sym h.sent;
+    told = h.told ∙ told;
+    sound = sound;
+    spelled = h.spelled;
     follows = follows_so r p r.begun change h.begun h.is follows;
   }
 
@@ -49,10 +65,10 @@ module _ (r : Router) (id : RequestId) (q : Open) (opened : open_of r id ≡ Som
   found = some_open (same_request id (id_of r id.count)) (open_with id.count r.requests) q opened
 
   -- it waits for this
-  pub waits_so : (i : Input) (ls : List Letter) (rs : List ToLink) (time : ℕ) (wait : Wait)
-      → TookRow r i ls rs (knows r time r.tables (replaced (with_work q (wait_meant wait) q.work) r.requests))
-      → TookRow r i ls rs (changed r time r.begun r.moment (Waits id.count wait))
-  waits_so i ls rs time wait took =
+  pub reaches_so : (i : Input) (ls : List Letter) (rs : List ToLink) (time : ℕ) (wait : Wait)
+      → TookRow r i ls rs (knows r time r.tables (replaced (with_work q (wait_meant wait) (reached time q.work)) r.requests))
+      → TookRow r i ls rs (changed r time r.begun r.moment (Reaches id.count wait))
+  reaches_so i ls rs time wait took =
       subst (λ (o : Option Open). TookRow r i ls rs (record {
         me = r.me;
         time = time;
@@ -61,7 +77,10 @@ module _ (r : Router) (id : RequestId) (q : Open) (opened : open_of r id ≡ Som
         moment = r.moment;
         count = r.count;
         tables = r.tables;
-        requests = elim o as (λ _. List Open) [ None ↦ r.requests | Some x ↦ replaced (with_work x (wait_meant wait) x.work) r.requests ];
+        requests = elim o as (λ _. List Open) [ None ↦ r.requests | Some x ↦ replaced (with_work x (wait_meant wait) (reached time x.work)) r.requests ];
+        cursors = r.cursors;
+        blocks = r.blocks;
+        gave = r.gave;
       })) (sym found) took
 
   -- it has these answers now, and waits for this
@@ -82,9 +101,12 @@ module _ (r : Router) (id : RequestId) (q : Open) (opened : open_of r id ≡ Som
           | None ↦ r.requests
           | Some x ↦ elim x.work as (λ _. List Open) [
             | writing k a s b ↦ replaced (with_work x (wait_meant wait) (writing k a s (map done_meant answers.items))) r.requests
-            | reading at half ↦ r.requests
+            | reading named at stages telling ↦ r.requests
           ]
         ];
+        cursors = r.cursors;
+        blocks = r.blocks;
+        gave = r.gave;
       })) (sym found) (subst (λ (w : Work). TookRow r i ls rs (record {
         me = r.me;
         time = time;
@@ -95,6 +117,9 @@ module _ (r : Router) (id : RequestId) (q : Open) (opened : open_of r id ≡ Som
         tables = r.tables;
         requests = elim w as (λ _. List Open) [
           | writing k a s b ↦ replaced (with_work q (wait_meant wait) (writing k a s (map done_meant answers.items))) r.requests
-          | reading at half ↦ r.requests
+          | reading named at stages telling ↦ r.requests
         ];
+        cursors = r.cursors;
+        blocks = r.blocks;
+        gave = r.gave;
       })) (sym work) took)

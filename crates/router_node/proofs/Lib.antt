@@ -7,3 +7,7 @@ mod Puts
 mod Rest
 mod Started
 mod TakenBodies
+mod Shown
+mod Reached
+mod Counts
+mod Told

@@ -1,5 +1,7 @@
 -- The bytes of replies, one after the other.
-use Rattle.std.proofs.Common.{◌≡◌, refl, ap, subst, ℕ, ℤ, w32, List, [], ◌∷◌, ◌++◌, Bool, true, false, if◌then◌else◌}
+use Rattle.std.proofs.Common.{◌≡◌, refl, ap, sym, subst, ◌∙◌, ℕ, suc, ℤ, ◌+◌, ◌<◌, w32, List, [], ◌∷◌, ◌++◌, map, drop, length, get_or, Bool, true, false, if◌then◌else◌, add-one, drop-cons}
+use Rattle.std.proofs.lemmas.List.{append_assoc}
+use Rattle.std.specs.List.{flat_map}
 use Rattle.node_model.specs.Letters.{Reply}
 use Rattle.node_model.specs.Exchanges.{RequestId}
 use Rattle.node_model.specs.Requests.{Request}
@@ -28,3 +30,16 @@ told_as replies id time link number request document fits told =
 
 pub some_same : {X : Type 0} (a b : X) → Some a ≡ Some b → a ≡ b
 some_same a b e = cc
+
+-- one more request is told, of those behind others
+pub next_told : {X Y : Type 0} (told : Y → List Reply) (meant : X → Y) (requests : List X) (i : ℕ) (q : X) (old new whole : List ToLink) → i < length requests → q ≡ get_or requests i q
+    → new ≡ old ++ puts_of (told (meant q)) → old ++ puts_of (flat_map told (map meant (drop i requests))) ≡ whole
+    → new ++ puts_of (flat_map told (map meant (drop (i + 1) requests))) ≡ whole
+next_told {X} {Y} told meant requests i q old new whole inside here grown so_far =
+    let cut : drop i requests ≡ q ∷ drop (i + 1) requests = rw add-one (drop-cons requests i q inside ∙ ap (λ (first : X). first ∷ drop (suc i) requests) (sym here)) in
+    let rest : List Reply = flat_map told (map meant (drop (i + 1) requests)) in
+    ap (λ (l : List ToLink). l ++ puts_of rest) grown
+    ∙ append_assoc old (puts_of (told (meant q))) (puts_of rest)
+    ∙ ap (λ (l : List ToLink). old ++ l) (sym (puts_append (told (meant q)) rest))
+    ∙ ap (λ (l : List X). old ++ puts_of (flat_map told (map meant l))) (sym cut)
+    ∙ so_far

@@ -21,7 +21,7 @@ use Rattle.router_node.specs.Rows.{TookRow, started, life_kept}
 use Rattle.router_node.proofs.Heard.{follows_so}
 use Rattle.router_node.specs.StepPlans.{FollowsBy, Hears, IsHeard, IsPlanned, Starts, changed, count_then, router_then}
 use Rattle.router_node.specs.declared.step_plan.Change.{Change}
-use Rattle.router_node.specs.declared.step_plan.Change.TheVariants.{Stays, Counts, Opens, Closes, Waits, Notes, Learns}
+use Rattle.router_node.specs.declared.step_plan.Change.TheVariants.{Stays, Counts, Opens, Closes, Reaches, Notes, Learns, Shelves, Advances, Ends}
 use Rattle.router_node.specs.declared.step_plan.StepPlan.{StepPlan}
 
 -- the effect with what is kept of a life that begins
@@ -30,11 +30,11 @@ with_life r f = record { written = life_kept r ++ f.written; mail = f.mail; take
 
 -- a router in its life
 in_life : (r : Router) → r.begun ≡ true → started r ≡ r
-in_life r is = ap (λ (b : Bool). record { me = r.me; time = r.time; life = r.life; begun = b; moment = r.moment; count = r.count; tables = r.tables; requests = r.requests }) (sym is)
+in_life r is = ap (λ (b : Bool). record { me = r.me; time = r.time; life = r.life; begun = b; moment = r.moment; count = r.count; tables = r.tables; requests = r.requests; cursors = r.cursors; blocks = r.blocks; gave = r.gave }) (sym is)
 
 -- one whose life begins
 not_yet : (r : Router) → r.count ≡ 0 → started r ≡ begins r
-not_yet r is = ap (λ (n : ℕ). record { me = r.me; time = r.time; life = r.life; begun = true; moment = r.moment; count = n; tables = r.tables; requests = r.requests }) is
+not_yet r is = ap (λ (n : ℕ). record { me = r.me; time = r.time; life = r.life; begun = true; moment = r.moment; count = n; tables = r.tables; requests = r.requests; cursors = r.cursors; blocks = r.blocks; gave = r.gave }) is
 
 started_step : (r q : Router) (i : Input) (f : Effect) → (r.begun ≡ false → r.count ≡ 0) → IsFor r.me i → BeginsBefore i → RouterRow (started r) i f q
     → Step (router_state r) i (with_life r f) (router_state q)
@@ -86,12 +86,12 @@ module _ (r : Router) (p : StepPlan) where
   pub heard_step : (m : Letter) → m.receiver ≡ r.me → IsHeard r m p → IsPlanned r (letter_input m) p
   heard_step m here h = record {
     step = record {
-      effect = h.row.effect;
-      step = router_step r (router_then r p) (letter_input m) h.row.effect here h.row.row;
-      sent = h.row.sent;
-      told = h.row.told;
-      sound = subst (λ w. AreSound w) (sym h.row.written) tt;
-      spelled = h.unkept ∙ ap spellings (sym h.row.written);
+      effect = h.effect;
+      step = router_step r (router_then r p) (letter_input m) h.effect here h.row;
+      sent = h.sent;
+      told = h.told;
+      sound = h.sound;
+      spelled = h.spelled;
     };
     follows = h.follows;
   }
@@ -113,14 +113,12 @@ module _ (r : Router) (p : StepPlan) where
   -- one of another kind
   pub skipped : (m : Letter) → TellsNothing m.body → Hears r r.time Stays [] [] p → IsHeard r m p
   skipped m none h = record {
-    row = record {
-      effect = nothing;
-      row = subst (λ (q : Router). RouterRow r (letter_input m) nothing q) (sym h.new) (router_skip r m none);
-      written = refl;
-      sent = sym h.sent;
-      told = h.told;
-    };
-    unkept = h.unkept;
+    effect = nothing;
+    row = subst (λ (q : Router). RouterRow r (letter_input m) nothing q) (sym h.new) (router_skip r m none);
+    sent = sym h.sent;
+    told = h.told;
+    sound = tt;
+    spelled = h.unkept;
     follows = follows_so r p r.begun Stays h.begun h.is (λ e. e);
   }
 
@@ -134,13 +132,13 @@ module _ (r : Router) (link : ℕ) (number : ℤ) (request : Request) (answer : 
   }
 
   -- answered at once
-  pub took_plain : (replies : List ToLink) → plan_of (started r) (id_of r (r.count + 1)) (command_of request) ≡ at_once answer
+  pub took_plain : (replies : List ToLink) → plan_of (started r) (id_of r (r.count + 1)) request.more (command_of request) ≡ at_once answer
       → replies ≡ puts_of (record { id = id_of r (r.count + 1); link = link; number = number; request = request; time = r.time; document = answer_document answer } ∷ [])
       → TookRow (started r) (client_input link number request) [] replies (changed r r.time true r.moment Counts)
   took_plain replies plan told = record {
     effect = answered;
     row = subst (λ (l : List Open). RouterRow (started r) (client_input link number request) answered
-        (record { me = r.me; time = r.time; life = r.life; begun = true; moment = r.moment; count = r.count + 1; tables = r.tables; requests = l }))
+        (record { me = r.me; time = r.time; life = r.life; begun = true; moment = r.moment; count = r.count + 1; tables = r.tables; requests = l; cursors = r.cursors; blocks = r.blocks; gave = r.gave }))
         (append-nil r.requests) (router_plain (started r) link number request answer refl plan);
     written = refl;
     sent = refl;
@@ -168,7 +166,7 @@ module _ (r : Router) (o : OpenRequest) (next : o.count ≡ r.count + 1) where
   effect = record { written = []; mail = asks_for (started r) r.time (r.count + 1) o.namespace work; taken = taken_now (started r) o.link o.number request ∷ []; replies = [] }
 
   -- kept open
-  pub took_open : (letters : List Letter) → plan_of (started r) (id_of r o.count) (command_of (head_request o.head)) ≡ needs o.namespace (work_meant (id_of r o.count) o.work)
+  pub took_open : (letters : List Letter) → plan_of (started r) (id_of r o.count) (head_request o.head).more (command_of (head_request o.head)) ≡ needs o.namespace (work_meant (id_of r o.count) o.work)
       → letters ≡ asks_for r r.time o.count o.namespace (work_meant (id_of r o.count) o.work)
       → wait_meant o.wait ≡ wait_of r r.time o.namespace (work_meant (id_of r o.count) o.work)
       → TookRow (started r) (client_input o.link o.number (head_request o.head)) letters [] (changed r r.time true r.moment (Opens o))
@@ -176,7 +174,7 @@ module _ (r : Router) (o : OpenRequest) (next : o.count ≡ r.count + 1) where
     effect = effect;
     row = subst (λ (x : Open). RouterRow (started r) (client_input o.link o.number request) effect (takes (started r) (x ∷ []))) (sym (opens waits))
         (router_take (started r) o.link o.number request o.namespace work refl
-        (subst (λ (n : ℕ). plan_of (started r) (id_of r n) (command_of request) ≡ needs o.namespace work) next plan));
+        (subst (λ (n : ℕ). plan_of (started r) (id_of r n) request.more (command_of request) ≡ needs o.namespace work) next plan));
     written = refl;
     sent = asked_started r r.time (r.count + 1) o.namespace work ∙ sym (subst (λ (n : ℕ). letters ≡ asks_for r r.time n o.namespace work) next asked);
     told = refl;
@@ -225,6 +223,9 @@ quiet_then r begun Stays quiet follows not_begun = quiet (follows not_begun)
 quiet_then r begun Counts quiet follows not_begun = absurd (cc (sym follows.0 ∙ not_begun))
 quiet_then r begun (Opens q) quiet follows not_begun = absurd (cc (sym follows.0 ∙ not_begun))
 quiet_then r begun (Closes count) quiet follows not_begun = quiet (follows not_begun)
-quiet_then r begun (Waits count wait) quiet follows not_begun = quiet (follows.0 not_begun)
+quiet_then r begun (Reaches count wait) quiet follows not_begun = quiet (follows.0 not_begun)
 quiet_then r begun (Notes count wait answers) quiet follows not_begun = quiet (follows.0 not_begun)
 quiet_then r begun (Learns namespace at table) quiet follows not_begun = quiet (follows not_begun)
+quiet_then r begun (Shelves count opened) quiet follows not_begun = quiet (follows.0 not_begun)
+quiet_then r begun (Advances number shown) quiet follows not_begun = absurd (cc (sym follows.0 ∙ not_begun))
+quiet_then r begun (Ends numbers) quiet follows not_begun = absurd (cc (sym follows.0 ∙ not_begun))

@@ -8,7 +8,8 @@ use Rattle.node_model.specs.States.{Open, Router, writing}
 use Rattle.node_model.specs.Writes.{WriteKind}
 
 -- the letter tells an open write, of these statements, outcomes with which its answers are these, which are more than it had
-pub record IsNews (r : Router) (m : Letter) (id : RequestId) (q : Open) (kind : WriteKind) (ordered : Bool) (statements : List Statement) (answers : List Done) : Type 0 where
+pub record IsNews (r : Router) (m : Letter) (id : RequestId) (q : Open) (kind : WriteKind) (ordered : Bool)
+    (statements : List Statement) (answers : List Done) : Type 0 where
   pub dones : List Done
   pub before : List Done
   pub opened : open_of r id ≡ Some q

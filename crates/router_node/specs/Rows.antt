@@ -17,7 +17,19 @@ pub record TookRow (old : Router) (i : Input) (mail : List Letter) (replies : Li
 
 -- the router in its life; where that did not begin, no request was taken
 abbrev pub started : Router → Router
-started r = record { me = r.me; time = r.time; life = r.life; begun = true; moment = r.moment; count = r.count; tables = r.tables; requests = r.requests }
+started r = record {
+  me = r.me;
+  time = r.time;
+  life = r.life;
+  begun = true;
+  moment = r.moment;
+  count = r.count;
+  tables = r.tables;
+  requests = r.requests;
+  cursors = r.cursors;
+  blocks = r.blocks;
+  gave = r.gave;
+}
 
 -- what is kept of a life that begins
 abbrev pub life_kept : Router → List Kept

@@ -1,26 +1,32 @@
 -- What a router will be after a step, and that the step is one of its rows.
-use Rattle.std.specs.Prelude.{◌≡◌, ◌<◌, ◌≤◌, ◌-◌, ◌^◌, ℕ, ◌+◌, Bool, true, false, List, [], ◌∷◌, ◌++◌, Some, None, IfSome, map}
+use Rattle.std.specs.Prelude.{◌≡◌, ◌<◌, ◌≤◌, ◌-◌, ◌^◌, ℕ, ◌+◌, pos, Bool, true, false, List, [], ◌∷◌, ◌++◌, Some, None, IfSome, map}
 use Rattle.std.specs.Arc.{arc_value}
 use Rattle.std.specs.List.{flat_map}
 use Rattle.std.specs.Option.{option_map}
-use Rattle.node_model.specs.Letters.{Letter, Statement, Input, letter_input}
+use Rattle.node_model.specs.Cursors.{Cursor}
+use Rattle.node_model.specs.Journal.{Kept}
+use Rattle.node_model.specs.Letters.{Letter, Statement, Input, letter_input, Effect}
 use Rattle.node_model.specs.Outcomes.{Done}
-use Rattle.node_model.specs.RouterRows.{adopted, with_work, stay_in, next_of}
+use Rattle.node_model.specs.RouterRows.{RouterRow, adopted, id_of, next_number, reached, with_work, stay_in, next_of}
 use Rattle.node_model.specs.States.{Open, Router, router_state, writing, reading, open_with, without, replaced}
 use Rattle.node_model.specs.Tables.{Table}
 use Rattle.node_model.specs.Writes.{WriteKind}
-use Rattle.node_traits.specs.Effects.{AreSound, StepPlanned, spellings}
+use Rattle.node_traits.specs.Effects.{AreSound, StepPlanned, puts_of, spellings}
 use Rattle.node_traits.specs.declared.outputs.ToLink.{ToLink}
 use Rattle.open_requests.specs.Lists.{has_room}
 use Rattle.open_requests.specs.Works.{open_meant, wait_meant}
 use Rattle.protocol_model.specs.Bodies.{at_meant}
 use Rattle.protocol_model.specs.Messages.{letter_of}
 use Rattle.protocol_model.specs.Statements.{done_meant}
+use Rattle.router_cursors.specs.CursorLists as cursors
+use Rattle.router_cursors.specs.CursorLists.{advanced, closed_all}
+use Rattle.router_cursors.specs.Marks.{is_left}
+use Rattle.router_cursors.specs.Numbers.{blocks_then}
 use Rattle.router_node.specs.RouterStates.{router_of}
 use Rattle.router_node.specs.Rows.{TookRow, life_kept}
 use Rattle.router_node.specs.declared.node.RouterNode.{RouterNode}
 use Rattle.router_node.specs.declared.step_plan.Change.{Change}
-use Rattle.router_node.specs.declared.step_plan.Change.TheVariants.{Stays, Counts, Opens, Closes, Waits, Notes, Learns}
+use Rattle.router_node.specs.declared.step_plan.Change.TheVariants.{Stays, Counts, Opens, Closes, Reaches, Notes, Learns, Shelves, Advances, Ends}
 use Rattle.router_node.specs.declared.step_plan.StepPlan.{StepPlan}
 
 -- how many requests were taken then
@@ -29,9 +35,12 @@ count_then Stays count = count
 count_then Counts count = count + 1
 count_then (Opens q) count = count + 1
 count_then (Closes closed) count = count
-count_then (Waits waiting wait) count = count
+count_then (Reaches waiting wait) count = count
 count_then (Notes waiting wait answers) count = count
 count_then (Learns namespace at table) count = count
+count_then (Shelves told opened) count = count
+count_then (Advances number shown) count = count + 1
+count_then (Ends numbers) count = count + 1
 
 -- the tables then
 abbrev pub tables_then : Change → List Table → List Table
@@ -39,9 +48,12 @@ tables_then Stays tables = tables
 tables_then Counts tables = tables
 tables_then (Opens q) tables = tables
 tables_then (Closes closed) tables = tables
-tables_then (Waits waiting wait) tables = tables
+tables_then (Reaches waiting wait) tables = tables
 tables_then (Notes waiting wait answers) tables = tables
 tables_then (Learns namespace at table) tables = adopted (option_map (λ t. arc_value t) table) tables
+tables_then (Shelves told opened) tables = tables
+tables_then (Advances number shown) tables = tables
+tables_then (Ends numbers) tables = tables
 
 -- the open requests then, at a time
 abbrev pub opens_then : Router → (time : ℕ) → Change → List Open
@@ -49,16 +61,68 @@ opens_then r time Stays = r.requests
 opens_then r time Counts = r.requests
 opens_then r time (Opens q) = r.requests ++ open_meant r.me r.life q ∷ []
 opens_then r time (Closes count) = without count r.requests
-opens_then r time (Waits count wait) = elim (open_with count r.requests) [ None ↦ r.requests | Some q ↦ replaced (with_work q (wait_meant wait) q.work) r.requests ]
+opens_then r time (Reaches count wait) = elim (open_with count r.requests) [
+  | None ↦ r.requests
+  | Some q ↦ replaced (with_work q (wait_meant wait) (reached time q.work)) r.requests
+]
 opens_then r time (Notes count wait answers) = elim (open_with count r.requests) [
   | None ↦ r.requests
   | Some q ↦ elim q.work [
-    | writing kind ordered statements before ↦ replaced (with_work q (wait_meant wait) (writing kind ordered statements (map done_meant answers.items))) r.requests
-    | reading at half ↦ r.requests
+    | writing kind ordered statements before ↦
+        replaced (with_work q (wait_meant wait) (writing kind ordered statements (map done_meant answers.items))) r.requests
+    | reading named at stages telling ↦ r.requests
   ]
 ]
 opens_then r time (Learns namespace at table) =
     flat_map (λ q. stay_in (next_of r time (adopted (option_map (λ t. arc_value t) table) r.tables) namespace (at_meant at) q)) r.requests
+opens_then r time (Shelves count opened) = without count r.requests
+opens_then r time (Advances number shown) = r.requests
+opens_then r time (Ends numbers) = r.requests
+
+-- the cursors then: an opened one has the next number; what a request does that was taken, it does by its own
+abbrev pub cursors_then : Router → Change → List Cursor
+cursors_then r Stays = r.cursors
+cursors_then r Counts = r.cursors
+cursors_then r (Opens q) = r.cursors
+cursors_then r (Closes count) = r.cursors
+cursors_then r (Reaches count wait) = r.cursors
+cursors_then r (Notes count wait answers) = r.cursors
+cursors_then r (Learns namespace at table) = r.cursors
+cursors_then r (Shelves count opened) = r.cursors ++ record {
+  router = r.me;
+  life = r.life;
+  number = pos (next_number r);
+  namespace = opened.namespace;
+  time = opened.time.0;
+  remaining = map (λ d. arc_value d) opened.rest.items;
+} ∷ []
+cursors_then r (Advances number shown) = advanced (id_of r (r.count + 1)) number shown r.cursors
+cursors_then r (Ends numbers) = closed_all (id_of r (r.count + 1)) numbers.items r.cursors
+
+-- how many blocks of numbers were written then, and the last number that was given
+abbrev pub blocks_after : Router → Change → ℕ
+blocks_after r Stays = r.blocks
+blocks_after r Counts = r.blocks
+blocks_after r (Opens q) = r.blocks
+blocks_after r (Closes count) = r.blocks
+blocks_after r (Reaches count wait) = r.blocks
+blocks_after r (Notes count wait answers) = r.blocks
+blocks_after r (Learns namespace at table) = r.blocks
+blocks_after r (Shelves count opened) = blocks_then r.blocks r.gave
+blocks_after r (Advances number shown) = r.blocks
+blocks_after r (Ends numbers) = r.blocks
+
+abbrev pub gave_after : Router → Change → ℕ
+gave_after r Stays = r.gave
+gave_after r Counts = r.gave
+gave_after r (Opens q) = r.gave
+gave_after r (Closes count) = r.gave
+gave_after r (Reaches count wait) = r.gave
+gave_after r (Notes count wait answers) = r.gave
+gave_after r (Learns namespace at table) = r.gave
+gave_after r (Shelves count opened) = next_number r
+gave_after r (Advances number shown) = r.gave
+gave_after r (Ends numbers) = r.gave
 
 -- the router at that time and moment, in its life or not, and so changed
 abbrev pub changed : Router → (time : ℕ) → (begun : Bool) → (moment : ℕ) → Change → Router
@@ -71,6 +135,9 @@ changed r time begun moment change = record {
   count = count_then change r.count;
   tables = tables_then change r.tables;
   requests = opens_then r time change;
+  cursors = cursors_then r change;
+  blocks = blocks_after r change;
+  gave = gave_after r change;
 }
 
 abbrev pub router_then : Router → StepPlan → Router
@@ -82,6 +149,15 @@ pub record Hears (r : Router) (time : ℕ) (change : Change) (mail : List Letter
   pub sent : map letter_of p.mail ≡ mail
   pub told : p.replies ≡ replies
   pub unkept : p.records.items ≡ []
+  pub begun : p.begun ≡ r.begun
+  pub is : p.change ≡ change
+
+-- A plan at a time that keeps this: this becomes of the router, and this is told.
+pub record HearsKeeping (r : Router) (time : ℕ) (change : Change) (replies : List ToLink) (kept : List Kept) (p : StepPlan) : Type 0 where
+  pub new : router_then r p ≡ changed r time r.begun r.moment change
+  pub sent : map letter_of p.mail ≡ []
+  pub told : p.replies ≡ replies
+  pub spelled : p.records.items ≡ spellings kept
   pub begun : p.begun ≡ r.begun
   pub is : p.change ≡ change
 
@@ -106,19 +182,26 @@ FollowsBy r begun Stays = begun ≡ false → r.begun ≡ false
 FollowsBy r begun Counts = (begun ≡ true) × (r.count < 2 ^ 64 - 1)
 FollowsBy r begun (Opens q) = (begun ≡ true) × (r.count < 2 ^ 64 - 1) × (q.count ≡ r.count + 1)
 FollowsBy r begun (Closes count) = begun ≡ false → r.begun ≡ false
-FollowsBy r begun (Waits count wait) = (begun ≡ false → r.begun ≡ false) × (q : Open) × (open_with count r.requests ≡ Some q)
+FollowsBy r begun (Reaches count wait) = (begun ≡ false → r.begun ≡ false) × (q : Open) × (open_with count r.requests ≡ Some q)
 FollowsBy r begun (Notes count wait answers) =
     (begun ≡ false → r.begun ≡ false) × (q : Open) × (kind : WriteKind) × (ordered : Bool) × (statements : List Statement) × (before : List Done)
     × (open_with count r.requests ≡ Some q) × (q.work ≡ writing kind ordered statements before)
 FollowsBy r begun (Learns namespace at table) = begun ≡ false → r.begun ≡ false
+FollowsBy r begun (Shelves count opened) = (begun ≡ false → r.begun ≡ false) × (is_left (map (λ d. arc_value d) opened.rest.items) ≡ true)
+FollowsBy r begun (Advances number shown) = (begun ≡ true) × (r.count < 2 ^ 64 - 1)
+FollowsBy r begun (Ends numbers) = (begun ≡ true) × (r.count < 2 ^ 64 - 1)
 
 abbrev pub Follows : Router → StepPlan → Type 0
 Follows r p = FollowsBy r p.begun p.change
 
--- A message is heard by a row, and nothing is kept.
+-- A message is heard by a row.
 pub record IsHeard (r : Router) (m : Letter) (p : StepPlan) : Type 0 where
-  pub row : TookRow r (letter_input m) (map letter_of p.mail) p.replies (router_then r p)
-  pub unkept : p.records.items ≡ []
+  pub effect : Effect
+  pub row : RouterRow r (letter_input m) effect (router_then r p)
+  pub sent : effect.mail ≡ map letter_of p.mail
+  pub told : p.replies ≡ puts_of effect.replies
+  pub sound : AreSound effect.written
+  pub spelled : p.records.items ≡ spellings effect.written
   pub follows : Follows r p
 
 -- The plan is a step, and may follow.
@@ -132,9 +215,12 @@ HasRoomFor n Stays = Unit {0}
 HasRoomFor n Counts = Unit {0}
 HasRoomFor n (Opens q) = has_room n.requests ≡ true
 HasRoomFor n (Closes count) = Unit {0}
-HasRoomFor n (Waits count wait) = Unit {0}
+HasRoomFor n (Reaches count wait) = Unit {0}
 HasRoomFor n (Notes count wait answers) = Unit {0}
 HasRoomFor n (Learns namespace at table) = IfSome table (λ t. 1 ≤ n.tables.room)
+HasRoomFor n (Shelves count opened) = cursors.HasRoomFor n.cursors opened.namespace opened.time.0
+HasRoomFor n (Advances number shown) = Unit {0}
+HasRoomFor n (Ends numbers) = Unit {0}
 
 -- The router may become what was planned, which takes no memory then.
 pub record IsReady (n : RouterNode) (p : StepPlan) : Type 0 where

@@ -38,7 +38,9 @@ impl RouterNode {
     // A request that is answered at once. Fails for want of memory.
     fn plan_plain(&self, asked: Asked, answer: Answer) -> Result<StepPlan, Memory>
         requires few { taken_of self.now.requests < 2 ^ 64 - 1 }
-        requires plan { rows.plan_of (started (router_of self.now)) (rows.id_of (router_of self.now) (taken_of self.now.requests + 1)) (command_of (head_request asked.head)) ≡ rows.at_once (answer_meant answer) }
+        requires plan { rows.plan_of (started (router_of self.now))
+            (rows.id_of (router_of self.now) (taken_of self.now.requests + 1)) asked.head.more (command_of (head_request asked.head))
+            ≡ rows.at_once (answer_meant answer) }
         ensures { IfOk result (λ p. IsPlanned (router_of self.now) (client_input asked.link asked.number (head_request asked.head)) p) }
     {
         let Asked { link, number, head } = asked;
@@ -57,7 +59,8 @@ impl RouterNode {
     ) -> Result<StepPlan, Memory>
         requires few { taken_of self.now.requests < 2 ^ 64 - 1 }
         requires next { count ≡ taken_of self.now.requests + 1 }
-        requires plan { rows.plan_of (started (router_of self.now)) (rows.id_of (router_of self.now) count) (command_of (head_request asked.head))
+        requires plan { rows.plan_of (started (router_of self.now))
+            (rows.id_of (router_of self.now) count) asked.head.more (command_of (head_request asked.head))
             ≡ rows.needs namespace (work_meant (rows.id_of (router_of self.now) count) work) }
         ensures { IfOk result (λ p. IsPlanned (router_of self.now) (client_input asked.link asked.number (head_request asked.head)) p) }
     {
@@ -91,11 +94,13 @@ impl RouterNode {
             return Err(Memory);
         }
         let (head, body) = Head::of(request);
-        let plan = self.plan_of(head.form, body)?;
+        let plan = self.plan_of(head.form, head.more, body)?;
         let asked = Asked { link, number, head };
         match plan {
             Plan::AtOnce(answer) => self.plan_plain(asked, answer),
             Plan::Needs { namespace, work } => self.plan_open(asked, taken + 1, namespace, work),
+            Plan::NeedsBatch(more) => self.plan_more(asked, more),
+            Plan::NeedsEnd(kill) => self.plan_end(asked, kill),
         }
     }
 }

@@ -4,9 +4,9 @@ ghost use Rattle.std.specs.Prelude.{◌≡◌, if◌then◌else◌};
 ghost use Rattle.node_model.specs.Tables.{is_longer};
 
 use crate::node::RouterNode;
-use crate::reads::find_answer;
 use crate::replies::reply_to;
 use crate::step_plan::{Change, StepPlan};
+use crate::telling::empty_answer;
 use bson_values::Memory;
 use chunk_table::Table;
 use cluster_base::Time;
@@ -72,11 +72,12 @@ impl RouterNode {
         request: &OpenRequest,
     ) -> Result<Option<Message>, Memory>
         requires { table_of told.now.namespace (tables_told told.now self.now.tables.tables) ≡ option_map (λ t. t.now) known }
-        ensures { IfOk result (λ m. letters_of m ≡ rows.letters_in (next_at (router_of self.now) time.0 told.now (open_meant self.now.me.0 self.now.life request.now))) }
+        ensures { IfOk result (λ m. letters_of m
+            ≡ rows.letters_in (next_at (router_of self.now) time.0 told.now (open_meant self.now.me.0 self.now.life request.now))) }
     {
         match next_of(&told.namespace, told.at, known, request) {
             Next::Stays => Ok(None),
-            Next::IsTold(_) => Ok(None),
+            Next::IsTold(..) => Ok(None),
             Next::GoesOn => match known {
                 Some(table) => self.asker().asks_shards(
                     self.alloc,
@@ -100,14 +101,14 @@ impl RouterNode {
         request: &OpenRequest,
     ) -> Result<Option<ToLink>, Memory>
         requires { table_of told.now.namespace (tables_told told.now self.now.tables.tables) ≡ option_map (λ t. t.now) known }
-        ensures { IfOk result (λ reply. listed reply ≡ puts_of (rows.replies_in (next_at (router_of self.now) time.0 told.now (open_meant self.now.me.0 self.now.life request.now)))) }
+        ensures { IfOk result (λ reply. listed reply
+            ≡ puts_of (rows.replies_in (next_at (router_of self.now) time.0 told.now (open_meant self.now.me.0 self.now.life request.now)))) }
     {
         match next_of(&told.namespace, told.at, known, request) {
             Next::Stays => Ok(None),
             Next::GoesOn => Ok(None),
-            Next::IsTold(at) => {
-                let none = Vec::new(self.alloc);
-                let answer = find_answer(self.alloc, &request.namespace, none, at)?;
+            Next::IsTold(at, telling) => {
+                let answer = empty_answer(self.alloc, &request.namespace, at, telling)?;
                 reply_to(
                     self.alloc,
                     request.link,
@@ -165,7 +166,8 @@ impl RouterNode {
         requests: &[OpenRequest],
     ) -> Result<MailList<Message>, Memory>
         ensures { IfOk result (λ mail. map (λ m. letter_of m) mail
-            ≡ flat_map (λ q. rows.letters_in (next_at (router_of self.now) time.0 told.now q)) (map (λ q. open_meant self.now.me.0 self.now.life q) requests.now)) }
+            ≡ flat_map (λ q. rows.letters_in (next_at (router_of self.now) time.0 told.now q))
+            (map (λ q. open_meant self.now.me.0 self.now.life q) requests.now)) }
     {
         let known = self.known_after(told);
         let mut mail = MailList::new(self.alloc);
@@ -184,7 +186,8 @@ impl RouterNode {
         requests: &[OpenRequest],
     ) -> Result<ReplyList, Memory>
         ensures { IfOk result (λ replies. replies
-            ≡ puts_of (flat_map (λ q. rows.replies_in (next_at (router_of self.now) time.0 told.now q)) (map (λ q. open_meant self.now.me.0 self.now.life q) requests.now))) }
+            ≡ puts_of (flat_map (λ q. rows.replies_in (next_at (router_of self.now) time.0 told.now q))
+            (map (λ q. open_meant self.now.me.0 self.now.life q) requests.now))) }
     {
         let known = self.known_after(told);
         let mut replies = ReplyList::new(self.alloc);
@@ -196,7 +199,8 @@ impl RouterNode {
 
     // What a table that is told comes to. Fails for want of memory.
     pub(crate) fn plan_table(&self, time: Time, told: TableTold) -> Result<StepPlan, Memory>
-        ensures { (m : Letter) → m.body ≡ table_told_meant told → time.0 ≡ rows.heard (router_of self.now) m → IfOk result (λ p. IsHeard (router_of self.now) m p) }
+        ensures { (m : Letter) → m.body ≡ table_told_meant told → time.0 ≡ rows.heard (router_of self.now) m →
+            IfOk result (λ p. IsHeard (router_of self.now) m p) }
     {
         let requests = self.requests.as_slice();
         let mail = self.mail_next(time, &told, requests)?;

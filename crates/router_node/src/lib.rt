@@ -4,18 +4,21 @@
 mod begin;
 mod bodies;
 mod clients;
+mod cursors;
 mod learns;
 mod mail;
 mod moments;
 mod node;
 mod plans;
 mod reads;
+mod refusals;
 mod replies;
 mod statements;
 mod step;
 mod step_plan;
 mod steps;
 mod take;
+mod telling;
 mod writes;
 
 pub use node::RouterNode;

@@ -48,7 +48,8 @@ impl RouterNode {
         time: Time,
         request: &OpenRequest,
     ) -> Result<(), Memory>
-        ensures { OnOk result (map (λ m. letter_of m) mail.new ≡ map (λ m. letter_of m) mail.old ++ rows.asks_again (started (router_of self.now)) time.0 (open_meant self.now.me.0 self.now.life request.now)) }
+        ensures { OnOk result (map (λ m. letter_of m) mail.new
+            ≡ map (λ m. letter_of m) mail.old ++ rows.asks_again (started (router_of self.now)) time.0 (open_meant self.now.me.0 self.now.life request.now)) }
     {
         match self.asks_again(time, request)? {
             Some(message) => mail.push(message),
@@ -70,7 +71,8 @@ impl RouterNode {
 
     // What all open requests wait for, asked again. Fails for want of memory.
     pub(crate) fn ask_again(&self, time: Time) -> Result<MailList<Message>, Memory>
-        ensures { IfOk result (λ mail. map (λ m. letter_of m) mail ≡ flat_map (λ q. rows.asks_again (started (router_of self.now)) time.0 q) (opens_of self.now.me.0 self.now.life self.now.requests)) }
+        ensures { IfOk result (λ mail. map (λ m. letter_of m) mail ≡ flat_map (λ q. rows.asks_again (started (router_of self.now)) time.0 q)
+            (opens_of self.now.me.0 self.now.life self.now.requests)) }
     {
         self.ask_each(time, self.requests.as_slice())
     }

@@ -12,8 +12,9 @@ use chunk_table::Table;
 use cluster_base::{Namespace, NodeId, RequestId, Time};
 use known_tables::TableList;
 use node_traits::StepCount;
-use open_requests::{Asker, OpenList, OpenRequest, Wait, Work, is_enough};
+use open_requests::{Asker, OpenList, OpenRead, OpenRequest, Wait, Work, is_enough};
 use protocol_model::Message;
+use router_cursors::CursorList;
 use std::alloc::Global;
 
 /// The table that is known of a collection, if one is.
@@ -49,6 +50,7 @@ pub struct RouterNode {
     pub(crate) moment: u64,
     pub(crate) tables: TableList,
     pub(crate) requests: OpenList,
+    pub(crate) cursors: CursorList,
     pub(crate) steps: StepCount,
     ghost quiet: { begun ≡ false → taken_of requests ≡ 0 },
 }
@@ -62,7 +64,7 @@ impl RouterNode {
     ghost use Rattle.node_model.specs.States.{new_router};
     ghost use Rattle.node_traits.specs.Ids.{id_meant};
     ghost use Rattle.open_requests.specs.Askers.{asker_meant, letters_of};
-    ghost use Rattle.open_requests.specs.Works.{open_meant, wait_meant, work_meant};
+    ghost use Rattle.open_requests.specs.Works.{open_meant, read_at, wait_meant, work_meant};
     ghost use Rattle.router_node.specs.RouterStates.{router_of};
 
     /// The router of this number, before its first step, with nothing kept.
@@ -79,6 +81,7 @@ impl RouterNode {
             moment: 0,
             tables: TableList::new(alloc),
             requests: OpenList::new(alloc),
+            cursors: CursorList::new(alloc),
             steps: StepCount::new(),
         }
     }
@@ -111,20 +114,30 @@ impl RouterNode {
         known_in(&self.tables, namespace)
     }
 
+    // The table by which a read can go on at a time.
+    pub(crate) fn table_at(
+        &self,
+        namespace: &Namespace,
+        read: &OpenRead,
+        at: Time,
+    ) -> Option<&Table>
+        ensures { option_map (λ t. t.now) result ≡ rows.table_for self.now.tables.tables namespace.now (read_at read.now at.0) }
+    {
+        let table = self.tables.find(namespace)?;
+        if is_enough(table, at, read.parts.half()) {
+            Some(table)
+        } else {
+            None
+        }
+    }
+
     // The table that work can go on with.
     pub(crate) fn table_for(&self, namespace: &Namespace, work: &Work) -> Option<&Table>
         ensures { (id : asked.RequestId) → option_map (λ t. t.now) result ≡ rows.table_for self.now.tables.tables namespace.now (work_meant id work.now) }
     {
-        let table = self.tables.find(namespace)?;
         match work {
-            Work::Writing { .. } => Some(table),
-            Work::Reading { at, half } => {
-                if is_enough(table, *at, half) {
-                    Some(table)
-                } else {
-                    None
-                }
-            }
+            Work::Writing { .. } => self.table_of(namespace),
+            Work::Reading(read) => self.table_at(namespace, read, read.at),
         }
     }
 
@@ -134,7 +147,7 @@ impl RouterNode {
     {
         match work {
             Work::Writing { .. } => false,
-            Work::Reading { at, .. } => time.0 < at.0,
+            Work::Reading(read) => time.0 < read.at.0,
         }
     }
 
@@ -146,7 +159,8 @@ impl RouterNode {
         namespace: &Namespace,
         work: &Work,
     ) -> Result<(Wait, Option<Message>), Memory>
-        ensures wait { (id : asked.RequestId) → IfOk result (λ asked. wait_meant asked.0 ≡ rows.wait_of (router_of self.now) time.0 namespace.now (work_meant id work.now)) }
+        ensures wait { (id : asked.RequestId) → IfOk result (λ asked. wait_meant asked.0
+            ≡ rows.wait_of (router_of self.now) time.0 namespace.now (work_meant id work.now)) }
         ensures letters { IfOk result (λ asked. letters_of asked.1
             ≡ rows.asks_for (router_of self.now) time.0 count namespace.now (work_meant (rows.id_of (router_of self.now) count) work.now)) }
     {
@@ -155,10 +169,7 @@ impl RouterNode {
             return Ok((Wait::ForTime, Some(asker.asks_times(time, count))));
         }
         let table = self.table_for(namespace, work);
-        let wait = match table {
-            None => Wait::ForTable,
-            Some(_) => Wait::ForShards,
-        };
+        let wait = wait_by(table);
         let letter = asker.asks_by(self.alloc, time, count, namespace, work, table)?;
         Ok((wait, letter))
     }

@@ -1,7 +1,8 @@
 //! The statements of a write, from the words of its client.
 
-ghost use Rattle.std.specs.Prelude.{◌≡◌, IfOk, map};
+ghost use Rattle.std.specs.Prelude.{◌≡◌, IfOk, Option, map};
 ghost use Rattle.std.specs.List.{AllByRecursion};
+ghost use Rattle.command_model.specs.Writes.{ClientNumber};
 ghost use Rattle.command_words.specs.CommandSizes.{IsKeepable};
 ghost use Rattle.node_model.specs.Exchanges as asked;
 ghost use Rattle.node_model.specs.RouterRows as rows;
@@ -32,7 +33,8 @@ pub(crate) fn statements_of(
     operations: Vec<OpWords>,
 ) -> Result<StatementList, Memory>
     requires { AllByRecursion IsKeepable (map operation_meant operations.items) }
-    ensures { (id : asked.RequestId) → IfOk result (λ list. map (λ s. statement_meant id s) list.items ≡ rows.statements_from id 0 (map operation_meant operations.items)) }
+    ensures { (given : Option ClientNumber) (id : asked.RequestId) → IfOk result (λ list. map (λ s. statement_meant given id s) list.items
+        ≡ rows.statements_from given id 0 (map operation_meant operations.items)) }
 {
     let mut statements = Vec::new(alloc);
     let mut index: u32 = 0;

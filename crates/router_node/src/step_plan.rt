@@ -5,16 +5,17 @@ ghost use Rattle.node_traits.specs.Lists.{listed};
 
 use crate::mail::mail_of;
 use crate::node::RouterNode;
-use bson_values::{Blob, Memory};
+use bson_values::{Blob, Document, Memory};
 use chunk_table::Table;
 use cluster_base::{Namespace, Time};
 use node_traits::{MailList, ReplyList, ToLink};
 use open_requests::{OpenRequest, Wait};
 use protocol_model::{At, DoneList, Message};
 use std::alloc::Global;
+use std::collections::VecDeque;
 use std::sync::Arc;
 
-/// What becomes of the open requests.
+/// What becomes of the open requests and the cursors.
 #[derive(Drop)]
 pub(crate) enum Change {
     /// Nothing.
@@ -25,13 +26,27 @@ pub(crate) enum Change {
     Opens(OpenRequest),
     /// The one with this count is told its answer.
     Closes(u64),
-    /// The one with this count waits for this.
-    Waits(u64, Wait),
+    /// The read with this count is of the time that is reached, unless one was named, and waits for this.
+    Reaches(u64, Wait),
     /// The write with this count has these answers, and waits for this.
     Notes(u64, Wait, DoneList),
     /// Those that wait for the table of this collection go on with it, or are told that nothing is there where it was told for their
     /// time. A table that was told is kept.
     Learns(Namespace, At, Option<Arc<Table, Global>>),
+    /// The one with this count is told its first batch, and a cursor has the other documents.
+    Shelves(u64, NewCursor),
+    /// One more was taken, and is told so many documents of the cursor of this number.
+    Advances(i64, usize),
+    /// One more was taken, and closes the cursors of these numbers.
+    Ends(Vec<i64>),
+}
+
+/// A cursor that is opened: the documents that it has not shown yet, of a namespace at a time.
+#[derive(Drop)]
+pub(crate) struct NewCursor {
+    pub(crate) namespace: Namespace,
+    pub(crate) time: Time,
+    pub(crate) rest: VecDeque<Arc<Document, Global>>,
 }
 
 /// What a step will write and send, and what the router will then be: at which time and moment, in its life or not, and what becomes
@@ -58,12 +73,14 @@ fn replies_of(alloc: Global, reply: Option<ToLink>) -> ReplyList
 }
 
 impl RouterNode {
-    ghost use Rattle.std.specs.Prelude.{◌≡◌, [], IfOk, OnOk, false, true, map};
+    ghost use Rattle.std.specs.Prelude.{◌≡◌, [], List, IfOk, OnOk, false, true, map};
+    ghost use Rattle.node_model.specs.Journal.{Kept};
+    ghost use Rattle.node_traits.specs.Effects.{spellings};
     ghost use Rattle.node_traits.specs.Lists.{listed};
     ghost use Rattle.open_requests.specs.Askers.{letters_of};
     ghost use Rattle.protocol_model.specs.Messages.{letter_of};
     ghost use Rattle.router_node.specs.RouterStates.{router_of};
-    ghost use Rattle.router_node.specs.StepPlans.{FollowsBy, Follows, Hears, Starts};
+    ghost use Rattle.router_node.specs.StepPlans.{FollowsBy, Follows, Hears, HearsKeeping, Starts};
     ghost use Rattle.router_node.specs.declared.step_plan.Change.TheVariants.{Stays};
 
     // A plan at a time: this becomes of the router, and these are asked and told. Takes no memory.
@@ -107,6 +124,28 @@ impl RouterNode {
             mail,
             replies,
             records: Vec::new(self.alloc),
+        }
+    }
+
+    // A plan at a time that keeps these records: this becomes of the router, and this is told. Takes no memory.
+    pub(crate) fn hears_keeping(
+        &self,
+        time: Time,
+        change: Change,
+        reply: Option<ToLink>,
+        records: Vec<Blob>,
+    ) -> StepPlan
+        ensures { (kept : List Kept) → records.items ≡ spellings kept → HearsKeeping (router_of self.now) time.0 change (listed reply) kept result }
+    {
+        let replies = replies_of(self.alloc, reply);
+        StepPlan {
+            time,
+            moment: self.moment,
+            begun: self.begun,
+            change,
+            mail: MailList::new(self.alloc),
+            replies,
+            records,
         }
     }
 

@@ -26,7 +26,7 @@ impl RouterNode {
         match body {
             Body::TableTold(told) => self.plan_table(time, told),
             Body::WriteDone(told) => self.plan_dones(time, &told),
-            Body::ReadRows(told) => self.plan_rows(time, &told),
+            Body::ReadRows(told) => self.plan_rows(time, told),
             Body::TimeTold(told) => self.plan_time(time, &told),
             Body::Stale(_) => Ok(self.late(time)),
             Body::TableAsk(_) => Ok(self.late(self.time)),
@@ -92,9 +92,12 @@ impl RouterNode {
             Change::Counts => {}
             Change::Opens(_) => self.requests.reserve()?,
             Change::Closes(_) => {}
-            Change::Waits(..) => {}
+            Change::Reaches(..) => {}
             Change::Notes(..) => {}
             Change::Learns(..) => self.tables.reserve()?,
+            Change::Shelves(_, opened) => self.cursors.make_room(&opened.namespace, opened.time)?,
+            Change::Advances(..) => {}
+            Change::Ends(_) => {}
         }
         Ok(())
     }

@@ -11,7 +11,7 @@ ghost use Rattle.open_requests.specs.Lists.{opens_of, taken_of};
 ghost use Rattle.protocol_model.specs.Bodies.{at_meant};
 
 use crate::node::{RouterNode, known_in};
-use crate::step_plan::{Change, StepPlan};
+use crate::step_plan::{Change, NewCursor, StepPlan};
 use chunk_table::Table;
 use cluster_base::{Namespace, Time};
 use known_tables::TableList;
@@ -44,7 +44,8 @@ fn learn(
     ensures tables { tables.new.tables ≡ adopted (option_map (λ t. arc_value t) told) tables.old.tables }
     ensures taken { taken_of requests.new ≡ taken_of requests.old }
     ensures opens { (r : Router) (time : ℕ) → opens_of r.me r.life requests.new
-        ≡ flat_map (λ q. rows.stay_in (rows.next_of r time (adopted (option_map (λ t. arc_value t) told) tables.old.tables) namespace.now (at_meant at) q)) (opens_of r.me r.life requests.old) }
+        ≡ flat_map (λ q. rows.stay_in (rows.next_of r time (adopted (option_map (λ t. arc_value t) told) tables.old.tables) namespace.now (at_meant at) q))
+        (opens_of r.me r.life requests.old) }
 {
     adopt_told(tables, told);
     let known = known_in(tables, namespace);
@@ -71,10 +72,27 @@ impl RouterNode {
             Change::Counts => self.requests.count_one(),
             Change::Opens(request) => self.requests.push(request),
             Change::Closes(count) => self.requests.remove(count),
-            Change::Waits(count, wait) => self.requests.set_wait(count, wait),
+            Change::Reaches(count, wait) => self.requests.reach(count, time, wait),
             Change::Notes(count, wait, answers) => self.requests.set_answers(count, wait, answers),
             Change::Learns(namespace, at, table) => {
                 learn(&mut self.tables, &mut self.requests, &namespace, at, table)
+            }
+            Change::Shelves(count, opened) => {
+                self.requests.remove(count);
+                let NewCursor {
+                    namespace,
+                    time: at,
+                    rest,
+                } = opened;
+                self.cursors.open(&namespace, at, rest)
+            }
+            Change::Advances(number, count) => {
+                self.requests.count_one();
+                self.cursors.advance(number, count)
+            }
+            Change::Ends(numbers) => {
+                self.requests.count_one();
+                self.cursors.close(&numbers)
             }
         }
     }

@@ -1,9 +1,10 @@
 //! What writes are told.
 
-ghost use Rattle.std.specs.Prelude.{◌≡◌, ◌≢◌, length, map, true, false, IfOk};
+ghost use Rattle.std.specs.Prelude.{◌≡◌, ◌≢◌, Option, length, map, true, false, IfOk};
 ghost use Rattle.command_answers.specs.AnswerMeanings.{answer_meant};
 ghost use Rattle.command_answers.specs.Kinds.{kind_meant};
 ghost use Rattle.node_model.specs.Exchanges as asked;
+ghost use Rattle.node_model.specs.Writes as writes;
 ghost use Rattle.node_model.specs.Outcomes as outcomes;
 ghost use Rattle.node_model.specs.RouterRows as rows;
 ghost use Rattle.protocol_model.specs.Statements.{done_meant, statement_meant};
@@ -14,7 +15,7 @@ use crate::step_plan::{Change, StepPlan};
 use bson_values::Memory;
 use chunk_table::Table;
 use cluster_base::{RequestId, Time};
-use command_answers::{Answer, WriteKind};
+use command_answers::{Answer, ClientNumber, WriteKind};
 use open_requests::{OpenRequest, Work, answer_of, is_answered, note};
 use protocol_model::{DoneList, Message, StatementList, WriteDone};
 use std::alloc::Global;
@@ -36,16 +37,23 @@ fn with_told(alloc: Global, answers: &DoneList, dones: &DoneList) -> Result<Done
 
 /// Whether all statements are answered, or the last answer ends the command.
 fn is_all(ordered: bool, statements: &StatementList, answers: &DoneList) -> bool
-    ensures { (id : asked.RequestId) → result ≡ rows.is_answered ordered (map (λ s. statement_meant id s) statements.now.items) (map done_meant answers.now.items) }
+    ensures { (given : Option writes.ClientNumber) (id : asked.RequestId) → result
+        ≡ rows.is_answered ordered (map (λ s. statement_meant given id s) statements.now.items) (map done_meant answers.now.items) }
 {
     is_answered(ordered, statements, answers)
 }
 
-/// What the statements of a write of this kind are told together. Fails for want of memory, and where that is longer than can be told.
-fn answer_to(alloc: Global, kind: WriteKind, answers: &DoneList) -> Result<Answer, Memory>
-    ensures { IfOk result (λ answer. answer_meant answer ≡ outcomes.answer_of (kind_meant kind) (map done_meant answers.now.items)) }
+/// What the statements of a write of this kind are told together, where this is the time unless an entry answered. Fails for want of memory,
+/// and where that is longer than can be told.
+fn answer_to(
+    alloc: Global,
+    kind: WriteKind,
+    time: Time,
+    answers: &DoneList,
+) -> Result<Answer, Memory>
+    ensures { IfOk result (λ answer. answer_meant answer ≡ outcomes.answer_of (kind_meant kind) time.0 (map done_meant answers.now.items)) }
 {
-    answer_of(alloc, kind, answers)
+    answer_of(alloc, kind, time, answers)
 }
 
 impl RouterNode {
@@ -54,7 +62,7 @@ impl RouterNode {
     ghost use Rattle.node_model.specs.RouterRows as rows;
     ghost use Rattle.node_model.specs.States as states;
     ghost use Rattle.node_model.specs.Writes as writes;
-    ghost use Rattle.command_answers.specs.Kinds.{kind_meant};
+    ghost use Rattle.command_answers.specs.Kinds.{given_meant, kind_meant};
     ghost use Rattle.open_requests.specs.Askers.{asking, letters_of};
     ghost use Rattle.open_requests.specs.Works.{open_meant};
     ghost use Rattle.std.specs.Option.{option_map};
@@ -76,10 +84,11 @@ impl RouterNode {
         noted: &DoneList,
     ) -> Result<StepPlan, Memory>
         ensures { (m : letters.Letter) (statements : List letters.Statement) → time.0 ≡ rows.heard (router_of self.now) m →
-            IsNews (router_of self.now) m (id_meant id) (open_meant self.now.me.0 self.now.life request.now) (kind_meant kind) ordered statements (map done_meant noted.now.items) →
+            IsNews (router_of self.now) m (id_meant id) (open_meant self.now.me.0 self.now.life request.now)
+            (kind_meant kind) ordered statements (map done_meant noted.now.items) →
             rows.is_answered ordered statements (map done_meant noted.now.items) ≡ true → IfOk result (λ p. IsHeard (router_of self.now) m p) }
     {
-        let answer = answer_to(self.alloc, kind, noted)?;
+        let answer = answer_to(self.alloc, kind, time, noted)?;
         let reply = reply_to(
             self.alloc,
             request.link,
@@ -96,19 +105,23 @@ impl RouterNode {
         time: Time,
         request: &OpenRequest,
         table: Option<&Table>,
+        number: Option<ClientNumber>,
         ordered: bool,
         statements: &StatementList,
         noted: &DoneList,
     ) -> Result<Option<Message>, Memory>
-        ensures { (kind : writes.WriteKind) → IfOk result (λ m. letters_of m ≡ rows.asks_by (asking self.now.me.0 self.now.life) time.0 request.now.count request.now.namespace
-            (states.writing kind ordered (map (λ s. statement_meant (rows.id_of (router_of self.now) request.now.count) s) statements.now.items) (map done_meant noted.now.items))
+        ensures { (kind : writes.WriteKind) → IfOk result (λ m. letters_of m
+            ≡ rows.asks_by (asking self.now.me.0 self.now.life) time.0 request.now.count request.now.namespace
+            (states.writing kind ordered
+            (map (λ s. statement_meant (given_meant number) (rows.id_of (router_of self.now) request.now.count) s) statements.now.items)
+            (map done_meant noted.now.items))
             (option_map (λ t. t.now) table.entry)) }
     {
         let namespace = &request.namespace;
         let count = request.count;
         let asker = self.asker();
         asker.asks_rest(
-            self.alloc, time, count, namespace, table, ordered, statements, noted,
+            self.alloc, time, count, namespace, table, number, ordered, statements, noted,
         )
     }
 
@@ -118,19 +131,23 @@ impl RouterNode {
         time: Time,
         id: RequestId,
         request: &OpenRequest,
+        number: Option<ClientNumber>,
         ordered: bool,
         statements: &StatementList,
         noted: DoneList,
     ) -> Result<StepPlan, Memory>
         ensures { (m : letters.Letter) (kind : writes.WriteKind) → time.0 ≡ rows.heard (router_of self.now) m →
             IsNews (router_of self.now) m (id_meant id) (open_meant self.now.me.0 self.now.life request.now) kind ordered
-            (map (λ s. statement_meant (rows.id_of (router_of self.now) request.now.count) s) statements.now.items) (map done_meant noted.items) →
-            rows.is_answered ordered (map (λ s. statement_meant (rows.id_of (router_of self.now) request.now.count) s) statements.now.items) (map done_meant noted.items) ≡ false →
+            (map (λ s. statement_meant (given_meant number) (rows.id_of (router_of self.now) request.now.count) s) statements.now.items)
+            (map done_meant noted.items) →
+            rows.is_answered ordered
+            (map (λ s. statement_meant (given_meant number) (rows.id_of (router_of self.now) request.now.count) s) statements.now.items)
+            (map done_meant noted.items) ≡ false →
             IfOk result (λ p. IsHeard (router_of self.now) m p) }
     {
         let table = self.table_of(&request.namespace);
         let wait = wait_by(table);
-        let message = self.asks_more(time, request, table, ordered, statements, &noted)?;
+        let message = self.asks_more(time, request, table, number, ordered, statements, &noted)?;
         Ok(self.hears(time, Change::Notes(id.count, wait, noted), message, None))
     }
 
@@ -141,25 +158,28 @@ impl RouterNode {
         id: RequestId,
         request: &OpenRequest,
         kind: WriteKind,
+        number: Option<ClientNumber>,
         ordered: bool,
         statements: &StatementList,
         noted: DoneList,
     ) -> Result<StepPlan, Memory>
         ensures { (m : letters.Letter) → time.0 ≡ rows.heard (router_of self.now) m →
             IsNews (router_of self.now) m (id_meant id) (open_meant self.now.me.0 self.now.life request.now) (kind_meant kind) ordered
-            (map (λ s. statement_meant (rows.id_of (router_of self.now) request.now.count) s) statements.now.items) (map done_meant noted.items) →
+            (map (λ s. statement_meant (given_meant number) (rows.id_of (router_of self.now) request.now.count) s) statements.now.items)
+            (map done_meant noted.items) →
             IfOk result (λ p. IsHeard (router_of self.now) m p) }
     {
         if is_all(ordered, statements, &noted) {
             self.plan_all(time, id, request, kind, ordered, &noted)
         } else {
-            self.plan_rest(time, id, request, ordered, statements, noted)
+            self.plan_rest(time, id, request, number, ordered, statements, noted)
         }
     }
 
     // What becomes of a write whose outcomes are told, at a time of the router. Fails for want of memory.
     pub(crate) fn plan_dones(&self, time: Time, told: &WriteDone) -> Result<StepPlan, Memory>
-        ensures { (m : letters.Letter) → m.body ≡ write_done_meant told.now → time.0 ≡ rows.heard (router_of self.now) m → IfOk result (λ p. IsHeard (router_of self.now) m p) }
+        ensures { (m : letters.Letter) → m.body ≡ write_done_meant told.now → time.0 ≡ rows.heard (router_of self.now) m →
+            IfOk result (λ p. IsHeard (router_of self.now) m p) }
     {
         match self.open_of(told.id) {
             None => Ok(self.late(time)),
@@ -167,6 +187,7 @@ impl RouterNode {
                 Work::Reading { .. } => Ok(self.late(time)),
                 Work::Writing {
                     kind,
+                    number,
                     ordered,
                     statements,
                     answers,
@@ -175,7 +196,9 @@ impl RouterNode {
                     if are_as_many(answers, &noted) {
                         Ok(self.late(time))
                     } else {
-                        self.plan_noted(time, told.id, request, *kind, *ordered, statements, noted)
+                        self.plan_noted(
+                            time, told.id, request, *kind, *number, *ordered, statements, noted,
+                        )
                     }
                 }
             },

@@ -1,4 +1,5 @@
 pub mod Rising
 pub mod Noting
 pub mod Sessions
+pub mod Places
 pub mod Booked

@@ -99,3 +99,43 @@ rises_still notes noted place gap rising i j d lt in_range =
     let above : (i : ℕ) → place < i → (get_or new i d).index ≡ (get_or notes (i - 1) d).index = λ i gt.
     subst (λ q. (get_or new q d).index ≡ (get_or notes (i - 1) d).index) {x = i - 1 + 1} (omega arith) (ap index (get_or-insert_above notes place noted d (i - 1) (omega arith) gap.in_range)) in
     grind (arith, below i, here i, above i, below j, here j, above j, rising i j d, rising i (j - 1) d, rising (i - 1) (j - 1) d, gap.lesser i d, gap.greater (j - 1) d)
+
+-- behind the first the indexes rise too
+pub rest_rises : (first : Noted) (rest : List Noted) → IsRising (first ∷ rest) → IsRising rest
+rest_rises first rest rising i j d lt in_range = rising (suc i) (suc j) d (omega (arith, lt)) (omega (arith, in_range))
+
+-- a lesser index than the first goes before it
+pub gap_before : (first : Noted) (rest : List Noted) (index : ℕ) → IsRising (first ∷ rest) → index < first.index → IsGapFor (first ∷ rest) index 0
+gap_before first rest index rising low = record {
+  in_range = omega arith;
+  lesser = λ j d lt. absurd (omega (arith, lt));
+  greater = λ j d le lt. greater j d lt;
+}
+  where
+    greater : (j : ℕ) (d : Noted) → j < length (first ∷ rest) → index < (get_or (first ∷ rest) j d).index
+    greater zero d lt = low
+    greater (suc j) d lt = omega (arith, low, rising 0 (suc j) d (omega arith) lt)
+
+-- and a greater one to its place in the rest
+pub gap_behind : (first : Noted) (rest : List Noted) (index place : ℕ) → first.index < index → IsGapFor rest index place → IsGapFor (first ∷ rest) index (suc place)
+gap_behind first rest index place high gap = record {
+  in_range = omega (arith, gap.in_range);
+  lesser = lesser;
+  greater = greater;
+}
+  where
+    lesser : (j : ℕ) (d : Noted) → j < suc place → (get_or (first ∷ rest) j d).index < index
+    lesser zero d lt = high
+    lesser (suc j) d lt = gap.lesser j d (omega (arith, lt))
+
+    greater : (j : ℕ) (d : Noted) → suc place ≤ j → j < length (first ∷ rest) → index < (get_or (first ∷ rest) j d).index
+    greater zero d le lt = absurd (omega (arith, le))
+    greater (suc j) d le lt = gap.greater j d (omega (arith, le)) (omega (arith, lt))
+
+-- an index that none has is not that of the first, nor one in the rest
+pub record IsApart (first : Noted) (rest : List Noted) (index : ℕ) : Type 0 where
+  pub other : first.index ≢ index
+  pub none : with_index index rest ≡ None
+
+pub is_apart : (first : Noted) (rest : List Noted) (index : ℕ) → with_index index (first ∷ rest) ≡ None → IsApart first rest index
+is_apart first rest index none = record { other = λ same. grind (arith, nat_tests, none, same); none = grind (arith, nat_tests, none) }

@@ -14,8 +14,7 @@ use Rattle.history_model.specs.History as history
 use Rattle.history_model.specs.History.{client_session, router_session}
 use Rattle.history_model.specs.Notes.{same_session}
 use Rattle.session_book.specs.Meanings.{session_meant}
-use Rattle.session_book.specs.Statements.{Statements}
-use Rattle.session_book.specs.Books.{kept_of}
+use Rattle.session_book.specs.Places.{place_of}
 
 abbrev pub session_order : Session → Session → Ordering
 session_order = (session_ord.ghosts).cmp
@@ -41,18 +40,18 @@ lookup_alike : {K X : Type 0} (p q : K → Bool) → ((k : K) → p k ≡ q k) �
 lookup_alike p q alike [] = refl
 lookup_alike p q alike (e ∷ es) = rw (alike e.0, lookup_alike p q alike es) refl
 
--- what the map has at a session is what is kept of its meaning
-pub kept_at : (m : BTreeMap Session Statements) (s : Session) → kept_of m.entries (session_meant s) ≡ get session_order m s
-kept_at m s = lookup_alike (λ k. same_session (session_meant s) (session_meant k)) (is_at (session_order s)) (λ k. sym (order_is s k)) m.entries
+-- what the map has at a session is the place of its meaning
+pub place_at : (m : BTreeMap Session ℕ) (s : Session) → place_of m.entries (session_meant s) ≡ get session_order m s
+place_at m s = lookup_alike (λ k. same_session (session_meant s) (session_meant k)) (is_at (session_order s)) (λ k. sym (order_is s k)) m.entries
 
-kept_is : (m : BTreeMap Session Statements) (x : history.Session) → kept_of m.entries x ≡ get session_order m (session_of x)
-kept_is m x = ap (λ (y : history.Session). kept_of m.entries y) (sym (meant_of x)) ∙ kept_at m (session_of x)
+place_is : (m : BTreeMap Session ℕ) (x : history.Session) → place_of m.entries x ≡ get session_order m (session_of x)
+place_is m x = ap (λ (y : history.Session). place_of m.entries y) (sym (meant_of x)) ∙ place_at m (session_of x)
 
--- what is kept once the map has something else at one session
-pub kept_after : (old new : BTreeMap Session Statements) (s : Session) (w : Statements) →
-    ((q : Session) → get session_order new q ≡ (if is_at (session_order s) q then Some w else get session_order old q)) →
-    (x : history.Session) → kept_of new.entries x ≡ (if same_session (session_meant s) x then Some w else kept_of old.entries x)
-kept_after old new s w changed x =
-    kept_is new x ∙ changed (session_of x)
-    ∙ ap (λ (b : Bool). if b then Some w else get session_order old (session_of x)) (order_is s (session_of x) ∙ ap (λ (y : history.Session). same_session (session_meant s) y) (meant_of x))
-    ∙ ap (λ (o : Option Statements). if same_session (session_meant s) x then Some w else o) (sym (kept_is old x))
+-- the places once the map has another at one session
+pub place_after : (old new : BTreeMap Session ℕ) (s : Session) (place : ℕ) →
+    ((q : Session) → get session_order new q ≡ (if is_at (session_order s) q then Some place else get session_order old q)) →
+    (x : history.Session) → place_of new.entries x ≡ (if same_session (session_meant s) x then Some place else place_of old.entries x)
+place_after old new s place changed x =
+    place_is new x ∙ changed (session_of x)
+    ∙ ap (λ (b : Bool). if b then Some place else get session_order old (session_of x)) (order_is s (session_of x) ∙ ap (λ (y : history.Session). same_session (session_meant s) y) (meant_of x))
+    ∙ ap (λ (o : Option ℕ). if same_session (session_meant s) x then Some place else o) (sym (place_is old x))

@@ -1,6 +1,5 @@
 -- What the book answers, by what it keeps of each session.
 use Rattle.std.specs.Prelude.{◌≡◌, ℕ, List, Option, Some, None}
-use Rattle.std.specs.Map.{lookup}
 use Rattle.cluster_base.specs.declared.identity.Session.{Session}
 use Rattle.cluster_base.specs.declared.identity.Stmt.{Stmt}
 use Rattle.cluster_base.specs.declared.time.Time.{Time}
@@ -8,9 +7,10 @@ use Rattle.value_compare.specs.declared.words.Reply.{Reply}
 use Rattle.history_model.specs.History as history
 use Rattle.history_model.specs.History.{StatementNumber}
 use Rattle.history_model.specs.Notes as notes
-use Rattle.history_model.specs.Notes.{Note, new_statement, done_before, older_than, same_session, seen}
+use Rattle.history_model.specs.Notes.{Note, new_statement, done_before, older_than, seen}
 use Rattle.session_book.specs.Meanings.{session_meant, number_meant}
 use Rattle.session_book.specs.Statements.{Statements, seen_among}
+use Rattle.session_book.specs.Places.{place_of, statements_at}
 use Rattle.session_book.specs.declared.book.Seen.{Seen}
 use Rattle.session_book.specs.declared.book.Seen.TheVariants.{New, Done, Older}
 use Rattle.session_book.specs.declared.book.Book.{Book}
@@ -24,8 +24,8 @@ abbrev pub note_meant : Stmt → Time → Reply → Note Reply
 note_meant s time reply = record { number = number_meant s; time = time.0; told = reply }
 
 -- what is kept of a session
-abbrev pub kept_of : List (Session × Statements) → history.Session → Option Statements
-kept_of sessions session = lookup (λ s. same_session session (session_meant s)) sessions
+abbrev pub kept_of : Book → history.Session → Option Statements
+kept_of book session = statements_at book.kept.items (place_of book.places.entries session)
 
 abbrev pub seen_of : Option Statements → StatementNumber → notes.Seen Reply
 seen_of None number = new_statement
@@ -37,11 +37,11 @@ room_of (Some kept) = kept.room
 
 -- what a number is against what was noted
 unfoldable pub seen_in : Book → StatementNumber → notes.Seen Reply
-seen_in book number = seen_of (kept_of book.sessions.entries number.session) number
+seen_in book number = seen_of (kept_of book number.session) number
 
 -- for how many more statements of a session there is room
 unfoldable pub room_in : Book → Session → ℕ
-room_in book session = room_of (kept_of book.sessions.entries (session_meant session))
+room_in book session = room_of (kept_of book (session_meant session))
 
 -- these were noted so far, in that order
 abbrev pub NotesAre : Book → List (Note Reply) → Type 0

@@ -1,5 +1,5 @@
 -- What is kept of one session (MongoDB manual, "Server Sessions"): of its greatest transaction the statements that were done.
-use Rattle.std.specs.Prelude.{◌≡◌, ◌≢◌, ◌<◌, ◌≤◌, ℕ, ℤ, List, [], ◌∷◌, length, slice_index_or, Bool, true, false, ◌&&◌, ◌==◌, Option, Some, None, int_lt, if◌then◌else◌}
+use Rattle.std.specs.Prelude.{◌≡◌, ◌≢◌, ◌+◌, ◌<◌, ◌≤◌, ℕ, ℤ, List, [], ◌∷◌, length, slice_index_or, Bool, true, false, ◌&&◌, ◌==◌, Option, Some, None, int_lt, if◌then◌else◌}
 use Rattle.std.specs.Ordering.{int_eq}
 use Rattle.history_model.specs.Notes.{Seen, new_statement, done_before, older_than}
 use Rattle.value_compare.specs.declared.words.Reply.{Reply}
@@ -18,6 +18,21 @@ IsRising notes = (i j : ℕ) (d : Noted) → i < j → j < length notes → (sli
 abbrev pub are_some : List Noted → Bool
 are_some [] = false
 are_some (noted ∷ notes) = true
+
+-- the first statement, and the rest behind it
+abbrev pub notes_with : Option Noted → List Noted → List Noted
+notes_with None rest = rest
+notes_with (Some first) rest = first ∷ rest
+
+-- where there is no first statement, there is room for it
+abbrev pub room_with : Option Noted → ℕ → ℕ
+room_with None room = room + 1
+room_with (Some first) room = room
+
+-- the indexes rise, and behind no first statement there is none
+pub record IsWhole (first : Option Noted) (rest : List Noted) : Type 0 where
+  pub rising : IsRising (notes_with first rest)
+  pub none : first ≡ None → rest ≡ []
 
 -- the first of that index
 abbrev pub with_index : ℕ → List Noted → Option Noted

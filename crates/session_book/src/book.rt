@@ -1,12 +1,14 @@
 //! The book: what a statement is against those that were noted.
 #![tactic(auto, unfolding(crate::specs::Books::seen_in, crate::specs::Books::room_in))]
 
-ghost use Rattle.std.specs.Prelude.{◌≡◌, ◌≢◌, ◌≤◌, ◌+◌, ◌++◌, ◌∷◌, List, [], OnOk};
+ghost use Rattle.std.specs.Prelude.{◌≡◌, ◌≢◌, ◌≤◌, ◌+◌, ◌++◌, ◌∷◌, List, [], Some, None, OnOk, OnErr, if◌then◌else◌};
+ghost use Rattle.history_model.specs.History as history;
 ghost use Rattle.history_model.specs.History.{StatementNumber};
-ghost use Rattle.history_model.specs.Notes.{Note, new_statement, seen_with};
+ghost use Rattle.history_model.specs.Notes.{Note, new_statement, same_session, seen_with};
 ghost use Rattle.cluster_base.specs.declared.identity.Session.{Session};
 ghost use Rattle.value_compare.specs.declared.words.Reply.{Reply};
 ghost use Rattle.session_book.specs.Meanings.{number_meant, session_meant};
+ghost use Rattle.session_book.specs.Places.{AreApart, place_of};
 
 use crate::session::{Kept, Noted};
 use bson_values::Memory;
@@ -31,18 +33,21 @@ pub enum Seen<'a> {
     Older(i64),
 }
 
-/// What each numbered statement was told (MongoDB manual, "Retryable Writes" and "Server Sessions").
+/// What each numbered statement was told (MongoDB manual, "Retryable Writes" and "Server Sessions"). The map has the places of what is
+/// kept of sessions and not what is kept, so that what a search goes through is small.
 ///
 /// A caller reserves for a statement, notes it, and goes on to the next: one `reserve` makes room for one `note`, which then can't
 /// fail.
 #[derive(Drop)]
 pub struct Book {
     alloc: Global,
-    sessions: BTreeMap<Session, Kept>,
+    places: BTreeMap<Session, u32>,
+    kept: Vec<Kept>,
+    ghost apart: { AreApart places.entries kept.items },
 }
 
 impl Book {
-    ghost use Rattle.session_book.specs.Books.{NotesAre, note_meant, room_in, seen_in, seen_meant};
+    ghost use Rattle.session_book.specs.Books.{NotesAre, kept_of, note_meant, room_in, seen_in, seen_meant};
 
     /// A book in which nothing is noted.
     pub fn new(alloc: Global) -> Book
@@ -50,7 +55,8 @@ impl Book {
     {
         Book {
             alloc,
-            sessions: BTreeMap::new(alloc),
+            places: BTreeMap::new(alloc),
+            kept: Vec::new(alloc),
         }
     }
 
@@ -58,8 +64,8 @@ impl Book {
     pub fn look(&self, s: &Stmt) -> Seen
         ensures { seen_meant result ≡ seen_in self.now (number_meant s.now) }
     {
-        match self.sessions.get(&s.session) {
-            Some(kept) => kept.look(s.txn, s.index),
+        match self.places.get(&s.session) {
+            Some(place) => self.kept[*place as usize].look(s.txn, s.index),
             None => Seen::New,
         }
     }
@@ -67,34 +73,51 @@ impl Book {
     /// Makes room for one more statement of its session. Nothing is noted by it, so each number is seen as it was.
     ///
     /// # Errors
-    /// `Memory` for want of memory; each number is seen as it was then too, and no room is lost.
+    /// `Memory` for want of memory, and for a new session where 2^32 are known; each number is seen as it was then too, and no room is lost.
     pub fn reserve(&mut self, s: &Stmt) -> Result<(), Memory>
         ensures room { OnOk result (1 ≤ room_in self.new s.now.session) }
         ensures others { (t : Session) → room_in self.old t ≤ room_in self.new t }
         ensures same { (n : StatementNumber) → seen_in self.new n ≡ seen_in self.old n }
     {
-        if let Some(kept) = self.sessions.get_mut(&s.session) {
+        if let Some(place) = self.places.get(&s.session) {
+            let kept = &mut self.kept[*place as usize];
             return kept.reserve();
         }
-        let kept = Kept::new(self.alloc, s.txn)?;
-        self.sessions.insert(s.session, kept)?;
+        let kept = Kept::new(self.alloc, s.txn);
+        self.begin(s.session, kept)?;
         Ok(())
     }
 
     /// Makes room for so many statements of this one's session. Nothing is noted by it, so each number is seen as it was.
     ///
     /// # Errors
-    /// `Memory` for want of memory; each number is seen as it was then too, and no room is lost.
+    /// `Memory` for want of memory, and for a new session where 2^32 are known; each number is seen as it was then too, and no room is lost.
     pub fn reserve_run(&mut self, s: &Stmt, count: usize) -> Result<(), Memory>
         ensures room { OnOk result (count ≤ room_in self.new s.now.session) }
         ensures others { (t : Session) → room_in self.old t ≤ room_in self.new t }
         ensures same { (n : StatementNumber) → seen_in self.new n ≡ seen_in self.old n }
     {
-        if let Some(kept) = self.sessions.get_mut(&s.session) {
+        if let Some(place) = self.places.get(&s.session) {
+            let kept = &mut self.kept[*place as usize];
             return kept.reserve_run(count);
         }
         let kept = Kept::with_room(self.alloc, s.txn, count)?;
-        self.sessions.insert(s.session, kept)?;
+        self.begin(s.session, kept)?;
+        Ok(())
+    }
+
+    // Keeps this of a session of which nothing is kept. Fails for want of memory, and where 2^32 are known; then all is as it was.
+    fn begin(&mut self, s: Session, kept: Kept) -> Result<(), Memory>
+        requires { place_of self.old.places.entries (session_meant s) ≡ None }
+        ensures ok { OnOk result ((x : history.Session) → kept_of self.new x ≡ (if same_session (session_meant s) x then Some kept else kept_of self.old x)) }
+        ensures err { OnErr result ((x : history.Session) → kept_of self.new x ≡ kept_of self.old x) }
+    {
+        let Ok(place) = u32::try_from(self.kept.len()) else {
+            return Err(Memory);
+        };
+        self.kept.reserve(1)?;
+        self.places.insert(s, place)?;
+        self.kept.push_reserved(kept);
         Ok(())
     }
 
@@ -107,7 +130,8 @@ impl Book {
         ensures room { (t : Session) → room_in self.old t ≤ room_in self.new t + 1 }
         ensures other_rooms { (t : Session) → session_meant t ≢ session_meant s.now.session → room_in self.old t ≤ room_in self.new t }
     {
-        if let Some(kept) = self.sessions.get_mut(&s.session) {
+        if let Some(place) = self.places.get(&s.session) {
+            let kept = &mut self.kept[*place as usize];
             kept.note(
                 s.txn,
                 Noted {

@@ -1,10 +1,11 @@
 //! What is kept of one session.
 
-ghost use Rattle.std.specs.Prelude.{◌≡◌, ◌<◌, ◌≤◌, ◌+◌, ℕ, ℤ, [], None, IfOk, IfErr, OnOk};
+ghost use Rattle.std.specs.Prelude.{◌≡◌, ◌<◌, ◌≤◌, ◌+◌, ◌==◌, ℕ, ℤ, [], Some, None, IfOk, IfErr, OnOk, if◌then◌else◌};
 ghost use Rattle.std.specs.List.{insert};
+ghost use Rattle.std.specs.Option.{option_map};
 ghost use Rattle.std.specs.Vec.{vec_capacity, vec_len};
 ghost use Rattle.history_model.specs.Notes.{new_statement};
-ghost use Rattle.session_book.specs.Statements.{Holds, IsGapFor, notes_in, seen_after, seen_among, seen_as, with_index};
+ghost use Rattle.session_book.specs.Statements.{Holds, IsGapFor, IsRising, notes_in, seen_after, seen_among, with_index};
 ghost use Rattle.session_book.specs.Books.{seen_meant};
 
 use crate::book::Seen;
@@ -25,36 +26,41 @@ pub struct Noted {
     pub reply: Reply,
 }
 
-/// The statements that were done in the greatest transaction of a session, by their index.
+/// The statements that were done in the greatest transaction of a session, by their index. The first stands apart, since most sessions
+/// have no other: a look at it then reaches no other memory.
 #[derive(Drop)]
 pub struct Kept {
     txn: i64,
-    noted: Vec<Noted>,
+    first: Option<Noted>,
+    rest: Vec<Noted>,
 }
 
 impl Model for Kept {
     ghost use Rattle.std.specs.Prelude.{◌-◌};
     ghost use Rattle.std.specs.Vec.{vec_capacity, vec_len};
-    ghost use Rattle.session_book.specs.Statements.{IsRising, Statements};
+    ghost use Rattle.session_book.specs.Statements.{IsWhole, Statements, notes_with, room_with};
     ghost use Rattle.session_book.specs.Code.{statements_code};
 
     ghost Value = { Statements };
 
     ghost coded = { statements_code };
 
-    ghost view = { λ k. record { transaction = k.txn; notes = k.noted.items; room = vec_capacity k.noted - vec_len k.noted } };
+    ghost view = { λ k. record { transaction = k.txn; notes = notes_with k.first k.rest.items; room = room_with k.first (vec_capacity k.rest - vec_len k.rest) } };
 
-    ghost invariant = { λ k. IsRising k.noted.items };
+    ghost invariant = { λ k. IsWhole k.first k.rest.items };
 }
 
 impl Kept {
-    /// A session in which nothing was done yet, with room for a statement. Fails for want of memory.
-    pub fn new(alloc: Global, txn: i64) -> Result<Kept, Memory>
-        ensures none { IfOk result (λ k. k.notes ≡ []) }
-        ensures room { IfOk result (λ k. 1 ≤ k.room) }
+    /// A session in which nothing was done yet, with room for a statement.
+    pub fn new(alloc: Global, txn: i64) -> Kept
+        ensures none { result.notes ≡ [] }
+        ensures room { 1 ≤ result.room }
     {
-        let noted = Vec::with_capacity(alloc, 1)?;
-        Ok(Kept { txn, noted })
+        Kept {
+            txn,
+            first: None,
+            rest: Vec::new(alloc),
+        }
     }
 
     /// A session in which nothing was done yet, with room for so many statements. Fails for want of memory.
@@ -62,36 +68,41 @@ impl Kept {
         ensures none { IfOk result (λ k. k.notes ≡ []) }
         ensures room { IfOk result (λ k. count ≤ k.room) }
     {
-        let noted = Vec::with_capacity(alloc, count)?;
-        Ok(Kept { txn, noted })
+        let rest = Vec::with_capacity(alloc, count.saturating_sub(1))?;
+        Ok(Kept {
+            txn,
+            first: None,
+            rest,
+        })
     }
 
     /// What a statement of the session is.
     pub fn look(&self, txn: i64, index: u32) -> Seen
         ensures { seen_meant result ≡ seen_among self.now txn index }
     {
-        if txn < self.txn && !self.noted.is_empty() {
+        if txn < self.txn && self.first.is_some() {
             return Seen::Older(self.txn);
         }
         if txn != self.txn {
             return Seen::New;
         }
-        self.done(index)
+        match self.find(index) {
+            Some(noted) => Seen::Done {
+                time: noted.time,
+                reply: &noted.reply,
+            },
+            None => Seen::New,
+        }
     }
 
-    // What a statement of the greatest transaction is.
-    fn done(&self, index: u32) -> Seen
-        ensures { seen_meant result ≡ seen_as (with_index index self.now.notes) }
+    // The statement of that index of the greatest transaction.
+    fn find(&self, index: u32) -> Option<&Noted>
+        ensures { option_map (λ n. n.now) result ≡ with_index index self.now.notes }
     {
-        match self.place(index) {
-            Ok(at) => {
-                let noted = &self.noted[at];
-                Seen::Done {
-                    time: noted.time,
-                    reply: &noted.reply,
-                }
-            }
-            Err(_) => Seen::New,
+        match &self.first {
+            None => None,
+            Some(first) if first.index == index => Some(first),
+            Some(_) => find_among(&self.rest, index),
         }
     }
 
@@ -102,7 +113,7 @@ impl Kept {
         ensures transaction { self.new.transaction ≡ self.old.transaction }
         ensures notes { self.new.notes ≡ self.old.notes }
     {
-        self.noted.reserve(1)?;
+        self.rest.reserve(1)?;
         Ok(())
     }
 
@@ -113,7 +124,7 @@ impl Kept {
         ensures transaction { self.new.transaction ≡ self.old.transaction }
         ensures notes { self.new.notes ≡ self.old.notes }
     {
-        self.noted.reserve(count)?;
+        self.rest.reserve(count)?;
         Ok(())
     }
 
@@ -125,8 +136,7 @@ impl Kept {
         ensures room { self.old.room ≤ self.new.room + 1 }
     {
         self.begin(txn);
-        let at = self.gap(noted.index);
-        put(&mut self.noted, at, noted);
+        self.put(noted);
     }
 
     // Goes on to that transaction, where it is another than the one so far.
@@ -136,33 +146,70 @@ impl Kept {
         ensures room { self.old.room ≤ self.new.room }
     {
         if txn != self.txn {
-            self.noted.clear();
+            self.first = None;
+            self.rest.clear();
             self.txn = txn;
         }
     }
 
-    // Where a statement would go whose index none has.
-    fn gap(&self, index: u32) -> usize
-        requires { with_index index self.now.notes ≡ None }
-        ensures { IsGapFor self.now.notes index result }
+    // Puts a statement whose index none has, where there is room.
+    fn put(&mut self, noted: Noted)
+        requires room { 1 ≤ self.old.room }
+        requires new { with_index noted.index self.old.notes ≡ None }
+        ensures notes { (i : ℕ) → with_index i self.new.notes ≡ (if noted.index == i then Some noted else with_index i self.old.notes) }
+        ensures transaction { self.new.transaction ≡ self.old.transaction }
+        ensures room { self.old.room ≤ self.new.room + 1 }
     {
-        match self.place(index) {
-            Ok(at) => at,
-            Err(at) => at,
+        match self.first.take() {
+            None => self.first = Some(noted),
+            Some(first) => {
+                if noted.index < first.index {
+                    self.first = Some(noted);
+                    put_at(&mut self.rest, 0, first);
+                } else {
+                    self.first = Some(first);
+                    let at = gap_among(&self.rest, noted.index);
+                    put_at(&mut self.rest, at, noted);
+                }
+            }
         }
-    }
-
-    // Where the statement of that index stands, or where it would go.
-    fn place(&self, index: u32) -> Result<usize, usize>
-        ensures found { IfOk result (Holds self.now.notes index) }
-        ensures absent { IfErr result (IsGapFor self.now.notes index) }
-    {
-        self.noted.binary_search_by_key(&index, |noted| noted.index)
     }
 }
 
+// The statement of that index.
+fn find_among(notes: &[Noted], index: u32) -> Option<&Noted>
+    requires { IsRising notes.now }
+    ensures { option_map (λ n. n.now) result ≡ with_index index notes.now }
+{
+    match place_among(notes, index) {
+        Ok(at) => Some(&notes[at]),
+        Err(_) => None,
+    }
+}
+
+// Where a statement would go whose index none has.
+fn gap_among(notes: &[Noted], index: u32) -> usize
+    requires rising { IsRising notes.now }
+    requires none { with_index index notes.now ≡ None }
+    ensures { IsGapFor notes.now index result }
+{
+    match place_among(notes, index) {
+        Ok(at) => at,
+        Err(at) => at,
+    }
+}
+
+// Where the statement of that index stands, or where it would go.
+fn place_among(notes: &[Noted], index: u32) -> Result<usize, usize>
+    requires { IsRising notes.now }
+    ensures found { IfOk result (Holds notes.now index) }
+    ensures absent { IfErr result (IsGapFor notes.now index) }
+{
+    notes.binary_search_by_key(&index, |noted| noted.index)
+}
+
 // Puts a statement at its place, where there is room.
-fn put(notes: &mut Vec<Noted>, at: usize, noted: Noted)
+fn put_at(notes: &mut Vec<Noted>, at: usize, noted: Noted)
     requires place { at ≤ vec_len notes.old }
     requires room { vec_len notes.old < vec_capacity notes.old }
     ensures items { notes.new.items ≡ insert notes.old.items at noted }

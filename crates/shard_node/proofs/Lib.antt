@@ -1,3 +1,4 @@
+pub mod HalvesTold
 pub mod UpsertedKeys
 pub mod Planned
 pub mod Writing

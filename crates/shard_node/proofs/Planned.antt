@@ -1,17 +1,15 @@
 -- Rows that write nothing, as plans.
-use Rattle.std.proofs.Common.{◌≡◌, ◌≤◌, ◌+◌, ℕ, List, [], ◌∷◌, ◌++◌, refl, sym, ap, subst, ◌∙◌, arith, length, append_assoc}
+use Rattle.std.proofs.Common.{◌≡◌, ◌≤◌, ◌+◌, ℕ, List, [], ◌∷◌, ◌++◌, refl, sym, ap, subst, ◌∙◌, arith, length}
 use Rattle.std.specs.Prelude.{map, filter, Option, Some, None, Result, Ok, Err, IfOk, ◌==◌, Bool, true, false, if◌then◌else◌}
 use Rattle.node_traits.specs.Ids.{id_meant}
 use Rattle.protocol_model.specs.declared.message.Message.{Message}
-use Rattle.bson_values.specs.Tree.{Datum, Fields}
-use Rattle.node_model.specs.History.{Entry, document_at}
+use Rattle.node_model.specs.History.{Entry}
 use Rattle.std.proofs.Math.Nat.{le-max_left}
 use Rattle.std.proofs.lemmas.Bool.{eqb-true}
 use Rattle.std.specs.List.{AllByRecursion}
 use Rattle.chunk_table.specs.Tables.{table_of}
 use Rattle.chunk_table.specs.Verdicts.{Sent, fits, verdict_of}
-use Rattle.node_model.specs.Right.{found}
-use Rattle.node_model.specs.Service.{documents_at, IsHalf, Serves, serves_no_more, serves_again, serves_new, ends_again, ends_new, entry_for}
+use Rattle.node_model.specs.Service.{Serves, serves_no_more, serves_again, serves_new, ends_again, ends_new, entry_for}
 use Rattle.node_model.specs.Times.{time_of_moment}
 use Rattle.node_traits.specs.Exchanges.{RequestId}
 use Rattle.node_traits.specs.Effects.{AreSound, puts_of, spellings}
@@ -22,11 +20,12 @@ use Rattle.shard_records.specs.Records.{record_of}
 use Rattle.shard_records.specs.RecordFormat.{spelled, IsSound}
 use Rattle.shard_node.specs.Writes.{AreKept, spellings_of}
 use Rattle.node_traits.specs.Letters as letters
-use Rattle.node_traits.specs.Letters.{Letter, Body, Input, letter_input, table_told, write_ask, write_done, Effect, sends, writes, nothing, key_half}
-use Rattle.node_traits.specs.ShardRows.{Ask, AsksNothing, ShardRow, shard_write, shard_repeat, shard_empty, shard_park, shard_waits, shard_stale, shard_read, shard_rows, shard_time, shard_learn, shard_known, shard_skip, shard_moment, shard_opened, shard_client, at_later, heard, says, ask_in, asks_again, asks_table}
+use Rattle.node_traits.specs.Letters.{Letter, Body, Input, letter_input, table_told, write_ask, write_done, Effect, sends, writes, nothing}
+use Rattle.command_answers.specs.Kinds.{given_meant}
+use Rattle.node_traits.specs.ShardRows.{Ask, AsksNothing, ShardRow, shard_write, shard_repeat, shard_empty, shard_park, shard_waits, shard_stale, shard_read, shard_rows, shard_excess, shard_overflow, shard_time, shard_learn, shard_known, shard_skip, shard_moment, shard_opened, shard_client, at_later, heard, says, ask_in, asks_again, asks_table}
 use Rattle.node_traits.specs.States.{Shard, shard_state}
 use Rattle.chunk_table.specs.VerdictMeanings.{sent_meant}
-use Rattle.protocol_model.specs.Bodies.{at_meant, body_meant, half_meant, table_told_meant}
+use Rattle.protocol_model.specs.Bodies.{at_meant, body_meant, table_told_meant}
 use Rattle.protocol_model.specs.Statements.{statement_meant}
 use Rattle.protocol_model.specs.declared.body.Body as bodies
 use Rattle.protocol_model.specs.declared.body.Body.TheVariants as variants
@@ -39,8 +38,6 @@ use Rattle.shard_node.specs.declared.node.ShardNode.{ShardNode}
 use Rattle.std.specs.Arc.{arc_value}
 use Rattle.std.specs.Option.{option_map}
 use Rattle.protocol_model.specs.Messages.{letter_of}
-use Rattle.protocol_model.specs.declared.reads.Half.{Half}
-use Rattle.protocol_model.specs.declared.reads.Half.TheVariants.{Key}
 use Rattle.shard_node.specs.Plans.{changed, after, FollowsBy, IsPlanned, IsStep}
 use Rattle.shard_node.specs.declared.plan.Change.{Change}
 use Rattle.shard_node.specs.declared.plan.Change.TheVariants.{Nothing, Park, Learn, Write}
@@ -80,14 +77,6 @@ pub told_planned : (s : Shard) (i : Input) (p : Plan) (to t time : ℕ) (body : 
 told_planned s i p to t time body l timed is none unwritten sent said row =
     sends_planned s i p time (says s to time body ∷ []) (timed ∙ is) none unwritten
     (sym (sent ∙ ap (λ (x : Letter). x ∷ []) (said ∙ ap (λ (u : ℕ). says s to u body) is))) row
-
-pub is_half : (half : Half) (documents : List Fields) → IsHalf (half_meant half) documents documents
-is_half (Key value) documents = refl
-
--- the documents of a half that shows those under a value
-pub documents_under : (entries : List Entry) (namespace : List ℕ) (at : ℕ) (half : letters.Half) (d : Datum) → half ≡ key_half d →
-    found (document_at entries namespace (Some d) at) ≡ documents_at entries namespace at half
-documents_under entries namespace at half d is = ap (λ (h : letters.Half). documents_at entries namespace at h) (sym is)
 
 -- the tables that are asked again, message by message
 pub again_cons : (s : Shard) (time : ℕ) (m : Letter) (parked : List Letter) → asks_again s time (m ∷ []) ++ asks_again s time parked ≡ asks_again s time (m ∷ parked)
@@ -155,7 +144,9 @@ row_later _ _ _ _ (shard_park s m a ask unseen old new) = le-max_left s.time m.t
 row_later _ _ _ _ (shard_waits s m a ask unseen old known) = le-max_left s.time m.time
 row_later _ _ _ _ (shard_stale s m a met ask unseen old) = le-max_left s.time m.time
 row_later _ _ _ _ (shard_read s m id turn namespace at half sent body fits_it) = le-max_left s.time m.time
-row_later _ _ _ _ (shard_rows s m id turn namespace at half documents rows body is) = le-max_left s.time m.time
+row_later _ _ _ _ (shard_rows s m id turn namespace at half documents rows body is fewer) = le-max_left s.time m.time
+row_later _ _ _ _ (shard_excess s m id turn namespace at half documents rows length n body is more told) = le-max_left s.time m.time
+row_later _ _ _ _ (shard_overflow s m id turn namespace at half documents body over) = le-max_left s.time m.time
 row_later _ _ _ _ (shard_time s m id body) = le-max_left s.time m.time
 row_later _ _ _ _ (shard_learn s m namespace create at t body news) = le-max_left s.time m.time
 row_later _ _ _ _ (shard_known s m namespace create at table body known) = le-max_left s.time m.time
@@ -214,10 +205,10 @@ empty_planned s m p ask body is none said timed still unwritten unsent =
     quiet_planned s (letter_input m) p (heard s m) timed still unwritten unsent
     (shard_empty s m (id_meant ask.id) ask.turn ask.ordered ask.namespace (sent_meant ask.sent)
     (said ∙ ap (λ (b : bodies.Body). body_meant b) is
-    ∙ ap (λ (xs : List Asked). write_ask (id_meant ask.id) ask.turn ask.ordered ask.namespace (map (statement_meant (id_meant ask.id)) xs) (sent_meant ask.sent))
+    ∙ ap (λ (xs : List Asked). write_ask (id_meant ask.id) ask.turn ask.ordered ask.namespace (map (statement_meant (given_meant ask.number) (id_meant ask.id)) xs) (sent_meant ask.sent))
     (no_statement ask.statements.items (ap (λ (b : bodies.Body). ask_in (body_meant b)) (sym is) ∙ none))))
   where
-    no_statement : (items : List Asked) → ask_in (write_ask (id_meant ask.id) ask.turn ask.ordered ask.namespace (map (statement_meant (id_meant ask.id)) items) (sent_meant ask.sent)) ≡ None
+    no_statement : (items : List Asked) → ask_in (write_ask (id_meant ask.id) ask.turn ask.ordered ask.namespace (map (statement_meant (given_meant ask.number) (id_meant ask.id)) items) (sent_meant ask.sent)) ≡ None
         → items ≡ []
     no_statement [] e = refl
     no_statement (x ∷ items) e = absurd cc

@@ -1,5 +1,5 @@
 -- Statements that are served one after another.
-use Rattle.std.proofs.Common.{◌≡◌, ◌≢◌, ◌≤◌, ◌<◌, ℕ, suc, ◌+◌, List, [], ◌∷◌, ◌++◌, refl, sym, ap, subst, ◌∙◌, append_assoc, append-nil, arith, drop, get_or, length, map, Bool, true, false}
+use Rattle.std.proofs.Common.{◌≡◌, ◌≢◌, ◌≤◌, ◌<◌, ℕ, ◌+◌, List, [], ◌∷◌, ◌++◌, refl, sym, ap, subst, ◌∙◌, append_assoc, append-nil, arith, get_or, length, map, Bool, true, false}
 use Rattle.std.specs.Prelude.{Option, Some, None, not}
 use Rattle.std.specs.List.{AllByRecursion}
 use Rattle.std.specs.Option.{option_map}
@@ -14,6 +14,7 @@ use Rattle.chunk_table.specs.Verdicts.{Sent, fits, verdict_of}
 use Rattle.node_traits.specs.Letters.{Statement, write_ask}
 use Rattle.node_traits.specs.ShardRows.{Ask, ask_in}
 use Rattle.node_traits.specs.Outcomes.{Done, done_of}
+use Rattle.command_model.specs.Writes.{ClientNumber}
 use Rattle.shard_store.specs.Plans.{IsServed, served_again, served_new, left_for_later}
 use Rattle.protocol_model.specs.Statements as rust
 use Rattle.node_traits.specs.Exchanges.{RequestId, number_for}
@@ -68,12 +69,12 @@ module _ (shard : ℕ) (namespace : List ℕ) (ordered : Bool) (entries : List E
   one_more : (s : Statement) (left : List Statement) (dones : List Done) (made : List Entry) (now : ℕ) (more : List Entry) (after : ℕ) (o : Option Done) (d : Done)
       → GoesOn shard namespace ordered entries start all (s ∷ left) dones made now → IsServed shard namespace (entries ++ made) now s o more after → o ≡ Some d
       → ends ordered d ≡ false → GoesOn shard namespace ordered entries start all left (dones ++ d ∷ []) (made ++ more) after
-  one_more s left dones made now more after o d goes (served_again e seen) is on =
-      let same : done_of e ≡ d = cc in
+  one_more s left dones made now more after o d goes (served_again told seen) is on =
+      let same : told ≡ d = cc in
       subst (λ (x : Done). GoesOn shard namespace ordered entries start all left (dones ++ x ∷ []) (made ++ []) now) same
-      (behind left dones made (done_of e) [] now
-      (λ ds further last then. goes.on (done_of e ∷ ds) further last
-      (serves_again (entries ++ made) now s left e ds further last seen (subst (λ (x : Done). ends ordered x ≡ false) (sym same) on)
+      (behind left dones made told [] now
+      (λ ds further last then. goes.on (told ∷ ds) further last
+      (serves_again (entries ++ made) now s left told ds further last seen (subst (λ (x : Done). ends ordered x ≡ false) (sym same) on)
       (subst (λ (x : List Entry). Serves shard namespace ordered x now left ds further last) (append-nil (entries ++ made)) then))))
   one_more s left dones made now more after o d goes (served_new unseen) is on =
       let e = entry_for (entries ++ made) (now + 1) shard namespace s in
@@ -87,10 +88,10 @@ module _ (shard : ℕ) (namespace : List ℕ) (ordered : Bool) (entries : List E
   last_one : (s : Statement) (left : List Statement) (dones : List Done) (made : List Entry) (now : ℕ) (more : List Entry) (after : ℕ) (o : Option Done) (d : Done)
       → GoesOn shard namespace ordered entries start all (s ∷ left) dones made now → IsServed shard namespace (entries ++ made) now s o more after → o ≡ Some d
       → ends ordered d ≡ true → Serves shard namespace ordered entries start all (dones ++ d ∷ []) (made ++ more) after
-  last_one s left dones made now more after o d goes (served_again e seen) is on =
-      let same : done_of e ≡ d = cc in
+  last_one s left dones made now more after o d goes (served_again told seen) is on =
+      let same : told ≡ d = cc in
       subst (λ (x : Done). Serves shard namespace ordered entries start all (dones ++ x ∷ []) (made ++ []) now) same
-      (goes.on (done_of e ∷ []) [] now (ends_again (entries ++ made) now s left e seen (subst (λ (x : Done). ends ordered x ≡ true) (sym same) on)))
+      (goes.on (told ∷ []) [] now (ends_again (entries ++ made) now s left told seen (subst (λ (x : Done). ends ordered x ≡ true) (sym same) on)))
   last_one s left dones made now more after o d goes (served_new unseen) is on =
       let e = entry_for (entries ++ made) (now + 1) shard namespace s in
       let same : done_of e ≡ d = cc in
@@ -171,40 +172,36 @@ pub not_none : {X : Type 0} (items : List X) → 1 ≤ length items → items �
 not_none [] some none = absurd (omega (arith, some))
 not_none (x ∷ items) some none = absurd cc
 
--- the first statement of an ask was seen before
-pub repeats_first : (ordered : Bool) (entries : List Entry) (id : RequestId) (items seen : List Asked) (x : Asked) (d : Done) → seen ≡ items → 0 < length seen → x ≡ get_or seen 0 x
-    → Some d ≡ option_map done_of (seen_before (number_for id x.index) entries) → Repeats ordered entries (map (rust.statement_meant id) items) (d ∷ [])
-repeats_first ordered entries id items seen x d same some first told =
-    subst (λ (l : List Asked). Repeats ordered entries (map (rust.statement_meant id) l) (d ∷ [])) same (by_list seen some first)
+-- what the first statement of an ask is told unless it is new
+pub repeats_first : (ordered : Bool) (entries : List Entry) (given : Option ClientNumber) (id : RequestId) (items seen : List Asked) (x : Asked) (d : Done) → seen ≡ items →
+    0 < length seen → x ≡ get_or seen 0 x → Some d ≡ seen_before (number_for given id x.index) entries →
+    Repeats ordered entries (map (rust.statement_meant given id) items) (d ∷ [])
+repeats_first ordered entries given id items seen x d same some first told =
+    subst (λ (l : List Asked). Repeats ordered entries (map (rust.statement_meant given id) l) (d ∷ [])) same (by_list seen some first)
   where
-    by_end : (s : Statement) (rest : List Statement) (e : Entry) (b : Bool) → seen_before s.number entries ≡ Some e → ends ordered (done_of e) ≡ b
-        → Repeats ordered entries (s ∷ rest) (done_of e ∷ [])
-    by_end s rest e true before on = ends_repeat s rest e before on
-    by_end s rest e false before on = repeats s rest e [] before on (repeats_no_more rest)
+    by_end : (s : Statement) (rest : List Statement) (b : Bool) → seen_before s.number entries ≡ Some d → ends ordered d ≡ b → Repeats ordered entries (s ∷ rest) (d ∷ [])
+    by_end s rest true before on = ends_repeat s rest d before on
+    by_end s rest false before on = repeats s rest d [] before on (repeats_no_more rest)
 
-    by_seen : (s : Statement) (rest : List Statement) (o : Option Entry) → seen_before s.number entries ≡ o → Some d ≡ option_map done_of o → Repeats ordered entries (s ∷ rest) (d ∷ [])
-    by_seen s rest None before is = absurd cc
-    by_seen s rest (Some e) before is =
-        let one : done_of e ≡ d = cc in
-        subst (λ (y : Done). Repeats ordered entries (s ∷ rest) (y ∷ [])) one (by_end s rest e (ends ordered (done_of e)) before refl)
-
-    by_list : (l : List Asked) → 0 < length l → x ≡ get_or l 0 x → Repeats ordered entries (map (rust.statement_meant id) l) (d ∷ [])
+    by_list : (l : List Asked) → 0 < length l → x ≡ get_or l 0 x → Repeats ordered entries (map (rust.statement_meant given id) l) (d ∷ [])
     by_list [] here is = absurd (omega (arith, here))
     by_list (y ∷ l) here is =
-        subst (λ (z : Asked). Repeats ordered entries (rust.statement_meant id z ∷ map (rust.statement_meant id) l) (d ∷ [])) is
-        (by_seen (rust.statement_meant id x) (map (rust.statement_meant id) l) (seen_before (number_for id x.index) entries) refl told)
+        subst (λ (z : Asked). Repeats ordered entries (rust.statement_meant given id z ∷ map (rust.statement_meant given id) l) (d ∷ [])) is
+        (by_end (rust.statement_meant given id x) (map (rust.statement_meant given id) l) (ends ordered d) (sym told) refl)
 
 -- an ask of statements whose table does not fit
-pub not_fitting : (me : ℕ) (tables : List Table) (id : RequestId) (turn : ℕ) (ordered : Bool) (namespace : List ℕ) (items seen : List Asked) (sent : Sent) → seen ≡ items → 0 < length seen
-    → ((a : Ask) → ask_in (write_ask id turn ordered namespace (map (rust.statement_meant id) items) sent) ≡ Some a → verdict_of a.sent me (table_of a.namespace tables) ≢ fits)
+pub not_fitting : (me : ℕ) (tables : List Table) (given : Option ClientNumber) (id : RequestId) (turn : ℕ) (ordered : Bool) (namespace : List ℕ) (items seen : List Asked)
+    (sent : Sent) → seen ≡ items → 0 < length seen
+    → ((a : Ask) → ask_in (write_ask id turn ordered namespace (map (rust.statement_meant given id) items) sent) ≡ Some a → verdict_of a.sent me (table_of a.namespace tables) ≢ fits)
     → verdict_of sent me (table_of namespace tables) ≢ fits
-not_fitting me tables id turn ordered namespace items seen sent same some old =
+not_fitting me tables given id turn ordered namespace items seen sent same some old =
     by_list seen some
-    (subst (λ (l : List Asked). (a : Ask) → ask_in (write_ask id turn ordered namespace (map (rust.statement_meant id) l) sent) ≡ Some a → verdict_of a.sent me (table_of a.namespace tables) ≢ fits)
-    (sym same) old)
+    (subst (λ (l : List Asked). (a : Ask) → ask_in (write_ask id turn ordered namespace (map (rust.statement_meant given id) l) sent) ≡ Some a
+    → verdict_of a.sent me (table_of a.namespace tables) ≢ fits) (sym same) old)
   where
     by_list : (l : List Asked) → 0 < length l
-        → ((a : Ask) → ask_in (write_ask id turn ordered namespace (map (rust.statement_meant id) l) sent) ≡ Some a → verdict_of a.sent me (table_of a.namespace tables) ≢ fits)
+        → ((a : Ask) → ask_in (write_ask id turn ordered namespace (map (rust.statement_meant given id) l) sent) ≡ Some a → verdict_of a.sent me (table_of a.namespace tables) ≢ fits)
         → verdict_of sent me (table_of namespace tables) ≢ fits
     by_list [] here h = absurd (omega (arith, here))
-    by_list (y ∷ l) here h = h (record { id = id; turn = turn; first = Some y.index; namespace = namespace; sent = sent }) refl
+    by_list (y ∷ l) here h =
+        h (record { id = id; turn = turn; first = Some (rust.statement_meant given id y).number.index; namespace = namespace; sent = sent }) refl

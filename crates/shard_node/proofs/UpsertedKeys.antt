@@ -12,7 +12,7 @@ use Rattle.query_model.specs.Edits.{WriteFault, too_large_fault, ◌>>=◌, is_t
 use Rattle.query_model.specs.Holds.{holds}
 use Rattle.query_model.specs.Queries.{QueryFault}
 use Rattle.query_model.specs.Writes.{Write, insert_write, update_write, delete_write}
-use Rattle.query_model.specs.Effects.{Effect, inserted, unmet, updated, upserted_with, deleted, not_met, effect_of}
+use Rattle.query_model.specs.Effects.{inserted, unmet, updated, upserted_with, deleted, not_met, effect_of}
 use Rattle.command_model.proofs.Inside.{got_inside}
 use Rattle.shard_records.specs.RecordFormat.{key_document}
 use Rattle.shard_records.specs.Sizes.{IsWritableKey}

@@ -3,10 +3,12 @@ use Rattle.std.proofs.Common.{◌≡◌, ◌≢◌, ◌+◌, ℕ, List, [], ◌�
 use Rattle.std.specs.Prelude.{Option, Some, None}
 use Rattle.cluster_base.specs.declared.identity.RequestId.{RequestId}
 use Rattle.cluster_base.specs.declared.identity.Stmt.{Stmt}
-use Rattle.node_model.specs.Outcomes.{Done, done_of}
+use Rattle.command_answers.specs.Kinds.{given_meant}
+use Rattle.command_answers.specs.declared.answer.ClientNumber.{ClientNumber}
+use Rattle.node_model.specs.Outcomes.{Done, done_of, outcome_in, was_done}
 use Rattle.node_model.specs.Service.{entry_for}
 use Rattle.node_traits.specs.Exchanges.{number_for}
-use Rattle.node_traits.specs.History.{Operation, Entry, document_left, key_written}
+use Rattle.node_traits.specs.History.{Operation, Outcome, Entry, document_left, key_written}
 use Rattle.node_traits.specs.Ids.{id_meant}
 use Rattle.node_traits.specs.Letters.{Statement}
 use Rattle.node_traits.specs.Lists.{listed}
@@ -15,13 +17,18 @@ use Rattle.shard_records.specs.Meanings as words
 use Rattle.shard_records.specs.Records.{Record, entry_record, outcome_words, record_of}
 use Rattle.shard_records.specs.RecordFormat.{spelled, IsSound}
 use Rattle.shard_records.specs.Sizes.{IsWritableKey}
+use Rattle.shard_store.proofs.Seen.{number_is}
 use Rattle.shard_store.specs.Outcomes.{outcome_meant, done_meant, statement_of}
 use Rattle.shard_store.specs.Plans.{IsServed, served_again, served_new, left_for_later, made_by}
 use Rattle.shard_store.specs.declared.outcome.EntryResult.{EntryResult}
+use Rattle.shard_store.specs.declared.outcome.StatementAnswer.TheVariants.{WasDone}
 use Rattle.shard_store.specs.declared.plan.Plan.{Plan}
 use Rattle.shard_node.specs.declared.writes.StatementResult.{StatementResult}
 use Rattle.shard_node.proofs.UpsertedKeys.{short_key}
 use Rattle.shard_node.specs.Writes.{entry_record_of, AreKept, IsStep}
+
+done_parts : (s t : ℕ) (a b : Outcome) → was_done s a ≡ was_done t b → (s ≡ t) × (a ≡ b)
+done_parts s t a b same = (cc, cc)
 
 module _ (shard : ℕ) (namespace : List ℕ) (entries : List Entry) (time : ℕ) (s : Statement) where
   never_later : (t : ℕ) → t ≡ t + 1 → ⊥
@@ -35,49 +42,71 @@ module _ (shard : ℕ) (namespace : List ℕ) (entries : List Entry) (time : ℕ
 
   -- where one was, the key that is told is short
   pub told_short : (o : Option Done) (more : List Entry) (after : ℕ) (index : ℕ) (told : EntryResult) → IsServed shard namespace entries time s o more after → after ≢ time →
-      o ≡ Some (done_meant index told) → IsWritableKey (outcome_meant told.outcome).upserted
+      o ≡ Some (done_meant index (WasDone told)) → IsWritableKey (outcome_meant told.outcome).upserted
   told_short o more after index told (served_again e seen) later is = absurd (later refl)
   told_short o more after index told left_for_later later is = absurd (later refl)
   told_short o more after index told (served_new unseen) later is =
-      let same : done_of (entry_for entries (time + 1) shard namespace s) ≡ done_meant index told = cc in
-      short_key s.operation (document_left namespace (key_written s.operation) entries) (outcome_meant told.outcome) (sym (ap (λ (d : Done). d.outcome) same))
+      let same : done_of (entry_for entries (time + 1) shard namespace s) ≡ done_meant index (WasDone told) = cc in
+      short_key s.operation (document_left namespace (key_written s.operation) entries) (outcome_meant told.outcome) (sym (ap (λ (d : Done). outcome_in d.answer) same))
 
   -- where one was, the entry is what was told
   pub kept_one : (o : Option Done) (more : List Entry) (after : ℕ) (index : ℕ) (told : EntryResult) (statement : Stmt) (operation : Operation) (bytes : List ℕ) →
-      IsServed shard namespace entries time s o more after → after ≢ time → o ≡ Some (done_meant index told) → words.number_meant statement ≡ s.number →
+      IsServed shard namespace entries time s o more after → after ≢ time → o ≡ Some (done_meant index (WasDone told)) → words.number_meant statement ≡ s.number →
       s.operation ≡ operation → bytes ≡ spelled 1 (entry_record_of told namespace statement operation) → IsSound (entry_record_of told namespace statement operation) →
       AreKept more (bytes ∷ [])
   kept_one o more after index told statement operation bytes (served_again e seen) later is number same_words spells sound = absurd (later refl)
   kept_one o more after index told statement operation bytes left_for_later later is number same_words spells sound = absurd (later refl)
   kept_one o more after index told statement operation bytes (served_new unseen) later is number same_words spells sound =
       let e = entry_for entries (time + 1) shard namespace s in
-      let same : done_of e ≡ done_meant index told = cc in
+      let same : done_of e ≡ done_meant index (WasDone told) = cc in
+      let parts = done_parts e.time told.time.0 e.outcome (outcome_meant told.outcome) (ap (λ (d : Done). d.answer) same) in
       let r : record_of e ≡ entry_record_of told namespace statement operation =
       λ i. entry_record (record {
-        time = (same i).time;
+        time = parts.0 i;
         namespace = namespace;
         number = sym number i;
         operation = same_words i;
-        outcome = outcome_words (same i).outcome;
+        outcome = outcome_words (parts.1 i);
       }) in
       record {
         spelled = ap (λ (b : List ℕ). b ∷ []) (spells ∙ ap (λ (x : Record). spelled 1 x) (sym r));
         sound = (subst (λ (x : Record). IsSound x) (sym r) sound, tt);
       }
 
--- the number of a statement whose client numbered none
-own_number : (id : RequestId) (index : ℕ) (statement : Stmt) → statement ≡ statement_of id index → words.number_meant statement ≡ number_for (id_meant id) index
-own_number id index statement is = ap (λ (x : Stmt). words.number_meant x) is
+-- the number of a statement of a request
+own_number : (given : Option ClientNumber) (id : RequestId) (index : ℕ) (statement : Stmt) → statement ≡ statement_of given id index →
+    words.number_meant statement ≡ number_for (given_meant given) (id_meant id) index
+own_number given id index statement is = ap (λ (x : Stmt). words.number_meant x) is ∙ number_is given id index
+
+-- a statement that takes no time makes none
+pub step_old : (store shard : ℕ) (namespace : List ℕ) (entries : List Entry) (plan plan_then : Plan) (time after : ℕ) (t s : Statement) (o : Option Done) (d : Done)
+    (served : StatementResult) → store ≡ shard
+    → ((more : List Entry) × (made_by store namespace plan_then ≡ made_by store namespace plan ++ more) × IsServed store namespace (entries ++ made_by store namespace plan) time t o more after)
+    → t ≡ s → o ≡ Some d → protocol.done_meant served.done ≡ d → after ≡ time → served.record ≡ None
+    → IsStep shard namespace entries (made_by shard namespace plan) time s (Some served) (made_by shard namespace plan_then) after
+step_old store shard namespace entries plan plan_then time after t s o d served own served_there same is done still unwritten =
+    let served_is = subst
+    (λ (n : ℕ). (more : List Entry) × (made_by n namespace plan_then ≡ made_by n namespace plan ++ more) × IsServed n namespace (entries ++ made_by n namespace plan) time t o more after)
+    own served_there in
+    let serving : IsServed shard namespace (entries ++ made_by shard namespace plan) time s o served_is.0 after =
+    subst (λ (x : Statement). IsServed shard namespace (entries ++ made_by shard namespace plan) time x o served_is.0 after) same served_is.2 in
+    record {
+      more = served_is.0;
+      grown = served_is.1;
+      served_is = subst (λ (x : Option Done). IsServed shard namespace (entries ++ made_by shard namespace plan) time s x served_is.0 after) (is ∙ ap (λ (x : Done). Some x) (sym done)) serving;
+      kept = subst (λ (x : Option (List ℕ)). AreKept served_is.0 (listed x)) (sym unwritten)
+          (kept_none shard namespace (entries ++ made_by shard namespace plan) time s o served_is.0 after serving still);
+    }
 
 -- a statement that takes a time makes an entry, with its record
-pub step_new : (store shard : ℕ) (namespace : List ℕ) (entries : List Entry) (plan plan_then : Plan) (time after : ℕ) (t s : Statement) (o : Option Done) (id : RequestId) (index : ℕ)
-    (told : EntryResult) (statement : Stmt) (operation : Operation) (served : StatementResult) (bytes : List ℕ) → store ≡ shard
+pub step_new : (store shard : ℕ) (namespace : List ℕ) (entries : List Entry) (plan plan_then : Plan) (time after : ℕ) (t s : Statement) (o : Option Done) (given : Option ClientNumber) (id : RequestId)
+    (index : ℕ) (told : EntryResult) (statement : Stmt) (operation : Operation) (served : StatementResult) (bytes : List ℕ) → store ≡ shard
     → ((more : List Entry) × (made_by store namespace plan_then ≡ made_by store namespace plan ++ more) × IsServed store namespace (entries ++ made_by store namespace plan) time t o more after)
-    → t ≡ s → o ≡ Some (done_meant index told) → protocol.done_meant served.done ≡ done_meant index told → after ≢ time → statement ≡ statement_of id index
-    → number_for (id_meant id) index ≡ s.number → s.operation ≡ operation
+    → t ≡ s → o ≡ Some (done_meant index (WasDone told)) → protocol.done_meant served.done ≡ done_meant index (WasDone told) → after ≢ time → statement ≡ statement_of given id index
+    → number_for (given_meant given) (id_meant id) index ≡ s.number → s.operation ≡ operation
     → bytes ≡ spelled 1 (entry_record_of told namespace statement operation) → IsSound (entry_record_of told namespace statement operation) → served.record ≡ Some bytes
     → IsStep shard namespace entries (made_by shard namespace plan) time s (Some served) (made_by shard namespace plan_then) after
-step_new store shard namespace entries plan plan_then time after t s o id index told statement operation served bytes own served_there same is done later number numbered same_words spells sound written =
+step_new store shard namespace entries plan plan_then time after t s o given id index told statement operation served bytes own served_there same is done later number numbered same_words spells sound written =
     let served_is = subst
     (λ (n : ℕ). (more : List Entry) × (made_by n namespace plan_then ≡ made_by n namespace plan ++ more) × IsServed n namespace (entries ++ made_by n namespace plan) time t o more after)
     own served_there in
@@ -89,5 +118,5 @@ step_new store shard namespace entries plan plan_then time after t s o id index 
       served_is = subst (λ (x : Option Done). IsServed shard namespace (entries ++ made_by shard namespace plan) time s x served_is.0 after) (is ∙ ap (λ (d : Done). Some d) (sym done)) serving;
       kept = subst (λ (x : Option (List ℕ)). AreKept served_is.0 (listed x)) (sym written)
           (kept_one shard namespace (entries ++ made_by shard namespace plan) time s o served_is.0 after index told statement operation bytes serving later is
-          (own_number id index statement number ∙ numbered) same_words spells sound);
+          (own_number given id index statement number ∙ numbered) same_words spells sound);
     }

@@ -1,5 +1,6 @@
 pub mod State
 pub mod Asks
+pub mod Halves
 pub mod Plans
 pub mod Writes
 pub mod Progress

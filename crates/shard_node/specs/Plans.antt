@@ -1,5 +1,5 @@
 -- What a shard will be after a step, and that the step is one of its rows.
-use Rattle.std.specs.Prelude.{◌≡◌, ◌≤◌, ℕ, List, [], ◌∷◌, ◌++◌, map, filter, not, nat_lt, true}
+use Rattle.std.specs.Prelude.{◌≡◌, ◌≤◌, ℕ, [], ◌∷◌, ◌++◌, map, filter, not, nat_lt, true}
 use Rattle.std.specs.Arc.{arc_value}
 use Rattle.chunk_table.specs.Tables.{with_table}
 use Rattle.node_traits.specs.Effects.{AreSound, StepPlanned, spellings}
@@ -26,7 +26,13 @@ changed s time (Learn table) = record {
   entries = s.entries;
   parked = filter (λ p. not (wants_table (arc_value table).namespace p)) s.parked;
 }
-changed s time (Write namespace entries) = record { me = s.me; time = time; tables = s.tables; entries = s.entries ++ made_by s.me namespace entries; parked = s.parked }
+changed s time (Write namespace entries) = record {
+  me = s.me;
+  time = time;
+  tables = s.tables;
+  entries = s.entries ++ made_by s.me namespace entries;
+  parked = s.parked;
+}
 
 abbrev pub after : Shard → Plan → Shard
 after s p = changed s p.time.0 p.change

@@ -1,5 +1,5 @@
 -- Statements that are served in one step, and the records of their entries.
-use Rattle.std.specs.Prelude.{◌≡◌, ℕ, List, [], ◌∷◌, ◌++◌, map, Option, Some, None}
+use Rattle.std.specs.Prelude.{◌≡◌, ℕ, List, [], ◌++◌, map, Option, Some, None}
 use Rattle.std.specs.List.{AllByRecursion}
 use Rattle.std.specs.Option.{option_map}
 use Rattle.cluster_base.specs.declared.identity.Stmt.{Stmt}
@@ -38,7 +38,8 @@ record_in None = []
 record_in (Some served) = listed served.record
 
 -- A statement is served behind these entries and those that were made: it makes some more, with their records.
-pub record IsStep (shard : ℕ) (namespace : List ℕ) (entries made : List Entry) (time : ℕ) (s : Statement) (served : Option StatementResult) (made_then : List Entry) (after : ℕ) : Type 0 where
+pub record IsStep (shard : ℕ) (namespace : List ℕ) (entries made : List Entry) (time : ℕ) (s : Statement) (served : Option StatementResult)
+    (made_then : List Entry) (after : ℕ) : Type 0 where
   pub more : List Entry
   pub grown : made_then ≡ made ++ more
   pub served_is : IsServed shard namespace (entries ++ made) time s (option_map (λ x. done_meant x.done) served) more after

@@ -2,46 +2,41 @@
 
 ghost use Rattle.std.specs.Prelude.{◌≡◌, IfOk, map, max};
 ghost use Rattle.std.specs.Arc.{arc_value};
-ghost use Rattle.std.specs.Option.{option_map};
 ghost use Rattle.chunk_table.specs.VerdictMeanings.{sent_meant};
 ghost use Rattle.chunk_table.specs.Tables.{table_of};
 ghost use Rattle.chunk_table.specs.Verdicts.{fits, verdict_of};
-ghost use Rattle.node_model.specs.Right.{found};
-ghost use Rattle.bson_values.specs.View.{datum_of};
-ghost use Rattle.node_traits.specs.Letters.{Letter, key_half, letter_input};
+ghost use Rattle.node_traits.specs.Letters.{Letter, letter_input};
 ghost use Rattle.node_traits.specs.ShardRows.{heard, says};
-ghost use Rattle.protocol_model.specs.Bodies.{body_meant, half_ask_meant, half_meant, read_ask_meant, time_ask_meant};
+ghost use Rattle.protocol_model.specs.Bodies.{body_meant, half_ask_meant, read_ask_meant, rows_meant, time_ask_meant};
 ghost use Rattle.protocol_model.specs.Messages.{letter_of};
+ghost use Rattle.pipeline_lang.specs.Halves.{half_of};
+ghost use Rattle.shard_node.specs.Halves.{TellsHalf};
 ghost use Rattle.shard_node.specs.Plans.{Follows, IsPlanned};
 ghost use Rattle.shard_node.specs.State.{shard_meant};
 
 use crate::node::ShardNode;
 use crate::plan::Plan;
-use bson_values::{Document, Memory, Value};
+use bson_values::{Document, Memory};
 use cluster_base::{NodeId, Time};
-use protocol_model::{
-    Body, DocumentList, Half, HalfAsk, Message, ReadAsk, ReadRows, TimeAsk, TimeTold,
-};
+use pipeline_eval::{EvalFault, Rows, eval_half};
+use pipeline_lang::Half;
+use protocol_model::{Body, HalfAsk, HalfFault, Message, ReadAsk, ReadRows, TimeAsk, TimeTold};
 use std::alloc::Global;
 use std::sync::Arc;
 
-// The document, if there is one, shared, as a list. Fails for want of memory.
-fn listed(alloc: Global, document: Option<&Arc<Document, Global>>) -> Result<DocumentList, Memory>
-    ensures { IfOk result (λ list. map (λ d. arc_value d) list.items ≡ found (option_map (λ d. arc_value d.now) document.entry)) }
+// What a half gives of documents: its rows, or why there are none. Fails for want of memory.
+fn answer_half(
+    alloc: Global,
+    half: &Half,
+    documents: &[Arc<Document, Global>],
+) -> Result<Result<Rows, HalfFault>, Memory>
+    ensures { IfOk result (λ told. TellsHalf (half_of half.now) (map arc_value documents.now) (rows_meant told)) }
 {
-    let mut list = Vec::new(alloc);
-    if let Some(document) = document {
-        list.push(Arc::try_clone(document)?)?;
-    }
-    Ok(list)
-}
-
-// The value under which a half shows documents.
-fn value_of(half: &Half) -> &Value
-    ensures { half_meant half.now ≡ key_half (datum_of result.now) }
-{
-    match half {
-        Half::Key(value) => value,
+    match eval_half(alloc, half, documents) {
+        Ok(rows) => Ok(Ok(rows)),
+        Err(EvalFault::Overflow) => Ok(Err(HalfFault::Overflow)),
+        Err(EvalFault::TooMuch { bytes }) => Ok(Err(HalfFault::TooMuch { bytes })),
+        Err(EvalFault::Memory) => Err(Memory),
     }
 }
 
@@ -72,41 +67,37 @@ impl ShardNode {
             IfOk result (λ p. IsPlanned (shard_meant self.now) (letter_input m) p) }
         ensures follows { IfOk result (λ p. Follows self.now p) }
     {
-        let document = self
+        let asked: &Half = &ask.half;
+        let documents = self
             .store
-            .document_at(&ask.namespace, value_of(&ask.half), ask.at)?;
-        let documents = listed(self.alloc, document)?;
+            .documents_at(&ask.namespace, &asked.span, ask.at)?;
         let half = HalfAsk {
             id: ask.id,
             turn: ask.turn,
             namespace: ask.namespace.copy()?,
             at: ask.at,
-            half: ask.half.copy()?,
+            half: Arc::try_clone(&ask.half)?,
             documents,
         };
         let message = self.message(self.me, time, Body::HalfAsk(half));
         Ok(Plan::of_message(self.alloc, time, message))
     }
 
-    // The half of the documents of a read.
-    pub(crate) fn plan_rows(&self, time: Time, ask: HalfAsk) -> Plan
-        ensures planned { (m : Letter) → m.body ≡ half_ask_meant ask → time.0 ≡ heard (shard_meant self.now) m →
-            IsPlanned (shard_meant self.now) (letter_input m) result }
-        ensures follows { Follows self.now result }
+    // The half of the documents of a read. Fails for want of memory.
+    pub(crate) fn plan_rows(&self, time: Time, ask: &HalfAsk) -> Result<Plan, Memory>
+        ensures planned { (m : Letter) → m.body ≡ half_ask_meant ask.now → time.0 ≡ heard (shard_meant self.now) m →
+            IfOk result (λ p. IsPlanned (shard_meant self.now) (letter_input m) p) }
+        ensures follows { IfOk result (λ p. Follows self.now p) }
     {
-        let HalfAsk {
-            id,
-            turn,
-            documents,
-            ..
-        } = ask;
-        let rows = ReadRows {
-            id,
-            turn,
-            rows: documents,
+        let half: &Half = &ask.half;
+        let rows = answer_half(self.alloc, half, &ask.documents)?;
+        let told = ReadRows {
+            id: ask.id,
+            turn: ask.turn,
+            rows,
         };
-        let message = self.message(id.router, time, Body::ReadRows(rows));
-        Plan::of_message(self.alloc, time, message)
+        let message = self.message(ask.id.router, time, Body::ReadRows(told));
+        Ok(Plan::of_message(self.alloc, time, message))
     }
 
     // The time is told.

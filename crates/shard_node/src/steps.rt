@@ -59,9 +59,10 @@ impl ShardNode {
         }
     }
 
-    // A statement that was seen before is told again on any table.
+    // A first statement that is not new is told so on any table.
     fn plan_again(&self, time: Time, body: &Body) -> Result<Option<Plan>, Memory>
-        requires old { (a : Ask) → ask_in (body_meant body.now) ≡ Some a → verdict_of a.sent self.now.me.0 (table_of a.namespace self.now.tables.tables) ≢ fits }
+        requires old { (a : Ask) → ask_in (body_meant body.now) ≡ Some a →
+            verdict_of a.sent self.now.me.0 (table_of a.namespace self.now.tables.tables) ≢ fits }
         ensures planned { (m : Letter) → m.body ≡ body_meant body.now → time.0 ≡ heard (shard_meant self.now) m →
             IfOk result (λ p. IfSome p (λ p. IsPlanned (shard_meant self.now) (letter_input m) p)) }
         ensures unseen { IfOk result (λ p. p ≡ None → was_seen (body_meant body.now) (entries_of self.now.store) ≡ false) }
@@ -152,7 +153,7 @@ impl ShardNode {
     {
         match body {
             Body::TableTold(told) => self.plan_told(time, told),
-            Body::HalfAsk(ask) => Ok(self.plan_rows(time, ask)),
+            Body::HalfAsk(ask) => self.plan_rows(time, &ask),
             Body::TimeAsk(ask) => Ok(self.plan_time(time, ask)),
             Body::WriteAsk(_) => Ok(Plan::of_time(self.alloc, time)),
             Body::ReadAsk(_) => Ok(Plan::of_time(self.alloc, time)),

@@ -146,7 +146,8 @@ impl ShardNode {
 
     // All that waited for the table of a collection, in order, as messages to the shard itself. Fails for want of memory.
     fn tries(&self, time: Time, namespace: &Namespace) -> Result<MailList<Message>, Memory>
-        ensures { IfOk result (λ mail. map letter_of mail ≡ tries (shard_meant self.now) time.0 (filter (wants_table namespace.now) (shard_meant self.now).parked)) }
+        ensures { IfOk result (λ mail. map letter_of mail
+            ≡ tries (shard_meant self.now) time.0 (filter (wants_table namespace.now) (shard_meant self.now).parked)) }
     {
         let mut mail = MailList::new(self.alloc);
         for message in &self.parked {

@@ -7,6 +7,7 @@ ghost use Rattle.std.specs.Arc.{arc_value};
 ghost use Rattle.chunk_table.specs.VerdictMeanings.{sent_meant};
 ghost use Rattle.chunk_table.specs.Tables.{table_of};
 ghost use Rattle.chunk_table.specs.Verdicts.{fits, verdict_of};
+ghost use Rattle.command_answers.specs.Kinds.{given_meant};
 ghost use Rattle.command_model.specs.CommandSizes.{IsKeepable};
 ghost use Rattle.node_model.specs.Right.{ends};
 ghost use Rattle.node_model.specs.Service.{Serves};
@@ -18,7 +19,8 @@ ghost use Rattle.node_traits.specs.Lists.{listed};
 ghost use Rattle.node_traits.specs.ShardRows.{Ask, ask_in, heard, was_seen};
 ghost use Rattle.node_traits.specs.Ids.{id_meant};
 ghost use Rattle.protocol_model.specs.Bodies.{write_ask_meant};
-ghost use Rattle.protocol_model.specs.Statements.{done_meant, operation_meant, statement_meant};
+ghost use Rattle.protocol_model.specs.Statements as messages;
+ghost use Rattle.protocol_model.specs.Statements.{answer_meant, done_meant, operation_meant, statement_meant};
 ghost use Rattle.shard_node.specs.Plans.{Follows, IsPlanned};
 ghost use Rattle.shard_node.specs.Progress.{GoesOn, GoesOrEnds};
 ghost use Rattle.shard_node.specs.State.{shard_meant};
@@ -37,9 +39,14 @@ use crate::plan::{Change, Plan};
 use bson_values::{Blob, Document, Memory};
 use cluster_base::{Namespace, Stmt, Time};
 use node_traits::MailList;
-use protocol_model::{Body, Done, DoneList, Operation, Outcome, Statement, WriteAsk, WriteDone};
+use protocol_model::{
+    Body, Done, DoneList, Operation, Outcome, Statement, StatementAnswer as ToldAnswer, WriteAsk,
+    WriteDone,
+};
 use shard_records::{WordsRef, write_entry};
-use shard_store::{EntryResult, Plan as Entries, Words, own_statement};
+use shard_store::{
+    EntryOutcome, EntryResult, Plan as Entries, StatementAnswer, Words, statement_number,
+};
 use std::alloc::Global;
 use std::sync::Arc;
 use value_compare::{Key, Reply};
@@ -71,11 +78,10 @@ fn share_key(alloc: Global, key: Option<Key>) -> Result<Option<Arc<Key, Global>>
     }
 }
 
-// What a statement with this index is told, as a message tells it. Fails for want of memory.
-fn done_of(alloc: Global, index: u32, told: EntryResult) -> Result<Done, Memory>
-    ensures { IfOk result (λ d. done_meant d ≡ outcomes.done_meant index told) }
+// What an entry tells, as a message tells it. Fails for want of memory.
+fn outcome_of(alloc: Global, outcome: EntryOutcome) -> Result<Outcome, Memory>
+    ensures { IfOk result (λ o. messages.outcome_meant o ≡ outcome_meant outcome) }
 {
-    let EntryResult { time, outcome } = told;
     let error = outcome.error();
     let Reply {
         n,
@@ -84,24 +90,40 @@ fn done_of(alloc: Global, index: u32, told: EntryResult) -> Result<Done, Memory>
         ..
     } = outcome.into_reply();
     let upserted = share_key(alloc, upserted)?;
-    let outcome = Outcome {
+    Ok(Outcome {
         count: n,
         modified,
         upserted,
         error,
-    };
-    Ok(Done {
-        index,
-        time,
-        outcome,
     })
+}
+
+// What a statement is told, as a message tells it. Fails for want of memory.
+fn answer_of(alloc: Global, told: StatementAnswer) -> Result<ToldAnswer, Memory>
+    ensures { IfOk result (λ a. answer_meant a ≡ outcomes.answer_meant told) }
+{
+    match told {
+        StatementAnswer::WasDone(EntryResult { time, outcome }) => Ok(ToldAnswer::WasDone {
+            time,
+            outcome: outcome_of(alloc, outcome)?,
+        }),
+        StatementAnswer::Older(greatest) => Ok(ToldAnswer::Older(greatest)),
+    }
+}
+
+// What a statement with this index is told, as a message tells it. Fails for want of memory.
+fn done_of(alloc: Global, index: u32, told: StatementAnswer) -> Result<Done, Memory>
+    ensures { IfOk result (λ d. done_meant d ≡ outcomes.done_meant index told) }
+{
+    let answer = answer_of(alloc, told)?;
+    Ok(Done { index, answer })
 }
 
 // Whether a statement that is told this ends an ordered command.
 fn ends(ordered: bool, done: &Done) -> bool
     ensures { result ≡ ends ordered (done_meant done.now) }
 {
-    ordered && done.outcome.error.is_some()
+    ordered && done.answer.fails()
 }
 
 // What a statement does, lent; it may be kept.
@@ -186,12 +208,15 @@ impl ShardNode {
         requires plan { IsPlan (entries_of self.now.store) (last_of self.now.store) ask.now.namespace entries.old }
         requires room { time_of entries.old < 2 ^ 64 - 1 }
         requires id { entries.old.id ≡ ask.now.id }
+        requires number { entries.old.number ≡ ask.now.number }
         ensures plan { OnOk result (IsPlan (entries_of self.now.store) (last_of self.now.store) ask.now.namespace entries.new) }
         ensures served { IfOk result (λ served. IsStep self.now.me.0 ask.now.namespace (entries_of self.now.store)
-            (made_by self.now.me.0 ask.now.namespace entries.old) (time_of entries.old) (statement_meant (id_meant ask.now.id) statement.now)
-            served (made_by self.now.me.0 ask.now.namespace entries.new) (time_of entries.new)) }
+            (made_by self.now.me.0 ask.now.namespace entries.old) (time_of entries.old)
+            (statement_meant (given_meant ask.now.number) (id_meant ask.now.id) statement.now) served
+            (made_by self.now.me.0 ask.now.namespace entries.new) (time_of entries.new)) }
         ensures first { planned_in entries.old ≡ [] → IfOk result (λ served. IsSome served) }
         ensures id { entries.new.id ≡ entries.old.id }
+        ensures number { entries.new.number ≡ entries.old.number }
     {
         let before = entries.time();
         let words = share_words(&statement.operation)?;
@@ -203,15 +228,19 @@ impl ShardNode {
             let done = done_of(self.alloc, statement.index, told)?;
             return Ok(Some(StatementResult { done, record: None }));
         }
-        let number = own_statement(ask.id, statement.index);
+        let StatementAnswer::WasDone(entry) = told else {
+            // A statement that makes an entry is done.
+            return Err(Memory);
+        };
+        let number = statement_number(ask.number, ask.id, statement.index);
         let record = entry_bytes(
             self.alloc,
-            &told,
+            &entry,
             &ask.namespace,
             &number,
             &statement.operation,
         )?;
-        let done = done_of(self.alloc, statement.index, told)?;
+        let done = done_of(self.alloc, statement.index, StatementAnswer::WasDone(entry))?;
         Ok(Some(StatementResult {
             done,
             record: Some(record),
@@ -229,16 +258,19 @@ impl ShardNode {
     ) -> Result<bool, Memory>
         requires plan { IsPlan (entries_of self.now.store) (last_of self.now.store) ask.now.namespace entries.old }
         requires id { entries.old.id ≡ ask.now.id }
+        requires number { entries.old.number ≡ ask.now.number }
         requires early { time_of entries.old < last_time + length all.old.dones.items }
         requires first { all.old.dones.items ≡ [] → planned_in entries.old ≡ [] }
         ensures plan { OnOk result (IsPlan (entries_of self.now.store) (last_of self.now.store) ask.now.namespace entries.new) }
         ensures id { entries.new.id ≡ entries.old.id }
+        ensures number { entries.new.number ≡ entries.old.number }
         ensures early { OnOk result (time_of entries.new < last_time + length all.new.dones.items) }
         ensures some { OnOk result (1 ≤ length all.new.dones.items) }
         ensures kept { AreKept (made_by self.now.me.0 ask.now.namespace entries.old) all.old.records.items
             → OnOk result (AreKept (made_by self.now.me.0 ask.now.namespace entries.new) all.new.records.items) }
         ensures goes { (start : ℕ) (whole left : List letters.Statement) →
-            GoesOn self.now.me.0 ask.now.namespace ask.now.ordered (entries_of self.now.store) start whole (statement_meant (id_meant ask.now.id) statement.now ∷ left)
+            GoesOn self.now.me.0 ask.now.namespace ask.now.ordered (entries_of self.now.store) start whole
+            (statement_meant (given_meant ask.now.number) (id_meant ask.now.id) statement.now ∷ left)
             (map (λ d. done_meant d) all.old.dones.items) (made_by self.now.me.0 ask.now.namespace entries.old) (time_of entries.old) →
             IfOk result (λ more. GoesOrEnds more self.now.me.0 ask.now.namespace ask.now.ordered (entries_of self.now.store) start whole left
             (map (λ d. done_meant d) all.new.dones.items) (made_by self.now.me.0 ask.now.namespace entries.new) (time_of entries.new)) }
@@ -258,13 +290,14 @@ impl ShardNode {
     fn serve_all(&self, entries: &mut Entries, ask: &WriteAsk) -> Result<WriteResult, Memory>
         requires plan { IsPlan (entries_of self.now.store) (last_of self.now.store) ask.now.namespace entries.old }
         requires id { entries.old.id ≡ ask.now.id }
+        requires number { entries.old.number ≡ ask.now.number }
         requires early { time_of entries.old < last_time }
         requires empty { planned_in entries.old ≡ [] }
         ensures plan { OnOk result (IsPlan (entries_of self.now.store) (last_of self.now.store) ask.now.namespace entries.new) }
         ensures some { IfOk result (λ all. all.dones.items ≡ [] → ask.now.statements.items ≡ []) }
         ensures kept { IfOk result (λ all. AreKept (made_by self.now.me.0 ask.now.namespace entries.new) all.records.items) }
         ensures served { IfOk result (λ all. Serves self.now.me.0 ask.now.namespace ask.now.ordered (entries_of self.now.store) (time_of entries.old)
-            (map (statement_meant (id_meant ask.now.id)) ask.now.statements.items) (map (λ d. done_meant d) all.dones.items)
+            (map (statement_meant (given_meant ask.now.number) (id_meant ask.now.id)) ask.now.statements.items) (map (λ d. done_meant d) all.dones.items)
             (made_by self.now.me.0 ask.now.namespace entries.new) (time_of entries.new)) }
     {
         let mut all = WriteResult::new(self.alloc);
@@ -286,7 +319,7 @@ impl ShardNode {
             IfOk result (λ p. IsPlanned (shard_meant self.now) (letter_input m) p) }
         ensures follows { IfOk result (λ p. Follows self.now p) }
     {
-        let mut entries = Entries::new(self.alloc, ask.id, time);
+        let mut entries = Entries::new(self.alloc, ask.number, ask.id, time);
         let WriteResult { dones, records } = self.serve_all(&mut entries, &ask)?;
         if dones.is_empty() {
             return Ok(Plan::of_time(self.alloc, time));
@@ -305,10 +338,10 @@ impl ShardNode {
         })
     }
 
-    // A statement that was seen before is told again on any table. Its first statement alone is looked up: what is left of the ask is
-    // asked for again.
+    // A first statement that is not new is told so on any table: it alone is looked up, and what is left of the ask is asked for again.
     pub(crate) fn plan_repeat(&self, time: Time, ask: &WriteAsk) -> Result<Option<Plan>, Memory>
-        requires old { (a : Ask) → ask_in (write_ask_meant ask.now) ≡ Some a → verdict_of a.sent self.now.me.0 (table_of a.namespace self.now.tables.tables) ≢ fits }
+        requires old { (a : Ask) → ask_in (write_ask_meant ask.now) ≡ Some a →
+            verdict_of a.sent self.now.me.0 (table_of a.namespace self.now.tables.tables) ≢ fits }
         ensures planned { (m : Letter) → m.body ≡ write_ask_meant ask.now → time.0 ≡ heard (shard_meant self.now) m →
             IfOk result (λ p. IfSome p (λ p. IsPlanned (shard_meant self.now) (letter_input m) p)) }
         ensures unseen { IfOk result (λ p. p ≡ None → was_seen (write_ask_meant ask.now) (entries_of self.now.store) ≡ false) }
@@ -317,7 +350,7 @@ impl ShardNode {
         let Some(statement) = ask.statements.first() else {
             return Ok(None);
         };
-        let Some(told) = self.store.look(ask.id, statement.index)? else {
+        let Some(told) = self.store.look(ask.number, ask.id, statement.index)? else {
             return Ok(None);
         };
         let mut dones = Vec::new(self.alloc);

@@ -2,7 +2,7 @@
 use Rattle.std.proofs.Common.{◌≡◌, ◌<◌, ◌≤◌, ℕ, List, refl, sym, ap, subst, ◌∙◌, arith, length}
 use Rattle.std.specs.Prelude.{Bool, true, false, Option, Some, None, Result, Ok, Err, IfOk, is_some, if◌then◌else◌}
 use Rattle.std.specs.Option.{option_map}
-use Rattle.bson_values.specs.Tree.{Datum, Fields, document_depth}
+use Rattle.bson_values.specs.Tree.{Datum, Fields}
 use Rattle.bson_values.specs.Spelling.{written}
 use Rattle.bson_model.specs.Limits.{most_bytes_kept}
 use Rattle.value_compare.specs.declared.words.OpWords.{OpWords}
@@ -17,7 +17,7 @@ use Rattle.query_model.specs.Holds.{holds}
 use Rattle.query_model.specs.Writes.{Write, insert_write, update_write, delete_write}
 use Rattle.query_model.specs.Effects.{Effect, inserted, unmet, updated, upserted_with, deleted, not_met, effect_of, left_by, write_key}
 use Rattle.node_model.specs.Errors.{duplicate_key, object_too_large}
-use Rattle.node_model.specs.History.{Operation, Entry, Outcome, done, document_left, effect_read, error_of, fails_with, key_read, outcome_of, read_operation}
+use Rattle.node_model.specs.History.{Operation, Entry, done, document_left, effect_read, error_of, fails_with, key_read, outcome_of, read_operation}
 use Rattle.update_ops.specs.ApplyFaults.{Fails}
 use Rattle.update_ops.specs.Ops.{effect_shown, read_words}
 use Rattle.update_ops.specs.declared.effect.Applied.{Applied}
@@ -30,7 +30,7 @@ use Rattle.shard_store.specs.Outcomes.{outcome_meant}
 use Rattle.shard_store.specs.Plans.{IsEffect}
 use Rattle.shard_store.specs.declared.effect.Effect as program
 use Rattle.shard_store.specs.declared.entry.Left.{Left}
-use Rattle.shard_store.specs.declared.entry.Left.TheVariants.{Same, Other}
+use Rattle.shard_store.specs.declared.entry.Left.TheVariants.{Same}
 use Rattle.shard_store.specs.declared.fault.WriteFault.{WriteFault}
 use Rattle.shard_store.specs.declared.fault.WriteFault.TheVariants.{Duplicate, Immutable, Overflow, TooLarge, NotNumber, NotDocument}
 use Rattle.shard_store.specs.declared.outcome.EntryOutcome.{EntryOutcome}

@@ -1,6 +1,6 @@
 -- What a store says of itself, once it has one more entry.
 use Rattle.std.proofs.Common.{◌≡◌, ◌≤◌, ◌<◌, ◌⊎◌, inl, inr, ℕ, List, [], ◌∷◌, ◌++◌, refl, sym, ap, subst, ◌∙◌, arith}
-use Rattle.std.specs.Prelude.{Bool, true, false, ◌&&◌, Option, Some, None, Result, Ok, Err, pos, IfSome, OnOk, filter, nat_le, if◌then◌else◌}
+use Rattle.std.specs.Prelude.{Bool, true, false, ◌&&◌, Option, Some, None, Result, Ok, Err, IfSome, OnOk, filter, nat_le, if◌then◌else◌}
 use Rattle.std.specs.List.{AllByRecursion}
 use Rattle.std.specs.Result.{result_ok}
 use Rattle.std.specs.Str.{bytes_eq}
@@ -10,20 +10,16 @@ use Rattle.value_compare.specs.Order.{same_value}
 use Rattle.value_model.specs.Keys.{KeyFault, is_key, key_of, valid_key}
 use Rattle.value_model.proofs.Spans.{same_is_key}
 use Rattle.node_model.specs.History.{same_key, key_read, key_written, read_operation, Entry, writes_to, document_after, document_at, IsIn}
-use Rattle.history_model.proofs.Lists.{all_from, in_push}
+use Rattle.history_model.proofs.Lists.{in_push}
 use Rattle.query_model.proofs.KeysAsked.{valid_from}
 use Rattle.query_model.specs.KeySpans.{key_asked}
 use Rattle.query_model.specs.Queries.{QueryFault}
 use Rattle.query_model.specs.Writes.{Write, insert_write, update_write, delete_write}
 use Rattle.query_model.specs.Effects.{write_key}
-use Rattle.shard_store.proofs.Seen.{AreZero}
 use Rattle.shard_store.specs.Collections.{room_under}
 use Rattle.shard_store.specs.declared.collections.Collections.{Collections}
 use Rattle.shard_store.specs.Entries.{Kept, entry_meant, entries_kept, note_kept, notes_kept}
 use Rattle.shard_store.specs.declared.entry.Planned.{Planned}
-
-pub zero_from : (kept : List Kept) → ((k : Kept) → IsIn k kept → k.1.statement.txn ≡ pos 0) → AreZero kept
-zero_from kept each = all_from (λ (k : Kept). k.1.statement.txn ≡ pos 0) kept each
 
 module _ (shard : ℕ) (kept new : List Kept) (namespace : List ℕ) (p : Planned) (grown : new ≡ kept ++ (namespace, p) ∷ []) where
   pub entries_grown : entries_kept shard new ≡ entries_kept shard kept ++ entry_meant shard namespace p ∷ []
@@ -40,14 +36,6 @@ module _ (shard : ℕ) (kept new : List Kept) (namespace : List ℕ) (p : Planne
       by_part : IsIn e (entries_kept shard kept) ⊎ (e ≡ entry_meant shard namespace p) → e.time ≤ p.time.0
       by_part (inl j) = omega (arith, past e j, later)
       by_part (inr same) = omega (arith, ap (λ (d : Entry). d.time) same)
-
-  pub zero_grown : ((k : Kept) → IsIn k kept → k.1.statement.txn ≡ pos 0) → p.statement.txn ≡ pos 0 →
-      (k : Kept) → IsIn k new → k.1.statement.txn ≡ pos 0
-  zero_grown zero own k i = by_part (in_push k kept (namespace, p) (subst (λ (l : List Kept). IsIn k l) grown i))
-    where
-      by_part : IsIn k kept ⊎ (k ≡ (namespace, p)) → k.1.statement.txn ≡ pos 0
-      by_part (inl j) = zero k j
-      by_part (inr same) = ap (λ (x : Kept). x.1.statement.txn) same ∙ own
 
 -- versions that are no later than the entries are earlier than the next
 pub versions_earlier : (o : Option ℕ) (last time : ℕ) → ((t : ℕ) → o ≡ Some t → t ≤ last) → last < time → IfSome o (λ t. t < time)

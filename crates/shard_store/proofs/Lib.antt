@@ -7,3 +7,4 @@ pub mod Named
 pub mod Planning
 pub mod Pushed
 pub mod Seen
+pub mod SpanDocuments

@@ -41,12 +41,12 @@ taken_by false None = refl
 taken_by false (Some u) = refl
 
 pub pushed : (entries : List Entry) (last : ℕ) (namespace : List ℕ) (old new : Plan) (q : Planned) → IsPlan entries last namespace old →
-    IsNext entries last namespace q → IsOf old.id q → old.last.0 < q.time.0 → old.free ≤ q.statement.index →
-    list_any (λ (p : Planned). same_value p.key q.key) old.planned.items ≡ false → new.id ≡ old.id → new.last ≡ q.time → new.free ≡ q.statement.index + 1 →
-    new.planned.items ≡ old.planned.items ++ q ∷ [] →
+    IsNext entries last namespace q → IsOf old.number old.id q → old.last.0 < q.time.0 → old.free ≤ q.statement.index →
+    list_any (λ (p : Planned). same_value p.key q.key) old.planned.items ≡ false → new.number ≡ old.number → new.id ≡ old.id → new.last ≡ q.time →
+    new.free ≡ q.statement.index + 1 → new.planned.items ≡ old.planned.items ++ q ∷ [] →
     ((k : Datum) → get_by (order k) new.keys ≡ (if is_at (order q.key) k then Some tt else get_by (order k) old.keys)) →
     IsPlan entries last namespace new
-pushed entries last namespace old new q plan next own later index none id time free items keys =
+pushed entries last namespace old new q plan next own later index none number id time free items keys =
     let ps = old.planned.items in
     let time_is : new.last.0 ≡ q.time.0 = ap (λ t. t.0) time in
     record {
@@ -54,7 +54,7 @@ pushed entries last namespace old new q plan next own later index none id time f
         each = subst (λ (l : List Planned). AllByRecursion (IsNext entries last namespace) l) (sym items) (all_push (IsNext entries last namespace) ps q plan.next.each next);
         turn = subst (λ (l : List Planned). AreInTurn l) (sym items)
             (turn_push ps q plan.next.turn (behinds ps q old.last.0 old.free later index plan.past plan.indexes none));
-        own = rw (id, items) (all_push (IsOf old.id) ps q plan.next.own own);
+        own = rw (number, id, items) (all_push (IsOf old.number old.id) ps q plan.next.own own);
       };
       before = omega (arith, plan.before, later, time_is);
       past = rw items (all_push (λ (p : Planned). p.time.0 ≤ new.last.0) ps q

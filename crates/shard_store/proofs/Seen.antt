@@ -1,145 +1,218 @@
--- What is seen of the statements of entries that are kept.
-use Rattle.std.proofs.Common.{◌≡◌, ◌⊎◌, inl, inr, ℕ, ℤ, List, [], ◌∷◌, refl, sym, ap, ◌∙◌}
-use Rattle.std.specs.Prelude.{Bool, true, false, ◌&&◌, ◌==◌, Option, Some, None, pos, if◌then◌else◌}
+-- What a number is against entries that are kept, and against their notes.
+use Rattle.std.proofs.Common.{◌≡◌, ℕ, ℤ, List, [], ◌∷◌, ◌++◌, refl, sym, ap, ◌∙◌, arith}
+use Rattle.std.specs.Prelude.{Bool, true, false, Option, Some, None, int_lt, map, if◌then◌else◌}
 use Rattle.std.specs.Int.{int_max}
-use Rattle.std.specs.List.{AllByRecursion}
 use Rattle.std.specs.Option.{option_map, unwrap_or}
-use Rattle.std.specs.Ordering.{int_eq}
+use Rattle.std.proofs.lemmas.Int.{ints}
+use Rattle.std.proofs.lemmas.List.{map-append}
+use Rattle.cluster_base.specs.declared.identity.RequestId.{RequestId}
+use Rattle.cluster_base.specs.declared.identity.Stmt.{Stmt}
 use Rattle.value_compare.specs.declared.words.Reply.{Reply}
-use Rattle.node_model.specs.History.{Session, StatementNumber, Entry}
-use Rattle.node_model.specs.Outcomes.{done_of}
-use Rattle.node_model.specs.Service.{seen_before}
-use Rattle.history_model.specs.Notes.{Seen, new_statement, done_before, older_than, same_session, same_number, greatest_of, noted, seen_beside, seen}
-use Rattle.history_model.proofs.Noted.{same_number_is}
+use Rattle.command_answers.specs.Kinds.{given_meant}
+use Rattle.command_answers.specs.declared.answer.ClientNumber.{ClientNumber}
+use Rattle.node_model.specs.Exchanges.{number_for}
+use Rattle.node_model.specs.History.{Session, StatementNumber, Outcome, Entry}
+use Rattle.node_model.specs.Outcomes.{Done}
+use Rattle.node_model.specs.Service.{seen_by, told_again, seen_before}
+use Rattle.node_traits.specs.Ids.{id_meant}
+use Rattle.history_model.specs.Notes.{Note, Seen, new_statement, done_before, older_than, same_session, same_number, greatest_of, noted, seen_beside, seen, notes_of}
+use Rattle.history_model.proofs.Noted.{one_more_note, same_number_is}
 use Rattle.session_book.specs.Meanings.{session_meant, number_meant}
 use Rattle.shard_store.specs.declared.outcome.EntryResult.{EntryResult}
-use Rattle.shard_store.specs.Outcomes.{outcome_meant, reply_meant, done_meant}
-use Rattle.shard_store.specs.Entries.{Kept, entry_meant, entries_kept, note_kept, notes_kept}
+use Rattle.shard_store.specs.declared.outcome.StatementAnswer.TheVariants.{WasDone, Older}
+use Rattle.shard_store.specs.Outcomes.{outcome_meant, reply_meant, done_meant, statement_of}
+use Rattle.shard_store.specs.Entries.{Kept, entries_kept, notes_kept}
 
--- the first with this number
-abbrev pub with_number : StatementNumber → List Kept → Option Kept
-with_number number [] = None
-with_number number (k ∷ kept) = if same_number (number_meant k.1.statement) number then Some k else with_number number kept
+-- THE SAME IS SEEN, WHATEVER IS TOLD
 
-before_is : (shard : ℕ) (number : StatementNumber) (kept : List Kept) →
-    seen_before number (entries_kept shard kept) ≡ option_map (λ (k : Kept). entry_meant shard k.0 k.1) (with_number number kept)
-before_is shard number [] = refl
-before_is shard number (k ∷ kept) = by_test (same_number (number_meant k.1.statement) number) (before_is shard number kept)
-  where
-    by_test : (b : Bool) → seen_before number (entries_kept shard kept) ≡ option_map (λ (k : Kept). entry_meant shard k.0 k.1) (with_number number kept) →
-        (if b then Some (entry_meant shard k.0 k.1) else seen_before number (entries_kept shard kept))
-        ≡ option_map (λ (k : Kept). entry_meant shard k.0 k.1) (if b then Some k else with_number number kept)
-    by_test true e = refl
-    by_test false e = e
+abbrev itself : Kept → Kept
+itself k = k
 
-noted_is : (number : StatementNumber) (kept : List Kept) → noted number (notes_kept kept) ≡ option_map note_kept (with_number number kept)
-noted_is number [] = refl
-noted_is number (k ∷ kept) = by_test (same_number (number_meant k.1.statement) number) (noted_is number kept)
-  where
-    by_test : (b : Bool) → noted number (notes_kept kept) ≡ option_map note_kept (with_number number kept) →
-        (if b then Some (note_kept k) else noted number (notes_kept kept)) ≡ option_map note_kept (if b then Some k else with_number number kept)
-    by_test true e = refl
-    by_test false e = e
+module _ {A : Type 0} (tell : Kept → A) where
+  -- the note of an entry, which tells this of it
+  abbrev note_telling : Kept → Note A
+  note_telling k = record { number = number_meant k.1.statement; time = k.1.time.0; told = tell k }
 
--- all are of transaction 0
-abbrev pub AreZero : List Kept → Type 0
-AreZero kept = AllByRecursion (λ (k : Kept). k.1.statement.txn ≡ pos 0) kept
+  abbrev notes_telling : List Kept → List (Note A)
+  notes_telling kept = map note_telling kept
 
-abbrev IsNoneOrZero : Option ℤ → Type 0
-IsNoneOrZero greatest = (greatest ≡ None) ⊎ (greatest ≡ Some (pos 0))
+  abbrev as_told : Note Kept → Note A
+  as_told n = record { number = n.number; time = n.time; told = tell n.told }
 
-greatest_is : (session : Session) (kept : List Kept) → AreZero kept → IsNoneOrZero (greatest_of session (notes_kept kept))
-greatest_is session [] zero = inl refl
-greatest_is session (k ∷ kept) zero = by_test (same_session (session_meant k.1.statement.session) session) (greatest_is session kept zero.1)
-  where
-    by_test : (b : Bool) → IsNoneOrZero (greatest_of session (notes_kept kept)) →
-        IsNoneOrZero (if b then Some (int_max k.1.statement.txn (unwrap_or (greatest_of session (notes_kept kept)) k.1.statement.txn)) else greatest_of session (notes_kept kept))
-    by_test true (inl e) = inr (rw (e, zero.0) refl)
-    by_test true (inr e) = inr (rw (e, zero.0) refl)
-    by_test false e = e
+  abbrev seen_as : Seen Kept → Seen A
+  seen_as new_statement = new_statement
+  seen_as (done_before time k) = done_before time (tell k)
+  seen_as (older_than greatest) = older_than greatest
 
-none_with : (number : StatementNumber) (kept : List Kept) → greatest_of number.session (notes_kept kept) ≡ None → with_number number kept ≡ None
-none_with number [] e = refl
-none_with number (k ∷ kept) e = by_test (same_session (session_meant k.1.statement.session) number.session) e (none_with number kept)
-  where
-    by_test : (b : Bool) → (if b then Some (int_max k.1.statement.txn (unwrap_or (greatest_of number.session (notes_kept kept)) k.1.statement.txn)) else greatest_of number.session (notes_kept kept)) ≡ None →
-        (greatest_of number.session (notes_kept kept) ≡ None → with_number number kept ≡ None) →
-        (if b && (int_eq k.1.statement.txn number.transaction && k.1.statement.index == number.index) then Some k else with_number number kept) ≡ None
-    by_test true e rest = absurd cc
-    by_test false e rest = rest e
+module _ {A : Type 0} (tell : Kept → A) where
+  greatest_same : (session : Session) (kept : List Kept) → greatest_of session (notes_telling tell kept) ≡ greatest_of session (notes_telling itself kept)
+  greatest_same session [] = refl
+  greatest_same session (k ∷ kept) =
+      ap (λ (g : Option ℤ). if same_session (session_meant k.1.statement.session) session then Some (int_max k.1.statement.txn (unwrap_or g k.1.statement.txn)) else g)
+      (greatest_same session kept)
 
-abbrev pub seen_as : Option Kept → Seen Reply
-seen_as None = new_statement
-seen_as (Some k) = done_before k.1.time.0 (reply_meant (outcome_meant k.1.outcome))
+  noted_same : (number : StatementNumber) (kept : List Kept) →
+      noted number (notes_telling tell kept) ≡ option_map (as_told tell) (noted number (notes_telling itself kept))
+  noted_same number [] = refl
+  noted_same number (k ∷ kept) = by_test (same_number (number_meant k.1.statement) number) (noted_same number kept)
+    where
+      by_test : (b : Bool) → noted number (notes_telling tell kept) ≡ option_map (as_told tell) (noted number (notes_telling itself kept)) →
+          (if b then Some (note_telling tell k) else noted number (notes_telling tell kept))
+          ≡ option_map (as_told tell) (if b then Some (note_telling itself k) else noted number (notes_telling itself kept))
+      by_test true e = refl
+      by_test false e = e
 
-beside_zero : (number : StatementNumber) (found : Option Kept) → number.transaction ≡ pos 0 →
-    seen_beside number (Some (pos 0)) (option_map note_kept found) ≡ seen_as found
-beside_zero number None zero = rw zero refl
-beside_zero number (Some k) zero = rw zero refl
+  beside_same : (number : StatementNumber) (greatest : Option ℤ) (found : Option (Note Kept)) →
+      seen_beside number greatest (option_map (as_told tell) found) ≡ seen_as tell (seen_beside number greatest found)
+  beside_same number None found = refl
+  beside_same number (Some greatest) None = by_test (int_lt number.transaction greatest)
+    where
+      by_test : (b : Bool) → (if b then older_than greatest else new_statement) ≡ seen_as tell (if b then older_than greatest else new_statement)
+      by_test true = refl
+      by_test false = refl
+  beside_same number (Some greatest) (Some n) = by_test (int_lt number.transaction greatest)
+    where
+      by_test : (b : Bool) → (if b then older_than greatest else done_before n.time (tell n.told)) ≡ seen_as tell (if b then older_than greatest else done_before n.time n.told)
+      by_test true = refl
+      by_test false = refl
 
--- what a number of transaction 0 is against the notes
-pub seen_kept : (number : StatementNumber) (kept : List Kept) → AreZero kept → number.transaction ≡ pos 0 →
-    seen (notes_kept kept) number ≡ seen_as (with_number number kept)
-seen_kept number kept zero is = by_greatest (greatest_is number.session kept zero)
-  where
-    by_greatest : IsNoneOrZero (greatest_of number.session (notes_kept kept)) → seen (notes_kept kept) number ≡ seen_as (with_number number kept)
-    by_greatest (inl e) = rw (e, none_with number kept e) refl
-    by_greatest (inr e) = rw (e, noted_is number kept) (beside_zero number (with_number number kept) is)
+  seen_same : (number : StatementNumber) (kept : List Kept) → seen (notes_telling tell kept) number ≡ seen_as tell (seen (notes_telling itself kept) number)
+  seen_same number kept =
+      ap (λ (g : Option ℤ). seen_beside number g (noted number (notes_telling tell kept))) (greatest_same number.session kept)
+      ∙ ap (λ (found : Option (Note A)). seen_beside number (greatest_of number.session (notes_telling itself kept)) found) (noted_same number kept)
+      ∙ beside_same number (greatest_of number.session (notes_telling itself kept)) (noted number (notes_telling itself kept))
 
-none_as : (found : Option Kept) → seen_as found ≡ new_statement → found ≡ None
-none_as None e = refl
-none_as (Some k) e = absurd cc
+-- WHAT THE BOOK SEES AND WHAT THE ENTRIES TELL
+
+abbrev outcome_told : Kept → Outcome
+outcome_told k = outcome_meant k.1.outcome
+
+abbrev reply_told : Kept → Reply
+reply_told k = reply_meant (outcome_meant k.1.outcome)
+
+-- which entry a number finds
+abbrev found_among : List Kept → StatementNumber → Seen Kept
+found_among kept number = seen (notes_telling itself kept) number
+
+notes_are : (shard : ℕ) (kept : List Kept) → notes_of (entries_kept shard kept) ≡ notes_telling outcome_told kept
+notes_are shard [] = refl
+notes_are shard (k ∷ kept) = ap (λ (l : List (Note Outcome)). note_telling outcome_told k ∷ l) (notes_are shard kept)
+
+told_is : (shard : ℕ) (number : StatementNumber) (kept : List Kept) →
+    seen_before number (entries_kept shard kept) ≡ told_again number (seen_as outcome_told (found_among kept number))
+told_is shard number kept =
+    ap (λ (l : List (Note Outcome)). told_again number (seen l number)) (notes_are shard kept)
+    ∙ ap (λ (s : Seen Outcome). told_again number s) (seen_same outcome_told number kept)
 
 -- what was not seen among entries is new
-pub new_kept : (shard : ℕ) (number : StatementNumber) (kept : List Kept) → AreZero kept → number.transaction ≡ pos 0 →
-    seen_before number (entries_kept shard kept) ≡ None → seen (notes_kept kept) number ≡ new_statement
-new_kept shard number kept zero is none = seen_kept number kept zero is ∙ ap seen_as (unseen (with_number number kept) (sym (before_is shard number kept) ∙ none))
+pub new_kept : (shard : ℕ) (number : StatementNumber) (kept : List Kept) → seen_before number (entries_kept shard kept) ≡ None →
+    seen (notes_kept kept) number ≡ new_statement
+new_kept shard number kept none = seen_same reply_told number kept ∙ by_found (found_among kept number) (sym (told_is shard number kept) ∙ none)
   where
-    unseen : (found : Option Kept) → option_map (λ (k : Kept). entry_meant shard k.0 k.1) found ≡ None → found ≡ None
-    unseen None e = refl
-    unseen (Some k) e = absurd cc
+    by_found : (found : Seen Kept) → told_again number (seen_as outcome_told found) ≡ None → seen_as reply_told found ≡ new_statement
+    by_found new_statement e = refl
+    by_found (done_before time k) e = absurd cc
+    by_found (older_than greatest) e = absurd cc
 
-module _ (shard : ℕ) (number : StatementNumber) (kept : List Kept) (zero : AreZero kept) (is : number.transaction ≡ pos 0) where
-  -- and what is new was not seen
-  pub look_new : seen (notes_kept kept) number ≡ new_statement → option_map done_of (seen_before number (entries_kept shard kept)) ≡ None
-  look_new new =
-      ap (λ (o : Option Entry). option_map done_of o) (before_is shard number kept)
-      ∙ ap (λ (o : Option Kept). option_map done_of (option_map (λ (k : Kept). entry_meant shard k.0 k.1) o))
-      (none_as (with_number number kept) (sym (seen_kept number kept zero is) ∙ new))
-
-  never_as : (found : Option Kept) (t : ℤ) → seen_as found ≡ older_than t → ⊥
-  never_as None t e = cc
-  never_as (Some k) t e = cc
-
-  -- nothing is older
-  pub never_older : (t : ℤ) → seen (notes_kept kept) number ≡ older_than t → ⊥
-  never_older t older = never_as (with_number number kept) t (sym (seen_kept number kept zero is) ∙ older)
-
-  found_is : (kept : List Kept) (k : Kept) → with_number number kept ≡ Some k → number_meant k.1.statement ≡ number
-  found_is [] k e = absurd cc
-  found_is (d ∷ kept) k e = by_test (same_number (number_meant d.1.statement) number) refl e (λ f. found_is kept k f)
+module _ (shard : ℕ) (number : StatementNumber) (kept : List Kept) where
+  -- what is new is told nothing
+  pub look_new : seen (notes_kept kept) number ≡ new_statement → None ≡ seen_before number (entries_kept shard kept)
+  look_new new = by_found (found_among kept number) (sym (seen_same reply_told number kept) ∙ new) ∙ sym (told_is shard number kept)
     where
-      by_test : (b : Bool) → same_number (number_meant d.1.statement) number ≡ b → (if b then Some d else with_number number kept) ≡ Some k →
-          (with_number number kept ≡ Some k → number_meant k.1.statement ≡ number) → number_meant k.1.statement ≡ number
-      by_test true s e later =
-          let same : d ≡ k = cc in
-          sym (ap (λ (x : Kept). number_meant x.1.statement) same) ∙ same_number_is (number_meant d.1.statement) number s
-      by_test false s e later = later e
-
-  told_as : (found : Option Kept) (told : EntryResult) (reply : Reply) → with_number number kept ≡ found →
-      seen_as found ≡ done_before told.time.0 reply → ((k : Kept) → reply ≡ reply_meant (outcome_meant k.1.outcome) → outcome_meant told.outcome ≡ outcome_meant k.1.outcome) →
-      option_map done_of (option_map (λ (k : Kept). entry_meant shard k.0 k.1) found) ≡ Some (done_meant number.index told)
-  told_as None told reply w e outcome = absurd cc
-  told_as (Some k) told reply w e outcome =
-      let time : k.1.time.0 ≡ told.time.0 = cc in
-      let words : reply_meant (outcome_meant k.1.outcome) ≡ reply = cc in
-      let index : k.1.statement.index ≡ number.index = ap (λ (n : StatementNumber). n.index) (found_is kept k w) in
-      λ i. Some (record { index = index i; time = time i; outcome = sym (outcome k (sym words)) i })
+      by_found : (found : Seen Kept) → seen_as reply_told found ≡ new_statement → None ≡ told_again number (seen_as outcome_told found)
+      by_found new_statement e = refl
+      by_found (done_before time k) e = absurd cc
+      by_found (older_than greatest) e = absurd cc
 
   -- what was done is told again
   pub look_done : (told : EntryResult) (reply : Reply) → seen (notes_kept kept) number ≡ done_before told.time.0 reply →
       ((k : Kept) → reply ≡ reply_meant (outcome_meant k.1.outcome) → outcome_meant told.outcome ≡ outcome_meant k.1.outcome) →
-      option_map done_of (seen_before number (entries_kept shard kept)) ≡ Some (done_meant number.index told)
-  look_done told reply done outcome =
-      ap (λ (o : Option Entry). option_map done_of o) (before_is shard number kept)
-      ∙ told_as (with_number number kept) told reply refl (sym (seen_kept number kept zero is) ∙ done) outcome
+      Some (done_meant number.index (WasDone told)) ≡ seen_before number (entries_kept shard kept)
+  look_done told reply done outcome = by_found (found_among kept number) (sym (seen_same reply_told number kept) ∙ done) ∙ sym (told_is shard number kept)
+    where
+      by_found : (found : Seen Kept) → seen_as reply_told found ≡ done_before told.time.0 reply →
+          Some (done_meant number.index (WasDone told)) ≡ told_again number (seen_as outcome_told found)
+      by_found new_statement e = absurd cc
+      by_found (done_before time k) e =
+          let timed : told.time.0 ≡ time = cc in
+          let words : reply ≡ reply_meant (outcome_meant k.1.outcome) = cc in
+          let is : outcome_meant told.outcome ≡ outcome_meant k.1.outcome = outcome k words in
+          cc
+      by_found (older_than greatest) e = absurd cc
+
+  -- and of what is older, which transaction is greater
+  pub look_older : (greatest : ℤ) → seen (notes_kept kept) number ≡ older_than greatest →
+      Some (done_meant number.index (Older greatest)) ≡ seen_before number (entries_kept shard kept)
+  look_older greatest older = by_found (found_among kept number) (sym (seen_same reply_told number kept) ∙ older) ∙ sym (told_is shard number kept)
+    where
+      by_found : (found : Seen Kept) → seen_as reply_told found ≡ older_than greatest →
+          Some (done_meant number.index (Older greatest)) ≡ told_again number (seen_as outcome_told found)
+      by_found new_statement e = absurd cc
+      by_found (done_before time k) e = absurd cc
+      by_found (older_than other) e = let same : greatest ≡ other = cc in cc
+
+-- THE NUMBERS OF ONE REQUEST
+
+-- the number of a statement is that of the definitions
+pub number_is : (given : Option ClientNumber) (id : RequestId) (index : ℕ) → number_meant (statement_of given id index) ≡ number_for (given_meant given) (id_meant id) index
+number_is None id index = refl
+number_is (Some given) id index = refl
+
+pub index_is : (given : Option ClientNumber) (id : RequestId) (index : ℕ) → (statement_of given id index).index ≡ index
+index_is None id index = refl
+index_is (Some given) id index = refl
+
+pub index_from : (given : Option ClientNumber) (id : RequestId) (index : ℕ) (s : Stmt) → s ≡ statement_of given id index → s.index ≡ index
+index_from given id index s own = ap (λ (x : Stmt). x.index) own ∙ index_is given id index
+
+pub seen_number : (entries : List Entry) (given : Option ClientNumber) (id : RequestId) (index : ℕ) (s : Stmt) → s ≡ statement_of given id index →
+    seen_before (number_meant s) entries ≡ seen_before (number_for (given_meant given) (id_meant id) index) entries
+seen_number entries given id index s own =
+    ap (λ (x : Stmt). seen_before (number_meant x) entries) own ∙ ap (λ (n : StatementNumber). seen_before n entries) (number_is given id index)
+
+pub transactions_same : (given : Option ClientNumber) (id : RequestId) (i j : ℕ) → (statement_of given id i).txn ≡ (statement_of given id j).txn
+transactions_same None id i j = refl
+transactions_same (Some given) id i j = refl
+
+pub sessions_same : (given : Option ClientNumber) (id : RequestId) (i j : ℕ) → (statement_of given id i).session ≡ (statement_of given id j).session
+sessions_same None id i j = refl
+sessions_same (Some given) id i j = refl
+
+-- ONE ENTRY MORE
+
+new_from : (number : StatementNumber) (s : Seen Outcome) → told_again number s ≡ None → s ≡ new_statement
+new_from number new_statement e = refl
+new_from number (done_before time outcome) e = absurd cc
+new_from number (older_than greatest) e = absurd cc
+
+not_below : (a b : ℤ) → a ≡ b → int_lt b a ≡ false
+not_below a b same = by_test (int_lt b a) refl
+  where
+    by_test : (t : Bool) → int_lt b a ≡ t → int_lt b a ≡ false
+    by_test true h = absurd (omega (arith, ints))
+    by_test false h = h
+
+-- a new entry changes nothing for another number of its transaction
+pub seen_aside : (entries : List Entry) (e : Entry) (number : StatementNumber) → seen_before e.number entries ≡ None →
+    e.number.transaction ≡ number.transaction → same_number e.number number ≡ false → seen_by (entries ++ e ∷ []) number ≡ seen_by entries number
+seen_aside entries e number new same other =
+    let note : Note Outcome = record { number = e.number; time = e.time; told = e.outcome } in
+    ap (λ (l : List (Note Outcome)). seen l number) (map-append (λ (d : Entry). record { number = d.number; time = d.time; told = d.outcome }) entries (e ∷ []))
+    ∙ one_more_note (notes_of entries) note number (new_from e.number (seen_by entries e.number) new)
+    ∙ by_tests (same_session e.number.session number.session) (int_lt number.transaction e.number.transaction) (same_number e.number number)
+    (not_below e.number.transaction number.transaction same) other
+  where
+    by_tests : (session less hit : Bool) → less ≡ false → hit ≡ false →
+        (if session then (if less then older_than e.number.transaction else if hit then done_before e.time e.outcome else seen_by entries number) else seen_by entries number)
+        ≡ seen_by entries number
+    by_tests true less hit l h = rw (l, h) refl
+    by_tests false less hit l h = refl
+
+-- what was told without an entry was not the number of a new one
+pub other_than_new : (entries : List Entry) (new number : StatementNumber) (d : Done) → seen_before new entries ≡ None → seen_before number entries ≡ Some d →
+    same_number new number ≡ false
+other_than_new entries new number d none told = by_test (same_number new number) refl
+  where
+    by_test : (b : Bool) → same_number new number ≡ b → b ≡ false
+    by_test true h = absurd (let clash : None ≡ Some d = sym none ∙ ap (λ (n : StatementNumber). seen_before n entries) (same_number_is new number h) ∙ told in cc)
+    by_test false h = refl

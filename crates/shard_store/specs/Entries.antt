@@ -1,5 +1,5 @@
 -- The entries that a shard keeps and plans, as the history has them.
-use Rattle.std.specs.Prelude.{ℕ, List, map, Bool, true, false, Option, Some, None}
+use Rattle.std.specs.Prelude.{ℕ, List, map, Bool, true, false, Option, None}
 use Rattle.std.specs.Arc.{arc_value}
 use Rattle.std.specs.Option.{option_map}
 use Rattle.bson_values.specs.Tree.{Datum, Fields}

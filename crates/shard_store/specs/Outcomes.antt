@@ -1,16 +1,19 @@
 -- What statements are told, in the words of the history and of a reply.
-use Rattle.std.specs.Prelude.{ℕ, pos}
+use Rattle.std.specs.Prelude.{ℕ, pos, Option, Some, None}
 use Rattle.std.specs.Option.{option_map}
 use Rattle.cluster_base.specs.declared.identity.RequestId.{RequestId}
-use Rattle.cluster_base.specs.declared.identity.Session.TheVariants.{Router}
+use Rattle.cluster_base.specs.declared.identity.Session.TheVariants.{Client, Router}
 use Rattle.cluster_base.specs.declared.identity.Stmt.{Stmt}
 use Rattle.value_compare.specs.declared.words.Reply.{Reply}
 use Rattle.node_model.specs.History as history
-use Rattle.node_model.specs.Outcomes.{Done}
+use Rattle.node_model.specs.Outcomes as answers
+use Rattle.node_model.specs.Outcomes.{Done, is_older, was_done}
+use Rattle.command_answers.specs.declared.answer.ClientNumber.{ClientNumber}
 use Rattle.shard_records.specs.Records.{code_of}
 use Rattle.shard_store.specs.Faults.{error_meant}
 use Rattle.shard_store.specs.declared.outcome.EntryOutcome.{EntryOutcome}
-use Rattle.shard_store.specs.declared.outcome.EntryResult.{EntryResult}
+use Rattle.shard_store.specs.declared.outcome.StatementAnswer.{StatementAnswer}
+use Rattle.shard_store.specs.declared.outcome.StatementAnswer.TheVariants.{WasDone, Older}
 
 abbrev pub outcome_meant : EntryOutcome → history.Outcome
 outcome_meant o = record {
@@ -25,10 +28,15 @@ outcome_meant o = record {
 abbrev pub reply_meant : history.Outcome → Reply
 reply_meant o = record { n = o.count; modified = o.modified; upserted = o.upserted; code = code_of o.error }
 
--- the statement with this index was done
-abbrev pub done_meant : (index : ℕ) → EntryResult → Done
-done_meant index told = record { index = index; time = told.time.0; outcome = outcome_meant told.outcome }
+abbrev pub answer_meant : StatementAnswer → answers.StatementAnswer
+answer_meant (WasDone told) = was_done told.time.0 (outcome_meant told.outcome)
+answer_meant (Older greatest) = is_older greatest
 
--- the statement with this index of a request whose client numbered none
-abbrev pub statement_of : RequestId → ℕ → Stmt
-statement_of id index = record { session = Router id.router id.life id.count; txn = pos 0; index = index }
+-- the statement with this index is told that
+abbrev pub done_meant : (index : ℕ) → StatementAnswer → Done
+done_meant index told = record { index = index; answer = answer_meant told }
+
+-- the statement with this index of a request, with the number that its client gave or the router's own
+abbrev pub statement_of : Option ClientNumber → RequestId → ℕ → Stmt
+statement_of None id index = record { session = Router id.router id.life id.count; txn = pos 0; index = index }
+statement_of (Some number) id index = record { session = Client number.session; txn = number.transaction; index = index }

@@ -3,6 +3,7 @@ use Rattle.std.specs.Prelude.{◌≡◌, ◌<◌, ◌≤◌, ◌+◌, ℕ, List,
 use Rattle.std.specs.BTreeMap.{get_by}
 use Rattle.std.specs.List.{AllByRecursion, list_any}
 use Rattle.cluster_base.specs.declared.identity.RequestId.{RequestId}
+use Rattle.command_answers.specs.declared.answer.ClientNumber.{ClientNumber}
 use Rattle.value_compare.specs.Order.{order, same_value}
 use Rattle.bson_values.specs.Tree.{Datum}
 use Rattle.node_model.specs.History.{Operation, key_written, effect, Entry, document_left}
@@ -41,19 +42,20 @@ abbrev pub AreInTurn : List Planned → Type 0
 AreInTurn [] = Unit {0}
 AreInTurn (p ∷ planned) = AllByRecursion (IsBehind p) planned × AreInTurn planned
 
--- it is a statement of this request
-abbrev pub IsOf : RequestId → Planned → Type 0
-IsOf id p = p.statement ≡ statement_of id p.statement.index
+-- it is a statement of this request, to which its client gave this number or none
+abbrev pub IsOf : Option ClientNumber → RequestId → Planned → Type 0
+IsOf number id p = p.statement ≡ statement_of number id p.statement.index
 
 -- These may be made behind the entries: all of one request, each behind those before it.
-pub record AreNext (entries : List Entry) (last : ℕ) (namespace : List ℕ) (id : RequestId) (planned : List Planned) : Type 0 where
+pub record AreNext (entries : List Entry) (last : ℕ) (namespace : List ℕ) (number : Option ClientNumber) (id : RequestId)
+    (planned : List Planned) : Type 0 where
   pub each : AllByRecursion (IsNext entries last namespace) planned
   pub turn : AreInTurn planned
-  pub own : AllByRecursion (IsOf id) planned
+  pub own : AllByRecursion (IsOf number id) planned
 
 -- A plan of entries behind these. What it says of itself is so: its time, the least index that is free, the keys that are taken.
 pub record IsPlan (entries : List Entry) (last : ℕ) (namespace : List ℕ) (plan : Plan) : Type 0 where
-  pub next : AreNext entries last namespace plan.id plan.planned.items
+  pub next : AreNext entries last namespace plan.number plan.id plan.planned.items
   pub before : last ≤ plan.last.0
   pub past : AllByRecursion (λ p. p.time.0 ≤ plan.last.0) plan.planned.items
   pub indexes : AllByRecursion (λ p. p.statement.index < plan.free) plan.planned.items
@@ -71,10 +73,12 @@ time_of plan = plan.last.0
 abbrev pub planned_in : Plan → List Planned
 planned_in plan = plan.planned.items
 
--- A statement is served behind these entries at this time: it is told again what it was told, or makes an entry at the next time, or
--- is left for later.
-pub data IsServed (shard : ℕ) (namespace : List ℕ) (entries : List Entry) (time : ℕ) (s : Statement) : Option Done → (made : List Entry) → (after : ℕ) → Type 0 where
-  served_again : (e : Entry) → seen_before s.number entries ≡ Some e → IsServed shard namespace entries time s (Some (done_of e)) [] time
+-- A statement is served behind these entries at this time: it is told what it was told before, or that it is older; or it is new, and makes
+-- an entry at the next time; or it is left for later.
+pub data IsServed (shard : ℕ) (namespace : List ℕ) (entries : List Entry) (time : ℕ) (s : Statement) :
+    Option Done → (made : List Entry) → (after : ℕ) → Type 0 where
+  served_again : (d : Done) → seen_before s.number entries ≡ Some d → IsServed shard namespace entries time s (Some d) [] time
   served_new : seen_before s.number entries ≡ None
-      → IsServed shard namespace entries time s (Some (done_of (entry_for entries (time + 1) shard namespace s))) (entry_for entries (time + 1) shard namespace s ∷ []) (time + 1)
+      → IsServed shard namespace entries time s (Some (done_of (entry_for entries (time + 1) shard namespace s)))
+      (entry_for entries (time + 1) shard namespace s ∷ []) (time + 1)
   left_for_later : IsServed shard namespace entries time s None [] time

@@ -25,4 +25,4 @@ shard_of store = store.shard.0
 -- there is room for the entries of a plan
 pub record HasRoom (store : ShardStore) (namespace : List ℕ) (plan : Plan) : Type 0 where
   pub versions : AllByRecursion (λ (p : Planned). 1 ≤ room_under store.collections namespace p.key) plan.planned.items
-  pub notes : length plan.planned.items ≤ room_in store.book (statement_of plan.id 0).session
+  pub notes : length plan.planned.items ≤ room_in store.book (statement_of plan.number plan.id 0).session

@@ -1,13 +1,16 @@
 //! The collections of a shard, each by its namespace.
 #![tactic(auto, unfolding(crate::specs::Collections::shown_in, crate::specs::Collections::last_under, crate::specs::Collections::room_under))]
 
-ghost use Rattle.std.specs.Prelude.{◌≡◌, ◌≤◌, ◌<◌, ◌+◌, ◌&&◌, ◌⊎◌, ℕ, List, Some, None, if◌then◌else◌, IfSome, OnOk};
+ghost use Rattle.std.specs.Prelude.{◌≡◌, ◌≤◌, ◌<◌, ◌+◌, ◌&&◌, ◌⊎◌, ℕ, List, Some, None, if◌then◌else◌, IfOk, IfSome, OnOk, map};
 ghost use Rattle.std.specs.Arc.{arc_value};
 ghost use Rattle.std.specs.List.{AllByRecursion};
 ghost use Rattle.std.specs.Option.{option_map};
 ghost use Rattle.std.specs.Str.{bytes_eq};
+ghost use Rattle.value_compare.specs.Keys.{inside};
 ghost use Rattle.value_compare.specs.Order.{same_value};
+ghost use Rattle.value_compare.specs.Spans.{span_of};
 ghost use Rattle.bson_values.specs.Tree.{Datum};
+ghost use Rattle.history_model.specs.Documents.{ListsDocuments};
 ghost use Rattle.history_model.specs.Versions.{one_more};
 ghost use Rattle.mvcc_collection.specs.Collections.{put_meant};
 
@@ -18,7 +21,7 @@ use mvcc_collection::Collection;
 use std::alloc::Global;
 use std::collections::BTreeMap;
 use std::sync::Arc;
-use value_compare::Key;
+use value_compare::{Key, Span};
 
 /// The collections of a shard, each by its namespace, with the versions of their documents.
 #[derive(Drop)]
@@ -47,6 +50,23 @@ impl Collections {
         ensures { option_map (λ d. arc_value d.now) result ≡ shown_in self.now namespace.now key.now time.0 }
     {
         self.by_name.get(namespace)?.get_at(key, time)
+    }
+
+    /// The documents that stand in the namespace under the keys of the span at the time, in the order of keys, each shared. Fails for want
+    /// of memory.
+    pub fn scan_at(
+        &self,
+        namespace: &str,
+        span: &Span,
+        time: Time,
+    ) -> Result<Vec<Arc<Document, Global>>, Memory>
+        ensures { IfOk result (λ ds. ListsDocuments (λ k. if inside (span_of span.now) k then shown_in self.now namespace.now k time.0 else None)
+            (map arc_value ds.items)) }
+    {
+        match self.by_name.get(namespace) {
+            Some(collection) => collection.scan_at(span, time),
+            None => Ok(Vec::new(self.alloc)),
+        }
     }
 
     /// Makes room for one version more in the namespace under the key. Fails for want of memory. Either way nothing else is to be
@@ -109,7 +129,8 @@ impl Collections {
         requires room { 1 ≤ room_under self.old namespace.now key.now }
         requires later { IfSome (last_under self.old namespace.now key.now) (λ t. t < time.0) }
         ensures shown { (n : List ℕ) (k : Datum) (t : ℕ) → shown_in self.new n k t
-            ≡ (if is_other left && bytes_eq namespace.now n then one_more (put_of key.now time left) k t (shown_in self.old n k t) else shown_in self.old n k t) }
+            ≡ (if is_other left && bytes_eq namespace.now n then one_more (put_of key.now time left) k t (shown_in self.old n k t)
+            else shown_in self.old n k t) }
         ensures last { (n : List ℕ) (k : Datum) (t : ℕ) → last_under self.new n k ≡ Some t → (t ≡ time.0) ⊎ (last_under self.old n k ≡ Some t) }
         ensures rooms { (n : List ℕ) (k : Datum) → room_under self.old n k
             ≤ room_under self.new n k + (if bytes_eq namespace.now n && same_value key.now k then 1 else 0) }

@@ -6,6 +6,7 @@ ghost use Rattle.shard_store.specs.Outcomes.{statement_of};
 use crate::outcome::EntryOutcome;
 use bson_values::Document;
 use cluster_base::{RequestId, Session, Stmt, Time};
+use command_answers::ClientNumber;
 use std::alloc::Global;
 use std::sync::Arc;
 use value_compare::{Key, OpWords};
@@ -45,17 +46,25 @@ pub struct Planned {
     pub outcome: EntryOutcome,
 }
 
-/// The statement with this index of a request whose client numbered none: its session is the router's own for that request.
-pub fn own_statement(id: RequestId, index: u32) -> Stmt
-    ensures { result ≡ statement_of id index }
+/// The number of the statement with this index of a request: the client's, or where that gave none, one of the router's own session for
+/// the request.
+pub fn statement_number(number: Option<ClientNumber>, id: RequestId, index: u32) -> Stmt
+    ensures { result ≡ statement_of number id index }
 {
-    Stmt {
-        session: Session::Router {
-            node: id.router,
-            life: id.life,
-            request: id.count,
+    match number {
+        Some(number) => Stmt {
+            session: Session::Client(number.session),
+            txn: number.transaction,
+            index,
         },
-        txn: 0,
-        index,
+        None => Stmt {
+            session: Session::Router {
+                node: id.router,
+                life: id.life,
+                request: id.count,
+            },
+            txn: 0,
+            index,
+        },
     }
 }

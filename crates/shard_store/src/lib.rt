@@ -9,8 +9,8 @@ mod outcome;
 mod plan;
 mod store;
 
-pub use entry::{Left, Planned, Words, own_statement};
+pub use entry::{Left, Planned, Words, statement_number};
 pub use fault::WriteFault;
-pub use outcome::{EntryOutcome, EntryResult};
+pub use outcome::{EntryOutcome, EntryResult, StatementAnswer};
 pub use plan::Plan;
 pub use store::ShardStore;

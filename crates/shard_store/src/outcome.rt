@@ -30,6 +30,15 @@ pub struct EntryResult {
     pub outcome: EntryOutcome,
 }
 
+/// What a statement is told.
+#[derive(Drop)]
+pub enum StatementAnswer {
+    /// It was done.
+    WasDone(EntryResult),
+    /// It was not done: its session has this greater transaction.
+    Older(i64),
+}
+
 // The same key once more, if there is one. Fails for want of memory.
 fn copy_key(key: &Option<Key>) -> Result<Option<Key>, Memory>
     ensures { IfOk result (λ copy. copy ≡ key.now) }

@@ -8,6 +8,7 @@ ghost use Rattle.node_model.specs.History.{Entry};
 use crate::entry::Planned;
 use bson_values::Memory;
 use cluster_base::{RequestId, Time};
+use command_answers::ClientNumber;
 use std::alloc::Global;
 use std::collections::BTreeMap;
 use value_compare::Key;
@@ -16,6 +17,7 @@ use value_compare::Key;
 /// and under another key than those before it. So none of them changes what another is told.
 #[derive(Drop)]
 pub struct Plan {
+    pub(crate) number: Option<ClientNumber>,
     pub(crate) id: RequestId,
     // The time of the last entry, or that behind which the first comes.
     pub(crate) last: Time,
@@ -28,14 +30,16 @@ pub struct Plan {
 impl Plan {
     ghost use Rattle.shard_store.specs.Plans.{IsNext, IsOf, IsPlan, planned_in, time_of};
 
-    /// A plan of no entries for a request, of which the first is to come behind this time.
-    pub fn new(alloc: Global, id: RequestId, time: Time) -> Plan
+    /// A plan of no entries for a request with the number that its client gave, if it gave one. The first is to come behind this time.
+    pub fn new(alloc: Global, number: Option<ClientNumber>, id: RequestId, time: Time) -> Plan
         ensures plan { (entries : List Entry) (last : ℕ) (namespace : List ℕ) → last ≤ time.0 → IsPlan entries last namespace result }
         ensures empty { planned_in result ≡ [] }
         ensures time { time_of result ≡ time.0 }
         ensures id { result.id ≡ id }
+        ensures number { result.number ≡ number }
     {
         Plan {
+            number,
             id,
             last: time,
             free: 0,
@@ -72,10 +76,11 @@ impl Plan {
         requires index { self.old.free ≤ entry.statement.index }
         requires key { list_any (λ (p : Planned). same_value p.key entry.key) (planned_in self.old) ≡ false }
         ensures plan { (entries : List Entry) (last : ℕ) (namespace : List ℕ) → IsPlan entries last namespace self.old
-            → IsNext entries last namespace entry → IsOf self.old.id entry → OnOk result (IsPlan entries last namespace self.new) }
+            → IsNext entries last namespace entry → IsOf self.old.number self.old.id entry → OnOk result (IsPlan entries last namespace self.new) }
         ensures planned { OnOk result (planned_in self.new ≡ planned_in self.old ++ entry ∷ []) }
         ensures time { OnOk result (time_of self.new ≡ entry.time.0) }
         ensures id { self.new.id ≡ self.old.id }
+        ensures number { self.new.number ≡ self.old.number }
     {
         self.keys.insert(entry.key.copy()?, ())?;
         self.last = entry.time;

@@ -1,16 +1,18 @@
 //! The store of a shard.
 
-ghost use Rattle.std.specs.Prelude.{◌≡◌, ◌≤◌, ◌<◌, ◌+◌, ◌-◌, ◌^◌, ◌++◌, ◌∷◌, ℕ, List, [], Some, Ok, pos, true, is_some, if◌then◌else◌, IfOk, OnOk};
+ghost use Rattle.std.specs.Prelude.{◌≡◌, ◌≤◌, ◌<◌, ◌+◌, ◌-◌, ◌^◌, ◌++◌, ◌∷◌, ℕ, List, [], Some, Ok, pos, true, filter, is_some, map, if◌then◌else◌, IfOk, OnOk};
 ghost use Rattle.std.specs.Arc.{arc_value};
 ghost use Rattle.std.specs.Option.{option_map, IsSome};
 ghost use Rattle.bson_values.specs.Tree.{Datum};
-ghost use Rattle.bson_values.specs.View.{datum_of};
 ghost use Rattle.value_compare.specs.Order.{same_value};
+ghost use Rattle.value_compare.specs.Spans.{span_of};
 ghost use Rattle.cluster_base.specs.declared.identity.Session.{Session};
-ghost use Rattle.node_model.specs.History.{Entry, IsIn, document_at, document_left, insert_operation};
+ghost use Rattle.node_model.specs.Documents.{documents_at};
+ghost use Rattle.node_model.specs.Halves.{may_stand_in};
+ghost use Rattle.node_model.specs.History.{Entry, IsIn, document_left, insert_operation};
 ghost use Rattle.node_model.specs.Exchanges.{number_for};
-ghost use Rattle.node_model.specs.Outcomes.{done_of};
 ghost use Rattle.node_model.specs.Service.{seen_before};
+ghost use Rattle.command_answers.specs.Kinds.{given_meant};
 ghost use Rattle.command_model.specs.CommandSizes.{IsKeepable};
 ghost use Rattle.session_book.specs.Books.{NotesAre, room_in};
 ghost use Rattle.node_traits.specs.Ids.{id_meant};
@@ -23,17 +25,18 @@ ghost use Rattle.shard_store.specs.Plans.{AreNext, IsEffect, IsNext, IsOf, IsPla
 
 use crate::collections::Collections;
 use crate::effect::{Effect, key_of_op};
-use crate::entry::{Planned, Words, own_statement};
-use crate::outcome::{EntryOutcome, EntryResult};
+use crate::entry::{Planned, Words, statement_number};
+use crate::outcome::{EntryOutcome, EntryResult, StatementAnswer};
 use crate::plan::Plan;
-use bson_values::{Document, Memory, Value};
+use bson_values::{Document, Memory};
 use cluster_base::{Namespace, NodeId, RequestId, Time};
+use command_answers::ClientNumber;
 use ghost_list::GhostList;
 use session_book::{Book, Seen};
 use std::alloc::Global;
 use std::sync::Arc;
 use update_ops::Op;
-use value_compare::{Key, OpWords, key_of};
+use value_compare::{Key, OpWords, Span, key_of};
 
 /// What a shard keeps of its entries: the documents that they leave, with their past, and what each statement was told.
 ///
@@ -48,8 +51,6 @@ pub struct ShardStore {
     entries: GhostList<Namespace, Planned>,
     // No entry is later than the last.
     ghost past: { (e : Entry) → IsIn e (entries_kept shard.0 entries.items) → e.time ≤ last.0 },
-    // The statements are of routers' own sessions, which have no later transaction.
-    ghost zero: { (k : Kept) → IsIn k entries.items → k.1.statement.txn ≡ pos 0 },
     // At each time the collections show what the entries left.
     ghost shown: { AreShown collections (entries_kept shard.0 entries.items) } by { shown-prop collections (entries_kept shard.0 entries.items) },
     // No version is later than the last entry.
@@ -76,18 +77,24 @@ impl ShardStore {
         }
     }
 
-    /// What the statement with this index of a request, whose client numbered none, was told, if it was seen before. Fails for want of
-    /// memory.
-    pub fn look(&self, id: RequestId, index: u32) -> Result<Option<EntryResult>, Memory>
-        ensures { IfOk result (λ told. option_map (done_meant index) told ≡ option_map done_of (seen_before (number_for (id_meant id) index) (entries_of self.now))) }
+    /// What the statement with this index of a request, to which its client gave this number or none, is told unless it is new: what it was
+    /// told before, or that its session has a greater transaction. Fails for want of memory.
+    pub fn look(
+        &self,
+        number: Option<ClientNumber>,
+        id: RequestId,
+        index: u32,
+    ) -> Result<Option<StatementAnswer>, Memory>
+        ensures { IfOk result (λ told. option_map (done_meant index) told
+            ≡ seen_before (number_for (given_meant number) (id_meant id) index) (entries_of self.now)) }
     {
-        match self.book.look(&own_statement(id, index)) {
+        match self.book.look(&statement_number(number, id, index)) {
             Seen::New => Ok(None),
             Seen::Done { time, reply } => {
                 let outcome = EntryOutcome::of(reply)?;
-                Ok(Some(EntryResult { time, outcome }))
+                Ok(Some(StatementAnswer::WasDone(EntryResult { time, outcome })))
             }
-            Seen::Older(_) => Ok(None),
+            Seen::Older(greatest) => Ok(Some(StatementAnswer::Older(greatest))),
         }
     }
 
@@ -98,21 +105,18 @@ impl ShardStore {
         self.collections.get_at(namespace.as_str(), key, self.last)
     }
 
-    /// The document that stood in the namespace under a value at a time, if one did. Nothing stands under what is no key. Fails for
-    /// want of memory.
-    pub fn document_at(
+    /// The documents that stood in the namespace at a time and may stand in the span, in the order of keys, each shared. Fails for want of
+    /// memory.
+    pub fn documents_at(
         &self,
         namespace: &Namespace,
-        value: &Value,
+        span: &Span,
         time: Time,
-    ) -> Result<Option<&Arc<Document, Global>>, Memory>
-        ensures { IfOk result (λ found. option_map (λ d. arc_value d.now) found
-            ≡ document_at (entries_of self.now) namespace.now (Some (datum_of value.now)) time.0) }
+    ) -> Result<Vec<Arc<Document, Global>>, Memory>
+        ensures { IfOk result (λ ds. map arc_value ds.items
+            ≡ filter (may_stand_in (span_of span.now)) (documents_at (entries_of self.now) namespace.now time.0)) }
     {
-        let Ok(key) = Key::of(value.copy()?) else {
-            return Ok(None);
-        };
-        Ok(self.collections.get_at(namespace.as_str(), &key, time))
+        self.collections.scan_at(namespace.as_str(), span, time)
     }
 
     // What an insert does behind the entries. Fails for want of memory.
@@ -167,7 +171,7 @@ impl ShardStore {
         }
     }
 
-    /// Serves a statement behind the entries of the store and those of the plan: tells it again what it was told, or plans its entry
+    /// Serves a statement behind the entries of the store and those of the plan: tells it what it is told unless it is new, or plans its entry
     /// at the next time; or leaves it for later, where its index is not greater than those of the plan, or its key is one of theirs.
     /// Fails for want of memory, and the plan is of no more use then.
     pub fn serve(
@@ -177,7 +181,7 @@ impl ShardStore {
         namespace: &Namespace,
         index: u32,
         words: Words,
-    ) -> Result<Option<EntryResult>, Memory>
+    ) -> Result<Option<StatementAnswer>, Memory>
         requires plan { IsPlan (entries_of self.now) (last_of self.now) namespace.now plan.old }
         requires keepable { IsKeepable (operation_of words) }
         requires room { time_of plan.old < 2 ^ 64 - 1 }
@@ -185,12 +189,13 @@ impl ShardStore {
         ensures served { IfOk result (λ told. (made : List Entry)
             × (made_by (shard_of self.now) namespace.now plan.new ≡ made_by (shard_of self.now) namespace.now plan.old ++ made)
             × IsServed (shard_of self.now) namespace.now (entries_of self.now ++ made_by (shard_of self.now) namespace.now plan.old) (time_of plan.old)
-            (record { number = number_for (id_meant plan.old.id) index; operation = operation_of words })
+            (record { number = number_for (given_meant plan.old.number) (id_meant plan.old.id) index; operation = operation_of words })
             (option_map (done_meant index) told) made (time_of plan.new)) }
         ensures first { planned_in plan.old ≡ [] → IfOk result (λ told. IsSome told) }
         ensures id { plan.new.id ≡ plan.old.id }
+        ensures number { plan.new.number ≡ plan.old.number }
     {
-        if let Some(told) = self.look(plan.id, index)? {
+        if let Some(told) = self.look(plan.number, plan.id, index)? {
             return Ok(Some(told));
         }
         if (index as u64) < plan.free {
@@ -206,14 +211,14 @@ impl ShardStore {
             outcome: outcome.copy()?,
         };
         plan.push(Planned {
-            statement: own_statement(plan.id, index),
+            statement: statement_number(plan.number, plan.id, index),
             time,
             words,
             key,
             left,
             outcome,
         })?;
-        Ok(Some(told))
+        Ok(Some(StatementAnswer::WasDone(told)))
     }
 
     /// Makes room for the entries of a plan. Fails for want of memory. Either way nothing else is to be seen of it.
@@ -223,8 +228,10 @@ impl ShardStore {
         ensures last { last_of self.new ≡ last_of self.old }
         ensures shard { shard_of self.new ≡ shard_of self.old }
     {
-        self.book
-            .reserve_run(&own_statement(plan.id, 0), plan.planned.len())?;
+        self.book.reserve_run(
+            &statement_number(plan.number, plan.id, 0),
+            plan.planned.len(),
+        )?;
         self.collections
             .reserve_all(namespace.as_str(), &plan.planned)
     }
@@ -232,7 +239,6 @@ impl ShardStore {
     // Makes an entry, for which there is room.
     fn enter(&mut self, namespace: &Namespace, planned: Planned)
         requires next { IsNext (entries_of self.old) (last_of self.old) namespace.now planned }
-        requires zero { planned.statement.txn ≡ pos 0 }
         requires version { 1 ≤ room_under self.old.collections namespace.now planned.key }
         requires note { 1 ≤ room_in self.old.book planned.statement.session }
         ensures entries { entries_of self.new ≡ entries_of self.old ++ entry_meant (shard_of self.old) namespace.now planned ∷ [] }

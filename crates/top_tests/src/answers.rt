@@ -1,9 +1,9 @@
 //! Answers against their documents, spelled by hand: those that no short connection gets.
 
 use bson_values::{Document, Text, Value, read};
-use cluster_base::{Code, Time};
+use cluster_base::{Code, Namespace, Time};
 use command_answers::{
-    Answer, Evidence, Refusal, StatementIndex, Upserted, WriteError, WriteKind, write_answer,
+    Answer, Batch, Evidence, Refusal, StatementIndex, Upserted, WriteError, WriteKind, write_answer,
 };
 use std::alloc::Global;
 use std::cmp::Ordering;
@@ -131,20 +131,22 @@ fn index_of_a_statement_has_a_limit(rt: HostRuntime) {
 }
 
 /// The documents of `IDS`.
-fn two_documents(alloc: Global) -> Result<Vec<Document>, Fail> {
+fn two_documents(alloc: Global) -> Result<Vec<Arc<Document>>, Fail> {
     let mut documents = Vec::new(alloc);
-    documents.push(document_of(alloc, IDS[0])?)?;
-    documents.push(document_of(alloc, IDS[1])?)?;
+    documents.push(Arc::new(alloc, document_of(alloc, IDS[0])?)?)?;
+    documents.push(Arc::new(alloc, document_of(alloc, IDS[1])?)?)?;
     Ok(documents)
 }
 
 #[test]
 fn two_are_found(rt: HostRuntime) -> Result<(), Fail> {
-    let found = Answer::Find {
-        namespace: Text::of(rt.alloc(), "d.c")?,
-        documents: two_documents(rt.alloc())?,
+    let alloc = rt.alloc();
+    let found = Answer::First(Batch {
+        cursor: 0,
+        namespace: Namespace::read(alloc, "d.c").map_err(|_| "no namespace")?,
+        documents: two_documents(alloc)?,
         time: TIME,
-    };
-    assert!(rt; is_spelled(rt.alloc(), &found, FOUND)?);
+    });
+    assert!(rt; is_spelled(alloc, &found, FOUND)?);
     Ok(())
 }

@@ -1,13 +1,14 @@
 //! What requests ask for, in words.
 
 use crate::faults::RowFault;
-use bson_values::{Document, Value};
-use command_answers::{Evidence, Refusal, WriteKind};
-use command_words::{Command, CommandFault, Find, Legacy, WriteCommand};
-use opmsg_frames::{Body, Request};
+use bson_values::Document;
+use command_answers::{ClientNumber, Evidence, Refusal, WriteKind};
+use command_words::{
+    Command, CommandFault, Find, GetMore, KillCursors, Legacy, Reading, WriteCommand,
+};
+use opmsg_frames::Request;
 use std::alloc::Global;
-use std::cmp::Ordering;
-use value_compare::{OpWords, compare};
+use value_compare::OpWords;
 
 fn put(line: &mut String, word: &str) -> Result<(), RowFault> {
     line.push_str(word)?;
@@ -80,36 +81,74 @@ fn put_write(alloc: Global, line: &mut String, write: &WriteCommand) -> Result<(
     for words in &write.operations {
         put_operation(alloc, line, words)?;
     }
-    Ok(())
+    put_number(alloc, line, write.number)
 }
 
-/// The value of `_id` in the filter of a find.
-fn key_in(request: &Request) -> Option<&Value> {
-    let Body::Read { doc, .. } = &request.body else {
-        return None;
-    };
-    match doc.get("filter")? {
-        Value::Doc(filter) => filter.get("_id"),
-        _ => None,
+/// Puts the transaction of a client's number, where it gave one.
+fn put_number(
+    alloc: Global,
+    line: &mut String,
+    number: Option<ClientNumber>,
+) -> Result<(), RowFault> {
+    match number {
+        Some(number) => put(
+            line,
+            format!(in alloc; " number {}", number.transaction)?.as_str(),
+        ),
+        None => Ok(()),
     }
 }
 
-/// Whether the key is that of the request's filter.
-fn is_own_key(request: &Request, key: &Value) -> bool {
-    match key_in(request) {
-        Some(own) => compare(own, key) == Ordering::Equal,
-        None => false,
+/// Puts a word and its number, where there is one.
+fn put_given(
+    alloc: Global,
+    line: &mut String,
+    word: &str,
+    number: Option<u64>,
+) -> Result<(), RowFault> {
+    match number {
+        Some(number) => put(line, format!(in alloc; " {word} {number}")?.as_str()),
+        None => Ok(()),
     }
 }
 
-fn put_find(alloc: Global, line: &mut String, find: &Find, is_own: bool) -> Result<(), RowFault> {
-    let namespace = find.namespace.as_str();
-    let time = find.at.map_or(0, |time| time.0);
-    let key = if is_own { "its key" } else { "another key" };
+/// Puts what is read, and the times that are named.
+fn put_reading(
+    alloc: Global,
+    line: &mut String,
+    word: &str,
+    reading: &Reading,
+) -> Result<(), RowFault> {
+    let namespace = reading.namespace.as_str();
+    put(line, format!(in alloc; "{word} {namespace}")?.as_str())?;
+    put_given(alloc, line, "at", reading.at.map(|time| time.0))?;
+    put_given(alloc, line, "after", reading.after.map(|time| time.0))
+}
+
+fn put_find(alloc: Global, line: &mut String, find: &Find) -> Result<(), RowFault> {
+    put_reading(alloc, line, "find", &find.reading)?;
+    put_given(alloc, line, "size", find.batches.size)?;
+    put(line, if find.batches.single { " single" } else { "" })
+}
+
+fn put_get_more(alloc: Global, line: &mut String, more: &GetMore) -> Result<(), RowFault> {
+    let namespace = more.namespace.as_str();
+    let cursor = more.cursor;
     put(
         line,
-        format!(in alloc; "find {namespace} {time} {key}")?.as_str(),
-    )
+        format!(in alloc; "getMore {namespace} {cursor}")?.as_str(),
+    )?;
+    put_given(alloc, line, "size", more.size)
+}
+
+fn put_kill_cursors(alloc: Global, line: &mut String, kill: &KillCursors) -> Result<(), RowFault> {
+    let namespace = kill.namespace.as_str();
+    put(line, format!(in alloc; "killCursors {namespace}")?.as_str())?;
+    for cursor in &kill.cursors {
+        let cursor = *cursor;
+        put(line, format!(in alloc; " {cursor}")?.as_str())?;
+    }
+    Ok(())
 }
 
 fn legacy_words(legacy: &Legacy) -> &'static str {
@@ -121,26 +160,24 @@ fn legacy_words(legacy: &Legacy) -> &'static str {
 }
 
 /// Puts the command, but for what its documents hold.
-fn put_asked(
-    alloc: Global,
-    line: &mut String,
-    request: &Request,
-    command: &Command,
-) -> Result<(), RowFault> {
+fn put_asked(alloc: Global, line: &mut String, command: &Command) -> Result<(), RowFault> {
     match command {
         Command::Hello => put(line, "hello"),
         Command::Legacy(legacy) => put(line, legacy_words(legacy)),
         Command::Ping => put(line, "ping"),
         Command::EndSessions => put(line, "endSessions"),
         Command::Write(write) => put_write(alloc, line, write),
-        Command::Find(find) => put_find(alloc, line, find, is_own_key(request, &find.key)),
+        Command::Find(find) => put_find(alloc, line, find),
+        Command::Count(reading) => put_reading(alloc, line, "count", reading),
+        Command::GetMore(more) => put_get_more(alloc, line, more),
+        Command::KillCursors(kill) => put_kill_cursors(alloc, line, kill),
     }
 }
 
 /// Puts the command of the request, or why it is none. Fails for want of memory.
 pub fn put_command(alloc: Global, line: &mut String, request: &Request) -> Result<(), RowFault> {
     match &Command::read(alloc, request) {
-        Ok(command) => put_asked(alloc, line, request, command),
+        Ok(command) => put_asked(alloc, line, command),
         Err(CommandFault::Refused(refusal)) => put_refusal(alloc, line, refusal),
         Err(CommandFault::Memory) => Err(RowFault::Memory),
     }

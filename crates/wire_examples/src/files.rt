@@ -151,18 +151,31 @@ fn check_file<R: Files + AllocGlobal + Print + Threads + Wait + Sync>(
     Ok(())
 }
 
+/// The files, in the order in which they are checked.
+const FILES: [&str; 14] = [
+    "frames.rows",
+    "commands.rows",
+    "refusals.rows",
+    "connections.rows",
+    "writes.rows",
+    "retries.rows",
+    "reads.rows",
+    "cursors.rows",
+    "drivers.rows",
+    "drivers.reads.rows",
+    "devices.rows",
+    "scripts.rows",
+    "retries.script.rows",
+    "takings.rows",
+];
+
 /// Checks all files.
 pub fn check_files<R: Files + AllocGlobal + Print + Threads + Wait + Sync>(
     rt: &R,
     alloc: Global,
 ) -> Result<(), RowFault> {
-    check_file(rt, alloc, "frames.rows")?;
-    check_file(rt, alloc, "commands.rows")?;
-    check_file(rt, alloc, "refusals.rows")?;
-    check_file(rt, alloc, "connections.rows")?;
-    check_file(rt, alloc, "writes.rows")?;
-    check_file(rt, alloc, "drivers.rows")?;
-    check_file(rt, alloc, "devices.rows")?;
-    check_file(rt, alloc, "scripts.rows")?;
-    check_file(rt, alloc, "takings.rows")
+    for name in FILES {
+        check_file(rt, alloc, name)?;
+    }
+    Ok(())
 }

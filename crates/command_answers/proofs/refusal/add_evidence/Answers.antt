@@ -1,5 +1,5 @@
 use Rattle.std.proofs.Common.{sym, ◌∙◌}
-use Rattle.command_answers.proofs.Batches.{nothing_shown}
+use Rattle.command_answers.proofs.Arrays.{nothing_shown}
 use Rattle.command_answers.proofs.refusal.add_evidence.Goals as goal
 
 pub returns-in-None : goal.returns-in-None

@@ -14,6 +14,7 @@ returns-in_ok-add-in-Update c =
     let put = rw (
       c.in_ok-add-in-Update.ensures,
       c.count_shown.ensures,
+      c.from.ensures,
       joined_one c.args.answer.now (upserted_shown (upserted_meant c.args.upserted.now) no_fields) (codes "nModified") (count c.args.modified),
     ) at c.add_upserted.ensures in
     rw c.in-Update.is put

@@ -1,7 +1,7 @@
 use Rattle.std.proofs.Common.{◌≡◌, ◌∙◌, length, arith, ap, sym}
 use Rattle.bson_values.proofs.Joined.{joined_none}
 use Rattle.bson_values.specs.Tree.{Fields, joined, no_fields}
-use Rattle.command_answers.proofs.Batches.{keys_shown, no_keys_shown}
+use Rattle.command_answers.proofs.Arrays.{keys_shown, no_keys_shown}
 use Rattle.command_answers.proofs.writes.add_upserted.Goals as goal
 
 pub returns-then-is_empty : goal.returns-then-is_empty

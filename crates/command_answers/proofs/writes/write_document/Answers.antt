@@ -6,7 +6,7 @@ use Rattle.command_answers.proofs.writes.write_document.Goals as goal
 
 pub returns : goal.returns
 returns c =
-    rw (c.in_ok-add_end.ensures, c.in_ok-add_errors.ensures, c.in_ok-add_changes.ensures, c.in_ok-add.ensures, c.count_shown.ensures, c.new-answer.ensures)
+    rw (c.in_ok-add_end.ensures, c.in_ok-add_errors.ensures, c.in_ok-add_changes.ensures, c.in_ok-add.ensures, c.count_shown.ensures, c.from.ensures, c.new-answer.ensures)
     (parts_of_write (kind_meant c.args.kind) (record {
       count = c.args.count;
       modified = c.args.modified;

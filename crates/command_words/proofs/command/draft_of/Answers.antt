@@ -1,11 +1,14 @@
 use Rattle.std.proofs.Common.{◌≡◌, arith, Some}
 use Rattle.opmsg_frames.specs.Lists.{pairs_of}
 use Rattle.opmsg_frames.specs.RequestMeanings.{form_meant}
-use Rattle.command_model.specs.Command.{form_of, write_command, find_command}
+use Rattle.command_model.specs.Command.{form_of, write_command, find_command, count_command, more_command, kill_command}
 use Rattle.command_model.specs.Forms.{made_into}
 use Rattle.command_answers.specs.Kinds.{kind_meant}
 use Rattle.command_model.specs.Writes.{write_form}
 use Rattle.command_model.specs.Find.{find_form}
+use Rattle.command_model.specs.Aggregate.{aggregate_form}
+use Rattle.command_model.specs.Count.{count_form}
+use Rattle.command_model.specs.Cursors.{more_form, kill_form}
 use Rattle.command_words.specs.Handshakes.{handshake_meant}
 use Rattle.command_words.specs.Drafts.{Drafts}
 use Rattle.command_words.proofs.Asked.{told_by}
@@ -13,15 +16,42 @@ use Rattle.command_words.proofs.command.draft_of.Goals as goal
 
 pub returns-in-Handshake : goal.returns-in-Handshake
 returns-in-Handshake c =
-    let named : Some (handshake_meant c.in-Handshake.form) ≡ form_of c.own-item.result.name = rw (c.in-Handshake.is, c.as_str.ensures.text) at c.in-Some.ensures in
-    told_by (λ told. Drafts c.args.document.now (pairs_of c.args.sequences.now) c.read_by.result told) (handshake_meant c.in-Handshake.form) (form_meant c.args.sent) c.args.document.now c.fields.result.now c.own-item.result (pairs_of c.args.sequences.now) (omega (arith, c.in-len1-up.len_at_least)) c.own-item.is c.fields.ensures.fields named c.read_by.ensures
+    let found : Some (handshake_meant c.in-Handshake.form) ≡ form_of c.own-item.result.name = rw (c.in-Handshake.is, c.as_str.ensures.text) at c.in-Some.ensures.found in
+    told_by (λ told. Drafts c.args.document.now (pairs_of c.args.sequences.now) c.read_by.result told) (handshake_meant c.in-Handshake.form) (form_meant c.args.sent) c.args.document.now c.fields.result.now c.own-item.result
+    (pairs_of c.args.sequences.now) (omega (arith, c.in-len1-up.len_at_least)) c.own-item.is c.fields.ensures.fields found (λ others is. c.read_by.ensures c.own-item.result.name others tt is)
 
 pub returns-in-Write : goal.returns-in-Write
 returns-in-Write c =
-    let named : Some (made_into write_command (write_form (kind_meant c.in-Write.form.kind))) ≡ form_of c.own-item.result.name = rw (c.in-Write.is, c.as_str.ensures.text) at c.in-Some.ensures in
-    told_by (λ told. Drafts c.args.document.now (pairs_of c.args.sequences.now) c.read_by-in-Write.result told) (made_into write_command (write_form (kind_meant c.in-Write.form.kind))) (form_meant c.args.sent) c.args.document.now c.fields.result.now c.own-item.result (pairs_of c.args.sequences.now) (omega (arith, c.in-len1-up.len_at_least)) c.own-item.is c.fields.ensures.fields named c.read_by-in-Write.ensures
+    let found : Some (made_into write_command (write_form (kind_meant c.in-Write.form.kind))) ≡ form_of c.own-item.result.name = rw (c.in-Write.is, c.as_str.ensures.text) at c.in-Some.ensures.found in
+    told_by (λ told. Drafts c.args.document.now (pairs_of c.args.sequences.now) c.read_by-in-Write.result told) (made_into write_command (write_form (kind_meant c.in-Write.form.kind))) (form_meant c.args.sent) c.args.document.now c.fields.result.now c.own-item.result
+    (pairs_of c.args.sequences.now) (omega (arith, c.in-len1-up.len_at_least)) c.own-item.is c.fields.ensures.fields found (λ others is. c.read_by-in-Write.ensures c.own-item.result.name others (rw (c.in-Write.is, c.as_str.ensures.text) at c.in-Some.ensures.named) is)
 
 pub returns-in-Find : goal.returns-in-Find
 returns-in-Find c =
-    let named : Some (made_into find_command find_form) ≡ form_of c.own-item.result.name = rw (c.in-Find.is, c.as_str.ensures.text) at c.in-Some.ensures in
-    told_by (λ told. Drafts c.args.document.now (pairs_of c.args.sequences.now) c.read_by-in-Find.result told) (made_into find_command find_form) (form_meant c.args.sent) c.args.document.now c.fields.result.now c.own-item.result (pairs_of c.args.sequences.now) (omega (arith, c.in-len1-up.len_at_least)) c.own-item.is c.fields.ensures.fields named c.read_by-in-Find.ensures
+    let found : Some (made_into find_command find_form) ≡ form_of c.own-item.result.name = rw (c.in-Find.is, c.as_str.ensures.text) at c.in-Some.ensures.found in
+    told_by (λ told. Drafts c.args.document.now (pairs_of c.args.sequences.now) c.read_by-in-Find.result told) (made_into find_command find_form) (form_meant c.args.sent) c.args.document.now c.fields.result.now c.own-item.result
+    (pairs_of c.args.sequences.now) (omega (arith, c.in-len1-up.len_at_least)) c.own-item.is c.fields.ensures.fields found (λ others is. c.read_by-in-Find.ensures c.own-item.result.name others tt is)
+
+pub returns-in-Aggregate : goal.returns-in-Aggregate
+returns-in-Aggregate c =
+    let found : Some (made_into find_command aggregate_form) ≡ form_of c.own-item.result.name = rw (c.in-Aggregate.is, c.as_str.ensures.text) at c.in-Some.ensures.found in
+    told_by (λ told. Drafts c.args.document.now (pairs_of c.args.sequences.now) c.read_by-in-Aggregate.result told) (made_into find_command aggregate_form) (form_meant c.args.sent) c.args.document.now c.fields.result.now c.own-item.result
+    (pairs_of c.args.sequences.now) (omega (arith, c.in-len1-up.len_at_least)) c.own-item.is c.fields.ensures.fields found (λ others is. c.read_by-in-Aggregate.ensures c.own-item.result.name others tt is)
+
+pub returns-in-Count : goal.returns-in-Count
+returns-in-Count c =
+    let found : Some (made_into count_command count_form) ≡ form_of c.own-item.result.name = rw (c.in-Count.is, c.as_str.ensures.text) at c.in-Some.ensures.found in
+    told_by (λ told. Drafts c.args.document.now (pairs_of c.args.sequences.now) c.read_by-in-Count.result told) (made_into count_command count_form) (form_meant c.args.sent) c.args.document.now c.fields.result.now c.own-item.result
+    (pairs_of c.args.sequences.now) (omega (arith, c.in-len1-up.len_at_least)) c.own-item.is c.fields.ensures.fields found (λ others is. c.read_by-in-Count.ensures c.own-item.result.name others tt is)
+
+pub returns-in-GetMore : goal.returns-in-GetMore
+returns-in-GetMore c =
+    let found : Some (made_into more_command more_form) ≡ form_of c.own-item.result.name = rw (c.in-GetMore.is, c.as_str.ensures.text) at c.in-Some.ensures.found in
+    told_by (λ told. Drafts c.args.document.now (pairs_of c.args.sequences.now) c.read_by-in-GetMore.result told) (made_into more_command more_form) (form_meant c.args.sent) c.args.document.now c.fields.result.now c.own-item.result
+    (pairs_of c.args.sequences.now) (omega (arith, c.in-len1-up.len_at_least)) c.own-item.is c.fields.ensures.fields found (λ others is. c.read_by-in-GetMore.ensures c.own-item.result.name others (rw (c.in-GetMore.is, c.as_str.ensures.text) at c.in-Some.ensures.named) is)
+
+pub returns-in-KillCursors : goal.returns-in-KillCursors
+returns-in-KillCursors c =
+    let found : Some (made_into kill_command kill_form) ≡ form_of c.own-item.result.name = rw (c.in-KillCursors.is, c.as_str.ensures.text) at c.in-Some.ensures.found in
+    told_by (λ told. Drafts c.args.document.now (pairs_of c.args.sequences.now) c.read_by-in-KillCursors.result told) (made_into kill_command kill_form) (form_meant c.args.sent) c.args.document.now c.fields.result.now c.own-item.result
+    (pairs_of c.args.sequences.now) (omega (arith, c.in-len1-up.len_at_least)) c.own-item.is c.fields.ensures.fields found (λ others is. c.read_by-in-KillCursors.ensures c.own-item.result.name others tt is)

@@ -1,6 +1,6 @@
 use Rattle.std.proofs.Common.{List, ◌++◌, ◌∙◌, subst}
 use Rattle.std.specs.Arc.{arc_value}
-use Rattle.group_accum.specs.Kept.{rows_in}
+use Rattle.group_accum.specs.GroupParts.{rows_in}
 use Rattle.pipeline_eval.specs.Rows.{rows_of}
 use Rattle.pipeline_model.specs.GroupSpecs.{GroupSpec}
 use Rattle.pipeline_model.specs.Groups.{IsJoined, PartialRow}

@@ -3,7 +3,7 @@ use Rattle.std.proofs.Common.{◌≡◌, map}
 use Rattle.std.specs.Prelude.{flat_map}
 use Rattle.std.specs.Arc.{arc_value}
 use Rattle.std.specs.VecDeque.{deque_len}
-use Rattle.group_accum.specs.Kept.{rows_in, spec_in}
+use Rattle.group_accum.specs.GroupParts.{rows_in, spec_in}
 use Rattle.pipeline_eval.specs.Rows.{rows_of}
 use Rattle.pipeline_model.specs.Halves.{partials_in_part}
 use Rattle.group_merge.proofs.Parts.{AreSoFar}

@@ -2,4 +2,4 @@ use Rattle.open_requests.proofs.Counted.{left_over}
 use Rattle.open_requests.proofs.asks.unanswered.Goals as goal
 
 pub returns-then-answers-statements : goal.returns-then-answers-statements
-returns-then-answers-statements c = λ id. left_over id c.args.statements.now c.args.answers.now
+returns-then-answers-statements c = λ given id. left_over given id c.args.statements.now c.args.answers.now

@@ -1,7 +1,7 @@
 use Rattle.std.proofs.Common.{◌++◌, ◌∷◌, [], List, ◌∙◌, subst}
 use Rattle.std.specs.Arc.{arc_value}
 use Rattle.bson_values.specs.Tree.{Fields}
-use Rattle.group_accum.specs.Kept.{rows_in, spec_in}
+use Rattle.group_accum.specs.GroupParts.{rows_in, spec_in}
 use Rattle.pipeline_model.specs.GroupSpecs.{GroupSpec}
 use Rattle.pipeline_model.specs.Groups.{IsJoined, PartialRow, own_row}
 use Rattle.pipeline_eval.proofs.Loops.{grouped_next, nothing_grouped}

@@ -1,7 +1,7 @@
 -- The rows are those of the documents so far.
 use Rattle.std.proofs.Common.{◌≡◌, map, take}
 use Rattle.std.specs.Arc.{arc_value}
-use Rattle.group_accum.specs.Kept.{rows_in, spec_in}
+use Rattle.group_accum.specs.GroupParts.{rows_in, spec_in}
 use Rattle.pipeline_model.specs.Groups.{IsJoined, own_row}
 use Rattle.pipeline_eval.proofs.steps.grouped.Given as goal
 

@@ -19,9 +19,11 @@ returns-clause-right c = record {
 -- no moment, collection or entry is of this time
 never_met : WasMet moments (creation ∷ []) both_entries (timestamp 1000 7) → ⊥
 never_met (inl zero) = omega (arith, zero)
-never_met (inr (inl (g, i, same))) = all_at (λ (g : Given). timestamp 1000 7 ≡ time_of_moment g.moment → ⊥) g moments ((λ e. omega (arith, e)), ((λ e. omega (arith, e)), tt)) i same
+never_met (inr (inl (g, i, same))) = all_at (λ (g : Given). timestamp 1000 7 ≡ time_of_moment g.moment → ⊥) g moments
+    ((λ e. omega (arith, e)), ((λ e. omega (arith, e)), tt)) i same
 never_met (inr (inr (inl (c, i, same)))) = all_at (λ (c : Creation). timestamp 1000 7 ≡ c.at → ⊥) c (creation ∷ []) ((λ e. omega (arith, e)), tt) i same
-never_met (inr (inr (inr (e, i, same)))) = all_at (λ (e : Entry). timestamp 1000 7 ≡ e.time → ⊥) e both_entries ((λ e. omega (arith, e)), ((λ e. omega (arith, e)), tt)) i same
+never_met (inr (inr (inr (e, i, same)))) = all_at (λ (e : Entry). timestamp 1000 7 ≡ e.time → ⊥) e both_entries
+    ((λ e. omega (arith, e)), ((λ e. omega (arith, e)), tt)) i same
 
 pub returns-clause-made_up : goal.returns-clause-made_up
 returns-clause-made_up c k = never_met k.time

@@ -1,10 +1,12 @@
--- Statements of one number are of one request.
+-- A statement under a router's own number is of one request.
 use Rattle.reply_model.proofs.Freshness.{sent}
 use Rattle.reply_model.proofs.Requests.{own_entry}
 use Rattle.reply_model.proofs.laws.own_entry.Goals as goal
 
 pub returns-clause-sent : goal.returns-clause-sent
-returns-clause-sent c given creations history asked answered e one i = sent given creations history asked answered one e i
+returns-clause-sent c given creations history asked answered e one i =
+    let s = sent given creations history asked answered one e i in
+    (s.request, s.taken, s.sends)
 
 pub returns-clause-alone : goal.returns-clause-alone
-returns-clause-alone c a b e is are = own_entry a b e is are
+returns-clause-alone c a b e sends own other = own_entry a b e sends own other

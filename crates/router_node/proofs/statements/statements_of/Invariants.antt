@@ -1,6 +1,7 @@
-use Rattle.std.proofs.Common.{◌≡◌, ◌++◌, ◌<◌, ◌^◌, map}
+use Rattle.std.proofs.Common.{◌≡◌, ◌++◌, ◌<◌, ◌^◌, Option, map}
 use Rattle.std.specs.List.{AllByRecursion}
 use Rattle.std.specs.Vec.Iter.{into_iter_items}
+use Rattle.command_model.specs.Writes.{ClientNumber}
 use Rattle.command_words.specs.CommandSizes.{IsKeepable}
 use Rattle.node_model.specs.Exchanges as asked
 use Rattle.node_model.specs.RouterRows as rows
@@ -12,6 +13,6 @@ abbrev pub invariant-loop-words : goal.invariant-loop-words
 invariant-loop-words l = record {
   fits : l.index < 2 ^ 32;
   keepable : AllByRecursion IsKeepable (map operation_meant (into_iter_items l.words-iterator));
-  puts : (id : asked.RequestId) → map (λ s. statement_meant id s) l.statements.items ++ rows.statements_from id l.index (map operation_meant (into_iter_items l.words-iterator))
-      ≡ rows.statements_from id 0 (map operation_meant l.fn.operations.items);
+  puts : (given : Option ClientNumber) (id : asked.RequestId) → map (λ s. statement_meant given id s) l.statements.items ++ rows.statements_from given id l.index (map operation_meant (into_iter_items l.words-iterator))
+      ≡ rows.statements_from given id 0 (map operation_meant l.fn.operations.items);
 }

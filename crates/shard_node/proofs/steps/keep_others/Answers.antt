@@ -1,4 +1,4 @@
-use Rattle.std.proofs.Common.{◌≡◌, ap, rules, ◌∙◌}
+use Rattle.std.proofs.Common.{ap, rules, ◌∙◌}
 use Rattle.std.specs.Prelude.{List, map, not}
 use Rattle.std.proofs.lemmas.Fn.{filter_same}
 use Rattle.node_traits.specs.ShardRows.{wants_table}

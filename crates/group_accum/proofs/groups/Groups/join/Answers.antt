@@ -1,7 +1,7 @@
 use Rattle.std.proofs.Common.{◌∷◌, ◌++◌, [], List, refl, ap, ◌∙◌, subst}
 use Rattle.pipeline_model.specs.GroupSpecs.{GroupSpec}
 use Rattle.pipeline_model.specs.Groups.{IsJoined, PartialRow}
-use Rattle.group_accum.specs.Kept.{rows_in, spec_in}
+use Rattle.group_accum.specs.GroupParts.{rows_in, spec_in}
 use Rattle.group_accum.specs.Rows.{row_of, rows_of}
 use Rattle.group_accum.proofs.TakenIn.{next_taken, none_taken}
 use Rattle.group_accum.proofs.groups.Groups.join.Goals as goal

@@ -2,7 +2,7 @@
 use Rattle.std.proofs.Common.{◌≡◌, ◌++◌, List}
 use Rattle.std.specs.BTreeMap.{btree_map_len}
 use Rattle.pipeline_model.specs.Groups.{IsJoined, PartialRow}
-use Rattle.group_accum.specs.Kept.{documents_in, rows_in, spec_in}
+use Rattle.group_accum.specs.GroupParts.{documents_in, rows_in, spec_in}
 use Rattle.group_accum.specs.Rows.{rows_of}
 use Rattle.group_accum.proofs.groups.Groups.join.Given as goal
 

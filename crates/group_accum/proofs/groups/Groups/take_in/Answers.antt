@@ -7,7 +7,7 @@ use Rattle.pipeline_model.specs.GroupSpecs.{GroupField, GroupSpec}
 use Rattle.pipeline_model.specs.Groups as groups
 use Rattle.pipeline_model.specs.Groups.{IsJoined}
 use Rattle.pipeline_model.proofs.Absorbed.{absorb_row, empty_row}
-use Rattle.group_accum.specs.Kept.{rows_in, spec_in}
+use Rattle.group_accum.specs.GroupParts.{rows_in, spec_in}
 use Rattle.group_accum.specs.Rows.{rows_of}
 use Rattle.group_accum.specs.View.{cell_of}
 use Rattle.group_accum.proofs.TakenIn.{new_in, on_ok, taken_in}

@@ -1,4 +1,5 @@
-use Rattle.std.proofs.Common.{◌≡◌, refl, ap, ◌∙◌, ◌∷◌, []}
+use Rattle.std.proofs.Common.{refl, ap, ◌∙◌, ◌∷◌, []}
+use Rattle.command_answers.specs.Kinds.{given_meant}
 use Rattle.node_model.specs.Letters.{Letter}
 use Rattle.node_model.specs.RouterRows.{id_of}
 use Rattle.open_requests.specs.Askers.{asker_meant}
@@ -7,6 +8,6 @@ use Rattle.open_requests.proofs.asker.Asker.asks_to_write.Goals as goal
 
 pub returns : goal.returns
 returns c =
-    ap (λ (m : Letter). m ∷ []) (c.says.ensures ∙ rw (c.id.ensures, c.in_ok-copy.ensures, c.in_ok-statements.ensures (id_of (asker_meant c.args.self) c.args.count), c.of.ensures) refl)
-    ∙ asks_run (asker_meant c.args.self) c.args.time.0 (id_of (asker_meant c.args.self) c.args.count) c.args.namespace.now c.args.table.now c.args.ordered c.args.statements.now
-    c.first-item.result c.in_ok-shard.shard.0 c.in-len1-up.len_at_least c.first-item.is (c.in_ok-shard.ensures (id_of (asker_meant c.args.self) c.args.count))
+    ap (λ (m : Letter). m ∷ []) (c.says.ensures ∙ rw (c.id.ensures, c.in_ok-copy.ensures, c.in_ok-statements.ensures (given_meant c.args.number) (id_of (asker_meant c.args.self) c.args.count), c.of.ensures) refl)
+    ∙ asks_run (asker_meant c.args.self) c.args.time.0 (given_meant c.args.number) (id_of (asker_meant c.args.self) c.args.count) c.args.namespace.now c.args.table.now c.args.ordered c.args.statements.now
+    c.first-item.result c.in_ok-shard.shard.0 c.in-len1-up.len_at_least c.first-item.is (c.in_ok-shard.ensures (given_meant c.args.number) (id_of (asker_meant c.args.self) c.args.count))

@@ -1,4 +1,4 @@
-use Rattle.std.proofs.Common.{◌≡◌, sym, ◌∙◌, ◌≤◌, length, arith}
+use Rattle.std.proofs.Common.{sym, ◌∙◌, ◌≤◌, length, arith}
 use Rattle.node_model.specs.RouterRows as rows
 use Rattle.protocol_model.specs.Bodies.{at_meant}
 use Rattle.open_requests.specs.Works.{open_meant}

@@ -1,4 +1,4 @@
-use Rattle.std.proofs.Common.{◌≡◌, refl, ap, sym, subst, ◌∙◌, [], ◌∷◌, suc, ◌+◌, ◌<◌, length, map, arith}
+use Rattle.std.proofs.Common.{◌≡◌, refl, ap, sym, ◌∙◌, [], ◌∷◌, suc, ◌+◌, arith}
 use Rattle.node_model.specs.RouterRows as rows
 use Rattle.node_model.specs.States.{for_shards}
 use Rattle.std.specs.List.{slice_set}

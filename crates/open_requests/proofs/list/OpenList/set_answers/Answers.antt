@@ -1,7 +1,6 @@
-use Rattle.std.proofs.Common.{◌≡◌, ap, ◌∙◌, ◌<◌, ◌≤◌, length, map, arith}
+use Rattle.std.proofs.Common.{◌≡◌, ap, ◌∙◌, ◌<◌, length, map, arith}
 use Rattle.node_model.specs.RouterRows.{with_work}
 use Rattle.node_model.specs.States.{Open, replaced, writing}
-use Rattle.open_requests.specs.Order.{place_of}
 use Rattle.open_requests.specs.Works.{open_meant, wait_meant}
 use Rattle.protocol_model.specs.Statements.{done_meant}
 use Rattle.open_requests.proofs.Waits.{is_put, not_there, rises_put, was_there}

@@ -1,4 +1,4 @@
-use Rattle.std.proofs.Common.{◌≡◌, ap, sym, subst, ◌∙◌, List, [], ◌∷◌, rules, true}
+use Rattle.std.proofs.Common.{◌≡◌, ap, sym, subst, ◌∙◌, List, [], ◌∷◌, ℕ, map, rules, true}
 use Rattle.node_model.specs.Answers.{Answer}
 use Rattle.node_model.specs.RouterRows as rows
 use Rattle.node_traits.specs.Effects.{puts_of}
@@ -6,6 +6,7 @@ use Rattle.command_answers.specs.AnswerMeanings.{answer_meant}
 use Rattle.command_answers.specs.Kinds.{kind_meant}
 use Rattle.node_traits.specs.Ids.{id_meant}
 use Rattle.open_requests.specs.Works.{open_meant}
+use Rattle.protocol_model.specs.Statements.{done_meant}
 use Rattle.router_node.specs.RouterStates.{router_of}
 use Rattle.router_node.proofs.Heard.{heard_by}
 use Rattle.node_model.specs.Answers.{answer_document}
@@ -28,4 +29,5 @@ returns c = λ m statements late news all.
     (dones_wrote r m (id_meant c.args.id) q news.opened news.dones kind c.args.ordered statements news.before news.body news.work _ news.news
     (subst (λ (ds : List Done). rows.is_answered c.args.ordered statements ds ≡ true) (sym news.are) all)
     (told_as _ (rows.id_of r q.count) (rows.heard r m) q.link q.number q.request (answer_document answer) fits (c.in_ok-reply.ensures (rows.id_of r q.count) (rows.heard r m))
-    ∙ ap (λ (x : Answer). puts_of (rows.reply_to r (rows.heard r m) q x ∷ [])) (c.in_ok-answer.ensures ∙ ap (λ (ds : List Done). answer_of kind ds) (sym news.are))))
+    ∙ ap (λ (x : Answer). puts_of (rows.reply_to r (rows.heard r m) q x ∷ [])) (c.in_ok-answer.ensures ∙ ap (λ (t : ℕ). answer_of kind t (map done_meant c.args.noted.now.items)) late
+    ∙ ap (λ (ds : List Done). answer_of kind (rows.heard r m) ds) (sym news.are))))

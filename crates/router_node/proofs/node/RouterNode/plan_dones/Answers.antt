@@ -21,7 +21,7 @@ returns-in-Reading c = λ m is late.
     let n = c.args.self.now in
     let q = open_meant n.me.0 n.life c.in-Some.request.now in
     heard_late (router_of n) m c.late-in-Reading.result c.args.time.0 late c.late-in-Reading.ensures
-    (dones_of_read (router_of n) m (id_meant c.args.told.now.id) q (sym c.in-Some.ensures) _ _ _ is (ap (λ (w : Work). work_meant (rows.id_of (router_of n) c.in-Some.request.now.count) w) c.in-Reading.is))
+    (dones_of_read (router_of n) m (id_meant c.args.told.now.id) q (sym c.in-Some.ensures) _ _ _ _ _ is (ap (λ (w : Work). work_meant (rows.id_of (router_of n) c.in-Some.request.now.count) w) c.in-Reading.is))
 
 pub returns-then-are_as_many : goal.returns-then-are_as_many
 returns-then-are_as_many c = λ m is late.

@@ -1,13 +1,15 @@
-use Rattle.std.proofs.Common.{◌≡◌, ap, subst, ℕ, [], arith}
+use Rattle.std.proofs.Common.{◌≡◌, ap, sym, subst, ◌∙◌, ℕ, [], arith}
+use Rattle.std.specs.Option.{option_map}
 use Rattle.node_model.specs.Letters.{letter_input}
 use Rattle.node_model.specs.RouterRows as rows
 use Rattle.node_model.specs.States as states
 use Rattle.node_traits.specs.Ids.{id_meant}
 use Rattle.open_requests.specs.Askers.{letters_of}
-use Rattle.open_requests.specs.Works.{open_meant, wait_meant}
+use Rattle.open_requests.specs.Works.{open_meant, read_at, read_meant, stages_of, telling_meant, wait_meant}
 use Rattle.router_node.specs.RouterStates.{router_of}
-use Rattle.router_node.proofs.Heard.{heard_by, waits_so, found}
+use Rattle.router_node.proofs.Heard.{heard_by, reaches_so, found}
 use Rattle.router_node.proofs.Fates.{time_reached}
+use Rattle.router_node.proofs.Reached.{asked_reached, waits_reached}
 use Rattle.router_node.proofs.node.RouterNode.plan_go.Goals as goal
 
 pub returns : goal.returns
@@ -15,13 +17,22 @@ returns c = λ m is late.
     let n = c.args.self.now in
     let r = router_of n in
     let q = open_meant n.me.0 n.life c.args.request.now in
+    let read = c.args.read.now in
     let id = id_meant c.args.id in
-    let wait = c.in_ok-wait.wait in
-    let asked : letters_of c.in_ok-wait.message ≡ rows.asks_for r (rows.heard r m) q.count q.namespace q.work =
-    subst (λ (t : ℕ). letters_of c.in_ok-wait.message ≡ rows.asks_for r t q.count q.namespace q.work) late c.in_ok-wait.ensures.letters in
-    let waits : wait_meant wait ≡ rows.wait_of r (rows.heard r m) q.namespace q.work =
-    subst (λ (t : ℕ). wait_meant wait ≡ rows.wait_of r t q.namespace q.work) late (c.in_ok-wait.ensures.wait (rows.id_of r q.count)) in
+    let wait = c.wait_by-wait.result in
+    let work : q.work ≡ read_meant read = c.requires.work in
+    let asked : letters_of c.in_ok-message.message ≡ rows.asks_for r (rows.heard r m) q.count q.namespace (rows.reached (rows.heard r m) q.work) =
+    subst (λ (t : ℕ). letters_of c.in_ok-message.message ≡ rows.asks_for r t q.count q.namespace (rows.reached t q.work)) late
+    (subst (λ (w : states.Work). letters_of c.in_ok-message.message ≡ rows.asks_for r c.args.time.0 q.count q.namespace (rows.reached c.args.time.0 w)) (sym work)
+    (asked_reached r c.args.time.0 q.count q.namespace read c.at_reached-at.result _ c.requires.come c.at_reached-at.ensures c.table_at-table.ensures _
+    (subst (λ (x : states.Router). letters_of c.in_ok-message.message ≡ rows.asks_by x c.args.time.0 q.count q.namespace (read_at read c.at_reached-at.result.0) (option_map (λ t. t.now) c.table_at-table.result))
+    c.asker.ensures c.in_ok-message.ensures))) in
+    let waits : wait_meant wait ≡ rows.wait_of r (rows.heard r m) q.namespace (rows.reached (rows.heard r m) q.work) =
+    subst (λ (t : ℕ). wait_meant wait ≡ rows.wait_of r t q.namespace (rows.reached t q.work)) late
+    (subst (λ (w : states.Work). wait_meant wait ≡ rows.wait_of r c.args.time.0 q.namespace (rows.reached c.args.time.0 w)) (sym work)
+    (waits_reached r c.args.time.0 q.count q.namespace read c.at_reached-at.result _ c.requires.come c.at_reached-at.ensures c.table_at-table.ensures _ c.wait_by-wait.ensures)) in
     heard_by r m c.hears.result c.args.time.0 late _ _ _ c.hears.ensures ((λ e. e), q, found r id q c.requires.open)
-    (waits_so r id q c.requires.open (letter_input m) (letters_of c.in_ok-wait.message) [] (rows.heard r m) wait
-    (time_reached r m id q c.requires.open c.args.at.0 c.requires.work.0 (letters_of c.in_ok-wait.message) (rows.with_work q (wait_meant wait) q.work) is c.requires.work.1 c.requires.waits
-    (omega (arith, c.requires.come, late)) asked (ap (λ (w : states.Wait). rows.with_work q w q.work) waits)))
+    (reaches_so r id q c.requires.open (letter_input m) (letters_of c.in_ok-message.message) [] (rows.heard r m) wait
+    (time_reached r m id q c.requires.open read.named read.at.0 (stages_of read.parts) (telling_meant read.telling) (letters_of c.in_ok-message.message)
+    (rows.with_work q (wait_meant wait) (rows.reached (rows.heard r m) q.work)) is work c.requires.waits
+    (omega (arith, c.requires.come, late)) asked (ap (λ (w : states.Wait). rows.with_work q w (rows.reached (rows.heard r m) q.work)) waits)))

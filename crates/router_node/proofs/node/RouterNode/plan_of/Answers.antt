@@ -21,11 +21,11 @@ plan_command-requires c =
 
 pub returns-in-Ok : goal.returns-in-Ok
 returns-in-Ok c = λ id.
-    subst (λ (x : Result Command Refusal). IfOk c.plan_command.result (λ plan. plan_meant id plan ≡ rows.plan_of (started (router_of c.args.self.now)) id x))
+    subst (λ (x : Result Command Refusal). IfOk c.plan_command.result (λ plan. plan_meant id plan ≡ rows.plan_of (started (router_of c.args.self.now)) id c.args.silent x))
     (sym (c.in-Ok.ensures (body_of c.args.body) (c.is_taken.ensures (search rules)).meant)) (c.plan_command.ensures id)
 
 pub returns-in-Err-Refused : goal.returns-in-Err-Refused
 returns-in-Err-Refused c = λ id.
     let told = subst (λ (e : CommandFault). Answers (Err e) (command_in (form_meant c.args.sent) (body_of c.args.body))) c.in-Err-Refused.field-0-is
     (c.in-Err-Refused.ensures (body_of c.args.body) (c.is_taken.ensures (search rules)).meant) in
-    sym (ap (λ (x : Result Command Refusal). rows.plan_of (started (router_of c.args.self.now)) id x) told)
+    sym (ap (λ (x : Result Command Refusal). rows.plan_of (started (router_of c.args.self.now)) id c.args.silent x) told)

@@ -1,4 +1,5 @@
 use Rattle.std.proofs.Common.{◌≡◌, ap, sym, subst, ℕ, List, [], map, false}
+use Rattle.command_answers.specs.Kinds.{given_meant}
 use Rattle.node_model.specs.Letters.{letter_input}
 use Rattle.node_model.specs.RouterRows as rows
 use Rattle.node_model.specs.States as states
@@ -20,7 +21,7 @@ returns c = λ m kind late news some.
     let r = router_of n in
     let q = open_meant n.me.0 n.life c.args.request.now in
     let id = id_meant c.args.id in
-    let statements = map (λ s. statement_meant (rows.id_of r q.count) s) c.args.statements.now.items in
+    let statements = map (λ s. statement_meant (given_meant c.args.number) (rows.id_of r q.count) s) c.args.statements.now.items in
     let answers = map done_meant c.args.noted.items in
     let more = rows.noted news.before news.dones in
     let wait = c.wait_by-wait.result in

@@ -26,7 +26,7 @@ returns-in-ForTable c = λ m is late.
     let n = c.args.self.now in
     let q = open_meant n.me.0 n.life c.in-Some.request.now in
     heard_late (router_of n) m c.late-in-ForTable.result c.args.time.0 late c.late-in-ForTable.ensures
-    (time_not_awaited (router_of n) m (id_meant c.args.told.now.id) q (sym c.in-Some.ensures) _ _ is (ap (λ (w : Work). work_meant (rows.id_of (router_of n) c.in-Some.request.now.count) w) c.in-Reading.is)
+    (time_not_awaited (router_of n) m (id_meant c.args.told.now.id) q (sym c.in-Some.ensures) _ _ _ _ is (ap (λ (w : Work). work_meant (rows.id_of (router_of n) c.in-Some.request.now.count) w) c.in-Reading.is)
     (λ e. cc (sym (ap (λ (w : Wait). wait_meant w) c.in-ForTable.is) ∙ e)))
 
 pub returns-in-ForShards : goal.returns-in-ForShards
@@ -34,5 +34,5 @@ returns-in-ForShards c = λ m is late.
     let n = c.args.self.now in
     let q = open_meant n.me.0 n.life c.in-Some.request.now in
     heard_late (router_of n) m c.late-in-ForShards.result c.args.time.0 late c.late-in-ForShards.ensures
-    (time_not_awaited (router_of n) m (id_meant c.args.told.now.id) q (sym c.in-Some.ensures) _ _ is (ap (λ (w : Work). work_meant (rows.id_of (router_of n) c.in-Some.request.now.count) w) c.in-Reading.is)
+    (time_not_awaited (router_of n) m (id_meant c.args.told.now.id) q (sym c.in-Some.ensures) _ _ _ _ is (ap (λ (w : Work). work_meant (rows.id_of (router_of n) c.in-Some.request.now.count) w) c.in-Reading.is)
     (λ e. cc (sym (ap (λ (w : Wait). wait_meant w) c.in-ForShards.is) ∙ e)))

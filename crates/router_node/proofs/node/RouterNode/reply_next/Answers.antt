@@ -1,5 +1,5 @@
-use Rattle.std.proofs.Common.{◌≡◌, ap, sym, subst, ◌∙◌, List, [], ◌∷◌, rules}
-use Rattle.node_model.specs.Answers.{Answer, find_answer}
+use Rattle.std.proofs.Common.{◌≡◌, refl, ap, sym, subst, ◌∙◌, List, [], ◌∷◌, rules}
+use Rattle.node_model.specs.Answers.{Answer}
 use Rattle.node_model.specs.RouterRows as rows
 use Rattle.node_traits.specs.Effects.{puts_of}
 use Rattle.node_traits.specs.Lists.{listed}
@@ -11,7 +11,6 @@ use Rattle.std.proofs.Common.{w32, ℤ}
 use Rattle.std.proofs.lemmas.Int.{to_z-of_z}
 use mir.Val.{SFits}
 use Rattle.std.specs.Prelude.{IfOk}
-use Rattle.node_model.specs.Tree.{Fields}
 use Rattle.node_traits.specs.declared.outputs.ToLink.{ToLink}
 use Rattle.router_node.specs.Nexts.{tables_told}
 use Rattle.router_node.proofs.node.RouterNode.reply_next.Goals as goal
@@ -33,13 +32,12 @@ returns-in_ok-answer-in-IsTold c =
     let r = router_of n in
     let q = open_meant n.me.0 n.life c.args.request.now in
     let time = c.args.time.0 in
-    let at = c.in-IsTold.at.0 in
     let answer = answer_meant c.in_ok-answer-in-IsTold.answer in
     let told = c.in-IsTold.ensures r time (tables_told c.args.told.now r.tables) c.requires in
     let fits : SFits w32 c.args.request.now.number = search rules in
     subst (λ (rs : List ToLink). IfOk c.reply_to.result (λ reply. listed reply ≡ rs))
     (ap (λ (z : ℤ). puts_of (record { id = rows.id_of r q.count; link = q.link; number = z; request = q.request; time = time; document = answer_document answer } ∷ []))
     (to_z-of_z w32 c.args.request.now.number fits)
-    ∙ ap (λ (x : Answer). puts_of (rows.reply_to r time q x ∷ [])) (c.in_ok-answer-in-IsTold.ensures ∙ ap (λ (ds : List Fields). find_answer q.namespace ds at) c.new-none.ensures.items)
+    ∙ ap (λ (x : Answer). puts_of (rows.reply_to r time q x ∷ [])) (c.in_ok-answer-in-IsTold.ensures q refl)
     ∙ sym (ap (λ (x : rows.Next). puts_of (rows.replies_in x)) told))
     (c.reply_to.ensures (rows.id_of r q.count) time)

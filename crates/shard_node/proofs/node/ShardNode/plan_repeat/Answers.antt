@@ -1,7 +1,8 @@
-use Rattle.std.proofs.Common.{◌≡◌, ◌++◌, ◌∷◌, [], ap, sym, ◌∙◌, rules}
+use Rattle.std.proofs.Common.{◌≡◌, ◌∷◌, [], ap, sym, ◌∙◌, rules}
 use Rattle.std.specs.Prelude.{List, map}
 use Rattle.std.specs.Option.{option_map}
 use Rattle.chunk_table.specs.VerdictMeanings.{sent_meant}
+use Rattle.command_answers.specs.Kinds.{given_meant}
 use Rattle.node_traits.specs.Letters.{letter_input, write_done}
 use Rattle.node_traits.specs.Outcomes as outcomes
 use Rattle.node_traits.specs.ShardRows.{heard, says, shard_repeat}
@@ -17,12 +18,13 @@ pub returns-clause-planned : goal.returns-clause-planned
 returns-clause-planned c = λ m body timed.
     let s = shard_meant c.args.self.now in
     let ask = c.args.ask.now in
-    let statements = map (statement_meant (id_meant ask.id)) ask.statements.items in
+    let given = given_meant ask.number in
+    let statements = map (statement_meant given (id_meant ask.id)) ask.statements.items in
     let d = told.done_meant c.in-Some.statement.now.index c.in-Some-2.told in
     let dones : map (λ x. done_meant x) c.push.new.self.items ≡ d ∷ [] = search rules in
-    let repeated = repeats_first ask.ordered s.entries (id_meant ask.id) ask.statements.items c.deref.result.now c.in-Some.statement.now d (search rules) c.in-Some.ensures.item.3.0
+    let repeated = repeats_first ask.ordered s.entries given (id_meant ask.id) ask.statements.items c.deref.result.now c.in-Some.statement.now d (search rules) c.in-Some.ensures.item.3.0
     c.in-Some.ensures.item.1 (sym (ap (option_map (told.done_meant c.in-Some.statement.now.index)) c.in-Some-2.is) ∙ c.in_ok-told.ensures) in
-    let old = not_fitting s.me s.tables (id_meant ask.id) ask.turn ask.ordered ask.namespace ask.statements.items c.deref.result.now (sent_meant ask.sent)
+    let old = not_fitting s.me s.tables given (id_meant ask.id) ask.turn ask.ordered ask.namespace ask.statements.items c.deref.result.now (sent_meant ask.sent)
     (search rules) c.in-Some.ensures.item.3.0 c.requires.old in
     told_planned s (letter_input m) c.of_message.result ask.id.router.0 c.args.time.0 (heard s m) (write_done (id_meant ask.id) (d ∷ [])) _
     (ap (λ t. t.0) c.of_message.ensures.time) timed c.of_message.ensures.change c.of_message.ensures.records c.of_message.ensures.mail

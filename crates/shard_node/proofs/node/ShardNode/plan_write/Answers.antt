@@ -1,8 +1,9 @@
-use Rattle.std.proofs.Common.{◌≡◌, ◌∷◌, [], ap, sym, ◌∙◌, rules}
+use Rattle.std.proofs.Common.{◌≡◌, [], ap, ◌∙◌, rules}
 use Rattle.std.specs.Prelude.{List, map}
 use Rattle.chunk_table.specs.VerdictMeanings.{sent_meant}
-use Rattle.node_traits.specs.Letters.{letter_input, write_ask, write_done}
-use Rattle.node_traits.specs.ShardRows.{heard, says, shard_empty}
+use Rattle.command_answers.specs.Kinds.{given_meant}
+use Rattle.node_traits.specs.Letters.{letter_input, write_ask}
+use Rattle.node_traits.specs.ShardRows.{heard, shard_empty}
 use Rattle.node_traits.specs.Ids.{id_meant}
 use Rattle.protocol_model.specs.Statements.{done_meant, statement_meant}
 use Rattle.protocol_model.specs.declared.statement.Statement.{Statement}
@@ -19,12 +20,12 @@ returns-then-is_empty-clause-planned c = λ m body timed.
     let planned = c.of_time.ensures in
     quiet_planned s (letter_input m) c.of_time.result (heard s m) (ap (λ t. t.0) planned.time ∙ timed) planned.change planned.records planned.mail
     (shard_empty s m (id_meant ask.id) ask.turn ask.ordered ask.namespace (sent_meant ask.sent)
-    (body ∙ ap (λ (xs : List Statement). write_ask (id_meant ask.id) ask.turn ask.ordered ask.namespace (map (statement_meant (id_meant ask.id)) xs) (sent_meant ask.sent)) none))
+    (body ∙ ap (λ (xs : List Statement). write_ask (id_meant ask.id) ask.turn ask.ordered ask.namespace (map (statement_meant (given_meant ask.number) (id_meant ask.id)) xs) (sent_meant ask.sent)) none))
 
 pub returns-clause-planned : goal.returns-clause-planned
 returns-clause-planned c = λ m body timed.
     let s = shard_meant c.args.self.now in
     let ask = c.args.ask in
-    write_planned s m _ (id_meant ask.id) ask.turn ask.ordered ask.namespace (map (statement_meant (id_meant ask.id)) ask.statements.items) (sent_meant ask.sent) c.args.time.0
+    write_planned s m _ (id_meant ask.id) ask.turn ask.ordered ask.namespace (map (statement_meant (given_meant ask.number) (id_meant ask.id)) ask.statements.items) (sent_meant ask.sent) c.args.time.0
     (map (λ d. done_meant d) c.in_ok-dones.dones.items) (made_by s.me ask.namespace c.serve_all.new.entries) c.time-last.result.0 timed body c.requires.fits (search rules)
     (not_empty (λ d. done_meant d) c.in_ok-dones.dones.items _ (search rules) c.if-is_empty.ensures) (search rules) (search rules) (search rules)

@@ -1,4 +1,5 @@
-use Rattle.std.proofs.Common.{◌≡◌, ◌<◌, ◌+◌, ℕ, [], drop, length, map}
+use Rattle.std.proofs.Common.{◌≡◌, ◌<◌, ◌+◌, [], drop, length, map}
+use Rattle.command_answers.specs.Kinds.{given_meant}
 use Rattle.node_traits.specs.Effects.{last_time}
 use Rattle.node_traits.specs.Ids.{id_meant}
 use Rattle.protocol_model.specs.Statements.{done_meant, statement_meant}
@@ -12,11 +13,12 @@ abbrev pub invariant-loop-statement : goal.invariant-loop-statement
 invariant-loop-statement l = record {
   plan : IsPlan (entries_of l.self.store) (last_of l.self.store) l.ask.namespace l.entries;
   id : l.entries.id ≡ l.ask.id;
+  number : l.entries.number ≡ l.ask.number;
   early : time_of l.entries < last_time + length l.all.dones.items;
   first : l.all.dones.items ≡ [] → planned_in l.entries ≡ [];
   begun : l.all.dones.items ≡ [] → l.statement-index ≡ 0;
   kept : AreKept (made_by l.self.me.0 l.ask.namespace l.entries) l.all.records.items;
-  goes : GoesOn l.self.me.0 l.ask.namespace l.ask.ordered (entries_of l.self.store) (time_of l.fn.entries) (map (statement_meant (id_meant l.ask.id)) l.ask.statements.items)
-      (map (statement_meant (id_meant l.ask.id)) (drop l.statement-index l.statement-items)) (map (λ d. done_meant d) l.all.dones.items)
+  goes : GoesOn l.self.me.0 l.ask.namespace l.ask.ordered (entries_of l.self.store) (time_of l.fn.entries) (map (statement_meant (given_meant l.ask.number) (id_meant l.ask.id)) l.ask.statements.items)
+      (map (statement_meant (given_meant l.ask.number) (id_meant l.ask.id)) (drop l.statement-index l.statement-items)) (map (λ d. done_meant d) l.all.dones.items)
       (made_by l.self.me.0 l.ask.namespace l.entries) (time_of l.entries);
 }

@@ -1,4 +1,4 @@
-use Rattle.std.proofs.Common.{arith, refl, rules}
+use Rattle.std.proofs.Common.{rules}
 use Rattle.std.specs.Arc.{arc_value}
 use Rattle.shard_store.proofs.Effects.{insert_large, insert_puts, insert_stands}
 use Rattle.shard_store.proofs.effect.Effect.of_insert.Goals as goal

@@ -2,13 +2,17 @@ use Rattle.std.proofs.Common.{◌≡◌, ◌≤◌, ◌+◌, ◌++◌, ◌∷◌
 use Rattle.std.specs.Prelude.{Bool, map, if◌then◌else◌}
 use Rattle.std.specs.List.{AllByRecursion}
 use Rattle.std.specs.Vec.Iter.{into_iter_items}
+use Rattle.cluster_base.specs.declared.identity.Session.{Session}
+use Rattle.cluster_base.specs.declared.identity.Stmt.{Stmt}
+use Rattle.session_book.specs.Books.{room_in}
 use Rattle.history_model.proofs.Lists.{all_both}
 use Rattle.node_model.specs.History.{Entry}
 use Rattle.shard_store.proofs.Following.{next_on}
+use Rattle.shard_store.proofs.Seen.{sessions_same}
 use Rattle.shard_store.specs.Collections.{room_under}
 use Rattle.shard_store.specs.Entries.{entry_meant}
 use Rattle.shard_store.specs.Outcomes.{statement_of}
-use Rattle.shard_store.specs.Plans.{AreNext, IsBehind}
+use Rattle.shard_store.specs.Plans.{AreNext, IsBehind, IsOf}
 use Rattle.shard_store.specs.Stores.{entries_of, last_of, shard_of}
 use Rattle.shard_store.specs.declared.entry.Planned.{Planned}
 use Rattle.shard_store.proofs.store.ShardStore.commit.Goals as goal
@@ -19,20 +23,21 @@ loop-planned-preserved c =
     let was = at.invariant in
     let p = c.in-Some.planned in
     let name = c.args.namespace.now in
+    let given = c.args.plan.number in
     let id = c.args.plan.id in
     let rest = into_iter_items c.next.new.self in
     let entry = entry_meant (shard_of at.self) name p in
     let steps : into_iter_items at.planned-iterator ≡ p ∷ rest = c.in-Some.ensures.steps.0 in
-    let next : AreNext (entries_of at.self) (last_of at.self) name id (p ∷ rest) =
-    subst (λ (l : List Planned). AreNext (entries_of at.self) (last_of at.self) name id l) steps was.next in
+    let next : AreNext (entries_of at.self) (last_of at.self) name given id (p ∷ rest) =
+    subst (λ (l : List Planned). AreNext (entries_of at.self) (last_of at.self) name given id l) steps was.next in
     let past : AllByRecursion (λ (q : Planned). q.time.0 ≤ c.args.plan.last.0) (p ∷ rest) =
     subst (λ (l : List Planned). AllByRecursion (λ (q : Planned). q.time.0 ≤ c.args.plan.last.0) l) steps was.past in
     let versions : AllByRecursion (λ (q : Planned). 1 ≤ room_under at.self.collections name q.key) (p ∷ rest) =
     subst (λ (l : List Planned). AllByRecursion (λ (q : Planned). 1 ≤ room_under at.self.collections name q.key) l) steps was.versions in
-    let after : AreNext (entries_of c.enter.new.self) (last_of c.enter.new.self) name id rest =
-    subst (λ (l : List Entry). AreNext l (last_of c.enter.new.self) name id rest) (sym c.enter.ensures.entries)
-    (subst (λ (t : ℕ). AreNext (entries_of at.self ++ entry ∷ []) t name id rest) (sym c.enter.ensures.last)
-    (next_on (shard_of at.self) name (entries_of at.self) (last_of at.self) id p rest next)) in
+    let after : AreNext (entries_of c.enter.new.self) (last_of c.enter.new.self) name given id rest =
+    subst (λ (l : List Entry). AreNext l (last_of c.enter.new.self) name given id rest) (sym c.enter.ensures.entries)
+    (subst (λ (t : ℕ). AreNext (entries_of at.self ++ entry ∷ []) t name given id rest) (sym c.enter.ensures.last)
+    (next_on (shard_of at.self) name (entries_of at.self) (last_of at.self) given id p rest next)) in
     record {
       len =
           let long = was.len in
@@ -59,6 +64,21 @@ loop-planned-preserved c =
       notes =
           let short = ap length steps in
           let left = was.notes in
-          let one = c.enter.ensures.notes (statement_of id 0).session in
+          let one = c.enter.ensures.notes (statement_of given id 0).session in
           omega arith;
     }
+
+pub enter-requires-clause-note : goal.enter-requires-clause-note
+enter-requires-clause-note c =
+    let was = c.loop-planned.invariant in
+    let p = c.in-Some.planned in
+    let given = c.args.plan.number in
+    let id = c.args.plan.id in
+    let steps : into_iter_items c.loop-planned.planned-iterator ≡ p ∷ into_iter_items c.next.new.self = c.in-Some.ensures.steps.0 in
+    let own : AllByRecursion (IsOf given id) (p ∷ into_iter_items c.next.new.self) =
+    subst (λ (l : List Planned). AllByRecursion (IsOf given id) l) steps was.next.own in
+    let session : (statement_of given id 0).session ≡ p.statement.session =
+    sessions_same given id 0 p.statement.index ∙ sym (ap (λ (s : Stmt). s.session) own.0) in
+    let left = was.notes in
+    let some = ap length steps in
+    subst (λ (s : Session). 1 ≤ room_in c.loop-planned.self.book s) session (omega arith)

@@ -10,7 +10,6 @@ invariant_of-result c =
     let none = c.new-3.ensures in
     record {
       past = λ e i. absurd (in_none e (subst (λ l. IsIn e (entries_kept c.args.shard.0 l)) none i));
-      zero = λ k i. absurd (in_none k (subst (λ l. IsIn k l) none i));
       shown = λ n k t. c.new.ensures.shown n k t ∙ ap (λ l. document_at (entries_kept c.args.shard.0 l) n (Some k) t) (sym none);
       versions = λ n k t e. absurd (let clash = sym (c.new.ensures.last n k) ∙ e in cc);
       noted = λ number. c.new-2.ensures.so_far number ∙ ap (λ l. seen (notes_kept l) number) (sym none);

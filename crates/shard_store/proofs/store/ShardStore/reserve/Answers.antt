@@ -9,6 +9,6 @@ returns-clause-room c =
     on_ok c.reserve_all.result _ _
     (λ rooms. record {
       versions = same_rooms c.reserve_all.new.self c.as_str.result.now c.args.namespace.now c.deref.result.now c.args.plan.now.planned.items c.as_str.ensures.text c.deref.ensures.value rooms;
-      notes = subst (λ (s : Stmt). length c.args.plan.now.planned.items ≤ room_in c.reserve_run.new.self s.session) c.own_statement.ensures (search rules);
+      notes = subst (λ (s : Stmt). length c.args.plan.now.planned.items ≤ room_in c.reserve_run.new.self s.session) c.statement_number.ensures (search rules);
     })
     c.reserve_all.ensures.room

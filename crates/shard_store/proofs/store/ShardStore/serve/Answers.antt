@@ -1,7 +1,9 @@
-use Rattle.std.proofs.Common.{◌≡◌, ◌+◌, ◌++◌, ◌∷◌, ℕ, List, [], refl, sym, ap, subst, ◌∙◌, append-nil, arith, rules}
-use Rattle.std.specs.Prelude.{Some, map}
+use Rattle.std.proofs.Common.{◌+◌, ◌++◌, ◌∷◌, ℕ, List, [], refl, sym, ap, subst, ◌∙◌, append-nil, arith, rules}
+use Rattle.std.specs.Prelude.{Option, Some, map}
 use Rattle.std.proofs.lemmas.List.{map-append}
 use Rattle.cluster_base.specs.declared.identity.RequestId.{RequestId}
+use Rattle.command_answers.specs.Kinds.{given_meant}
+use Rattle.command_answers.specs.declared.answer.ClientNumber.{ClientNumber}
 use Rattle.node_model.specs.Exchanges.{number_for}
 use Rattle.node_traits.specs.Ids.{id_meant}
 use Rattle.shard_store.proofs.Following.{again, next_from, own_from, served_next}
@@ -12,15 +14,16 @@ use Rattle.shard_store.specs.Plans.{AreNext, IsEffect, IsServed, left_for_later,
 use Rattle.shard_store.specs.Stores.{entries_of, last_of, shard_of}
 use Rattle.shard_store.specs.declared.entry.Planned.{Planned}
 use Rattle.shard_store.specs.declared.outcome.EntryResult.{EntryResult}
+use Rattle.shard_store.specs.declared.outcome.StatementAnswer.TheVariants.{WasDone}
 use Rattle.shard_store.proofs.store.ShardStore.serve.Goals as goal
 
 pub returns-in-Some-clause-served : goal.returns-in-Some-clause-served
 returns-in-Some-clause-served c = (
   [],
   sym (append-nil (made_by (shard_of c.args.self.now) c.args.namespace.now c.args.plan.now)),
-  again (shard_of c.args.self.now) c.args.namespace.now (entries_of c.args.self.now) (made_by (shard_of c.args.self.now) c.args.namespace.now c.args.plan.now)
-      (time_of c.args.plan.now) (record { number = number_for (id_meant c.args.plan.now.id) c.args.index; operation = operation_of c.args.words })
-      (done_meant c.args.index c.in-Some.told) (search rules),
+  again (shard_of c.args.self.now) c.args.namespace.now (entries_of c.args.self.now) (last_of c.args.self.now) c.args.plan.now.number c.args.plan.now.id
+      c.args.plan.now.planned.items c.args.index (time_of c.args.plan.now) (operation_of c.args.words) (done_meant c.args.index c.in-Some.told)
+      c.requires.plan.next (search rules),
 )
 
 pub returns-then-index-plan-clause-served : goal.returns-then-index-plan-clause-served
@@ -44,7 +47,7 @@ returns-clause-plan c =
     let plan = c.args.plan.now in
     let e = c.in_ok-key.field-0 in
     let p : Planned = record {
-      statement = c.own_statement.result;
+      statement = c.statement_number.result;
       time = record { 0 = plan.last.0 + 1 };
       words = c.args.words;
       key = e.key;
@@ -52,8 +55,8 @@ returns-clause-plan c =
       outcome = e.outcome;
     } in
     let does : IsEffect (entries_of store) name (operation_of p.words) p.key p.left p.outcome = c.in_ok-key.ensures in
-    let next = next_from (entries_of store) (last_of store) name p plan.id c.args.index (omega (arith, c.requires.plan.before)) c.own_statement.ensures does (search rules) in
-    c.in_ok-push.ensures.plan (entries_of store) (last_of store) name c.requires.plan next (own_from plan.id p.statement c.args.index c.own_statement.ensures)
+    let next = next_from (entries_of store) (last_of store) name p plan.number plan.id c.args.index (omega (arith, c.requires.plan.before)) c.statement_number.ensures does (search rules) in
+    c.in_ok-push.ensures.plan (entries_of store) (last_of store) name c.requires.plan next (own_from plan.number plan.id p.statement c.args.index c.statement_number.ensures)
 
 pub returns-clause-served : goal.returns-clause-served
 returns-clause-served c =
@@ -62,7 +65,7 @@ returns-clause-served c =
     let plan = c.args.plan.now in
     let e = c.in_ok-key.field-0 in
     let p : Planned = record {
-      statement = c.own_statement.result;
+      statement = c.statement_number.result;
       time = record { 0 = plan.last.0 + 1 };
       words = c.args.words;
       key = e.key;
@@ -71,19 +74,21 @@ returns-clause-served c =
     } in
     let told : EntryResult = record { time = p.time; outcome = c.in_ok-copy.field-0 } in
     let does : IsEffect (entries_of store) name (operation_of p.words) p.key p.left p.outcome = c.in_ok-key.ensures in
-    let next = next_from (entries_of store) (last_of store) name p plan.id c.args.index (omega (arith, c.requires.plan.before)) c.own_statement.ensures does (search rules) in
-    let pushed = c.in_ok-push.ensures.plan (entries_of store) (last_of store) name c.requires.plan next (own_from plan.id p.statement c.args.index c.own_statement.ensures) in
-    let all : AreNext (entries_of store) (last_of store) name plan.id (plan.planned.items ++ p ∷ []) =
-    subst (λ (l : List Planned). AreNext (entries_of store) (last_of store) name plan.id l) c.in_ok-push.ensures.planned
-    (subst (λ (i : RequestId). AreNext (entries_of store) (last_of store) name i c.push.new.self.planned.items) c.in_ok-push.ensures.id pushed.next) in (
+    let next = next_from (entries_of store) (last_of store) name p plan.number plan.id c.args.index (omega (arith, c.requires.plan.before)) c.statement_number.ensures does (search rules) in
+    let pushed = c.in_ok-push.ensures.plan (entries_of store) (last_of store) name c.requires.plan next (own_from plan.number plan.id p.statement c.args.index c.statement_number.ensures) in
+    let all : AreNext (entries_of store) (last_of store) name plan.number plan.id (plan.planned.items ++ p ∷ []) =
+    subst (λ (l : List Planned). AreNext (entries_of store) (last_of store) name plan.number plan.id l) c.in_ok-push.ensures.planned
+    (subst (λ (i : RequestId). AreNext (entries_of store) (last_of store) name plan.number i c.push.new.self.planned.items) c.in_ok-push.ensures.id
+    (subst (λ (g : Option ClientNumber). AreNext (entries_of store) (last_of store) name g c.push.new.self.id c.push.new.self.planned.items)
+    c.in_ok-push.ensures.number pushed.next)) in (
       entry_meant (shard_of store) name p ∷ [],
       ap (λ (l : List Planned). map (entry_meant (shard_of store) name) l) c.in_ok-push.ensures.planned
           ∙ map-append (entry_meant (shard_of store) name) plan.planned.items (p ∷ []),
       subst
           (λ (t : ℕ). IsServed (shard_of store) name (entries_of store ++ made_by (shard_of store) name plan) (time_of plan)
-          (record { number = number_for (id_meant plan.id) c.args.index; operation = operation_of p.words })
-          (Some (done_meant c.args.index told)) (entry_meant (shard_of store) name p ∷ []) t)
+          (record { number = number_for (given_meant plan.number) (id_meant plan.id) c.args.index; operation = operation_of p.words })
+          (Some (done_meant c.args.index (WasDone told))) (entry_meant (shard_of store) name p ∷ []) t)
           (sym c.in_ok-push.ensures.time)
-          (served_next (shard_of store) name (entries_of store) (last_of store) plan.id plan.planned.items p c.args.index (time_of plan) (operation_of p.words) told all
-          c.own_statement.ensures refl refl refl c.in_ok-copy.ensures),
+          (served_next (shard_of store) name (entries_of store) (last_of store) plan.number plan.id plan.planned.items p c.args.index (time_of plan) (operation_of p.words) told all
+          c.statement_number.ensures refl refl refl c.in_ok-copy.ensures),
     )

@@ -1,0 +1,277 @@
+"""What a connection to the cluster is answered, and what it leaves in the journals of its three nodes.
+
+One time serves for all nodes: in `pipe` they have the same behind each request.
+"""
+import struct
+
+from bson import BOOLEAN, DATE, DOCUMENT, array, doc, int32, int64, size, text, time, whole, written
+from changing import applied, key_of
+from commands import GREETINGS, STATEMENTS, Refused, stages_of
+from order import order_of
+from pipelines import LONGEST, Overflow, TooMuch, answer
+
+NAMES = {
+    2: "BadValue", 9: "FailedToParse", 14: "TypeMismatch", 15: "Overflow", 22: "InvalidBSON", 28: "PathNotViable", 43: "CursorNotFound",
+    59: "CommandNotFound", 61: "ShardKeyNotFound", 66: "ImmutableField", 72: "InvalidOptions", 73: "InvalidNamespace", 225: "TransactionTooOld",
+    292: "QueryExceededMemoryLimitNoDiskUseAllowed", 10334: "BSONObjectTooLarge", 11000: "DuplicateKey",
+}
+FIRST_BATCH = 101
+SHARD, ROUTER = 1, 2
+
+
+def refusal(refused):
+    name = NAMES[refused.code]
+    fields = [("ok", int32(0)), ("errmsg", text(name)), ("code", int32(refused.code)), ("codeName", text(name))]
+    return fields + ([("evidence", (DOCUMENT, refused.evidence))] if refused.evidence else [])
+
+
+def write_error(index, code, evidence):
+    fields = [("index", int32(index)), ("code", int32(code)), ("errmsg", text(NAMES[code]))]
+    return (DOCUMENT, fields + ([("evidence", (DOCUMENT, evidence))] if evidence else []))
+
+
+def done(at=None):
+    return [("ok", int32(1))] + ([("operationTime", time(at))] if at is not None else [])
+
+
+# records
+
+
+def record_text(characters):
+    return struct.pack("<I", len(characters.encode())) + characters.encode()
+
+
+def create_record(namespace, at):
+    return b"\1\x20" + record_text(namespace) + struct.pack("<QQ", 1, at)
+
+
+def table_record(namespace, at):
+    head = b"\1\1" + record_text(namespace) + struct.pack("<QQQ", 1, 1, 0)
+    return head + struct.pack("<I", 1) + b"\0\2" + struct.pack("<QQQIQI", 1, 1, 0, 1, at, SHARD)
+
+
+def session_bytes(session):
+    return b"\0" + session if isinstance(session, bytes) else b"\1" + struct.pack("<IQQ", *session)
+
+
+def words(kind, statement):
+    if kind == "insert":
+        return b"\1" + written(statement["d"])
+    if kind == "update":
+        return b"\2" + written(statement["q"]) + written(statement["u"]) + bytes([statement["upsert"]])
+    return b"\3" + written(statement["q"])
+
+
+def entry_record(at, namespace, number, kind, statement, reply):
+    session, transaction, index = number
+    count, modified, upserted, code = reply
+    key = b"\0" if upserted is None else b"\1" + written([("_id", upserted)])
+    head = b"\1\2" + struct.pack("<Q", at) + record_text(namespace) + session_bytes(session) + struct.pack("<qI", transaction, index)
+    return head + words(kind, statement) + struct.pack("<II", count, modified) + key + struct.pack("<i", code)
+
+
+def life_record():
+    return b"\1\x30" + struct.pack("<Q", 1)
+
+
+def block_record(number):
+    return b"\1\x31" + struct.pack("<Q", number)
+
+
+def file_of(records):
+    """The bytes of a journal."""
+    return b"".join(b"\1" + struct.pack("<Q", len(record)) + record for record in records) + b"\0"
+
+
+class Cluster:
+    """Collections with all versions of their documents, numbered statements and open cursors."""
+
+    def __init__(self):
+        self.time, self.moment, self.requests = 0, 0, 0
+        self.collections, self.book, self.cursors, self.told = {}, {}, {}, 0
+        self.journals = [[], [], [life_record()]]
+
+    def rise(self, moment):
+        self.moment = moment
+        self.time = max(self.time, min(moment // 1000, 2**31) << 32)
+
+    def take(self, command, is_silent=False):
+        """The reply to a command, or to a refusal; raised refusals are replies too."""
+        try:
+            return self.serve(command, is_silent)
+        except Refused as refused:
+            return refusal(refused)
+
+    def serve(self, command, is_silent):
+        name = command["name"]
+        if name in GREETINGS:
+            return self.greeted(command)
+        if name in STATEMENTS:
+            return self.write(command)
+        if name == "getMore":
+            return self.more(command, is_silent)
+        return self.kill(command) if name == "killCursors" else self.read(command, is_silent)
+
+    def greeted(self, command):
+        if command["name"] in ("ping", "endSessions"):
+            return done()
+        is_hello = command["name"] == "hello"
+        fields = [("isWritablePrimary" if is_hello else "ismaster", (BOOLEAN, True)), ("msg", text("isdbgrid"))]
+        numbers = [("maxBsonObjectSize", 16777216), ("maxMessageSizeBytes", 48000000), ("maxWriteBatchSize", 100000)]
+        fields += [(field, int32(number)) for field, number in numbers] + [("localTime", (DATE, min(self.moment, 2**63 - 1)))]
+        numbers = [("logicalSessionTimeoutMinutes", 30), ("minWireVersion", 0), ("maxWireVersion", 17)]
+        fields += [(field, int32(number)) for field, number in numbers] + [("readOnly", (BOOLEAN, False))]
+        return fields + ([("helloOk", (BOOLEAN, True))] if command["helloOk"] and not is_hello else []) + done()
+
+    # writes
+
+    def begin(self, namespace):
+        """The collection, which begins where it is not there."""
+        if namespace not in self.collections:
+            self.time += 1
+            self.collections[namespace] = {"at": self.time, "keys": {}, "table": False}
+            self.journals[0].append(create_record(namespace, self.time))
+        return self.collections[namespace]
+
+    def write(self, command):
+        kind, namespace = command["name"], command["own"]
+        collection = self.begin(namespace)
+        session, transaction = (ROUTER, 1, self.requests), 0
+        if "txnNumber" in command:
+            session, transaction = command["lsid"], command["txnNumber"]
+        told = {"n": 0, "modified": 0, "upserted": [], "errors": [], "time": None}
+        for index, statement in enumerate(command["statements"]):
+            is_error = self.state(collection, namespace, (session, transaction, index), kind, statement, told)
+            if is_error and command.get("ordered", True):
+                break
+        return self.written_reply(kind, told)
+
+    def state(self, collection, namespace, number, kind, statement, told):
+        """Does a statement, or finds it done. Gives whether it was told an error."""
+        session, transaction, index = number
+        greatest, notes = self.book.get(session, (None, {}))
+        if greatest is not None and transaction < greatest:
+            told["errors"].append(write_error(index, 225, [("txnNumber", int64(greatest))]))
+            return True
+        if greatest != transaction:
+            notes = {}
+        if index not in notes:
+            notes[index] = self.enter(collection, namespace, number, kind, statement)
+            self.book[session] = (transaction, notes)
+        at, (count, modified, upserted, code) = notes[index]
+        told["n"], told["modified"] = told["n"] + count, told["modified"] + modified
+        told["time"] = max(told["time"] or 0, at)
+        if upserted is not None:
+            told["upserted"].append(doc(("index", int32(index)), ("_id", upserted)))
+        if code:
+            told["errors"].append(write_error(index, code, []))
+        return bool(code)
+
+    def enter(self, collection, namespace, number, kind, statement):
+        """A new entry: its time and its reply."""
+        self.time += 1
+        versions = collection["keys"].setdefault(order_of(key_of(kind, statement)), [])
+        before = versions[-1][1] if versions else None
+        after, reply = applied(kind, statement, before)
+        versions.append((self.time, after))
+        if not collection["table"]:
+            collection["table"] = True
+            self.journals[1].append(table_record(namespace, collection["at"]))
+        self.journals[1].append(entry_record(self.time, namespace, number, kind, statement, reply))
+        return self.time, reply
+
+    def written_reply(self, kind, told):
+        fields = [("n", whole(told["n"]))]
+        if kind == "update":
+            fields.append(("nModified", whole(told["modified"])))
+            if told["upserted"]:
+                fields.append(("upserted", array(told["upserted"])))
+        if told["errors"]:
+            fields.append(("writeErrors", array(told["errors"])))
+        return fields + done(self.time if told["time"] is None else told["time"])
+
+    # reads
+
+    def time_of(self, command):
+        """The time of a read."""
+        at, after = command.get("readConcern") or (None, None)
+        if max(at or 0, after or 0) > self.time:
+            raise Refused(72, ("greatest", time(self.time)))
+        return self.time if at is None else at
+
+    def documents_at(self, namespace, at):
+        """The documents at that time, in order of their keys."""
+        keys = self.collections.get(namespace, {"keys": {}})["keys"]
+        found = []
+        for key in sorted(keys):
+            versions = [document for when, document in keys[key] if when <= at]
+            if versions and versions[-1] is not None:
+                found.append(versions[-1])
+        return found
+
+    def read(self, command, is_silent):
+        namespace, at = command["own"], self.time_of(command)
+        try:
+            found = answer(stages_of(command), self.documents_at(namespace, at))
+        except Overflow:
+            raise Refused(15) from None
+        except TooMuch as much:
+            raise Refused(292, ("bytes", int64(much.length))) from None
+        if command["name"] == "count":
+            count = found[0][0][1] if found else int32(0)
+            return [("n", count), ("atClusterTime", time(at))] + done(at)
+        return self.first_batch(command, namespace, at, found, is_silent)
+
+    def first_batch(self, command, namespace, at, found, is_silent):
+        asked = command.get("cursor") if command["name"] == "aggregate" else command.get("batchSize")
+        shown, left = batch(found, FIRST_BATCH if asked is None else asked)
+        identifier = 0
+        if left and not command.get("singleBatch") and not is_silent:
+            identifier = self.open_cursor(namespace, at, left)
+        return cursor_reply(identifier, namespace, "firstBatch", shown, at)
+
+    def open_cursor(self, namespace, at, left):
+        if self.told % 64 == 0:
+            self.journals[2].append(block_record(self.told // 64))
+        self.told += 1
+        self.cursors[self.told] = (namespace, at, left)
+        return self.told
+
+    def more(self, command, is_silent):
+        namespace, identifier = f'{command["database"]}.{command["collection"]}', command["own"]
+        open_namespace, at, left = self.cursors.get(identifier, (None, None, None))
+        if open_namespace != namespace:
+            raise Refused(43, ("cursor", int64(identifier)))
+        shown, behind = batch(left, command.get("batchSize"))
+        if not is_silent:
+            self.cursors[identifier] = (namespace, at, behind)
+            if not behind:
+                del self.cursors[identifier]
+        return cursor_reply(identifier if behind else 0, namespace, "nextBatch", shown, at)
+
+    def kill(self, command):
+        killed, missing = [], []
+        for identifier in command["cursors"]:
+            is_open = self.cursors.get(identifier, (None,))[0] == command["own"]
+            (killed if is_open else missing).append(int64(identifier))
+            if is_open:
+                del self.cursors[identifier]
+        lists = [("cursorsKilled", killed), ("cursorsNotFound", missing), ("cursorsAlive", []), ("cursorsUnknown", [])]
+        return [(name, array(numbers)) for name, numbers in lists] + done()
+
+
+def batch(documents, most):
+    """The documents of a batch, and what remains."""
+    count = total = 0
+    while count < len(documents) and (most is None or count < most):
+        total += size(documents[count])
+        if count and total > LONGEST:
+            break
+        count += 1
+    return documents[:count], documents[count:]
+
+
+def cursor_reply(identifier, namespace, name, shown, at):
+    listed = array((DOCUMENT, fields) for fields in shown)
+    fields = doc(("id", int64(identifier)), ("ns", text(namespace)), (name, listed), ("atClusterTime", time(at)))
+    return [("cursor", fields)] + done(at)

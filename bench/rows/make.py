@@ -1,0 +1,37 @@
+#!/usr/bin/env python3
+"""Writes the rows of reads, cursors and retries into the data of wire_examples, and the requests of the examples for a new user.
+
+What each request gets is told by the modules of this folder alone, which hold a separate account of the formats: bson (documents), order, matching,
+changing and pipelines (the languages), commands (the order of refusals), cluster (what is done, times, journals), wire (messages, and the words by which
+the program of the rows tells commands). Where a row tells the wanted reply by hand too, both must agree.
+The pages of the examples go to examples-README-parts.md at the top, to be put into examples/README.md by hand. Usage: make.py
+"""
+import pathlib
+
+import cursors
+import drivers
+import languages
+import reads
+import refusals
+import retries
+import scripts
+import sessions
+import sizes
+from form import put_file
+
+TOP = pathlib.Path(__file__).resolve().parent.parent.parent
+DATA = TOP / "crates" / "wire_examples" / "data"
+
+
+def main():
+    lines = reads.examples() + reads.times() + languages.filters() + languages.sorts() + languages.projections() + languages.groups() + languages.sums()
+    put_file(DATA / "reads.rows", lines + refusals.fields() + sizes.rows() + refusals.refusals())
+    put_file(DATA / "cursors.rows", cursors.rows())
+    put_file(DATA / "retries.rows", retries.rows())
+    put_file(DATA / "retries.script.rows", scripts.rows())
+    put_file(DATA / "drivers.reads.rows", drivers.rows(DATA / "drivers.rows"))
+    sessions.put(TOP / "examples", TOP / "examples-README-parts.md")
+
+
+if __name__ == "__main__":
+    main()

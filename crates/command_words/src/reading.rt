@@ -1,0 +1,44 @@
+//! What is read of a collection: the stages of a pipeline, at which time, and in which batches.
+
+ghost use Rattle.std.specs.Prelude.{◌≡◌, codes};
+ghost use Rattle.bson_values.specs.Tree.{get};
+ghost use Rattle.command_model.specs.Reading.{time_given};
+ghost use Rattle.command_words.specs.Commands.{reading_meant};
+
+use crate::concern::time_given;
+use bson_values::Document;
+use cluster_base::{Namespace, Time};
+use pipeline_lang::Pipeline;
+
+/// To read what a pipeline makes of a collection: at the time `at`, where it is named, else at one that is not before `after`.
+#[derive(Drop)]
+pub struct Reading {
+    pub namespace: Namespace,
+    pub pipeline: Pipeline,
+    pub at: Option<Time>,
+    pub after: Option<Time>,
+}
+
+/// How many documents the first batch has at most, where a size is given; `single`: no other batch is asked for.
+#[derive(Clone, Copy, Debug, PartialEq, Eq)]
+pub struct Batches {
+    pub size: Option<u64>,
+    pub single: bool,
+}
+
+/// The reading of a command with that document.
+pub(crate) fn reading_of(namespace: Namespace, pipeline: Pipeline, document: &Document) -> Reading
+    ensures { reading_meant result ≡ record {
+      namespace = namespace;
+      stages = pipeline;
+      at = time_given (codes "atClusterTime") (get (codes "readConcern") document.now);
+      after = time_given (codes "afterClusterTime") (get (codes "readConcern") document.now);
+    } }
+{
+    Reading {
+        namespace,
+        pipeline,
+        at: time_given(document, "atClusterTime"),
+        after: time_given(document, "afterClusterTime"),
+    }
+}

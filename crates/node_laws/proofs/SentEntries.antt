@@ -1,0 +1,95 @@
+-- Each entry was sent by a request that was taken, behind all statements in front of it, and no answer ends in front of it.
+use Rattle.std.proofs.Common.{◌≡◌, inl, inr, ℕ, ◌+◌, ◌<◌, List, [], ◌∷◌, refl, sym, ap, subst, ◌∙◌, arith, Bool}
+use Rattle.std.specs.Prelude.{Option, Some, None, true, false, is_some}
+use Rattle.history_model.proofs.Lists.{all_at}
+use Rattle.reply_model.proofs.Statements.{one_number}
+use Rattle.node_model.specs.Errors.{ErrorCode}
+use Rattle.node_model.specs.Refusals.{Refusal, without_evidence}
+use Rattle.node_model.specs.Writes.{ClientNumber, WriteCommand}
+use Rattle.node_model.specs.Tables.{first_shard}
+use Rattle.node_model.specs.History.{StatementNumber, Operation, Entry, IsIn}
+use Rattle.node_model.specs.Exchanges.{RequestId, Asked, Answered, number_for}
+use Rattle.node_model.specs.Outcomes.{StatementAnswer, WasDone, Done, answer_by}
+use Rattle.node_model.specs.Right.{ends, Sends, MayBeTold, told_own, told_other, told_older, AreTold}
+use Rattle.node_model.specs.OneHistory.{EndsBefore, WasSent, IsReached, AreNumbered}
+use Rattle.node_laws.proofs.WriteFacts.{AreDoneBefore, WasMade}
+use Rattle.node_laws.proofs.SeenStatements.{true_false}
+use Rattle.node_laws.proofs.MadeEntries.{index_at}
+
+-- an entry that was told no error ends nothing
+not_over : (e : Entry) (index : ℕ) (ordered : Bool) → e.outcome.error ≡ None → ends ordered (record { index = index; answer = answer_by e }) ≡ true → ⊥
+not_over e index false none over = true_false (sym over)
+not_over e index true none over = by_error e.outcome.error none over
+  where
+    by_error : (o : Option ErrorCode) → o ≡ None
+        → is_some (elim o as (λ (x : Option ErrorCode). Option Refusal) [ None ↦ None | Some error ↦ Some (without_evidence error) ]) ≡ true → ⊥
+    by_error None same over = true_false (sym over)
+    by_error (Some error) same over = cc
+
+in_order : (ordered : Bool) (d : Done) → ends ordered d ≡ true → ordered ≡ true
+in_order true d over = refl
+in_order false d over = over
+
+number_at : (given : Option ClientNumber) (id : RequestId) (i k : ℕ)
+    → number_for given id i ≡ record { session = (number_for given id k).session; transaction = (number_for given id k).transaction; index = i }
+number_at None id i k = refl
+number_at (Some by) id i k = refl
+
+module _ (history : List Entry) (asked : List Asked) (numbered : AreNumbered history) (first : (e : Entry) → IsIn e history → e.shard ≡ first_shard) where
+  module _ (t : Answered) (write : WriteCommand) (time index : ℕ) (reached : write.ordered ≡ true → AreDoneBefore history time write t.id index) where
+    -- an entry in front of it ends nothing
+    entry_goes : (i : ℕ) (d : Done) (e : Entry) → i < index → IsIn e history → e.number ≡ number_for write.number t.id i → d.answer ≡ answer_by e
+        → ends write.ordered d ≡ true → ⊥
+    entry_goes i d e below stands number is over =
+        let r = reached (in_order write.ordered d over) i below in
+        let one : r.0 ≡ e = one_number history numbered first r.0 e r.1 stands (r.2 ∙ sym number) in
+        not_over e d.index write.ordered (ap (λ (x : Entry). x.outcome.error) (sym one) ∙ r.3)
+        (ap (λ a. ends write.ordered (record { index = d.index; answer = a })) (sym is) ∙ over)
+
+    answer_goes : (i : ℕ) (d : Done) (namespace : List ℕ) (operation : Operation) (answer : StatementAnswer) → i < index → d.answer ≡ answer
+        → MayBeTold history asked t write.number (number_for write.number t.id i) namespace operation answer → WasDone answer → ends write.ordered d ≡ true → ⊥
+    answer_goes i d namespace operation _ below is (told_own e stands own past) done over = entry_goes i d e below stands own.same_number is over
+    answer_goes i d namespace operation _ below is (told_other e by stands some own past had) done over = entry_goes i d e below stands own is over
+    answer_goes i d namespace operation _ below is (told_older e by stands some session less past had) done over = done
+
+    -- so no answer ends there
+    none_ends : (i : ℕ) (operations : List Operation) (dones : List Done) → AreTold history asked t write i operations dones → EndsBefore index write dones → ⊥
+    none_ends i [] dones told over = subst (λ l. EndsBefore index write l) told over
+    none_ends i (operation ∷ operations) [] told over = over
+    none_ends i (operation ∷ operations) (d ∷ dones) told (inl (below, over, done)) =
+        let at = told.0 in
+        answer_goes i d write.namespace operation d.answer (omega (arith, at, below)) refl told.1 done over
+    none_ends i (operation ∷ operations) (d ∷ dones) told (inr rest) =
+        by_end (ends write.ordered d) told.2 rest (λ more. none_ends (i + 1) operations dones more rest)
+      where
+        by_end : (b : Bool) → (elim b as (λ x. Type 0) [ true ↦ dones ≡ [] | false ↦ AreTold history asked t write (i + 1) operations dones ])
+            → EndsBefore index write dones → (AreTold history asked t write (i + 1) operations dones → ⊥) → ⊥
+        by_end true none rest later = subst (λ l. EndsBefore index write l) none rest
+        by_end false more rest later = later more
+
+  pub was_sent : (answered : List Answered) (e : Entry) → WasMade history asked e → WasSent history asked answered e
+  was_sent answered e m = record {
+    request = m.request;
+    taken = m.taken;
+    sends = m.sends;
+    later = m.later;
+    goes_on = λ t dones i own told document over.
+        none_ends t m.sends.write e.time m.sends.index
+        (λ ordered. subst (λ id. AreDoneBefore history e.time m.sends.write id m.sends.index) (sym own) (m.reached ordered)) 0 m.sends.write.operations dones
+        told over;
+  }
+
+  pub is_reached : (e : Entry) → WasMade history asked e → IsReached history asked e
+  is_reached e m = λ all i below.
+      let ordered : m.sends.write.ordered ≡ true =
+      all_at (λ (b : Asked). (sends : Sends b e) → sends.write.ordered ≡ true) m.request asked all m.taken m.sends in
+      let number = m.sends.entry.statement.same_number in
+      let at : m.sends.index ≡ e.number.index = index_at m.sends.write.number m.request.id m.sends.index ∙ ap (λ (n : StatementNumber). n.index) (sym number) in
+      let r = m.reached ordered i (omega (arith, at, below)) in (
+        r.0,
+        r.1,
+        r.2 ∙ number_at m.sends.write.number m.request.id i m.sends.index
+            ∙ ap (λ (n : StatementNumber). record { session = n.session; transaction = n.transaction; index = i }) (sym number),
+        r.3,
+        r.4,
+      )

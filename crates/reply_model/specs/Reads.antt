@@ -1,0 +1,71 @@
+-- What a read may be told, by one history (MongoDB manual, "Read Concern", "Read Isolation, Consistency, and Recency").
+use Rattle.std.specs.Prelude.{◌≡◌, ℕ, ◌<◌, ◌≤◌, List, [], ◌∷◌, Bool, false, ◌==◌, filter, Option, Some, None, Ok, IsPermutation, if◌then◌else◌}
+use Rattle.std.specs.Str.{bytes_eq}
+use Rattle.command_model.specs.Tree.{Fields}
+use Rattle.command_model.specs.Keys.{key_of}
+use Rattle.chunk_model.specs.Catalogue.{Creation}
+use Rattle.chunk_model.specs.Tables.{first_table, owner_at}
+use Rattle.pipeline_model.specs.Runs.{Outcome, listed, Allows}
+use Rattle.pipeline_model.specs.Halves.{Rows, IsHalf}
+use Rattle.pipeline_model.specs.Split.{split}
+use Rattle.pipeline_model.specs.Lengths.{excess_of_answer, excess_of_half}
+use Rattle.command_model.specs.ReplyParts.{operation_time}
+use Rattle.command_model.specs.Writes.{WriteCommand}
+use Rattle.command_model.specs.Command.{write_command, command_of}
+use Rattle.command_model.specs.Reading.{Reading}
+use Rattle.history_model.specs.History.{Entry, IsIn}
+use Rattle.history_model.specs.Documents.{documents_at}
+use Rattle.reply_model.specs.Exchanges.{Asked, Answered, number_for}
+
+-- no time is to be reached, or this one is not before it
+abbrev pub IfReached : Option ℕ → ℕ → Type 0
+IfReached None time = Unit {0}
+IfReached (Some after) time = after ≤ time
+
+-- What a read names of its time, by what its router knew: it is that one; or else the router's time as it took the request, where that is
+-- not before the time to be reached; or else one that the router reached later.
+pub data IsTimeRead (a : Asked) (t : Answered) (reading : Reading) : (time : ℕ) → Type 0 where
+  named_time : (time : ℕ) → reading.at ≡ Some time → time ≤ t.time → IsTimeRead a t reading time
+  own_time : reading.at ≡ None → IfReached reading.after a.time → IsTimeRead a t reading a.time
+  later_time : (time after : ℕ) → reading.at ≡ None → reading.after ≡ Some after → a.time < after → after ≤ time → time ≤ t.time → IsTimeRead a t reading time
+
+-- the read has this outcome at the time
+abbrev pub MayGive : List Entry → Reading → (time : ℕ) → Outcome → Type 0
+MayGive history reading time outcome = Allows reading.stages (documents_at history reading.namespace time) outcome
+
+abbrev pub is_on : ℕ → Option ℕ → Bool
+is_on shard None = false
+is_on shard (Some owner) = owner == shard
+
+-- the documents of the collection whose keys a shard owned at a time, by the collections that began
+abbrev pub is_owned : List Creation → (namespace : List ℕ) → (shard time : ℕ) → Fields → Bool
+is_owned [] namespace shard time document = false
+is_owned (c ∷ creations) namespace shard time document =
+    if bytes_eq c.namespace namespace then is_on shard (elim (key_of document) [ None ↦ None | Some key ↦ owner_at (first_table c) key time ])
+    else is_owned creations namespace shard time document
+
+abbrev pub owned_by : List Creation → (namespace : List ℕ) → (shard time : ℕ) → List Fields → List Fields
+owned_by creations namespace shard time documents = filter (is_owned creations namespace shard time) documents
+
+-- A length that is too much: of an answer that the read may give, of a document of one, or of the rows that the half gives of the documents
+-- that one shard owned.
+pub data IsExcess (history : List Entry) (creations : List Creation) (reading : Reading) (time n : ℕ) : Type 0 where
+  excess_answer : (answer : List Fields) → MayGive history reading time (listed answer) → excess_of_answer answer ≡ Some n
+      → IsExcess history creations reading time n
+  excess_half : (shard : ℕ) (ordered : List Fields) (rows : Rows)
+      → IsPermutation (owned_by creations reading.namespace shard time (documents_at history reading.namespace time)) ordered
+      → IsHalf (split reading.stages).0 ordered rows → excess_of_half rows ≡ Some n → IsExcess history creations reading time n
+
+-- the time that a read names, or that it is to reach
+abbrev pub time_wanted : Reading → Option ℕ
+time_wanted reading = elim reading.at [ None ↦ reading.after | Some named ↦ Some named ]
+
+-- The time that is wanted is ahead of the router's, and of each that any router had told a write of an entry of its own, before the request
+-- came.
+pub record IsAhead (history : List Entry) (answered : List Answered) (a : Asked) (t : Answered) (reading : Reading) : Type 0 where
+  pub wanted : ℕ
+  pub wants : time_wanted reading ≡ Some wanted
+  pub ahead : t.time < wanted
+  pub of_all : (s : Answered) (write : WriteCommand) (index : ℕ) (e : Entry) → IsIn s answered → s.step < a.came
+      → command_of s.request ≡ Ok (write_command write)
+      → IsIn e history → e.number ≡ number_for write.number s.id index → operation_time (Some s.document) ≡ Some e.time → e.time < wanted

@@ -1,0 +1,5 @@
+pub mod Opened
+pub mod Looks
+pub mod Closed
+pub mod Batches
+pub mod Rooms

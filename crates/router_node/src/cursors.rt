@@ -1,0 +1,134 @@
+//! Requests about cursors.
+
+ghost use Rattle.std.specs.Prelude.{◌≡◌, pos, if◌then◌else◌};
+ghost use Rattle.command_answers.specs.AnswerMeanings.{answer_meant};
+ghost use Rattle.node_model.specs.Answers as model;
+ghost use Rattle.router_cursors.specs.CursorLists.{batch_of};
+
+use crate::clients::Asked;
+use crate::node::RouterNode;
+use crate::refusals::not_open;
+use crate::replies::reply_to;
+use crate::step_plan::{Change, StepPlan};
+use bson_values::Memory;
+use command_answers::{Answer, Batch};
+use command_words::{GetMore, KillCursors};
+use cursor_shelf::{Batch as Shown, ShelfFault};
+use node_traits::MailList;
+
+/// The number of a cursor that is told with a batch: 0 with the last one.
+fn number_told(last: bool, number: i64) -> i64
+    ensures { result ≡ (if last then pos 0 else number) }
+{
+    if last { 0 } else { number }
+}
+
+/// The next batch of the cursor of that number.
+fn next_answer(more: GetMore, shown: Shown) -> Answer
+    ensures { answer_meant result ≡ model.next_answer (batch_of more.cursor more.namespace shown) }
+{
+    Answer::Next(Batch {
+        cursor: number_told(shown.is_last, more.cursor),
+        namespace: more.namespace,
+        documents: shown.documents,
+        time: shown.time,
+    })
+}
+
+impl RouterNode {
+    ghost use Rattle.std.specs.Prelude.{◌≡◌, ◌<◌, ◌+◌, ◌-◌, ◌^◌, IfOk, None, Some, length};
+    ghost use Rattle.command_words.specs.Command.{command_of};
+    ghost use Rattle.command_words.specs.Commands.{kill_meant, more_meant};
+    ghost use Rattle.node_model.specs.Cursors.{Cursor, ShowsNext, open_cursor};
+    ghost use Rattle.node_model.specs.Letters.{client_input};
+    ghost use Rattle.node_model.specs.RouterRows as rows;
+    ghost use Rattle.open_requests.specs.Lists.{taken_of};
+    ghost use Rattle.protocol_model.specs.Heads.{head_request};
+    ghost use Rattle.router_cursors.specs.CursorLists.{advanced, batch_of};
+    ghost use Rattle.router_node.specs.RouterStates.{router_of};
+    ghost use Rattle.router_node.specs.Rows.{started};
+    ghost use Rattle.router_node.specs.StepPlans.{IsPlanned};
+
+    // A request for the next batch of a cursor is told it; one that gets no reply leaves the cursor as it is. Fails for want of memory.
+    fn plan_next(&self, asked: Asked, more: GetMore, shown: Shown) -> Result<StepPlan, Memory>
+        requires few { taken_of self.now.requests < 2 ^ 64 - 1 }
+        requires plan { rows.plan_of (started (router_of self.now))
+            (rows.id_of (router_of self.now) (taken_of self.now.requests + 1)) asked.head.more (command_of (head_request asked.head))
+            ≡ rows.needs_batch (more_meant more) }
+        requires shows { (c : Cursor)
+            × (open_cursor (rows.id_of (router_of self.now) (taken_of self.now.requests + 1)) more.cursor more.namespace (router_of self.now).cursors ≡ Some c)
+            × ShowsNext (rows.id_of (router_of self.now) (taken_of self.now.requests + 1)) more.size (router_of self.now).cursors c
+            (batch_of more.cursor more.namespace shown)
+            (advanced (rows.id_of (router_of self.now) (taken_of self.now.requests + 1)) more.cursor (length shown.documents.items)
+            (router_of self.now).cursors) }
+        ensures { IfOk result (λ p. IsPlanned (router_of self.now) (client_input asked.link asked.number (head_request asked.head)) p) }
+    {
+        let cursor = more.cursor;
+        let count = shown.documents.len();
+        let answer = next_answer(more, shown);
+        let Asked { link, number, head } = asked;
+        let reply = reply_to(self.alloc, link, number, &head, &answer)?;
+        let mail = MailList::new(self.alloc);
+        if head.more {
+            self.starts(self.time, self.moment, Change::Counts, mail, reply)
+        } else {
+            let change = Change::Advances(cursor, count);
+            self.starts(self.time, self.moment, change, mail, reply)
+        }
+    }
+
+    // A request for the next batch of a cursor that is not open. Fails for want of memory.
+    fn plan_not_open(&self, asked: Asked, more: GetMore) -> Result<StepPlan, Memory>
+        requires few { taken_of self.now.requests < 2 ^ 64 - 1 }
+        requires plan { rows.plan_of (started (router_of self.now))
+            (rows.id_of (router_of self.now) (taken_of self.now.requests + 1)) asked.head.more (command_of (head_request asked.head))
+            ≡ rows.needs_batch (more_meant more) }
+        requires none { open_cursor (rows.id_of (router_of self.now) (taken_of self.now.requests + 1)) more.cursor more.namespace
+            (router_of self.now).cursors ≡ None }
+        ensures { IfOk result (λ p. IsPlanned (router_of self.now) (client_input asked.link asked.number (head_request asked.head)) p) }
+    {
+        let answer = Answer::Refused(not_open(more.cursor));
+        let Asked { link, number, head } = asked;
+        let reply = reply_to(self.alloc, link, number, &head, &answer)?;
+        let mail = MailList::new(self.alloc);
+        self.starts(self.time, self.moment, Change::Counts, mail, reply)
+    }
+
+    // A request for the next batch of a cursor. Fails for want of memory.
+    pub(crate) fn plan_more(&self, asked: Asked, more: GetMore) -> Result<StepPlan, Memory>
+        requires few { taken_of self.now.requests < 2 ^ 64 - 1 }
+        requires plan { rows.plan_of (started (router_of self.now))
+            (rows.id_of (router_of self.now) (taken_of self.now.requests + 1)) asked.head.more (command_of (head_request asked.head))
+            ≡ rows.needs_batch (more_meant more) }
+        ensures { IfOk result (λ p. IsPlanned (router_of self.now) (client_input asked.link asked.number (head_request asked.head)) p) }
+    {
+        match self
+            .cursors
+            .next_batch(more.cursor, &more.namespace, more.size)
+        {
+            Ok(shown) => self.plan_next(asked, more, shown),
+            Err(ShelfFault::NotFound) => self.plan_not_open(asked, more),
+            Err(ShelfFault::Memory) => Err(Memory),
+        }
+    }
+
+    // A request to close cursors. Fails for want of memory.
+    pub(crate) fn plan_end(&self, asked: Asked, kill: KillCursors) -> Result<StepPlan, Memory>
+        requires few { taken_of self.now.requests < 2 ^ 64 - 1 }
+        requires plan { rows.plan_of (started (router_of self.now))
+            (rows.id_of (router_of self.now) (taken_of self.now.requests + 1)) asked.head.more (command_of (head_request asked.head))
+            ≡ rows.needs_end (kill_meant kill) }
+        ensures { IfOk result (λ p. IsPlanned (router_of self.now) (client_input asked.link asked.number (head_request asked.head)) p) }
+    {
+        let closing = self.cursors.closing(&kill.namespace, &kill.cursors)?;
+        let closed = Vec::from_slice(self.alloc, &closing.killed)?;
+        let answer = Answer::Killed {
+            killed: closing.killed,
+            missing: closing.missing,
+        };
+        let Asked { link, number, head } = asked;
+        let reply = reply_to(self.alloc, link, number, &head, &answer)?;
+        let mail = MailList::new(self.alloc);
+        self.starts(self.time, self.moment, Change::Ends(closed), mail, reply)
+    }
+}

@@ -1,5 +1,0 @@
-use Rattle.session_book.proofs.session.Kept.gap.Goals as goal
-
--- none has the index
-pub returns-in-Ok : goal.returns-in-Ok
-returns-in-Ok c = absurd (c.in-Ok.ensures.found.some c.requires)
