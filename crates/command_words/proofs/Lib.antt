@@ -1,11 +1,7 @@
 mod Alike
 mod Asked
-mod Copied
-mod Judged
 mod MoreRules
-mod Named
 mod Ordered
-mod Rulings
 mod Sequences
 mod Sessions
 mod WordRules

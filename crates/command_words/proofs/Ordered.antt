@@ -11,11 +11,11 @@ use Rattle.command_model.specs.Fields.{check_fields, names_of}
 use Rattle.command_model.specs.Forms.{CommandForm, Sequences, check_database, check_sequences, command_by, database_of}
 use Rattle.command_model.specs.Requests.{Form}
 use Rattle.command_words.specs.Drafts.{Drafts}
-use Rattle.command_words.specs.Verdicts.{ReadsBy}
+use Rattle.command_fields.specs.Verdicts.{ReadsBy}
 use Rattle.command_words.specs.declared.draft.Draft.{Draft}
-use Rattle.command_words.specs.declared.fault.CheckFault.{CheckFault}
-use Rattle.command_words.specs.declared.fault.CheckFault.TheVariants.{Refused, Memory}
-use Rattle.command_words.proofs.Rulings.{last_of}
+use Rattle.command_fields.specs.declared.fault.CheckFault.{CheckFault}
+use Rattle.command_fields.specs.declared.fault.CheckFault.TheVariants.{Refused, Memory}
+use Rattle.command_fields.proofs.Rulings.{last_of}
 
 third_tells : (a b c : Verdict) (rest : List Verdict) (error : ErrorCode) → a ≡ None → b ≡ None → c ≡ Some error → first_of (a ∷ b ∷ c ∷ rest) ≡ Some error
 third_tells a b c rest error first second third = rw (first, second, third) refl

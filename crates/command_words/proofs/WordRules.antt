@@ -16,10 +16,10 @@ use Rattle.query_model.specs.Queries.{Query, QueryFault}
 use Rattle.query_model.specs.Reading.{◌>>=◌, read_query}
 use Rattle.command_words.specs.FindWords.{AreFindWords, rules_with}
 use Rattle.command_words.specs.HeldRules.{aggregate_rules_held, count_rules_held}
-use Rattle.command_words.specs.Words.{array_needed, or_bad_value, or_no_stages, pipeline_read, read_words, told, word_meant, word_read}
+use Rattle.command_fields.specs.Words.{array_needed, or_bad_value, or_no_stages, pipeline_read, read_words, told, word_meant, word_read}
 use Rattle.command_words.specs.declared.find.FindWords.{FindWords}
-use Rattle.command_words.specs.declared.words.WordKind.{WordKind}
-use Rattle.command_words.specs.declared.words.WordKind.TheVariants.{Filter, Sort, Projection as Shown}
+use Rattle.command_fields.specs.declared.words.WordKind.{WordKind}
+use Rattle.command_fields.specs.declared.words.WordKind.TheVariants.{Filter, Sort, Projection as Shown}
 use Rattle.command_words.proofs.Alike.{TellAlike, alike_self, behind_alike}
 
 -- WHAT IS TOLD

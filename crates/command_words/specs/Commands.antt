@@ -1,10 +1,8 @@
 -- What the program's commands are.
 use Rattle.std.specs.Prelude.{◌≡◌, ℕ, map, Option, Result, Ok, Err}
-use Rattle.std.specs.Option.{option_map}
 use Rattle.command_model.specs.Errors.{ErrorCode}
 use Rattle.command_model.specs.Refusals as history
 use Rattle.cluster_base.specs.Codes.{meaning_of}
-use Rattle.cluster_base.specs.declared.time.Time.{Time}
 use Rattle.command_model.specs.Handshake as handshakes
 use Rattle.command_model.specs.Writes as writes
 use Rattle.command_model.specs.Reading as readings
@@ -21,8 +19,9 @@ use Rattle.command_words.specs.declared.command.Command.{Command}
 use Rattle.command_words.specs.declared.command.Command.TheVariants.{Hello, Legacy, Ping, EndSessions, Write, Find, Count, GetMore, KillCursors}
 use Rattle.command_words.specs.declared.fault.CommandFault.{CommandFault}
 use Rattle.command_words.specs.declared.fault.CommandFault.TheVariants as faults
-use Rattle.command_words.specs.declared.fault.CheckFault.{CheckFault}
-use Rattle.command_words.specs.declared.fault.CheckFault.TheVariants.{Refused, Memory}
+use Rattle.command_fields.specs.Times.{time_meant}
+use Rattle.command_fields.specs.declared.fault.CheckFault.{CheckFault}
+use Rattle.command_fields.specs.declared.fault.CheckFault.TheVariants.{Refused, Memory}
 use Rattle.command_answers.specs.Kinds.{given_meant, kind_meant}
 use Rattle.command_answers.specs.Refusals.{refusal_meant}
 use Rattle.shard_records.specs.Meanings.{operation_meant}
@@ -38,9 +37,6 @@ write_meant write = record {
   ordered = write.ordered;
   number = given_meant write.number;
 }
-
-abbrev pub time_meant : Option Time → Option ℕ
-time_meant time = option_map (λ (t : Time). t.0) time
 
 abbrev pub reading_meant : program_readings.Reading → readings.Reading
 reading_meant reading = record { namespace = reading.namespace; stages = reading.pipeline; at = time_meant reading.at; after = time_meant reading.after }

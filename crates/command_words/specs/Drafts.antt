@@ -11,8 +11,8 @@ use Rattle.command_model.specs.Command as model
 use Rattle.command_words.specs.Commands.{command_meant}
 use Rattle.command_words.specs.declared.draft.Draft.{Draft}
 use Rattle.command_words.specs.declared.draft.Draft.TheVariants.{Whole, Write}
-use Rattle.command_words.specs.declared.fault.CheckFault.{CheckFault}
-use Rattle.command_words.specs.declared.fault.CheckFault.TheVariants.{Refused, Memory}
+use Rattle.command_fields.specs.declared.fault.CheckFault.{CheckFault}
+use Rattle.command_fields.specs.declared.fault.CheckFault.TheVariants.{Refused, Memory}
 
 -- the write of these statements, unless one of them is refused
 abbrev pub judged : WriteKind → List ℕ → Bool → Option ClientNumber → List Fields → Result model.Command ErrorCode
@@ -34,8 +34,3 @@ Drafts document sequences (Ok (Write draft)) told =
     (or_documents (documents_asked (statement_form (kind_meant draft.kind)) document sequences))
 Drafts document sequences (Err (Refused code)) told = told ≡ Err (meaning_of code)
 Drafts document sequences (Err Memory) told = Unit {0}
-
--- the documents of the first sequence
-abbrev pub first_documents : Sequences → Option (List Fields)
-first_documents [] = None
-first_documents (s ∷ more) = Some s.1

@@ -3,9 +3,9 @@ use Rattle.std.specs.Prelude.{◌≡◌, List, codes}
 use Rattle.bson_values.specs.Tree.{Fields, get}
 use Rattle.command_model.specs.Fields.{Rule}
 use Rattle.command_words.specs.HeldRules.{find_rules_held}
-use Rattle.command_words.specs.Words.{told, word_meant, word_read}
+use Rattle.command_fields.specs.Words.{told, word_meant, word_read}
 use Rattle.command_words.specs.declared.find.FindWords.{FindWords}
-use Rattle.command_words.specs.declared.words.WordKind.TheVariants.{Filter, Sort, Projection}
+use Rattle.command_fields.specs.declared.words.WordKind.TheVariants.{Filter, Sort, Projection}
 
 -- they are those of the document
 pub record AreFindWords (words : FindWords) (document : Fields) : Type 0 where

@@ -1,22 +1,12 @@
--- What is read before its turn comes to be checked.
+-- A collection that is read before its turn comes to be checked.
 use Rattle.std.specs.Prelude.{◌≡◌, List, ℕ, Option, Some, None, Result, Ok, Err}
 use Rattle.bson_values.specs.Tree.{Datum}
-use Rattle.bson_values.specs.declared.text.Memory as memory
 use Rattle.cluster_base.specs.Codes.{meaning_of}
 use Rattle.cluster_base.specs.declared.code.Code.{Code}
 use Rattle.cluster_base.specs.declared.namespace.Namespace.{Namespace}
 use Rattle.command_model.specs.Checks.{Verdict}
 use Rattle.command_model.specs.Forms.{check_collection}
-use Rattle.command_words.specs.FieldNames.{NamesCollection}
-use Rattle.command_words.specs.declared.fault.CheckFault.{CheckFault}
-use Rattle.command_words.specs.declared.fault.CheckFault.TheVariants.{Refused, Memory}
-
--- what was read is held, and so is an error; want of memory is not
-abbrev pub Held : {X : Type 0} → Result X CheckFault → Result (Result X Code) memory.Memory → Type 0
-Held (Ok x) (Ok (Ok y)) = x ≡ y
-Held (Err (Refused code)) (Ok (Err other)) = code ≡ other
-Held (Err Memory) (Err none) = Unit {0}
-Held read held = ⊥
+use Rattle.command_fields.specs.FieldNames.{NamesCollection}
 
 -- the namespace that a value names
 abbrev pub IsGiven : Option Namespace → (database : List ℕ) → Datum → Type 0

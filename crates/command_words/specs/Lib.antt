@@ -1,16 +1,11 @@
 pub mod Commands
 pub mod Drafts
-pub mod Faults
-pub mod FieldNames
 pub mod FindWords
 pub mod Handshakes
 pub mod Held
 pub mod HeldRules
-pub mod Numbers
 pub mod Rows
-pub mod Sessions
-pub mod Verdicts
-pub mod Words
+pub mod WriteNames
 pub use Rattle.command_model.specs.Command
 pub use Rattle.command_model.specs.CommandSizes
 pub use Rattle.command_model.specs.MessageSizes

@@ -11,7 +11,7 @@ use Rattle.command_model.specs.Command.{Command, write_command, find_command, co
 use Rattle.command_words.specs.declared.command.AnyForm.{AnyForm}
 use Rattle.command_words.specs.declared.command.AnyForm.TheVariants.{Handshake, Write, Find, Aggregate, Count, GetMore, KillCursors}
 use Rattle.command_words.specs.Handshakes.{handshake_meant}
-use Rattle.command_words.specs.Sessions.{name_meant}
+use Rattle.command_words.specs.WriteNames.{name_meant}
 
 abbrev pub row_meant : AnyForm → CommandForm Command
 row_meant (Handshake form) = handshake_meant form

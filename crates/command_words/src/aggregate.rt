@@ -1,6 +1,6 @@
 //! `aggregate` (MongoDB manual, "aggregate").
 
-ghost use Rattle.std.specs.Prelude.{◌≡◌, IfOk, Ok, Some, codes};
+ghost use Rattle.std.specs.Prelude.{◌≡◌, Some, codes};
 ghost use Rattle.bson_values.specs.Tree.{get};
 ghost use Rattle.bson_values.specs.View.{datum_of};
 ghost use Rattle.command_model.specs.Aggregate.{aggregate_form, cursor_rules};
@@ -9,65 +9,27 @@ ghost use Rattle.command_model.specs.Errors.{failed_to_parse};
 ghost use Rattle.command_model.specs.Fields as fields;
 ghost use Rattle.command_model.specs.Forms.{made_into};
 ghost use Rattle.command_model.specs.Reading as readings;
-ghost use Rattle.command_model.specs.Reading.{unless_faulty};
 ghost use Rattle.command_model.specs.Statements.{document_or_none};
-ghost use Rattle.pipeline_model.specs.Stages.{read_pipeline};
-ghost use Rattle.command_words.specs.FieldNames.{NamesCollection};
+ghost use Rattle.command_fields.specs.FieldNames.{NamesCollection};
 ghost use Rattle.command_words.specs.HeldRules.{aggregate_rules_held};
-ghost use Rattle.command_words.specs.Verdicts.{ReadsBy, verdict_meant};
-ghost use Rattle.command_words.specs.Words.{array_needed, pipeline_meant, pipeline_read, told};
+ghost use Rattle.command_fields.specs.Verdicts.{verdict_meant};
+ghost use Rattle.command_fields.specs.Words.{pipeline_meant, pipeline_read, told};
 
-use crate::checks::{boolean_needed, check_required, natural_needed, number_given};
 use crate::command::Command;
-use crate::concern::concern_needed;
 use crate::draft::Draft;
-use crate::fault::CheckFault;
 use crate::find::Find;
-use crate::forms::{CommandForm, collection_of};
+use crate::forms::CommandForm;
 use crate::reading::{Batches, reading_of};
-use crate::rules::{Rules, check_behind_own, check_fields, common_ruling};
-use crate::words::{held, words_in};
-use bson_values::{Array, Document, Memory, Value};
+use bson_values::{Document, Value};
 use cluster_base::{Code, Namespace};
+use command_fields::{
+    CheckFault, PipelineWord, Rules, boolean_needed, check_behind_own, check_fields,
+    check_required, collection_of, common_ruling, concern_needed, natural_needed, number_given,
+    pipeline_in, pipeline_told, words_in,
+};
 use opmsg_frames::Sequence;
 use pipeline_lang::Pipeline;
 use std::alloc::Global;
-
-/// A pipeline that was read, or the error that it is told.
-type PipelineWord = Result<Pipeline, Code>;
-
-fn read_stages(alloc: Global, array: &Array) -> Result<Pipeline, CheckFault>
-    ensures { ReadsBy (λ pipeline. read_pipeline array.now ≡ Ok pipeline) result (unless_faulty (read_pipeline array.now)) }
-{
-    let pipeline = Pipeline::parse(alloc, array)?;
-    Ok(pipeline)
-}
-
-// The pipeline of an aggregate's document, read; none where none is given. Fails for want of memory.
-fn pipeline_in(alloc: Global, document: &Document) -> Result<PipelineWord, Memory>
-    ensures { IfOk result (λ word. pipeline_meant word ≡ pipeline_read (get (codes "pipeline") document.now)) }
-{
-    match document.get("pipeline") {
-        Some(value) => match value {
-            Value::Array(array) => held(read_stages(alloc, array)),
-            _ => Ok(Ok(Pipeline::of(Vec::new(alloc)))),
-        },
-        None => Ok(Ok(Pipeline::of(Vec::new(alloc)))),
-    }
-}
-
-// What the rule of the pipeline tells of a value, where the first one was read.
-fn pipeline_told(word: &PipelineWord, value: &Value) -> Option<Code>
-    ensures { verdict_meant result ≡ array_needed (told (pipeline_meant word.now)) (datum_of value.now) }
-{
-    match value {
-        Value::Array(_) => match word {
-            Ok(_) => None,
-            Err(code) => Some(*code),
-        },
-        _ => Some(Code::TypeMismatch),
-    }
-}
 
 /// The rules of an aggregate's cursor.
 #[derive(Clone, Copy)]

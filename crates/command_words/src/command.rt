@@ -18,11 +18,9 @@ ghost use Rattle.command_words.specs.Rows.{IsRowNamed, row_meant};
 ghost use Rattle.command_words.specs.declared.command.AnyForm.TheVariants.{Write};
 
 use crate::aggregate::AggregateForm;
-use crate::copies::documents_or_none;
 use crate::count::CountForm;
-use crate::documents::documents_moved;
 use crate::draft::Draft;
-use crate::fault::{CheckFault, CommandFault};
+use crate::fault::CommandFault;
 use crate::find::{Find, FindForm};
 use crate::forms::read_by;
 use crate::get_more::{GetMore, MoreForm};
@@ -33,6 +31,7 @@ use crate::writes::{WriteCommand, WriteForm};
 use bson_values::{BsonFault, Document};
 use cluster_base::Code;
 use command_answers::{Evidence, Refusal, WriteKind};
+use command_fields::{CheckFault, documents_moved, documents_or_none};
 use opmsg_frames::{Body, Form, Request, Sequence, SequenceList};
 use std::alloc::Global;
 

@@ -6,22 +6,21 @@ ghost use Rattle.command_model.specs.Command.{count_command};
 ghost use Rattle.command_model.specs.Count.{count_form, count_stages};
 ghost use Rattle.command_model.specs.Errors.{failed_to_parse};
 ghost use Rattle.command_model.specs.Forms.{made_into};
-ghost use Rattle.command_words.specs.FieldNames.{NamesCollection};
+ghost use Rattle.command_fields.specs.FieldNames.{NamesCollection};
 ghost use Rattle.command_words.specs.HeldRules.{count_rules_held};
-ghost use Rattle.command_words.specs.Words.{told, word_meant, word_read};
-ghost use Rattle.command_words.specs.declared.words.WordKind.TheVariants.{Filter};
+ghost use Rattle.command_fields.specs.Words.{told, word_meant, word_read};
+ghost use Rattle.command_fields.specs.declared.words.WordKind.TheVariants.{Filter};
 
-use crate::checks::natural_needed;
 use crate::command::Command;
-use crate::concern::concern_needed;
 use crate::draft::Draft;
-use crate::fault::CheckFault;
-use crate::forms::{CommandForm, collection_of};
+use crate::forms::CommandForm;
 use crate::reading::reading_of;
-use crate::rules::{Rules, check_behind_own, common_ruling};
-use crate::words::{Word, WordKind, put_numbers, put_word, word_in, word_told};
 use bson_values::{Document, Memory, Name, Value};
 use cluster_base::{Code, Namespace};
+use command_fields::{
+    CheckFault, Rules, Word, WordKind, check_behind_own, collection_of, common_ruling,
+    concern_needed, natural_needed, put_numbers, put_word, word_in, word_told,
+};
 use opmsg_frames::Sequence;
 use pipeline_lang::{Pipeline, Stage};
 use std::alloc::Global;

@@ -6,12 +6,11 @@ ghost use Rattle.command_words.specs.Commands.{Tells};
 ghost use Rattle.command_words.specs.Drafts.{judged};
 
 use crate::command::Command;
-use crate::fault::CheckFault;
-use crate::statements::operations_of;
 use crate::writes::WriteCommand;
 use bson_values::Document;
 use cluster_base::Namespace;
 use command_answers::{ClientNumber, WriteKind};
+use command_fields::{CheckFault, operations_of};
 use std::alloc::Global;
 
 /// A write, but for its statements.

@@ -8,21 +8,21 @@ ghost use Rattle.command_model.specs.Errors.{failed_to_parse};
 ghost use Rattle.command_model.specs.Fields.{find_rule};
 ghost use Rattle.command_model.specs.Find.{find_form, find_rules, find_stages};
 ghost use Rattle.command_model.specs.Forms.{made_into};
-ghost use Rattle.command_words.specs.FieldNames.{NamesCollection};
+ghost use Rattle.command_fields.specs.FieldNames.{NamesCollection};
 ghost use Rattle.command_words.specs.FindWords.{AreFindWords, rules_with};
-ghost use Rattle.command_words.specs.Verdicts.{ruling_meant};
+ghost use Rattle.command_fields.specs.Verdicts.{ruling_meant};
 
-use crate::checks::{boolean_needed, boolean_or, natural_needed, number_given};
 use crate::command::Command;
-use crate::concern::concern_needed;
 use crate::draft::Draft;
-use crate::fault::CheckFault;
-use crate::forms::{CommandForm, collection_of};
+use crate::forms::CommandForm;
 use crate::reading::{Batches, Reading, reading_of};
-use crate::rules::{Rules, check_behind_own, common_ruling};
-use crate::words::{Word, WordKind, put_numbers, put_word, word_in, word_told};
 use bson_values::{Document, Memory, Value};
 use cluster_base::{Code, Namespace};
+use command_fields::{
+    CheckFault, Rules, Word, WordKind, boolean_needed, boolean_or, check_behind_own, collection_of,
+    common_ruling, concern_needed, natural_needed, number_given, put_numbers, put_word, word_in,
+    word_told,
+};
 use opmsg_frames::Sequence;
 use pipeline_lang::Pipeline;
 use std::alloc::Global;

@@ -1,25 +1,21 @@
 //! The form of a command, and the one order in which its checks come.
 
-ghost use Rattle.std.specs.Prelude.{◌≡◌, ℕ, List, [], ◌∷◌, None, Some, codes};
-ghost use Rattle.bson_values.specs.Tree.{Datum, Fields, get, field};
-ghost use Rattle.command_model.specs.Errors.{invalid_namespace};
-ghost use Rattle.command_model.specs.Names.{full_name, is_open_namespace};
+ghost use Rattle.std.specs.Prelude.{◌≡◌, ℕ, List, [], ◌∷◌, None, Some};
+ghost use Rattle.bson_values.specs.Tree.{Datum, Fields, field};
 ghost use Rattle.bson_values.specs.View.{datum_of};
 ghost use Rattle.opmsg_frames.specs.Lists.{pairs_of};
 ghost use Rattle.opmsg_frames.specs.RequestMeanings.{form_meant};
-ghost use Rattle.command_model.specs.Checks.{is_one_of, unless_passes};
+ghost use Rattle.command_model.specs.Checks.{is_one_of};
 ghost use Rattle.command_model.specs.Command as commands;
 ghost use Rattle.command_model.specs.Forms as model;
 ghost use Rattle.command_model.specs.Fields as fields;
 ghost use Rattle.command_words.specs.Drafts.{Drafts};
-ghost use Rattle.command_words.specs.FieldNames.{NamesCollection};
-ghost use Rattle.command_words.specs.Verdicts.{ReadsBy, verdict_meant};
+ghost use Rattle.command_fields.specs.Verdicts.{ReadsBy, verdict_meant};
 
-use crate::checks::{passed, string_needed, text_in};
 use crate::draft::Draft;
-use crate::fault::CheckFault;
 use bson_values::{Document, Value};
-use cluster_base::{Code, NameFault, Namespace, is_reserved_database};
+use cluster_base::Code;
+use command_fields::{CheckFault, check_database, database_of, passed};
 use opmsg_frames::{Form, Sequence};
 use std::alloc::Global;
 
@@ -80,65 +76,6 @@ pub(crate) trait CommandForm {
             (form self.now).check_needed document.now (pairs_of sequences.now) ≡ None →
             Drafts document.now (pairs_of sequences.now) result (commands.by_verdict ((form self.now).check_last document.now (pairs_of sequences.now))
             ((form self.now).command database (datum_of value.now) document.now (pairs_of sequences.now))) };
-}
-
-// The database has to be named by a text, but in OP_QUERY.
-fn check_database(sent: Form, document: &Document) -> Option<Code>
-    ensures { verdict_meant result ≡ model.check_database (form_meant sent) (get (codes "$db") document.now) }
-{
-    match document.get("$db") {
-        Some(value) => string_needed(value),
-        None => match sent {
-            Form::Msg => Some(Code::FailedToParse),
-            Form::Query => None,
-        },
-    }
-}
-
-// The database; of OP_QUERY it is `admin`.
-fn database_of(sent: Form, document: &Document) -> &str
-    ensures { result.now ≡ model.database_of (form_meant sent) document.now }
-{
-    match sent {
-        Form::Query => "admin",
-        Form::Msg => match document.get("$db") {
-            Some(value) => text_in(value),
-            None => "",
-        },
-    }
-}
-
-/// The namespace that these texts make, if clients may use it.
-pub(crate) fn namespace_of(
-    alloc: Global,
-    database: &str,
-    collection: &str,
-) -> Result<Namespace, CheckFault>
-    ensures { ReadsBy (λ n. n ≡ full_name database.now collection.now) result
-        (unless_passes (is_open_namespace database.now collection.now) invalid_namespace) }
-{
-    if is_reserved_database(database) {
-        return Err(CheckFault::Refused(Code::InvalidNamespace));
-    }
-    match Namespace::of_parts(alloc, database, collection) {
-        Ok(namespace) => Ok(namespace),
-        Err(NameFault::Form) => Err(CheckFault::Refused(Code::InvalidNamespace)),
-        Err(NameFault::Memory) => Err(CheckFault::Memory),
-    }
-}
-
-/// The namespace of the collection that a command's own field names.
-pub(crate) fn collection_of(
-    alloc: Global,
-    database: &str,
-    own: &Value,
-) -> Result<Namespace, CheckFault>
-    ensures { ReadsBy (λ n. NamesCollection n database.now (datum_of own.now)) result (model.check_collection database.now (datum_of own.now)) }
-{
-    match own {
-        Value::Text(collection) => namespace_of(alloc, database, collection.as_str()),
-        _ => Err(CheckFault::Refused(Code::TypeMismatch)),
-    }
 }
 
 // The first sequence.

@@ -11,17 +11,17 @@ ghost use Rattle.command_model.specs.Errors.{failed_to_parse, invalid_namespace}
 ghost use Rattle.command_model.specs.Forms.{check_collection, made_into};
 ghost use Rattle.command_words.specs.Held.{IsCollection, IsGiven, collection_told};
 ghost use Rattle.command_words.specs.HeldRules.{more_rules_held};
-ghost use Rattle.command_words.specs.Verdicts.{ReadsBy};
+ghost use Rattle.command_fields.specs.Verdicts.{ReadsBy};
 
-use crate::checks::{check_required, natural_needed, number_given, whole_number};
 use crate::command::Command;
 use crate::draft::Draft;
-use crate::fault::CheckFault;
-use crate::forms::{CommandForm, collection_of, namespace_of};
-use crate::rules::{Rules, check_behind_own, common_ruling};
-use crate::words::held;
+use crate::forms::CommandForm;
 use bson_values::{Document, Memory, Value};
 use cluster_base::{Code, Namespace};
+use command_fields::{
+    CheckFault, Rules, check_behind_own, check_required, collection_of, common_ruling, held,
+    namespace_of, natural_needed, number_given, whole_number,
+};
 use opmsg_frames::Sequence;
 use std::alloc::Global;
 

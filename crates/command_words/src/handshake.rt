@@ -6,14 +6,14 @@ ghost use Rattle.bson_values.specs.View.{datum_of};
 ghost use Rattle.command_model.specs.Handshake.{handshake_rules};
 ghost use Rattle.command_words.specs.Handshakes.{handshake_meant};
 
-use crate::checks::{boolean_needed, boolean_or, passed, string_needed};
 use crate::command::Command;
 use crate::draft::Draft;
-use crate::fault::CheckFault;
 use crate::forms::CommandForm;
-use crate::rules::{Rules, check_behind_own};
 use bson_values::{Document, Value};
 use cluster_base::Code;
+use command_fields::{
+    CheckFault, Rules, boolean_needed, boolean_or, check_behind_own, passed, string_needed,
+};
 use opmsg_frames::Sequence;
 use std::alloc::Global;
 

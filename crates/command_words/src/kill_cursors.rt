@@ -8,17 +8,18 @@ ghost use Rattle.command_model.specs.Cursors as cursors;
 ghost use Rattle.command_model.specs.Cursors.{kill_form, kill_rules};
 ghost use Rattle.command_model.specs.Errors.{failed_to_parse};
 ghost use Rattle.command_model.specs.Forms.{made_into};
-ghost use Rattle.command_words.specs.FieldNames.{NamesCollection};
-ghost use Rattle.command_words.specs.Verdicts.{verdict_meant};
+ghost use Rattle.command_fields.specs.FieldNames.{NamesCollection};
+ghost use Rattle.command_fields.specs.Verdicts.{verdict_meant};
 
-use crate::checks::{check_required, passed, unless_passes, whole_number};
 use crate::command::Command;
 use crate::draft::Draft;
-use crate::fault::CheckFault;
-use crate::forms::{CommandForm, collection_of};
-use crate::rules::{Rules, check_behind_own, common_ruling};
+use crate::forms::CommandForm;
 use bson_values::{Document, Memory, Value};
 use cluster_base::{Code, Namespace};
+use command_fields::{
+    CheckFault, Rules, check_behind_own, check_required, collection_of, common_ruling, passed,
+    unless_passes, whole_number,
+};
 use opmsg_frames::Sequence;
 use std::alloc::Global;
 

@@ -2,12 +2,8 @@
 #![tactic(auto)]
 
 mod aggregate;
-mod checks;
 mod command;
-mod concern;
-mod copies;
 mod count;
-mod documents;
 mod draft;
 mod fault;
 mod find;
@@ -16,9 +12,6 @@ mod get_more;
 mod handshake;
 mod kill_cursors;
 mod reading;
-mod rules;
-mod statements;
-mod words;
 mod writes;
 
 pub use command::Command;

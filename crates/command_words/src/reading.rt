@@ -5,9 +5,9 @@ ghost use Rattle.bson_values.specs.Tree.{get};
 ghost use Rattle.command_model.specs.Reading.{time_given};
 ghost use Rattle.command_words.specs.Commands.{reading_meant};
 
-use crate::concern::time_given;
 use bson_values::Document;
 use cluster_base::{Namespace, Time};
+use command_fields::time_given;
 use pipeline_lang::Pipeline;
 
 /// To read what a pipeline makes of a collection: at the time `at`, where it is named, else at one that is not before `after`.

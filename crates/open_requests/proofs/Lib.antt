@@ -1,10 +1,8 @@
 mod Keys
 mod Places
-mod Counted
-mod Times
+mod Remaining
 mod Runs
 mod Waits
 pub mod Askers
-pub mod Noted
 pub mod Nexts
 mod Turns

@@ -3,7 +3,6 @@ pub mod Works
 pub mod Askers
 pub mod Lists
 pub mod Order
-pub mod Counts
 pub mod Nexts
 pub mod Turns
 pub use Rattle.node_model.specs.RouterRows

@@ -50,24 +50,24 @@ module _ (stages own : List Stage) (docs : List Fields) (is : own ≡ stages) wh
       (documents : List Fields) × Runs stages docs (listed documents) × (option_map capped (excess_of_answer documents) ≡ Some n)
   was_too_much shown n run above = (shown, subst (λ (l : List Stage). Runs l docs (listed shown)) is run, sym above)
 
-module _ (half : Half) (docs shared : List Fields) (own : List Stage) (same : shared ≡ docs) (is : own ≡ half.stages) where
-  there : (P : List Stage → List Fields → Type 0) → P own shared → P half.stages docs
-  there P h = subst (λ (l : List Stage). P l docs) is (subst (λ (l : List Fields). P own l) same h)
+module _ (half : Half) (docs : List Fields) (own : List Stage) (is : own ≡ half.stages) where
+  there : (P : List Stage → Type 0) → P own → P half.stages
+  there P h = subst (λ (l : List Stage). P l) is h
 
-  pub half_stopped : {X Y : Type 0} (see : X → List Fields) (look : Y → Rows) (e : EvalFault) → RunsTo see own shared (Err e) →
+  pub half_stopped : {X Y : Type 0} (see : X → List Fields) (look : Y → Rows) (e : EvalFault) → RunsTo see own docs (Err e) →
       HalfAnswers look half docs (Err e)
-  half_stopped see look Overflow h = there (λ l ds. Runs l ds overflowed) h
+  half_stopped see look Overflow h = there (λ l. Runs l docs overflowed) h
   half_stopped see look (TooMuch n) h = absurd h
   half_stopped see look Memory h = tt
 
-  is_half : (left : List Fields) (rows : Rows) → Runs own shared (listed left) → EndsIn half.last left rows → IsHalf half docs rows
-  is_half left rows run ends = record { left = left; runs = there (λ l ds. Runs l ds (listed left)) run; ends = ends }
+  is_half : (left : List Fields) (rows : Rows) → Runs own docs (listed left) → EndsIn half.last left rows → IsHalf half docs rows
+  is_half left rows run ends = record { left = left; runs = there (λ l. Runs l docs (listed left)) run; ends = ends }
 
-  pub half_answered : (left : List Fields) (rows : Rows) → Runs own shared (listed left) → EndsIn half.last left rows →
+  pub half_answered : (left : List Fields) (rows : Rows) → Runs own docs (listed left) → EndsIn half.last left rows →
       None ≡ option_map capped (excess_of_half rows) → IsHalf half docs rows × (excess_of_half rows ≡ None)
   half_answered left rows run ends within = (is_half left rows run ends, none_told (excess_of_half rows) within)
 
-  pub half_too_much : (left : List Fields) (rows : Rows) (n : ℕ) → Runs own shared (listed left) → EndsIn half.last left rows →
+  pub half_too_much : (left : List Fields) (rows : Rows) (n : ℕ) → Runs own docs (listed left) → EndsIn half.last left rows →
       Some n ≡ option_map capped (excess_of_half rows) →
       (all : Rows) × IsHalf half docs all × (option_map capped (excess_of_half all) ≡ Some n)
   half_too_much left rows n run ends above = (rows, is_half left rows run ends, sym above)

@@ -72,12 +72,11 @@ fn ended(alloc: Global, last: &HalfEnd, left: Vec<Arc<Document, Global>>) -> Res
 pub fn eval_half(
     alloc: Global,
     half: &Half,
-    documents: &[Arc<Document, Global>],
+    documents: Vec<Arc<Document, Global>>,
 ) -> Result<Rows, EvalFault>
-    ensures answers { HalfAnswers rows_of (half_of half.now) (map arc_value documents.now) result }
+    ensures answers { HalfAnswers rows_of (half_of half.now) (map arc_value documents.items) result }
 {
-    let all = share_all(alloc, documents)?;
-    let left = run_stages(alloc, half.stages.stages(), all)?;
+    let left = run_stages(alloc, half.stages.stages(), documents)?;
     let rows = ended(alloc, &half.last, left)?;
     match excess_of_rows(&rows) {
         Some(bytes) => Err(EvalFault::TooMuch {

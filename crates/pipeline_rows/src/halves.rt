@@ -3,7 +3,7 @@
 use crate::words::{array_in, documents_in, row_fault};
 use bson_values::{Array, Document, Value};
 use fixtures::RowFault;
-use pipeline_eval::{Rows, eval_half};
+use pipeline_eval::{Rows, eval_half, share_all};
 use pipeline_lang::Half;
 use std::alloc::Global;
 use std::sync::Arc;
@@ -21,7 +21,7 @@ pub fn rows_of_parts(alloc: Global, half: &Half, parts: Array) -> Result<Vec<Row
 fn rows_of_part(alloc: Global, half: &Half, part: Value) -> Result<Rows, RowFault> {
     let array = array_in(part)?;
     let documents = documents_in(alloc, array)?;
-    eval_half(alloc, half, &documents).map_err(row_fault)
+    eval_half(alloc, half, documents).map_err(row_fault)
 }
 
 /// What the half gives of each document by itself. Fails where one has no rows, and for want of memory.
@@ -32,7 +32,8 @@ pub fn rows_of_each(
 ) -> Result<Vec<Rows>, RowFault> {
     let mut all = Vec::new(alloc);
     for document in documents.chunks(1) {
-        let rows = eval_half(alloc, half, document).map_err(row_fault)?;
+        let one = share_all(alloc, document)?;
+        let rows = eval_half(alloc, half, one).map_err(row_fault)?;
         all.push(rows)?;
     }
     Ok(all)

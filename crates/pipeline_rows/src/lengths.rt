@@ -5,7 +5,7 @@ use crate::long_documents::long_documents;
 use bson_values::Document;
 use fixtures::{RowFault, Rows, field, number};
 use group_merge::merge;
-use pipeline_eval::{EvalFault, eval, eval_half};
+use pipeline_eval::{EvalFault, eval, eval_half, share_all};
 use pipeline_lang::Pipeline;
 use pipeline_split::split;
 use std::alloc::Global;
@@ -55,7 +55,8 @@ fn half_tells(
 ) -> Result<bool, RowFault> {
     let pipeline = no_stages(alloc);
     let (half, _by) = split(alloc, &pipeline)?;
-    match eval_half(alloc, &half, documents) {
+    let all = share_all(alloc, documents)?;
+    match eval_half(alloc, &half, all) {
         Ok(_rows) => Ok(wanted == "fits"),
         Err(fault) => is_told(fault, wanted),
     }

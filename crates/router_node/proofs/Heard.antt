@@ -12,7 +12,6 @@ use Rattle.node_traits.specs.Effects.{AreSound, puts_of, spellings}
 use Rattle.node_traits.specs.declared.outputs.ToLink.{ToLink}
 use Rattle.open_requests.specs.Works.{wait_meant}
 use Rattle.open_requests.specs.declared.work.Wait.{Wait}
-use Rattle.protocol_model.specs.Messages.{letter_of}
 use Rattle.protocol_model.specs.Statements.{done_meant}
 use Rattle.protocol_model.specs.declared.statement.Done.{Done as Done_told}
 use Rattle.std.specs.declared.vec.Vec.{Vec}

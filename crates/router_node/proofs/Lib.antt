@@ -6,8 +6,6 @@ mod Learning
 mod Puts
 mod Rest
 mod Started
-mod TakenBodies
 mod Shown
 mod Reached
-mod Counts
 mod Told

@@ -1,10 +1,10 @@
 -- What a read asks for at a time that is reached.
-use Rattle.std.proofs.Common.{◌≡◌, refl, ap, sym, subst, ◌∙◌, ℕ, ◌≤◌, List, Bool, true, false, arith, if◌then◌else◌}
+use Rattle.std.proofs.Common.{◌≡◌, ap, sym, subst, ◌∙◌, ℕ, ◌≤◌, List, Bool, true, false, arith, if◌then◌else◌}
 use Rattle.std.specs.Prelude.{Option, nat_lt}
 use Rattle.std.proofs.lemmas.Bool.{le-ltb}
 use Rattle.cluster_base.specs.declared.time.Time.{Time}
 use Rattle.node_model.specs.Letters.{Letter}
-use Rattle.node_model.specs.RouterRows.{asks_by, asks_for, asks_times, id_of, is_ahead, reached, table_for, wait_by, wait_of}
+use Rattle.node_model.specs.RouterRows.{asks_by, asks_for, asks_times, id_of, reached, table_for, wait_by, wait_of}
 use Rattle.node_model.specs.States.{Router, Wait, Work, for_time}
 use Rattle.node_model.specs.Tables.{Table}
 use Rattle.open_requests.proofs.Askers.{asked_alike}

@@ -1,5 +1,5 @@
 -- The rows of requests about cursors, and of what reads are told.
-use Rattle.std.proofs.Common.{Global, ◌≡◌, map, refl, ap, sym, subst, ◌∙◌, ℕ, ℤ, ◌+◌, ◌*◌, List, [], ◌∷◌, ◌++◌, Bool, true, false, append-nil, if◌then◌else◌}
+use Rattle.std.proofs.Common.{Global, ◌≡◌, map, refl, sym, subst, ℕ, ℤ, ◌+◌, ◌*◌, List, [], ◌∷◌, ◌++◌, Bool, true, false, append-nil, if◌then◌else◌}
 use Rattle.std.specs.Prelude.{Some, None, nat_lt}
 use Rattle.std.specs.Arc.{arc_value}
 use Rattle.std.specs.declared.vec.Vec.{Vec}
@@ -10,12 +10,12 @@ use Rattle.node_model.specs.Cursors.{Cursor, Kills, ShowsNext, open_cursor}
 use Rattle.node_model.specs.Errors.{cursor_not_found}
 use Rattle.node_model.specs.Exchanges.{RequestId}
 use Rattle.node_model.specs.Journal.{kept_block}
-use Rattle.node_model.specs.Letters.{Letter, client_input, letter_input}
+use Rattle.node_model.specs.Letters.{Letter, client_input}
 use Rattle.node_model.specs.Refusals.{cursor_evidence}
 use Rattle.node_model.specs.Requests.{Request}
 use Rattle.node_model.specs.RouterRows.{RouterRow, Opened, router_more, router_no_cursor, router_kill, answers_at_once, as_before, gives_number, heard, id_of, needs_batch, needs_end, next_number, plan_of, reply_to}
 use Rattle.node_model.specs.States.{Open, Router}
-use Rattle.node_traits.specs.Effects.{AreSound, puts_of, spellings}
+use Rattle.node_traits.specs.Effects.{AreSound, puts_of}
 use Rattle.node_traits.specs.declared.outputs.ToLink.{ToLink}
 use Rattle.router_cursors.specs.CursorLists.{advanced, closed_all}
 use Rattle.router_cursors.specs.Marks.{is_left}

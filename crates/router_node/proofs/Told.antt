@@ -1,6 +1,6 @@
 -- What reads may be told.
-use Rattle.std.proofs.Common.{◌≡◌, ◌≢◌, refl, ap, sym, subst, ◌∙◌, ℕ, ◌<◌, ◌-◌, ◌^◌, ◌⊎◌, inl, inr, ⊎_elim, List, [], ◌∷◌, ◌++◌, drop, length, Bool, true, false, arith}
-use Rattle.std.specs.Prelude.{codes, min, option_map, Option, Some, None, Result, Ok, Err, pos}
+use Rattle.std.proofs.Common.{◌≡◌, ◌≢◌, ap, sym, subst, ◌∙◌, ℕ, ◌<◌, ◌-◌, ◌^◌, ◌⊎◌, inl, inr, ⊎_elim, List, [], ◌∷◌, ◌++◌, drop, length, Bool, true, false, arith}
+use Rattle.std.specs.Prelude.{codes, min, option_map, Option, Some, None, Ok, Err, pos}
 use Rattle.group_accum.specs.Sizes.{capped}
 use Rattle.node_model.specs.Answers.{Answer, count_answer, first_answer, refusal_answer}
 use Rattle.pipeline_model.specs.Batches.{IsBatch}
@@ -8,7 +8,7 @@ use Rattle.node_model.specs.Errors.{overflow}
 use Rattle.node_model.specs.Exchanges.{RequestId}
 use Rattle.node_model.specs.Halves.{Merge, Rows, MergesInTurn}
 use Rattle.node_model.specs.Lengths.{excess_of_answer}
-use Rattle.node_model.specs.Letters.{Letter, HalfFault, half_excess, half_overflow, read_rows}
+use Rattle.node_model.specs.Letters.{Letter, half_excess, half_overflow, read_rows}
 use Rattle.node_model.specs.Refusals.{without_evidence}
 use Rattle.node_model.specs.RouterRows.{as_before, batch_of, gives_number, new_cursor, next_number, open_of, router_excess, router_overflow, router_read, tells_batch, tells_cursor, tells_excess, tells_number, tells_overflow, too_much}
 use Rattle.node_model.specs.Runs.{Outcome, count_documents, listed, overflowed}

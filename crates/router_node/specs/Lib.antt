@@ -1,6 +1,4 @@
 pub mod RouterStates
-pub mod Bodies
-pub mod Plans
 pub mod Rows
 pub mod Nexts
 pub mod News

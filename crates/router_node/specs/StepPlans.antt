@@ -23,7 +23,7 @@ use Rattle.router_cursors.specs.CursorLists.{advanced, closed_all}
 use Rattle.router_cursors.specs.Marks.{is_left}
 use Rattle.router_cursors.specs.Numbers.{blocks_then}
 use Rattle.router_node.specs.RouterStates.{router_of}
-use Rattle.router_node.specs.Rows.{TookRow, life_kept}
+use Rattle.router_node.specs.Rows.{life_kept}
 use Rattle.router_node.specs.declared.node.RouterNode.{RouterNode}
 use Rattle.router_node.specs.declared.step_plan.Change.{Change}
 use Rattle.router_node.specs.declared.step_plan.Change.TheVariants.{Stays, Counts, Opens, Closes, Reaches, Notes, Learns, Shelves, Advances, Ends}

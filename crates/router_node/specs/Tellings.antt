@@ -1,5 +1,5 @@
 -- What an open read may be told, by a letter.
-use Rattle.std.specs.Prelude.{ℕ, List, [], ◌∷◌}
+use Rattle.std.specs.Prelude.{ℕ, [], ◌∷◌}
 use Rattle.node_model.specs.Answers.{Answer}
 use Rattle.node_model.specs.Letters.{Letter, letter_input}
 use Rattle.node_model.specs.RouterRows.{RouterRow, Opened, Tells, opens, heard, knows, reply_to}

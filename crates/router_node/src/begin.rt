@@ -1,46 +1,8 @@
 //! What is kept: a life that begins, and blocks of numbers of cursors.
 
-ghost use Rattle.std.specs.Prelude.{◌≡◌, ◌∷◌, [], IfOk, OnOk};
-ghost use Rattle.node_model.specs.Journal.{kept_block, kept_life};
-ghost use Rattle.node_traits.specs.Effects.{AreSound, spellings};
-ghost use Rattle.router_cursors.specs.Numbers.{block_kept};
-
 use crate::node::RouterNode;
 use bson_values::{Blob, Memory};
-use shard_records::{Record, write_record};
-use std::alloc::Global;
-
-/// The record of a life. Fails for want of memory.
-fn life_record(alloc: Global, life: u64) -> Result<Blob, Memory>
-    ensures record { IfOk result (λ bytes. bytes ∷ [] ≡ spellings (kept_life life ∷ [])) }
-    ensures sound { OnOk result (AreSound (kept_life life ∷ [])) }
-{
-    let mut bytes = Vec::new(alloc);
-    write_record(&Record::Life(life), &mut bytes)?;
-    Blob::of(alloc, &bytes)
-}
-
-/// The record of a block of numbers. Fails for want of memory.
-fn block_record(alloc: Global, block: u64) -> Result<Blob, Memory>
-    ensures record { IfOk result (λ bytes. bytes ∷ [] ≡ spellings (kept_block block ∷ [])) }
-    ensures sound { OnOk result (AreSound (kept_block block ∷ [])) }
-{
-    let mut bytes = Vec::new(alloc);
-    write_record(&Record::Block(block), &mut bytes)?;
-    Blob::of(alloc, &bytes)
-}
-
-/// The records of a block of numbers of cursors, if one is begun. Fails for want of memory.
-pub(crate) fn block_records(alloc: Global, block: Option<u64>) -> Result<Vec<Blob>, Memory>
-    ensures records { IfOk result (λ records. records.items ≡ spellings (block_kept block)) }
-    ensures sound { OnOk result (AreSound (block_kept block)) }
-{
-    let mut records = Vec::new(alloc);
-    if let Some(number) = block {
-        records.push(block_record(alloc, number)?)?;
-    }
-    Ok(records)
-}
+use router_replies::life_record;
 
 impl RouterNode {
     ghost use Rattle.std.specs.Prelude.{◌≡◌, IfOk, OnOk};

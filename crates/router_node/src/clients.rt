@@ -2,8 +2,6 @@
 
 use crate::mail::mail_of;
 use crate::node::RouterNode;
-use crate::plans::Plan;
-use crate::replies::reply_to;
 use crate::step_plan::{Change, StepPlan};
 use bson_values::Memory;
 use cluster_base::Namespace;
@@ -12,6 +10,7 @@ use node_traits::MailList;
 use open_requests::{OpenRequest, Work};
 use opmsg_frames::Request;
 use protocol_model::Head;
+use router_replies::{Plan, reply_to};
 
 /// The head of a request that comes on a link; the number is that of its reply.
 #[derive(Drop)]
@@ -22,7 +21,7 @@ pub(crate) struct Asked {
 }
 
 impl RouterNode {
-    ghost use Rattle.std.specs.Prelude.{◌≡◌, ◌<◌, ◌+◌, ◌-◌, ◌^◌, IfOk, Ok};
+    ghost use Rattle.std.specs.Prelude.{◌≡◌, ◌<◌, ◌+◌, ◌-◌, ◌^◌, IfOk};
     ghost use Rattle.command_answers.specs.AnswerMeanings.{answer_meant};
     ghost use Rattle.command_words.specs.Command.{command_of};
     ghost use Rattle.node_model.specs.Letters.{client_input};

@@ -1,39 +1,14 @@
 //! Requests about cursors.
 
-ghost use Rattle.std.specs.Prelude.{◌≡◌, pos, if◌then◌else◌};
-ghost use Rattle.command_answers.specs.AnswerMeanings.{answer_meant};
-ghost use Rattle.node_model.specs.Answers as model;
-ghost use Rattle.router_cursors.specs.CursorLists.{batch_of};
-
 use crate::clients::Asked;
 use crate::node::RouterNode;
-use crate::refusals::not_open;
-use crate::replies::reply_to;
 use crate::step_plan::{Change, StepPlan};
 use bson_values::Memory;
-use command_answers::{Answer, Batch};
+use command_answers::Answer;
 use command_words::{GetMore, KillCursors};
 use cursor_shelf::{Batch as Shown, ShelfFault};
 use node_traits::MailList;
-
-/// The number of a cursor that is told with a batch: 0 with the last one.
-fn number_told(last: bool, number: i64) -> i64
-    ensures { result ≡ (if last then pos 0 else number) }
-{
-    if last { 0 } else { number }
-}
-
-/// The next batch of the cursor of that number.
-fn next_answer(more: GetMore, shown: Shown) -> Answer
-    ensures { answer_meant result ≡ model.next_answer (batch_of more.cursor more.namespace shown) }
-{
-    Answer::Next(Batch {
-        cursor: number_told(shown.is_last, more.cursor),
-        namespace: more.namespace,
-        documents: shown.documents,
-        time: shown.time,
-    })
-}
+use router_replies::{next_answer, not_open, reply_to};
 
 impl RouterNode {
     ghost use Rattle.std.specs.Prelude.{◌≡◌, ◌<◌, ◌+◌, ◌-◌, ◌^◌, IfOk, None, Some, length};

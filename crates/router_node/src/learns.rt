@@ -4,15 +4,14 @@ ghost use Rattle.std.specs.Prelude.{◌≡◌, if◌then◌else◌};
 ghost use Rattle.node_model.specs.Tables.{is_longer};
 
 use crate::node::RouterNode;
-use crate::replies::reply_to;
 use crate::step_plan::{Change, StepPlan};
-use crate::telling::empty_answer;
 use bson_values::Memory;
 use chunk_table::Table;
 use cluster_base::Time;
 use node_traits::{MailList, ReplyList, ToLink};
 use open_requests::{Next, OpenRequest, next_of};
 use protocol_model::{Message, TableTold};
+use router_replies::{empty_answer, reply_to};
 
 /// The longer of two tables, else the other.
 fn longer_of<'a>(table: &'a Table, other: &'a Table) -> &'a Table
@@ -27,7 +26,6 @@ fn longer_of<'a>(table: &'a Table, other: &'a Table) -> &'a Table
 
 impl RouterNode {
     ghost use Rattle.std.specs.Prelude.{◌≡◌, ◌++◌, IfOk, OnOk, map};
-    ghost use Rattle.std.specs.Arc.{arc_value};
     ghost use Rattle.std.specs.List.{flat_map};
     ghost use Rattle.std.specs.Option.{option_map};
     ghost use Rattle.node_model.specs.Letters.{Letter};
@@ -36,7 +34,6 @@ impl RouterNode {
     ghost use Rattle.node_traits.specs.Effects.{puts_of};
     ghost use Rattle.node_traits.specs.Lists.{listed};
     ghost use Rattle.open_requests.specs.Askers.{letters_of};
-    ghost use Rattle.open_requests.specs.Lists.{opens_of};
     ghost use Rattle.open_requests.specs.Works.{open_meant};
     ghost use Rattle.protocol_model.specs.Bodies.{table_told_meant};
     ghost use Rattle.protocol_model.specs.Messages.{letter_of};

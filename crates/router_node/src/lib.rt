@@ -2,7 +2,6 @@
 #![tactic(auto)]
 
 mod begin;
-mod bodies;
 mod clients;
 mod cursors;
 mod learns;
@@ -11,9 +10,6 @@ mod moments;
 mod node;
 mod plans;
 mod reads;
-mod refusals;
-mod replies;
-mod statements;
 mod step;
 mod step_plan;
 mod steps;

@@ -15,17 +15,8 @@ use node_traits::StepCount;
 use open_requests::{Asker, OpenList, OpenRead, OpenRequest, Wait, Work, is_enough};
 use protocol_model::Message;
 use router_cursors::CursorList;
+use router_replies::known_in;
 use std::alloc::Global;
-
-/// The table that is known of a collection, if one is.
-pub(crate) fn known_in<'a>(tables: &'a TableList, namespace: &Namespace) -> Option<&'a Table>
-    ensures { option_map (λ t. t.now) result ≡ table_of namespace.now tables.now.tables }
-{
-    match tables.find(namespace) {
-        Some(table) => Some(table),
-        None => None,
-    }
-}
 
 /// What waits by a table, if it is there: for the shards, or else for the table.
 pub(crate) fn wait_by(table: Option<&Table>) -> Wait
@@ -56,7 +47,7 @@ pub struct RouterNode {
 }
 
 impl RouterNode {
-    ghost use Rattle.std.specs.Prelude.{◌≡◌, IfOk, Some, true, false, map, nat_lt};
+    ghost use Rattle.std.specs.Prelude.{◌≡◌, IfOk, Some, false};
     ghost use Rattle.std.specs.Option.{option_map};
     ghost use Rattle.known_tables.specs.Tables.{table_of};
     ghost use Rattle.node_model.specs.Exchanges as asked;

@@ -3,14 +3,13 @@
 ghost use Rattle.std.specs.Prelude.{◌≡◌, ◌≢◌, ◌≤◌, ◌<◌, true, false};
 
 use crate::node::{RouterNode, wait_by};
-use crate::refusals::time_ahead;
-use crate::replies::reply_to;
 use crate::step_plan::{Change, StepPlan};
 use bson_values::Memory;
 use cluster_base::{RequestId, Time};
 use command_answers::Answer;
 use open_requests::{OpenRead, OpenRequest, Wait, Work};
 use protocol_model::{ReadRows, TimeTold};
+use router_replies::{reply_to, time_ahead};
 
 /// Whether a turn is the first, which is the only one so far.
 fn is_first(turn: u32) -> bool

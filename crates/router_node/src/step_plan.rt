@@ -73,14 +73,14 @@ fn replies_of(alloc: Global, reply: Option<ToLink>) -> ReplyList
 }
 
 impl RouterNode {
-    ghost use Rattle.std.specs.Prelude.{◌≡◌, [], List, IfOk, OnOk, false, true, map};
+    ghost use Rattle.std.specs.Prelude.{◌≡◌, [], List, IfOk, true, map};
     ghost use Rattle.node_model.specs.Journal.{Kept};
     ghost use Rattle.node_traits.specs.Effects.{spellings};
     ghost use Rattle.node_traits.specs.Lists.{listed};
     ghost use Rattle.open_requests.specs.Askers.{letters_of};
     ghost use Rattle.protocol_model.specs.Messages.{letter_of};
     ghost use Rattle.router_node.specs.RouterStates.{router_of};
-    ghost use Rattle.router_node.specs.StepPlans.{FollowsBy, Follows, Hears, HearsKeeping, Starts};
+    ghost use Rattle.router_node.specs.StepPlans.{Hears, HearsKeeping, Starts};
     ghost use Rattle.router_node.specs.declared.step_plan.Change.TheVariants.{Stays};
 
     // A plan at a time: this becomes of the router, and these are asked and told. Takes no memory.

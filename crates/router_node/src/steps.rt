@@ -8,7 +8,7 @@ use node_traits::MailList;
 use protocol_model::{Body, Input, Message};
 
 impl RouterNode {
-    ghost use Rattle.std.specs.Prelude.{◌≡◌, IfOk, OnOk, map, true};
+    ghost use Rattle.std.specs.Prelude.{◌≡◌, IfOk, OnOk, map};
     ghost use Rattle.node_model.specs.Letters.{Letter, letter_input, moment_input, opened_input};
     ghost use Rattle.node_model.specs.RouterRows as rows;
     ghost use Rattle.node_model.specs.States.{router_state};

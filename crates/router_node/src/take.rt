@@ -1,56 +1,11 @@
 //! A step that is taken.
 
-ghost use Rattle.std.specs.Prelude.{◌≡◌, ◌≤◌, ℕ, IfSome};
-ghost use Rattle.std.specs.Arc.{arc_value};
-ghost use Rattle.std.specs.List.{flat_map};
-ghost use Rattle.std.specs.Option.{option_map};
-ghost use Rattle.node_model.specs.RouterRows as rows;
-ghost use Rattle.node_model.specs.RouterRows.{adopted};
-ghost use Rattle.node_model.specs.States.{Router};
-ghost use Rattle.open_requests.specs.Lists.{opens_of, taken_of};
-ghost use Rattle.protocol_model.specs.Bodies.{at_meant};
-
-use crate::node::{RouterNode, known_in};
+use crate::node::RouterNode;
 use crate::step_plan::{Change, NewCursor, StepPlan};
-use chunk_table::Table;
-use cluster_base::{Namespace, Time};
-use known_tables::TableList;
+use cluster_base::Time;
 use node_traits::Outputs;
-use open_requests::OpenList;
-use protocol_model::{At, Message};
-use std::alloc::Global;
-use std::sync::Arc;
-
-/// Keeps the table that was told, if one was. Takes no memory.
-fn adopt_told(tables: &mut TableList, told: Option<Arc<Table, Global>>)
-    requires { IfSome told (λ t. 1 ≤ tables.old.room) }
-    ensures { tables.new.tables ≡ adopted (option_map (λ t. arc_value t) told) tables.old.tables }
-{
-    match told {
-        Some(table) => tables.adopt(table),
-        None => {}
-    }
-}
-
-/// A table was told for a time: it is kept, and what waited for it goes on. Takes no memory.
-fn learn(
-    tables: &mut TableList,
-    requests: &mut OpenList,
-    namespace: &Namespace,
-    at: At,
-    told: Option<Arc<Table, Global>>,
-)
-    requires { IfSome told (λ t. 1 ≤ tables.old.room) }
-    ensures tables { tables.new.tables ≡ adopted (option_map (λ t. arc_value t) told) tables.old.tables }
-    ensures taken { taken_of requests.new ≡ taken_of requests.old }
-    ensures opens { (r : Router) (time : ℕ) → opens_of r.me r.life requests.new
-        ≡ flat_map (λ q. rows.stay_in (rows.next_of r time (adopted (option_map (λ t. arc_value t) told) tables.old.tables) namespace.now (at_meant at) q))
-        (opens_of r.me r.life requests.old) }
-{
-    adopt_told(tables, told);
-    let known = known_in(tables, namespace);
-    requests.learn(namespace, at, known);
-}
+use protocol_model::Message;
+use router_replies::learn;
 
 impl RouterNode {
     ghost use Rattle.std.specs.Prelude.{◌≡◌};

@@ -1,162 +1,22 @@
 //! What reads are told.
 
-ghost use Rattle.std.specs.Prelude.{◌≡◌, ◌<◌, ◌≤◌, ◌^◌, ◌∷◌, ◌⊎◌, [], pos, codes, IfOk, IfSome, map, true, false};
-ghost use Rattle.std.specs.Arc.{arc_value};
-ghost use Rattle.bson_values.specs.View.{datum_of};
-ghost use Rattle.command_answers.specs.AnswerMeanings.{answer_meant};
-ghost use Rattle.node_model.specs.Answers as model;
-ghost use Rattle.node_model.specs.Errors.{overflow};
-ghost use Rattle.node_model.specs.Refusals as refusals;
-ghost use Rattle.node_model.specs.RouterRows as rows;
-ghost use Rattle.pipeline_model.specs.Groups.{count_value};
-ghost use Rattle.router_cursors.specs.Marks.{is_left};
-ghost use Rattle.node_model.specs.Runs.{count_documents};
-ghost use Rattle.node_model.specs.States as states;
-ghost use Rattle.open_requests.specs.Works.{telling_meant};
-
-use crate::begin::block_records;
 use crate::node::RouterNode;
-use crate::refusals::{sum_too_great, too_much};
-use crate::replies::reply_to;
 use crate::step_plan::{Change, NewCursor, StepPlan};
-use bson_values::{Document, Memory, Value};
-use cluster_base::{Namespace, Time};
-use command_answers::{Answer, Batch};
+use bson_values::Memory;
+use cluster_base::Time;
+use command_answers::Answer;
 use cursor_shelf::{FirstBatch, first_batch};
 use group_merge::merge;
 use open_requests::{OpenRead, OpenRequest, Telling};
 use pipeline_eval::{EvalFault, Rows};
 use protocol_model::HalfFault;
-use std::alloc::Global;
-use std::sync::Arc;
-
-/// Documents that are shared, in order.
-type DocumentList = Vec<Arc<Document, Global>>;
-
-/// What is told of a collection that is not there at a time. Fails for want of memory.
-pub(crate) fn empty_answer(
-    alloc: Global,
-    namespace: &Namespace,
-    time: Time,
-    telling: Telling,
-) -> Result<Answer, Memory>
-    ensures { (q : states.Open) → q.namespace ≡ namespace.now → IfOk result (λ answer. answer_meant answer
-        ≡ rows.empty_answer q time.0 (telling_meant telling)) }
-{
-    match telling {
-        Telling::Batches { .. } => Ok(Answer::First(Batch {
-            cursor: 0,
-            namespace: namespace.copy()?,
-            documents: Vec::new(alloc),
-            time,
-        })),
-        Telling::Number => Ok(Answer::Count { count: 0, time }),
-    }
-}
-
-/// A first batch of documents of a namespace, which were read at a time; the number is that of the cursor with the others. Fails for want
-/// of memory.
-fn batch_answer(
-    namespace: &Namespace,
-    number: u64,
-    documents: DocumentList,
-    time: Time,
-) -> Result<Answer, Memory>
-    requires { number ≤ 2 ^ 62 }
-    ensures { (q : states.Open) → q.namespace ≡ namespace.now →
-        IfOk result (λ answer. answer_meant answer ≡ model.first_answer (rows.batch_of q time.0 (pos number) (map arc_value documents.items))) }
-{
-    Ok(Answer::First(Batch {
-        cursor: number as i64,
-        namespace: namespace.copy()?,
-        documents,
-        time,
-    }))
-}
-
-/// Whether a first batch is told without a cursor: no other batch is asked for, or none remain.
-fn is_only(single: bool, batch: &FirstBatch) -> bool
-    ensures only { result ≡ true → (map arc_value batch.now.rest.items ≡ []) ⊎ (single ≡ true) }
-    ensures other { result ≡ false → (is_left (map arc_value batch.now.rest.items) ≡ true) × (single ≡ false) }
-{
-    single || batch.rest.is_empty()
-}
-
-/// A read of which a sum is outside int64 is told so.
-fn overflow_answer() -> Answer
-    ensures { answer_meant result ≡ model.refusal_answer (refusals.without_evidence overflow) }
-{
-    Answer::Refused(sum_too_great())
-}
-
-/// A read that would show so many bytes is told so.
-fn excess_answer(bytes: u64) -> Answer
-    ensures { answer_meant result ≡ model.refusal_answer (rows.too_much bytes) }
-{
-    Answer::Refused(too_much(bytes))
-}
-
-/// The number that an int32 is, from 1 on.
-fn short_number(n: i32) -> Option<u64>
-    ensures is { IfSome result (λ k. n ≡ pos k) }
-    ensures some { IfSome result (λ k. 0 < k) }
-    ensures small { IfSome result (λ k. k < 2 ^ 31) }
-{
-    if n > 0 { Some(n as u64) } else { None }
-}
-
-/// The number that an int64 is which is no int32, from 1 on.
-fn long_number(n: i64) -> Option<u64>
-    ensures is { IfSome result (λ k. n ≡ pos k) }
-    ensures great { IfSome result (λ k. 2 ^ 31 ≤ k) }
-    ensures small { IfSome result (λ k. k < 2 ^ 63) }
-{
-    if n >= 1 << 31 { Some(n as u64) } else { None }
-}
-
-/// The number that a value is as a count of documents: from 1 on, and an int64 only where an int32 is too small.
-#[tactic(auto, using(crate::proofs::Counts::count_short, crate::proofs::Counts::count_long))]
-fn number_in(value: &Value) -> Option<u64>
-    ensures is { IfSome result (λ n. datum_of value.now ≡ count_value n) }
-    ensures some { IfSome result (λ n. 0 < n) }
-    ensures small { IfSome result (λ n. n < 2 ^ 63) }
-{
-    match value {
-        Value::Int32(n) => short_number(*n),
-        Value::Int64(n) => long_number(*n),
-        _ => None,
-    }
-}
-
-/// The number that a document tells, if that is all that it has.
-fn number_told(document: &Document) -> Option<u64>
-    ensures is { IfSome result (λ n. document.now ∷ [] ≡ count_documents (codes "n") n) }
-    ensures small { IfSome result (λ n. n < 2 ^ 63) }
-{
-    let [field] = document.fields() else {
-        return None;
-    };
-    if field.name.as_str() == "n" {
-        number_in(&field.value)
-    } else {
-        None
-    }
-}
-
-/// The number that the stages of a count tell: 0 by no document, or by one. None where they are not such.
-fn count_told(documents: &DocumentList) -> Option<u64>
-    ensures is { IfSome result (λ n. map arc_value documents.now.items ≡ count_documents (codes "n") n) }
-    ensures small { IfSome result (λ n. n < 2 ^ 63) }
-{
-    match documents.as_slice() {
-        [] => Some(0),
-        [document] => number_told(document),
-        _ => None,
-    }
-}
+use router_replies::{
+    DocumentList, batch_answer, block_records, count_told, excess_answer, is_only, overflow_answer,
+    reply_to,
+};
 
 impl RouterNode {
-    ghost use Rattle.std.specs.Prelude.{◌≡◌, [], ◌∷◌, ◌++◌, ◌<◌, ◌-◌, ◌^◌, pos, ℕ, List, IfOk, None, Some, Ok, Err, drop, length, map, option_map, true};
+    ghost use Rattle.std.specs.Prelude.{◌≡◌, [], ◌∷◌, ◌++◌, ◌<◌, ◌-◌, pos, ℕ, List, IfOk, None, Some, Ok, Err, drop, length, map, option_map, true};
     ghost use Rattle.group_accum.specs.Sizes.{capped};
     ghost use Rattle.pipeline_model.specs.Batches.{IsBatch};
     ghost use Rattle.node_model.specs.Tree.{Fields};

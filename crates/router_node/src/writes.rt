@@ -10,15 +10,16 @@ ghost use Rattle.node_model.specs.RouterRows as rows;
 ghost use Rattle.protocol_model.specs.Statements.{done_meant, statement_meant};
 
 use crate::node::{RouterNode, wait_by};
-use crate::replies::reply_to;
 use crate::step_plan::{Change, StepPlan};
 use bson_values::Memory;
 use chunk_table::Table;
 use cluster_base::{RequestId, Time};
 use command_answers::{Answer, ClientNumber, WriteKind};
-use open_requests::{OpenRequest, Work, answer_of, is_answered, note};
+use open_requests::{OpenRequest, Work};
 use protocol_model::{DoneList, Message, StatementList, WriteDone};
+use router_replies::reply_to;
 use std::alloc::Global;
+use write_answers::{answer_of, is_answered, note};
 
 /// Whether answers are as many as there were.
 fn are_as_many(before: &DoneList, answers: &DoneList) -> bool

@@ -1,8 +1,7 @@
 -- Rows that write nothing, as plans.
 use Rattle.std.proofs.Common.{◌≡◌, ◌≤◌, ◌+◌, ℕ, List, [], ◌∷◌, ◌++◌, refl, sym, ap, subst, ◌∙◌, arith, length}
-use Rattle.std.specs.Prelude.{map, filter, Option, Some, None, Result, Ok, Err, IfOk, ◌==◌, Bool, true, false, if◌then◌else◌}
+use Rattle.std.specs.Prelude.{map, Option, Some, None, Result, Ok, Err, IfOk, ◌==◌, Bool, true, false}
 use Rattle.node_traits.specs.Ids.{id_meant}
-use Rattle.protocol_model.specs.declared.message.Message.{Message}
 use Rattle.node_model.specs.History.{Entry}
 use Rattle.std.proofs.Math.Nat.{le-max_left}
 use Rattle.std.proofs.lemmas.Bool.{eqb-true}
@@ -86,17 +85,6 @@ again_cons s time m parked = by_ask (ask_in m.body)
         ≡ (elim o [ None ↦ asks_again s time parked | Some a ↦ asks_table s time a.namespace ∷ asks_again s time parked ])
     by_ask None = refl
     by_ask (Some a) = refl
-
--- messages that pass a test of their letters
-pub filter_meant : (test : Letter → Bool) (ms : List Message) → map letter_of (filter (λ (m : Message). test (letter_of m)) ms) ≡ filter test (map letter_of ms)
-filter_meant test [] = refl
-filter_meant test (m ∷ ms) = by_test (test (letter_of m)) (filter_meant test ms)
-  where
-    by_test : (b : Bool) → map letter_of (filter (λ (x : Message). test (letter_of x)) ms) ≡ filter test (map letter_of ms)
-        → map letter_of (if b then m ∷ filter (λ (x : Message). test (letter_of x)) ms else filter (λ (x : Message). test (letter_of x)) ms)
-        ≡ (if b then letter_of m ∷ filter test (map letter_of ms) else filter test (map letter_of ms))
-    by_test true e = ap (λ (ls : List Letter). letter_of m ∷ ls) e
-    by_test false e = e
 
 -- statements are served, with the records of their entries
 pub write_planned : (s : Shard) (m : Letter) (p : Plan) (id : RequestId) (turn : ℕ) (ordered : Bool) (namespace : List ℕ) (statements : List letters.Statement) (sent : Sent) (time : ℕ)

@@ -20,9 +20,10 @@ use Rattle.protocol_model.specs.Statements as rust
 use Rattle.node_traits.specs.Exchanges.{RequestId, number_for}
 use Rattle.protocol_model.specs.declared.statement.Done.{Done as StatementDone}
 use Rattle.protocol_model.specs.declared.statement.Statement.{Statement as Asked}
-use Rattle.shard_node.specs.declared.writes.StatementResult.{StatementResult}
+use Rattle.shard_asks.specs.declared.answers.StatementResult.{StatementResult}
 use Rattle.shard_node.specs.Progress.{GoesOn, GoesOrEnds}
-use Rattle.shard_node.specs.Writes.{AreKept, IsStep, record_in, spellings_of}
+use Rattle.shard_asks.specs.Results.{record_in}
+use Rattle.shard_node.specs.Writes.{AreKept, IsStep, spellings_of}
 
 module _ (shard : ℕ) (namespace : List ℕ) (entries : List Entry) (time : ℕ) (s : Statement) where
   -- what is left for later changes nothing

@@ -23,9 +23,10 @@ use Rattle.shard_store.specs.Plans.{IsServed, served_again, served_new, left_for
 use Rattle.shard_store.specs.declared.outcome.EntryResult.{EntryResult}
 use Rattle.shard_store.specs.declared.outcome.StatementAnswer.TheVariants.{WasDone}
 use Rattle.shard_store.specs.declared.plan.Plan.{Plan}
-use Rattle.shard_node.specs.declared.writes.StatementResult.{StatementResult}
+use Rattle.shard_asks.specs.declared.answers.StatementResult.{StatementResult}
 use Rattle.shard_node.proofs.UpsertedKeys.{short_key}
-use Rattle.shard_node.specs.Writes.{entry_record_of, AreKept, IsStep}
+use Rattle.shard_asks.specs.EntryRecords.{entry_record_of}
+use Rattle.shard_node.specs.Writes.{AreKept, IsStep}
 
 done_parts : (s t : ℕ) (a b : Outcome) → was_done s a ≡ was_done t b → (s ≡ t) × (a ≡ b)
 done_parts s t a b same = (cc, cc)

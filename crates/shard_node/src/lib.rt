@@ -1,7 +1,6 @@
 //! A shard: the node that keeps documents, and serves statements and reads on them.
 #![tactic(auto)]
 
-mod asks;
 mod node;
 mod plan;
 mod reads;

@@ -1,64 +1,31 @@
 //! What an input comes to, and a step that is taken.
 
-ghost use Rattle.std.specs.Prelude.{◌≡◌, ◌≢◌, ◌≤◌, ◌<◌, [], IfOk, IfSome, None, OnOk, Some, false, filter, map, not};
+ghost use Rattle.std.specs.Prelude.{◌≡◌, ◌≢◌, ◌≤◌, ◌<◌, [], IfOk, IfSome, None, OnOk, Some, false, map};
 ghost use Rattle.chunk_table.specs.Tables.{table_of};
 ghost use Rattle.chunk_table.specs.Verdicts.{fits, verdict_of};
 ghost use Rattle.node_traits.specs.Effects.{StepPlanned, last_time, time_in};
 ghost use Rattle.node_traits.specs.Letters.{Letter, letter_input};
-ghost use Rattle.node_traits.specs.ShardRows.{Ask, ask_in, heard, wants_table, was_seen};
+ghost use Rattle.node_traits.specs.ShardRows.{Ask, ask_in, heard, was_seen};
 ghost use Rattle.node_traits.specs.States.{shard_state};
 ghost use Rattle.protocol_model.specs.Bodies.{body_meant, table_told_meant};
 ghost use Rattle.protocol_model.specs.Inputs.{input_of};
 ghost use Rattle.protocol_model.specs.Messages.{letter_of};
 ghost use Rattle.shard_node.specs.Plans.{Follows, FollowsBy, HasRoomFor, IsPlanned, IsReady, IsStep, after, changed};
-ghost use Rattle.shard_node.specs.Standings.{Stands};
 ghost use Rattle.shard_node.specs.State.{shard_meant, state_of};
-ghost use Rattle.shard_node.specs.declared.steps.Standing.TheVariants.{Fits, NoAsk, RouterOld, ShardOld};
+ghost use Rattle.shard_asks.specs.Standings.{Stands};
+ghost use Rattle.shard_asks.specs.declared.standings.Standing.TheVariants.{Fits, NoAsk, RouterOld, ShardOld};
 ghost use Rattle.shard_store.specs.Stores.{entries_of, last_of};
 
-use crate::asks::{ask_in, wants_table};
 use crate::node::ShardNode;
 use crate::plan::{Change, Plan};
 use bson_values::Memory;
-use chunk_table::{Verdict, Version};
-use cluster_base::{Namespace, Time};
+use chunk_table::Version;
+use cluster_base::Time;
 use node_traits::{Outputs, ReplyList};
 use protocol_model::{Body, Input, Message, TableTold};
-
-/// How a message stands to the tables that a shard knows.
-pub(crate) enum Standing {
-    /// It asks for no documents that stand on a table.
-    NoAsk,
-    /// It was sent with the table that the shard knows.
-    Fits,
-    /// The shard's table is older than the one that it was sent with.
-    ShardOld,
-    /// The shard's table is later than that, and has met this version.
-    RouterOld(Version),
-}
-
-// Messages that wait for no table of this collection.
-fn keep_others(parked: &mut Vec<Message>, namespace: &Namespace)
-    ensures { map letter_of parked.new.items ≡ filter (λ p. not (wants_table namespace.now p)) (map letter_of parked.old.items) }
-{
-    parked.retain(|message| !wants_table(message, namespace));
-}
+use shard_asks::{Standing, keep_others, later, standing_of};
 
 impl ShardNode {
-    // How a message stands to the tables that the shard knows.
-    fn standing(&self, body: &Body) -> Standing
-        ensures { Stands (shard_meant self.now) result (body_meant body.now) }
-    {
-        let Some(ask) = ask_in(body) else {
-            return Standing::NoAsk;
-        };
-        match self.verdict(ask.namespace, &ask.sent) {
-            Verdict::Fits => Standing::Fits,
-            Verdict::ShardOld => Standing::ShardOld,
-            Verdict::RouterOld(met) => Standing::RouterOld(met),
-        }
-    }
-
     // A first statement that is not new is told so on any table.
     fn plan_again(&self, time: Time, body: &Body) -> Result<Option<Plan>, Memory>
         requires old { (a : Ask) → ask_in (body_meant body.now) ≡ Some a →
@@ -85,7 +52,7 @@ impl ShardNode {
     // An ask that was sent with a later table than the shard knows.
     fn plan_unknown(&self, time: Time, message: Message) -> Result<Plan, Memory>
         requires time { time.0 ≡ heard (shard_meant self.now) (letter_of message) }
-        requires stands { Stands (shard_meant self.now) ShardOld (letter_of message).body }
+        requires stands { Stands self.now.me.0 self.now.tables.tables ShardOld (letter_of message).body }
         ensures planned { IfOk result (λ p. IsPlanned (shard_meant self.now) (letter_input (letter_of message)) p) }
         ensures follows { IfOk result (λ p. Follows self.now p) }
     {
@@ -98,7 +65,7 @@ impl ShardNode {
     // An ask that was sent with an older table.
     fn plan_older(&self, time: Time, message: &Message, met: Version) -> Result<Plan, Memory>
         requires time { time.0 ≡ heard (shard_meant self.now) (letter_of message.now) }
-        requires stands { Stands (shard_meant self.now) (RouterOld met) (letter_of message.now).body }
+        requires stands { Stands self.now.me.0 self.now.tables.tables (RouterOld met) (letter_of message.now).body }
         ensures planned { IfOk result (λ p. IsPlanned (shard_meant self.now) (letter_input (letter_of message.now)) p) }
         ensures follows { IfOk result (λ p. Follows self.now p) }
     {
@@ -112,7 +79,7 @@ impl ShardNode {
     fn plan_fitting(&self, time: Time, body: Body) -> Result<Plan, Memory>
         requires early { time.0 < last_time }
         requires later { last_of self.now.store ≤ time.0 }
-        requires stands { Stands (shard_meant self.now) Fits (body_meant body) }
+        requires stands { Stands self.now.me.0 self.now.tables.tables Fits (body_meant body) }
         ensures planned { (m : Letter) → m.body ≡ body_meant body → time.0 ≡ heard (shard_meant self.now) m →
             IfOk result (λ p. IsPlanned (shard_meant self.now) (letter_input m) p) }
         ensures follows { IfOk result (λ p. Follows self.now p) }
@@ -146,14 +113,14 @@ impl ShardNode {
 
     // A message that asks for no documents that stand on a table.
     fn plan_other(&self, time: Time, body: Body) -> Result<Plan, Memory>
-        requires stands { Stands (shard_meant self.now) NoAsk (body_meant body) }
+        requires stands { Stands self.now.me.0 self.now.tables.tables NoAsk (body_meant body) }
         ensures planned { (m : Letter) → m.body ≡ body_meant body → time.0 ≡ heard (shard_meant self.now) m →
             IfOk result (λ p. IsPlanned (shard_meant self.now) (letter_input m) p) }
         ensures follows { IfOk result (λ p. Follows self.now p) }
     {
         match body {
             Body::TableTold(told) => self.plan_told(time, told),
-            Body::HalfAsk(ask) => self.plan_rows(time, &ask),
+            Body::HalfAsk(ask) => self.plan_rows(time, ask),
             Body::TimeAsk(ask) => Ok(self.plan_time(time, ask)),
             Body::WriteAsk(_) => Ok(Plan::of_time(self.alloc, time)),
             Body::ReadAsk(_) => Ok(Plan::of_time(self.alloc, time)),
@@ -172,8 +139,8 @@ impl ShardNode {
         ensures planned { IfOk result (λ p. IsPlanned (shard_meant self.now) (letter_input (letter_of message)) p) }
         ensures follows { IfOk result (λ p. Follows self.now p) }
     {
-        let time = self.later(message.time);
-        match self.standing(&message.body) {
+        let time = later(self.time, message.time);
+        match standing_of(self.me, &self.tables, &message.body) {
             Standing::NoAsk => self.plan_other(time, message.body),
             Standing::Fits => self.plan_fitting(time, message.body),
             Standing::ShardOld => self.plan_unknown(time, message),

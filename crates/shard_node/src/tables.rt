@@ -1,6 +1,6 @@
 //! Tables at a shard, and the asks that wait for them.
 
-ghost use Rattle.std.specs.Prelude.{◌≡◌, ◌++◌, ◌∷◌, [], ℕ, Bool, List, IfOk, OnOk, Some, false, true, filter, map, max};
+ghost use Rattle.std.specs.Prelude.{◌≡◌, ◌++◌, ◌∷◌, [], ℕ, Bool, List, IfOk, OnOk, Some, false, true, filter, map};
 ghost use Rattle.std.specs.Arc.{arc_value};
 ghost use Rattle.chunk_table.specs.Meanings.{version_meant};
 ghost use Rattle.chunk_table.specs.Tables.{table_of};
@@ -8,22 +8,18 @@ ghost use Rattle.chunk_table.specs.Verdicts.{router_is_old, shard_is_old, verdic
 ghost use Rattle.node_traits.specs.Letters as letters;
 ghost use Rattle.node_traits.specs.Letters.{Letter, letter_input, moment_input, table_told};
 ghost use Rattle.node_traits.specs.ShardRows.{Ask, ask_in, asks_again, asks_table, heard, is_news, tries, wants_table, was_seen};
-ghost use Rattle.node_model.specs.Times.{time_of_moment};
 ghost use Rattle.protocol_model.specs.Messages.{letter_of};
-ghost use Rattle.shard_records.specs.Records.{table_record};
-ghost use Rattle.shard_records.specs.RecordFormat.{spelled, IsSound};
 ghost use Rattle.shard_node.specs.Plans.{Follows, IsPlanned};
 ghost use Rattle.shard_node.specs.State.{shard_meant};
 
-use crate::asks::{ask_in, wants_table};
 use crate::node::ShardNode;
 use crate::plan::{Change, Plan};
-use bson_values::{Blob, Memory};
+use bson_values::Memory;
 use chunk_table::{Table, Version};
 use cluster_base::{Namespace, NodeId, Time, moment_time};
 use node_traits::MailList;
 use protocol_model::{At, Body, Message, Stale, TableAsk};
-use shard_records::write_table;
+use shard_asks::{ask_in, is_news, is_parked, later, table_records, wants_table};
 use std::alloc::Global;
 use std::sync::Arc;
 
@@ -55,7 +51,7 @@ impl ShardNode {
         let Some(ask) = ask_in(&message.body) else {
             return Ok(Plan::of_time(self.alloc, time));
         };
-        if self.is_parked(&ask) {
+        if is_parked(&self.parked, &ask) {
             return Ok(Plan::of_time(self.alloc, time));
         }
         let asked = self.ask_table(time, ask.namespace)?;
@@ -108,22 +104,12 @@ impl ShardNode {
         ensures planned { IfOk result (λ p. IsPlanned (shard_meant self.now) (moment_input moment) p) }
         ensures follows { IfOk result (λ p. Follows self.now p) }
     {
-        let time = self.later(moment_time(moment));
+        let time = later(self.time, moment_time(moment));
         let mut mail = MailList::new(self.alloc);
         for message in &self.parked {
             self.ask_again(time, message, &mut mail)?;
         }
         Ok(Plan::of_mail(self.alloc, time, mail))
-    }
-
-    // Whether a table is news: there is none of its collection, or it has seen more changes.
-    fn is_news(&self, table: &Table) -> bool
-        ensures { result ≡ is_news table.now (table_of table.now.namespace self.now.tables.tables) }
-    {
-        match self.tables.find(table.namespace()) {
-            Some(own) => table.longer_than(own),
-            None => true,
-        }
     }
 
     // What waited is tried again, if it waited for this table, behind other messages. Fails for want of memory.
@@ -162,7 +148,7 @@ impl ShardNode {
             → time.0 ≡ heard (shard_meant self.now) m → IfOk result (λ p. IsPlanned (shard_meant self.now) (letter_input m) p) }
         ensures follows { IfOk result (λ p. Follows self.now p) }
     {
-        if self.is_news(&table) {
+        if is_news(&self.tables, &table) {
             return self.learn(time, table);
         }
         Ok(Plan::of_time(self.alloc, time))
@@ -184,23 +170,4 @@ impl ShardNode {
             change: Change::Learn(table),
         })
     }
-}
-
-// The record of a table. Fails for want of memory.
-fn table_bytes(alloc: Global, table: &Table) -> Result<Blob, Memory>
-    ensures { IfOk result (λ b. (b ≡ spelled 1 (table_record table.now)) × IsSound (table_record table.now)) }
-{
-    let mut bytes = Vec::new(alloc);
-    write_table(table, &mut bytes)?;
-    Blob::of(alloc, &bytes)
-}
-
-// The records of a step that keeps a table. Fails for want of memory.
-fn table_records(alloc: Global, table: &Table) -> Result<Vec<Blob>, Memory>
-    ensures records { IfOk result (λ records. records.items ≡ spelled 1 (table_record table.now) ∷ []) }
-    ensures sound { IfOk result (λ records. IsSound (table_record table.now)) }
-{
-    let mut records = Vec::new(alloc);
-    records.push(table_bytes(alloc, table)?)?;
-    Ok(records)
 }

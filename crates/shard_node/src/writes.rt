@@ -1,200 +1,37 @@
 //! Writes at a shard.
 
-ghost use Rattle.std.specs.Prelude.{◌≡◌, ◌≢◌, ◌≤◌, ◌<◌, ◌+◌, ◌-◌, ◌^◌, ◌++◌, ◌∷◌, [], ℕ, List, IfOk, IfSome, OnOk, None, Some, false, map, length};
-ghost use Rattle.std.specs.List.{AllByRecursion};
-ghost use Rattle.std.specs.Option.{IsSome, option_map};
-ghost use Rattle.std.specs.Arc.{arc_value};
+ghost use Rattle.std.specs.Prelude.{◌≡◌, ◌≢◌, ◌≤◌, ◌<◌, ◌+◌, ◌-◌, ◌^◌, ◌∷◌, [], ℕ, List, IfOk, IfSome, OnOk, None, Some, false, map, length};
+ghost use Rattle.std.specs.Option.{IsSome};
 ghost use Rattle.chunk_table.specs.VerdictMeanings.{sent_meant};
 ghost use Rattle.chunk_table.specs.Tables.{table_of};
 ghost use Rattle.chunk_table.specs.Verdicts.{fits, verdict_of};
 ghost use Rattle.command_answers.specs.Kinds.{given_meant};
-ghost use Rattle.command_model.specs.CommandSizes.{IsKeepable};
-ghost use Rattle.node_model.specs.Right.{ends};
 ghost use Rattle.node_model.specs.Service.{Serves};
 ghost use Rattle.node_traits.specs.Effects.{last_time};
-ghost use Rattle.node_traits.specs.History.{Entry};
 ghost use Rattle.node_traits.specs.Letters as letters;
 ghost use Rattle.node_traits.specs.Letters.{Letter, letter_input};
-ghost use Rattle.node_traits.specs.Lists.{listed};
 ghost use Rattle.node_traits.specs.ShardRows.{Ask, ask_in, heard, was_seen};
 ghost use Rattle.node_traits.specs.Ids.{id_meant};
 ghost use Rattle.protocol_model.specs.Bodies.{write_ask_meant};
-ghost use Rattle.protocol_model.specs.Statements as messages;
-ghost use Rattle.protocol_model.specs.Statements.{answer_meant, done_meant, operation_meant, statement_meant};
+ghost use Rattle.protocol_model.specs.Statements.{done_meant, statement_meant};
 ghost use Rattle.shard_node.specs.Plans.{Follows, IsPlanned};
 ghost use Rattle.shard_node.specs.Progress.{GoesOn, GoesOrEnds};
 ghost use Rattle.shard_node.specs.State.{shard_meant};
-ghost use Rattle.shard_node.specs.Writes.{AreKept, IsStep, entry_record_of, record_in};
-ghost use Rattle.shard_records.specs.Meanings.{operation_lent};
-ghost use Rattle.shard_records.specs.RecordFormat.{spelled, IsSound};
-ghost use Rattle.shard_records.specs.Sizes.{IsWritableKey};
-ghost use Rattle.shard_store.specs.Entries.{operation_of};
-ghost use Rattle.shard_store.specs.Outcomes as outcomes;
-ghost use Rattle.shard_store.specs.Outcomes.{outcome_meant};
-ghost use Rattle.shard_store.specs.Plans.{IsPlan, IsServed, made_by, planned_in, time_of};
+ghost use Rattle.shard_node.specs.Writes.{AreKept, IsStep};
+ghost use Rattle.shard_store.specs.Plans.{IsPlan, made_by, planned_in, time_of};
 ghost use Rattle.shard_store.specs.Stores.{entries_of, last_of};
 
 use crate::node::ShardNode;
 use crate::plan::{Change, Plan};
-use bson_values::{Blob, Document, Memory};
-use cluster_base::{Namespace, Stmt, Time};
+use bson_values::Memory;
+use cluster_base::Time;
 use node_traits::MailList;
-use protocol_model::{
-    Body, Done, DoneList, Operation, Outcome, Statement, StatementAnswer as ToldAnswer, WriteAsk,
-    WriteDone,
-};
-use shard_records::{WordsRef, write_entry};
-use shard_store::{
-    EntryOutcome, EntryResult, Plan as Entries, StatementAnswer, Words, statement_number,
-};
-use std::alloc::Global;
-use std::sync::Arc;
-use value_compare::{Key, Reply};
+use protocol_model::{Body, Statement, WriteAsk, WriteDone};
+use shard_asks::{StatementResult, WriteResult, done_of, ends, entry_bytes, share_words};
+use shard_store::{Plan as Entries, StatementAnswer, statement_number};
 
 /// So many statements of an ask are served in one step at most.
 const MOST_SERVED: usize = 100_000;
-
-/// A statement that was served: what it is told, and the record of the entry that it makes, if it makes one.
-#[derive(Drop)]
-pub(crate) struct StatementResult {
-    pub(crate) done: Done,
-    pub(crate) record: Option<Blob>,
-}
-
-/// What the statements that were served are told, and the records of their entries.
-#[derive(Drop)]
-pub(crate) struct WriteResult {
-    pub(crate) dones: DoneList,
-    pub(crate) records: Vec<Blob>,
-}
-
-// The key, to be shared, if there is one. Fails for want of memory.
-fn share_key(alloc: Global, key: Option<Key>) -> Result<Option<Arc<Key, Global>>, Memory>
-    ensures { IfOk result (λ shared. option_map (λ k. arc_value k) shared ≡ key) }
-{
-    match key {
-        Some(key) => Ok(Some(Arc::new(alloc, key)?)),
-        None => Ok(None),
-    }
-}
-
-// What an entry tells, as a message tells it. Fails for want of memory.
-fn outcome_of(alloc: Global, outcome: EntryOutcome) -> Result<Outcome, Memory>
-    ensures { IfOk result (λ o. messages.outcome_meant o ≡ outcome_meant outcome) }
-{
-    let error = outcome.error();
-    let Reply {
-        n,
-        modified,
-        upserted,
-        ..
-    } = outcome.into_reply();
-    let upserted = share_key(alloc, upserted)?;
-    Ok(Outcome {
-        count: n,
-        modified,
-        upserted,
-        error,
-    })
-}
-
-// What a statement is told, as a message tells it. Fails for want of memory.
-fn answer_of(alloc: Global, told: StatementAnswer) -> Result<ToldAnswer, Memory>
-    ensures { IfOk result (λ a. answer_meant a ≡ outcomes.answer_meant told) }
-{
-    match told {
-        StatementAnswer::WasDone(EntryResult { time, outcome }) => Ok(ToldAnswer::WasDone {
-            time,
-            outcome: outcome_of(alloc, outcome)?,
-        }),
-        StatementAnswer::Older(greatest) => Ok(ToldAnswer::Older(greatest)),
-    }
-}
-
-// What a statement with this index is told, as a message tells it. Fails for want of memory.
-fn done_of(alloc: Global, index: u32, told: StatementAnswer) -> Result<Done, Memory>
-    ensures { IfOk result (λ d. done_meant d ≡ outcomes.done_meant index told) }
-{
-    let answer = answer_of(alloc, told)?;
-    Ok(Done { index, answer })
-}
-
-// Whether a statement that is told this ends an ordered command.
-fn ends(ordered: bool, done: &Done) -> bool
-    ensures { result ≡ ends ordered (done_meant done.now) }
-{
-    ordered && done.answer.fails()
-}
-
-// What a statement does, lent; it may be kept.
-fn words_of(operation: &Operation) -> WordsRef<'_>
-    ensures words { operation_lent result ≡ operation_meant operation.now }
-    ensures keepable { IsKeepable (operation_meant operation.now) }
-{
-    match operation {
-        Operation::Insert(document) => {
-            let document: &Document = document.document();
-            WordsRef::Insert(document)
-        }
-        Operation::Change(change) => WordsRef::of(change.words()),
-    }
-}
-
-// What a statement does, shared; it may be kept. Fails for want of memory.
-fn share_words(operation: &Operation) -> Result<Words, Memory>
-    ensures words { IfOk result (λ words. operation_of words ≡ operation_meant operation.now) }
-    ensures keepable { IsKeepable (operation_meant operation.now) }
-{
-    match operation {
-        Operation::Insert(document) => Ok(Words::Insert(Arc::try_clone(document.document())?)),
-        Operation::Change(change) => Ok(Words::Change(Arc::try_clone(change.words())?)),
-    }
-}
-
-// The record of an entry. Fails for want of memory.
-fn entry_bytes(
-    alloc: Global,
-    told: &EntryResult,
-    namespace: &Namespace,
-    statement: &Stmt,
-    operation: &Operation,
-) -> Result<Blob, Memory>
-    requires key { IsWritableKey (outcome_meant told.now.outcome).upserted }
-    ensures { IfOk result (λ b. (b ≡ spelled 1 (entry_record_of told.now namespace.now statement.now (operation_meant operation.now)))
-        × IsSound (entry_record_of told.now namespace.now statement.now (operation_meant operation.now))) }
-{
-    let mut bytes = Vec::new(alloc);
-    let words = words_of(operation);
-    let reply = told.outcome.reply();
-    write_entry(told.time, namespace, statement, &words, reply, &mut bytes)?;
-    Blob::of(alloc, &bytes)
-}
-
-impl WriteResult {
-    // No statement.
-    fn new(alloc: Global) -> WriteResult
-        ensures dones { result.dones.items ≡ [] }
-        ensures records { result.records.items ≡ [] }
-    {
-        WriteResult {
-            dones: Vec::new(alloc),
-            records: Vec::new(alloc),
-        }
-    }
-
-    // Puts one more behind the others. Fails for want of memory.
-    fn push(&mut self, served: StatementResult) -> Result<(), Memory>
-        ensures dones { OnOk result (self.new.dones.items ≡ self.old.dones.items ++ served.done ∷ []) }
-        ensures records { OnOk result (self.new.records.items ≡ self.old.records.items ++ record_in (Some served)) }
-    {
-        let StatementResult { done, record } = served;
-        self.dones.push(done)?;
-        if let Some(record) = record {
-            self.records.push(record)?;
-        }
-        Ok(())
-    }
-}
 
 impl ShardNode {
     // Serves a statement behind the entries of the shard and those that are planned, or leaves it for later. Fails for want of memory,

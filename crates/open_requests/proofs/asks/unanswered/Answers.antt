@@ -1,4 +1,4 @@
-use Rattle.open_requests.proofs.Counted.{left_over}
+use Rattle.open_requests.proofs.Remaining.{left_over}
 use Rattle.open_requests.proofs.asks.unanswered.Goals as goal
 
 pub returns-then-answers-statements : goal.returns-then-answers-statements

@@ -1,5 +1,5 @@
 use Rattle.std.proofs.Common.{◌∙◌, sym}
-use Rattle.command_words.specs.Words.{pipeline_meant}
+use Rattle.command_fields.specs.Words.{pipeline_meant}
 use Rattle.command_words.proofs.WordRules.{aggregate_behind}
 use Rattle.command_words.proofs.aggregate.AggregateFormCommandForm.read_fields.Goals as goal
 

@@ -1,5 +1,5 @@
 use Rattle.std.proofs.Common.{◌∙◌, sym}
-use Rattle.command_words.specs.Words.{word_meant}
+use Rattle.command_fields.specs.Words.{word_meant}
 use Rattle.command_words.proofs.WordRules.{count_behind}
 use Rattle.command_words.proofs.count.CountFormCommandForm.read_fields.Goals as goal
 

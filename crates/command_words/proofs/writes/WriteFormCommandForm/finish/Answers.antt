@@ -1,6 +1,5 @@
 use Rattle.std.proofs.Common.{rules}
 use Rattle.command_words.proofs.writes.WriteFormCommandForm.finish.Goals as goal
 
--- src/writes.rt:258:5
 pub returns : goal.returns
 returns c = search rules

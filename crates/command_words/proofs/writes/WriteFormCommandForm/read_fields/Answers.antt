@@ -1,4 +1,4 @@
-use Rattle.command_words.specs.Verdicts.{verdict_meant}
+use Rattle.command_fields.specs.Verdicts.{verdict_meant}
 use Rattle.command_words.proofs.Sessions.{session_read}
 use Rattle.command_words.proofs.writes.WriteFormCommandForm.read_fields.Goals as goal
 

@@ -1,4 +1,4 @@
-use Rattle.std.proofs.Common.{◌≡◌, refl, map}
+use Rattle.std.proofs.Common.{refl, map}
 use Rattle.std.specs.Arc.{arc_value}
 use Rattle.command_answers.specs.AnswerMeanings.{answer_meant}
 use Rattle.open_requests.specs.Works.{open_meant}

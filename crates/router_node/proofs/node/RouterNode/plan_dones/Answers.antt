@@ -6,7 +6,7 @@ use Rattle.open_requests.specs.declared.work.Work.{Work}
 use Rattle.protocol_model.specs.Statements.{done_meant}
 use Rattle.router_node.specs.RouterStates.{router_of}
 use Rattle.router_node.proofs.Heard.{heard_late}
-use Rattle.open_requests.proofs.Noted.{no_news, some_news}
+use Rattle.write_answers.proofs.Noted.{no_news, some_news}
 use Rattle.router_node.proofs.Fates.{dones_of_none, dones_of_read, dones_no_news}
 use Rattle.router_node.proofs.Rest.{as_many, not_as_many}
 use Rattle.router_node.proofs.node.RouterNode.plan_dones.Goals as goal

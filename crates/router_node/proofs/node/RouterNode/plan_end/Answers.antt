@@ -1,10 +1,8 @@
-use Rattle.std.proofs.Common.{◌≡◌, ap, sym, subst, ◌∙◌, List, ℤ, [], ◌∷◌, refl, map, rules, true, ◌+◌, w32}
+use Rattle.std.proofs.Common.{ap, sym, subst, List, ℤ, refl, map, rules, true, ◌+◌, w32}
 use mir.Val.{SFits}
-use Rattle.command_answers.specs.AnswerMeanings.{answer_meant}
-use Rattle.node_model.specs.Answers.{Answer, answer_document}
+use Rattle.node_model.specs.Answers.{answer_document}
 use Rattle.node_model.specs.Letters.{Letter, client_input}
 use Rattle.node_model.specs.RouterRows as rows
-use Rattle.node_traits.specs.Effects.{puts_of}
 use Rattle.node_traits.specs.Lists.{listed}
 use Rattle.protocol_model.specs.Messages.{letter_of}
 use Rattle.protocol_model.specs.Heads.{head_request}

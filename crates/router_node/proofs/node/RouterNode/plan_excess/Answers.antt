@@ -1,4 +1,4 @@
-use Rattle.std.proofs.Common.{◌<◌, ◌-◌, ◌^◌, rules, arith}
+use Rattle.std.proofs.Common.{◌<◌, ◌-◌, ◌^◌, rules}
 use Rattle.command_answers.specs.AnswerMeanings.{answer_meant}
 use Rattle.open_requests.specs.Works.{open_meant}
 use Rattle.router_node.specs.RouterStates.{router_of}

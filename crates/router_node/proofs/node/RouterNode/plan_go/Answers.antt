@@ -1,4 +1,4 @@
-use Rattle.std.proofs.Common.{◌≡◌, ap, sym, subst, ◌∙◌, ℕ, [], arith}
+use Rattle.std.proofs.Common.{◌≡◌, ap, sym, subst, ℕ, [], arith}
 use Rattle.std.specs.Option.{option_map}
 use Rattle.node_model.specs.Letters.{letter_input}
 use Rattle.node_model.specs.RouterRows as rows

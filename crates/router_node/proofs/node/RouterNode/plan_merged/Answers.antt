@@ -1,10 +1,7 @@
-use Rattle.std.proofs.Common.{◌≡◌, ap, sym, subst, ◌∙◌, List, [], ◌∷◌, ◌++◌, map}
+use Rattle.std.proofs.Common.{ap, ◌∙◌, List, [], ◌∷◌, ◌++◌, map}
 use Rattle.std.specs.Arc.{arc_value}
 use Rattle.command_answers.specs.AnswerMeanings.{answer_meant}
-use Rattle.group_merge.specs.Merged.{MergeAnswers}
-use Rattle.node_model.specs.Halves as halves
-use Rattle.node_model.specs.Halves.{Merge, MergesInTurn}
-use Rattle.node_model.specs.Runs.{Outcome, listed, overflowed}
+use Rattle.node_model.specs.Runs.{listed, overflowed}
 use Rattle.node_model.specs.Split.{split}
 use Rattle.open_requests.specs.Works.{open_meant, stages_of, telling_meant}
 use Rattle.pipeline_eval.specs.Rows.{rows_of}

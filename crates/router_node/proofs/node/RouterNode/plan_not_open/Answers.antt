@@ -1,6 +1,5 @@
-use Rattle.std.proofs.Common.{◌≡◌, ap, sym, subst, ◌∙◌, List, ℤ, [], ◌∷◌, refl, map, rules, true, ◌+◌, w32, w64}
+use Rattle.std.proofs.Common.{ap, sym, subst, ◌∙◌, List, ℤ, [], ◌∷◌, refl, map, rules, true, ◌+◌, w32, w64}
 use mir.Val.{SFits}
-use Rattle.command_answers.specs.AnswerMeanings.{answer_meant}
 use Rattle.node_model.specs.Answers.{Answer, answer_document}
 use Rattle.node_model.specs.Letters.{Letter, client_input}
 use Rattle.node_model.specs.RouterRows as rows

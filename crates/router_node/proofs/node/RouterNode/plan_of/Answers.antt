@@ -8,10 +8,10 @@ use Rattle.node_model.specs.Refusals.{Refusal}
 use Rattle.node_model.specs.RouterRows as rows
 use Rattle.opmsg_frames.specs.RequestMeanings.{form_meant}
 use Rattle.protocol_model.specs.Requests.{body_of}
-use Rattle.router_node.specs.Plans.{plan_meant}
+use Rattle.router_replies.specs.Plans.{plan_meant}
 use Rattle.router_node.specs.RouterStates.{router_of}
 use Rattle.router_node.specs.Rows.{started}
-use Rattle.router_node.proofs.TakenBodies.{taken_small}
+use Rattle.router_replies.proofs.TakenBodies.{taken_small}
 use Rattle.router_node.proofs.node.RouterNode.plan_of.Goals as goal
 
 pub plan_command-requires : goal.plan_command-requires

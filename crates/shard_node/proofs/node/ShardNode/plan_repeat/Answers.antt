@@ -22,10 +22,10 @@ returns-clause-planned c = λ m body timed.
     let statements = map (statement_meant given (id_meant ask.id)) ask.statements.items in
     let d = told.done_meant c.in-Some.statement.now.index c.in-Some-2.told in
     let dones : map (λ x. done_meant x) c.push.new.self.items ≡ d ∷ [] = search rules in
-    let repeated = repeats_first ask.ordered s.entries given (id_meant ask.id) ask.statements.items c.deref.result.now c.in-Some.statement.now d (search rules) c.in-Some.ensures.item.3.0
+    let repeated = repeats_first ask.ordered s.entries given (id_meant ask.id) ask.statements.items c.deref.result.now c.in-Some.statement.now d c.deref.ensures.value c.in-Some.ensures.item.3.0
     c.in-Some.ensures.item.1 (sym (ap (option_map (told.done_meant c.in-Some.statement.now.index)) c.in-Some-2.is) ∙ c.in_ok-told.ensures) in
     let old = not_fitting s.me s.tables given (id_meant ask.id) ask.turn ask.ordered ask.namespace ask.statements.items c.deref.result.now (sent_meant ask.sent)
-    (search rules) c.in-Some.ensures.item.3.0 c.requires.old in
+    c.deref.ensures.value c.in-Some.ensures.item.3.0 c.requires.old in
     told_planned s (letter_input m) c.of_message.result ask.id.router.0 c.args.time.0 (heard s m) (write_done (id_meant ask.id) (d ∷ [])) _
     (ap (λ t. t.0) c.of_message.ensures.time) timed c.of_message.ensures.change c.of_message.ensures.records c.of_message.ensures.mail
     (c.message-answer.ensures ∙ ap (λ (ds : List outcomes.Done). says s ask.id.router.0 c.args.time.0 (write_done (id_meant ask.id) ds)) dones)

@@ -7,7 +7,7 @@ use Rattle.node_traits.specs.ShardRows.{Ask, heard, shard_stale}
 use Rattle.node_traits.specs.Ids.{id_meant}
 use Rattle.protocol_model.specs.Messages.{letter_of}
 use Rattle.shard_node.proofs.Planned.{told_planned}
-use Rattle.shard_node.specs.Asks.{ask_meant}
+use Rattle.shard_asks.specs.Asks.{ask_meant}
 use Rattle.shard_node.specs.State.{shard_meant}
 use Rattle.shard_node.proofs.node.ShardNode.plan_stale.Goals as goal
 

@@ -1,0 +1,34 @@
+-- Statements one by one: what is told of the first, and of those behind it.
+use Rattle.std.proofs.Common.{◌≡◌, List, [], ◌∷◌, ◌++◌, sym, ◌∙◌, ap, subst, None, Err}
+use Rattle.std.specs.Prelude.{map}
+use Rattle.bson_values.specs.Tree.{Fields}
+use Rattle.command_model.specs.Checks.{Verdict, first_of}
+use Rattle.command_model.specs.Statements.{StatementForm, check_statement, check_statements}
+use Rattle.command_fields.proofs.Rulings.{last_of}
+use Rattle.command_fields.specs.Verdicts.{ReadsBy}
+use Rattle.command_fields.specs.declared.fault.CheckFault.{CheckFault}
+use Rattle.command_fields.specs.declared.fault.CheckFault.TheVariants.{Refused, Memory}
+use Rattle.history_model.specs.History.{Operation}
+use Rattle.shard_records.specs.Meanings.{operation_meant}
+use Rattle.value_compare.specs.declared.words.OpWords.{OpWords}
+
+-- behind a statement that passes the others are told of
+pub others_decide : (form : StatementForm) (statement : Fields) (rest : List Fields) (whole : Verdict) → check_statements form (statement ∷ rest) ≡ whole → check_statement form statement ≡ None → check_statements form rest ≡ whole
+others_decide form statement rest whole told passes =
+    sym (ap (λ (v : Verdict). first_of (v ∷ check_statements form rest ∷ [])) passes ∙ last_of (check_statements form rest)) ∙ told
+
+-- a statement that is refused is told of, and no other
+first_decides : {X Y : Type 0} (reads : X → Type 0) (others : Y → Type 0) (fault : CheckFault) (first rest : Verdict) → ReadsBy reads (Err fault) first → ReadsBy others (Err fault) (first_of (first ∷ rest ∷ []))
+first_decides reads others (Refused code) first rest told = ap (λ (v : Verdict). first_of (v ∷ rest ∷ [])) told
+first_decides reads others Memory first rest told = tt
+
+pub refused_decides : {X Y : Type 0} (reads : X → Type 0) (others : Y → Type 0) (form : StatementForm) (statement : Fields) (rest : List Fields) (whole : Verdict) (fault : CheckFault) →
+    check_statements form (statement ∷ rest) ≡ whole → ReadsBy reads (Err fault) (check_statement form statement) → ReadsBy others (Err fault) whole
+refused_decides reads others form statement rest whole fault is told =
+    subst (λ (v : Verdict). ReadsBy others (Err fault) v) is (first_decides reads others fault (check_statement form statement) (check_statements form rest) told)
+
+-- one more statement's words are put behind the others
+pub one_put : (form : StatementForm) (made : List OpWords) (words : OpWords) (statement : Fields) (rest : List Fields) → operation_meant words ≡ form.operation statement →
+    map operation_meant (made ++ words ∷ []) ++ map form.operation rest ≡ map operation_meant made ++ map form.operation (statement ∷ rest)
+one_put form [] words statement rest is = ap (λ (o : Operation). o ∷ map form.operation rest) is
+one_put form (first ∷ made) words statement rest is = ap (λ (more : List Operation). operation_meant first ∷ more) (one_put form made words statement rest is)

@@ -1,0 +1,5 @@
+mod Copied
+mod Judged
+mod Named
+pub mod Rulings
+mod Sessions

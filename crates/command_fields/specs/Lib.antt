@@ -1,0 +1,9 @@
+pub mod Faults
+pub mod FieldNames
+pub mod FirstDocuments
+pub mod Held
+pub mod Numbers
+pub mod Sessions
+pub mod Times
+pub mod Verdicts
+pub mod Words

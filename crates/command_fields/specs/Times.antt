@@ -1,0 +1,7 @@
+-- What the program's times are.
+use Rattle.std.specs.Prelude.{ℕ, Option}
+use Rattle.std.specs.Option.{option_map}
+use Rattle.cluster_base.specs.declared.time.Time.{Time}
+
+abbrev pub time_meant : Option Time → Option ℕ
+time_meant time = option_map (λ (t : Time). t.0) time

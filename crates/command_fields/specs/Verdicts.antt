@@ -1,0 +1,21 @@
+-- What the program's checks tell.
+use Rattle.std.specs.Prelude.{◌≡◌, Option, Some, None, Result, Ok, Err}
+use Rattle.std.specs.Option.{option_map}
+use Rattle.cluster_base.specs.Codes.{meaning_of}
+use Rattle.cluster_base.specs.declared.code.Code.{Code}
+use Rattle.command_model.specs.Checks.{Verdict}
+use Rattle.command_fields.specs.declared.fault.CheckFault.{CheckFault}
+use Rattle.command_fields.specs.declared.fault.CheckFault.TheVariants.{Refused, Memory}
+
+abbrev pub verdict_meant : Option Code → Verdict
+verdict_meant verdict = option_map meaning_of verdict
+
+-- what a rule tells, if there is one
+abbrev pub ruling_meant : Option (Option Code) → Option Verdict
+ruling_meant ruling = option_map verdict_meant ruling
+
+-- something so read, where the check passes, or its error; want of memory is free
+abbrev pub ReadsBy : {X : Type 0} → (X → Type 0) → Result X CheckFault → Verdict → Type 0
+ReadsBy reads (Ok x) verdict = (verdict ≡ None) × reads x
+ReadsBy reads (Err (Refused code)) verdict = verdict ≡ Some (meaning_of code)
+ReadsBy reads (Err Memory) verdict = Unit {0}

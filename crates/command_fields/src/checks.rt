@@ -1,0 +1,175 @@
+//! Checks of values, as they stand in all commands. Each tells the error, if any.
+
+ghost use Rattle.std.specs.Prelude.{◌≡◌, [], None, Some};
+ghost use Rattle.bson_values.specs.Tree.{get};
+ghost use Rattle.bson_values.specs.View.{datum_of};
+ghost use Rattle.cluster_base.specs.Codes.{meaning_of};
+ghost use Rattle.command_model.specs.Checks as checks;
+ghost use Rattle.command_model.specs.Forms as forms;
+ghost use Rattle.command_model.specs.Fields as fields;
+ghost use Rattle.command_model.specs.Reading as reading;
+ghost use Rattle.pipeline_model.specs.Operands.{whole_number};
+ghost use Rattle.pipeline_model.specs.Stages.{as_natural, read_natural};
+ghost use Rattle.command_fields.specs.Numbers.{if_read};
+ghost use Rattle.command_fields.specs.Verdicts.{ReadsBy, verdict_meant};
+
+use crate::fault::CheckFault;
+use bson_values::{Document, Value};
+use cluster_base::Code;
+
+/// The subtype of a binary that is a UUID (BSON 1.1, `subtype`).
+const UUID: u8 = 4;
+
+/// Gives the error, unless the test passes.
+pub fn unless_passes(passes: bool, code: Code) -> Option<Code>
+    ensures { verdict_meant result ≡ checks.unless_passes passes (meaning_of code) }
+{
+    if passes { None } else { Some(code) }
+}
+
+/// Fails with the error that a check tells, if any.
+pub fn passed(verdict: Option<Code>) -> Result<(), CheckFault>
+    ensures { ReadsBy (λ read. Unit {0}) result (verdict_meant verdict) }
+{
+    match verdict {
+        Some(code) => Err(CheckFault::Refused(code)),
+        None => Ok(()),
+    }
+}
+
+/// Takes a boolean; of another value it gives `TypeMismatch`.
+pub fn boolean_needed(value: &Value) -> Option<Code>
+    ensures { verdict_meant result ≡ fields.boolean_needed (datum_of value.now) }
+{
+    match value {
+        Value::Bool(_) => None,
+        _ => Some(Code::TypeMismatch),
+    }
+}
+
+/// Takes a string; of another value it gives `TypeMismatch`.
+pub fn string_needed(value: &Value) -> Option<Code>
+    ensures { verdict_meant result ≡ fields.string_needed (datum_of value.now) }
+{
+    match value {
+        Value::Text(_) => None,
+        _ => Some(Code::TypeMismatch),
+    }
+}
+
+/// Takes a document, whatever is in it; of another value it gives `TypeMismatch`.
+pub fn document_needed(value: &Value) -> Option<Code>
+    ensures { verdict_meant result ≡ fields.document_needed (λ ms. None) (datum_of value.now) }
+{
+    match value {
+        Value::Doc(_) => None,
+        _ => Some(Code::TypeMismatch),
+    }
+}
+
+/// A field that must be there; else it gives `FailedToParse`.
+pub fn check_required(name: &str, document: &Document) -> Option<Code>
+    ensures { verdict_meant result ≡ fields.check_required name.now document.now }
+{
+    match document.get(name) {
+        Some(_) => None,
+        None => Some(Code::FailedToParse),
+    }
+}
+
+/// The identifier of a session: a UUID.
+pub(crate) fn session_id(value: &Value) -> Option<Code>
+    ensures { verdict_meant result ≡ fields.session_id (datum_of value.now) }
+{
+    match value {
+        Value::Binary { subtype, bytes } => unless_passes(
+            *subtype == UUID && bytes.as_slice().len() == 16,
+            Code::BadValue,
+        ),
+        _ => Some(Code::TypeMismatch),
+    }
+}
+
+/// The text of a value; the empty text of other values.
+pub(crate) fn text_in(value: &Value) -> &str
+    ensures { result.now ≡ forms.string_or [] (Some (datum_of value.now)) }
+{
+    match value {
+        Value::Text(text) => text.as_str(),
+        _ => "",
+    }
+}
+
+/// The boolean of the first field of that name, or `other` where there is none.
+pub fn boolean_or(other: bool, document: &Document, name: &str) -> bool
+    ensures { result ≡ fields.boolean_or other (get name.now document.now) }
+{
+    match document.get(name) {
+        Some(value) => match value {
+            Value::Bool(boolean) => *boolean,
+            _ => other,
+        },
+        None => other,
+    }
+}
+
+pub(crate) fn timestamp_needed(value: &Value) -> Option<Code>
+    ensures { verdict_meant result ≡ fields.timestamp_needed (datum_of value.now) }
+{
+    match value {
+        Value::Timestamp(_) => None,
+        _ => Some(Code::TypeMismatch),
+    }
+}
+
+/// The whole number that a value is, an int32 or an int64; none of another value.
+pub fn whole_number(value: &Value) -> Option<i64>
+    ensures { result ≡ whole_number (datum_of value.now) }
+{
+    match value {
+        Value::Int32(number) => Some(i64::from(*number)),
+        Value::Int64(number) => Some(*number),
+        _ => None,
+    }
+}
+
+// The number, where it is not negative.
+fn natural_of(number: i64) -> Option<u64>
+    ensures { result ≡ if_read (as_natural number) }
+{
+    if number < 0 {
+        None
+    } else {
+        Some(number as u64)
+    }
+}
+
+/// Takes a whole number that is not negative; of a negative one it gives `BadValue`, of another value `TypeMismatch`.
+pub fn natural_needed(value: &Value) -> Option<Code>
+    ensures { verdict_meant result ≡ reading.natural_needed (datum_of value.now) }
+{
+    match whole_number(value) {
+        Some(number) => unless_passes(natural_of(number).is_some(), Code::BadValue),
+        None => Some(Code::TypeMismatch),
+    }
+}
+
+// The number that a value is, where it is whole and not negative.
+fn natural_in(value: &Value) -> Option<u64>
+    ensures { result ≡ if_read (read_natural (datum_of value.now)) }
+{
+    match whole_number(value) {
+        Some(number) => natural_of(number),
+        None => None,
+    }
+}
+
+/// The whole number of the first field of that name, where it is there and not negative.
+pub fn number_given(document: &Document, name: &str) -> Option<u64>
+    ensures { result ≡ reading.number_given name.now document.now }
+{
+    match document.get(name) {
+        Some(value) => natural_in(value),
+        None => None,
+    }
+}

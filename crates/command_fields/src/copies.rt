@@ -1,0 +1,87 @@
+//! The documents of statements, copied out of a request that is kept.
+
+ghost use Rattle.std.specs.Prelude.{◌≡◌, IfOk};
+ghost use Rattle.std.specs.Option.{option_map};
+ghost use Rattle.bson_values.specs.View.{datum_of, items_of};
+ghost use Rattle.command_answers.specs.Kinds.{kind_meant};
+ghost use Rattle.command_model.specs.Writes as model;
+ghost use Rattle.command_model.specs.Writes.{statement_form};
+ghost use Rattle.opmsg_frames.specs.Lists.{pairs_of};
+
+use crate::write_fields::statements_name;
+use bson_values::{Document, Memory, Value};
+use command_answers::WriteKind;
+use opmsg_frames::Sequence;
+use std::alloc::Global;
+
+// The documents of an array, copied; none where a value is no document.
+fn documents_in(alloc: Global, values: &[Value]) -> Result<Option<Vec<Document>>, Memory>
+    ensures { IfOk result (λ o. option_map (λ v. v.items) o ≡ model.documents_in (items_of values.now)) }
+{
+    let mut documents = Vec::new(alloc);
+    for value in values {
+        let Value::Doc(document) = value else {
+            return Ok(None);
+        };
+        documents.push(document.copy()?)?;
+    }
+    Ok(Some(documents))
+}
+
+// Copies of documents.
+fn copies_of(alloc: Global, documents: &[Document]) -> Result<Vec<Document>, Memory>
+    ensures { IfOk result (λ v. v.items ≡ documents.now) }
+{
+    let mut copies = Vec::new(alloc);
+    for document in documents {
+        copies.push(document.copy()?)?;
+    }
+    Ok(copies)
+}
+
+// The documents of statements by their field.
+fn documents_of_value(alloc: Global, value: &Value) -> Result<Option<Vec<Document>>, Memory>
+    ensures { IfOk result (λ o. option_map (λ v. v.items) o ≡ model.documents_of_value (datum_of value.now)) }
+{
+    match value {
+        Value::Array(array) => documents_in(alloc, array.values()),
+        _ => Ok(None),
+    }
+}
+
+// The documents of statements, by their field or by their sequence.
+fn documents_asked(
+    alloc: Global,
+    kind: WriteKind,
+    document: &Document,
+    sequences: &[Sequence],
+) -> Result<Option<Vec<Document>>, Memory>
+    ensures { IfOk result (λ o. option_map (λ v. v.items) o ≡ model.documents_asked (statement_form (kind_meant kind)) document.now (pairs_of sequences.now)) }
+{
+    match document.get(statements_name(kind)) {
+        Some(value) => documents_of_value(alloc, value),
+        None => match sequences {
+            [] => Ok(None),
+            [first, ..] => {
+                let documents = copies_of(alloc, first.documents.as_slice())?;
+                Ok(Some(documents))
+            }
+        },
+    }
+}
+
+/// The documents of a command's statements, by their field or else by its first sequence, copied; none where it has none. Fails for want
+/// of memory.
+pub fn documents_or_none(
+    alloc: Global,
+    kind: WriteKind,
+    document: &Document,
+    sequences: &[Sequence],
+) -> Result<Vec<Document>, Memory>
+    ensures { IfOk result (λ v. v.items ≡ model.or_documents (model.documents_asked (statement_form (kind_meant kind)) document.now (pairs_of sequences.now))) }
+{
+    match documents_asked(alloc, kind, document, sequences)? {
+        Some(documents) => Ok(documents),
+        None => Ok(Vec::new(alloc)),
+    }
+}

@@ -1,0 +1,75 @@
+//! The database that a request names, and the namespaces of collections in it.
+
+ghost use Rattle.std.specs.Prelude.{◌≡◌, codes};
+ghost use Rattle.bson_values.specs.Tree.{get};
+ghost use Rattle.bson_values.specs.View.{datum_of};
+ghost use Rattle.command_model.specs.Checks.{unless_passes};
+ghost use Rattle.command_model.specs.Errors.{invalid_namespace};
+ghost use Rattle.command_model.specs.Forms as model;
+ghost use Rattle.command_model.specs.Names.{full_name, is_open_namespace};
+ghost use Rattle.opmsg_frames.specs.RequestMeanings.{form_meant};
+ghost use Rattle.command_fields.specs.FieldNames.{NamesCollection};
+ghost use Rattle.command_fields.specs.Verdicts.{ReadsBy, verdict_meant};
+
+use crate::checks::{string_needed, text_in};
+use crate::fault::CheckFault;
+use bson_values::{Document, Value};
+use cluster_base::{Code, NameFault, Namespace, is_reserved_database};
+use opmsg_frames::Form;
+use std::alloc::Global;
+
+/// The database has to be named by a string, but in OP_QUERY: else `FailedToParse`, and `TypeMismatch` of another value.
+pub fn check_database(sent: Form, document: &Document) -> Option<Code>
+    ensures { verdict_meant result ≡ model.check_database (form_meant sent) (get (codes "$db") document.now) }
+{
+    match document.get("$db") {
+        Some(value) => string_needed(value),
+        None => match sent {
+            Form::Msg => Some(Code::FailedToParse),
+            Form::Query => None,
+        },
+    }
+}
+
+/// The database that a request names; of OP_QUERY it is `admin`.
+pub fn database_of(sent: Form, document: &Document) -> &str
+    ensures { result.now ≡ model.database_of (form_meant sent) document.now }
+{
+    match sent {
+        Form::Query => "admin",
+        Form::Msg => match document.get("$db") {
+            Some(value) => text_in(value),
+            None => "",
+        },
+    }
+}
+
+/// The namespace that these texts make, if clients may use it. Fails with `InvalidNamespace`, and for want of memory.
+pub fn namespace_of(
+    alloc: Global,
+    database: &str,
+    collection: &str,
+) -> Result<Namespace, CheckFault>
+    ensures { ReadsBy (λ n. n ≡ full_name database.now collection.now) result
+        (unless_passes (is_open_namespace database.now collection.now) invalid_namespace) }
+{
+    if is_reserved_database(database) {
+        return Err(CheckFault::Refused(Code::InvalidNamespace));
+    }
+    match Namespace::of_parts(alloc, database, collection) {
+        Ok(namespace) => Ok(namespace),
+        Err(NameFault::Form) => Err(CheckFault::Refused(Code::InvalidNamespace)),
+        Err(NameFault::Memory) => Err(CheckFault::Memory),
+    }
+}
+
+/// The namespace of the collection that a command's own field names. Fails with `TypeMismatch` for a value that is no string, with
+/// `InvalidNamespace`, and for want of memory.
+pub fn collection_of(alloc: Global, database: &str, own: &Value) -> Result<Namespace, CheckFault>
+    ensures { ReadsBy (λ n. NamesCollection n database.now (datum_of own.now)) result (model.check_collection database.now (datum_of own.now)) }
+{
+    match own {
+        Value::Text(collection) => namespace_of(alloc, database, collection.as_str()),
+        _ => Err(CheckFault::Refused(Code::TypeMismatch)),
+    }
+}

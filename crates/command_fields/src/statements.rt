@@ -1,0 +1,287 @@
+//! Statements: the fields of each, its key and its words (MongoDB manual, "insert", "update", "delete").
+
+ghost use Rattle.std.specs.Prelude.{◌≡◌, map, None, Some, codes};
+ghost use Rattle.std.specs.Option.{option_map, option_or};
+ghost use Rattle.bson_values.specs.Tree.{get};
+ghost use Rattle.bson_values.specs.View.{datum_of, fields_of};
+ghost use Rattle.command_answers.specs.Kinds.{kind_meant};
+ghost use Rattle.command_model.specs.Delete as deletes;
+ghost use Rattle.command_model.specs.Errors.{failed_to_parse};
+ghost use Rattle.command_model.specs.Fields.{check_inner_fields};
+ghost use Rattle.command_model.specs.Keys as keys;
+ghost use Rattle.command_model.specs.Statements as model;
+ghost use Rattle.command_model.specs.Update as updates;
+ghost use Rattle.command_model.specs.Writes.{statement_form};
+ghost use Rattle.command_fields.specs.Verdicts.{ReadsBy, verdict_meant};
+ghost use Rattle.shard_records.specs.Meanings.{operation_meant};
+
+use crate::checks::{boolean_needed, boolean_or, check_required, document_needed, unless_passes};
+use crate::documents::value_named;
+use crate::fault::CheckFault;
+use crate::rules::{Rules, check_fields};
+use bson_values::{Document, Field, Value};
+use cluster_base::Code;
+use command_answers::WriteKind;
+use match_expr::key_asked_in;
+use std::alloc::Global;
+use update_ops::Op;
+use value_compare::OpWords;
+
+/// The rules of an update's statement.
+#[derive(Clone, Copy)]
+struct UpdateRules;
+
+impl Rules for UpdateRules {
+    ghost rules = { λ _. updates.update_rules };
+
+    ghost unlisted_verdict = { λ _. Some failed_to_parse };
+
+    fn ruling(&self, name: &str, value: &Value) -> Option<Option<Code>> {
+        if "q" == name || "u" == name {
+            Some(document_needed(value))
+        } else if "upsert" == name || "multi" == name {
+            Some(boolean_needed(value))
+        } else {
+            None
+        }
+    }
+
+    fn unlisted(&self) -> Option<Code> {
+        Some(Code::FailedToParse)
+    }
+}
+
+// A delete's limit, which is 0 or 1.
+fn limit_needed(value: &Value) -> Option<Code>
+    ensures { verdict_meant result ≡ deletes.limit_needed (datum_of value.now) }
+{
+    match value {
+        Value::Int32(limit) => unless_passes(*limit == 0 || *limit == 1, Code::BadValue),
+        Value::Int64(limit) => unless_passes(*limit == 0 || *limit == 1, Code::BadValue),
+        _ => Some(Code::TypeMismatch),
+    }
+}
+
+/// The rules of a delete's statement.
+#[derive(Clone, Copy)]
+struct DeleteRules;
+
+impl Rules for DeleteRules {
+    ghost rules = { λ _. deletes.delete_rules };
+
+    ghost unlisted_verdict = { λ _. Some failed_to_parse };
+
+    fn ruling(&self, name: &str, value: &Value) -> Option<Option<Code>> {
+        if "q" == name {
+            Some(document_needed(value))
+        } else if "limit" == name {
+            Some(limit_needed(value))
+        } else {
+            None
+        }
+    }
+
+    fn unlisted(&self) -> Option<Code> {
+        Some(Code::FailedToParse)
+    }
+}
+
+// The fields of an update's statement.
+fn check_update(statement: &Document) -> Option<Code>
+    ensures { verdict_meant result ≡ updates.check_update statement.now }
+{
+    if let Some(code) = check_fields(&UpdateRules, statement.fields(), 0) {
+        return Some(code);
+    }
+    if let Some(code) = check_required("q", statement) {
+        return Some(code);
+    }
+    check_required("u", statement)
+}
+
+// The fields of a delete's statement.
+fn check_delete(statement: &Document) -> Option<Code>
+    ensures { verdict_meant result ≡ deletes.check_delete statement.now }
+{
+    if let Some(code) = check_fields(&DeleteRules, statement.fields(), 0) {
+        return Some(code);
+    }
+    if let Some(code) = check_required("q", statement) {
+        return Some(code);
+    }
+    check_required("limit", statement)
+}
+
+// The fields of a statement.
+fn check_form(kind: WriteKind, statement: &Document) -> Option<Code>
+    ensures { verdict_meant result ≡ (statement_form (kind_meant kind)).check statement.now }
+{
+    match kind {
+        WriteKind::Insert => None,
+        WriteKind::Update => check_update(statement),
+        WriteKind::Delete => check_delete(statement),
+    }
+}
+
+// The document that a value is; of another value, or of none, the empty document.
+fn document_or_none(alloc: Global, value: Option<Value>) -> Document
+    ensures { result ≡ model.document_or_none (option_map datum_of value) }
+{
+    match value {
+        Some(value) => match value {
+            Value::Doc(document) => document,
+            _ => Document::new(alloc),
+        },
+        None => Document::new(alloc),
+    }
+}
+
+// Keeps a value, unless one was found before it.
+fn keep_first(found: &mut Option<Value>, value: Value)
+    ensures { option_map datum_of found.new ≡ option_or (option_map datum_of found.old) (Some (datum_of value)) }
+{
+    if found.is_none() {
+        *found = Some(value);
+    }
+}
+
+// The first values that are named `q` and `u`.
+fn filter_and_change(fields: Vec<Field>) -> (Option<Value>, Option<Value>)
+    ensures filter { option_map datum_of result.0 ≡ get (codes "q") (fields_of fields.items) }
+    ensures change { option_map datum_of result.1 ≡ get (codes "u") (fields_of fields.items) }
+{
+    let mut filter = None;
+    let mut change = None;
+    for field in fields {
+        let name = field.name.as_str();
+        if name == "q" {
+            keep_first(&mut filter, field.value);
+        } else if name == "u" {
+            keep_first(&mut change, field.value);
+        }
+    }
+    (filter, change)
+}
+
+// The words of an update, moved out of its statement.
+fn update_of(alloc: Global, statement: Document) -> OpWords
+    ensures { operation_meant result ≡ updates.update_of statement }
+{
+    let upsert = boolean_or(false, &statement, "upsert");
+    let (filter, change) = filter_and_change(statement.into_fields());
+    OpWords::Update {
+        filter: document_or_none(alloc, filter),
+        change: document_or_none(alloc, change),
+        upsert,
+    }
+}
+
+// The words of a delete, moved out of its statement.
+fn delete_of(alloc: Global, statement: Document) -> OpWords
+    ensures { operation_meant result ≡ deletes.delete_of statement }
+{
+    let filter = value_named(statement.into_fields(), "q");
+    OpWords::Delete {
+        filter: document_or_none(alloc, filter),
+    }
+}
+
+// The words of a statement.
+fn words_of(alloc: Global, kind: WriteKind, statement: Document) -> OpWords
+    ensures { operation_meant result ≡ (statement_form (kind_meant kind)).operation statement }
+{
+    match kind {
+        WriteKind::Insert => OpWords::Insert(statement),
+        WriteKind::Update => update_of(alloc, statement),
+        WriteKind::Delete => delete_of(alloc, statement),
+    }
+}
+
+// Whether a value may be a key.
+fn is_key(value: &Value) -> bool
+    ensures { result ≡ keys.is_key (datum_of value.now) }
+{
+    !matches!(
+        value,
+        Value::Doc(_) | Value::Array(_) | Value::MinKey | Value::MaxKey
+    )
+}
+
+// The key that words ask for, before they are read.
+fn key_asked_by(words: &OpWords) -> Option<&Value>
+    ensures { option_map (λ v. datum_of v.now) result ≡ model.key_asked_by (operation_meant words.now) }
+{
+    match words {
+        OpWords::Insert(document) => document.get("_id"),
+        OpWords::Update { filter, .. } => key_asked_in(filter),
+        OpWords::Delete { filter } => key_asked_in(filter),
+    }
+}
+
+// The key that words ask for.
+fn check_key(words: &OpWords) -> Option<Code>
+    ensures { verdict_meant result ≡ model.check_key (model.key_asked_by (operation_meant words.now)) }
+{
+    match key_asked_by(words) {
+        Some(key) => unless_passes(is_key(key), Code::BadValue),
+        None => Some(Code::ShardKeyNotFound),
+    }
+}
+
+// The words as they are read. Fails with their first fault, and for want of memory.
+fn read_words(alloc: Global, words: &OpWords) -> Result<(), CheckFault>
+    ensures { ReadsBy (λ read. Unit {0}) result (model.check_words (operation_meant words.now)) }
+{
+    let _op = Op::read(alloc, words)?;
+    Ok(())
+}
+
+// The words of a statement whose key passes, of which an insert need not be read. Fails with their first fault, and for want of
+// memory.
+fn check_words(alloc: Global, words: &OpWords) -> Result<(), CheckFault>
+    requires { model.check_key (model.key_asked_by (operation_meant words.now)) ≡ None }
+    ensures { ReadsBy (λ read. Unit {0}) result (model.check_words (operation_meant words.now)) }
+{
+    match words {
+        OpWords::Insert(_) => Ok(()),
+        _ => read_words(alloc, words),
+    }
+}
+
+// The words of a statement that passes. Fails with its first error, and for want of memory.
+fn statement_of(alloc: Global, kind: WriteKind, statement: Document) -> Result<OpWords, CheckFault>
+    ensures { ReadsBy (λ words. operation_meant words ≡ (statement_form (kind_meant kind)).operation statement) result
+        (model.check_statement (statement_form (kind_meant kind)) statement) }
+{
+    if let Some(code) = check_form(kind, &statement) {
+        return Err(CheckFault::Refused(code));
+    }
+    let words = words_of(alloc, kind, statement);
+    if let Some(code) = check_key(&words) {
+        return Err(CheckFault::Refused(code));
+    }
+    match check_words(alloc, &words) {
+        Ok(()) => Ok(words),
+        Err(fault) => Err(fault),
+    }
+}
+
+/// The words of statements that all pass, in order. Fails with the first error: of a statement the first of its fields, of its key and of
+/// its words; and for want of memory.
+pub fn operations_of(
+    alloc: Global,
+    kind: WriteKind,
+    statements: Vec<Document>,
+) -> Result<Vec<OpWords>, CheckFault>
+    ensures { ReadsBy (λ operations. map operation_meant operations.items ≡ map (statement_form (kind_meant kind)).operation statements.items) result
+        (model.check_statements (statement_form (kind_meant kind)) statements.items) }
+{
+    let mut operations = Vec::new(alloc);
+    for statement in statements {
+        match statement_of(alloc, kind, statement) {
+            Ok(words) => operations.push(words)?,
+            Err(fault) => return Err(fault),
+        }
+    }
+    Ok(operations)
+}

@@ -1,0 +1,174 @@
+//! The words of a pipeline in the fields of a command. They are read once, before the fields are checked in their order; the rule of
+//! such a field tells what came of it.
+
+ghost use Rattle.std.specs.Prelude.{◌≡◌, ◌++◌, IfOk, Ok, OnOk, codes, map};
+ghost use Rattle.std.specs.Option.{option_map};
+ghost use Rattle.bson_values.specs.Tree.{get};
+ghost use Rattle.bson_values.specs.View.{datum_of};
+ghost use Rattle.command_model.specs.Fields as fields;
+ghost use Rattle.command_model.specs.Find.{stage_counted};
+ghost use Rattle.command_model.specs.Reading.{number_given, unless_faulty, unless_zero};
+ghost use Rattle.pipeline_lang.specs.View.{stage_of};
+ghost use Rattle.pipeline_model.specs.Stages as model;
+ghost use Rattle.command_fields.specs.Held.{Held};
+ghost use Rattle.command_fields.specs.Verdicts.{ReadsBy, verdict_meant};
+ghost use Rattle.command_fields.specs.Words.{or_no_stages, read_words, stage_list, told, word_meant, word_read, words_given};
+ghost use Rattle.command_fields.specs.declared.words.WordKind.TheVariants.{Filter, Projection as Shown, Sort};
+
+use crate::checks::number_given;
+use crate::fault::CheckFault;
+use bson_values::{Document, Memory, Value};
+use cluster_base::Code;
+use match_expr::Expr;
+use pipeline_lang::Stage;
+use projection::Projection;
+use sort_keys::SortSpec;
+use std::alloc::Global;
+use std::sync::Arc;
+
+/// What words are read as.
+#[derive(Clone, Copy)]
+pub enum WordKind {
+    Filter,
+    Sort,
+    /// An empty projection leaves all.
+    Projection,
+}
+
+/// The stage of words that were read, if they are given; or the error that they are told.
+pub type Word = Result<Option<Stage>, Code>;
+
+/// What was read, or the error that it is told later. Fails for want of memory.
+pub fn held<T: Drop>(read: Result<T, CheckFault>) -> Result<Result<T, Code>, Memory>
+    ensures { Held read result }
+{
+    match read {
+        Ok(x) => Ok(Ok(x)),
+        Err(CheckFault::Refused(code)) => Ok(Err(code)),
+        Err(CheckFault::Memory) => Err(Memory),
+    }
+}
+
+/// The document that the first field of that name is, if it is one.
+pub fn words_in<'a>(document: &'a Document, name: &str) -> Option<&'a Document>
+    ensures { option_map (λ words. words.now) result ≡ words_given (get name.now document.now) }
+{
+    match document.get(name) {
+        Some(value) => match value {
+            Value::Doc(words) => Some(words),
+            _ => None,
+        },
+        None => None,
+    }
+}
+
+fn read_filter(alloc: Global, words: &Document) -> Result<Option<Stage>, CheckFault>
+    ensures { ReadsBy (λ stage. read_words Filter words.now ≡ Ok (stage_list stage)) result (unless_faulty (read_words Filter words.now)) }
+{
+    let asked = Expr::parse(alloc, words)?;
+    let asked = Arc::new(alloc, asked)?;
+    Ok(Some(Stage::Match(asked)))
+}
+
+fn read_sort(alloc: Global, words: &Document) -> Result<Option<Stage>, CheckFault>
+    ensures { ReadsBy (λ stage. read_words Sort words.now ≡ Ok (stage_list stage)) result (unless_faulty (read_words Sort words.now)) }
+{
+    let spec = SortSpec::parse(alloc, words)?;
+    let spec = Arc::new(alloc, spec)?;
+    Ok(Some(Stage::Sort(spec)))
+}
+
+fn read_projection(alloc: Global, words: &Document) -> Result<Option<Stage>, CheckFault>
+    ensures { ReadsBy (λ stage. read_words Shown words.now ≡ Ok (stage_list stage)) result (unless_faulty (read_words Shown words.now)) }
+{
+    if words.is_empty() {
+        return Ok(None);
+    }
+    let rules = Projection::parse(alloc, words)?;
+    let rules = Arc::new(alloc, rules)?;
+    Ok(Some(Stage::Project(rules)))
+}
+
+// The stage that words are, if any.
+fn read_stage(alloc: Global, kind: WordKind, words: &Document) -> Result<Option<Stage>, CheckFault>
+    ensures { ReadsBy (λ stage. read_words kind words.now ≡ Ok (stage_list stage)) result (unless_faulty (read_words kind words.now)) }
+{
+    match kind {
+        WordKind::Filter => read_filter(alloc, words),
+        WordKind::Sort => read_sort(alloc, words),
+        WordKind::Projection => read_projection(alloc, words),
+    }
+}
+
+/// The words of the first field of that name, read; no stage where it is no document. Fails for want of memory.
+pub fn word_in(
+    alloc: Global,
+    kind: WordKind,
+    document: &Document,
+    name: &str,
+) -> Result<Word, Memory>
+    ensures { IfOk result (λ word. word_meant word ≡ word_read kind (get name.now document.now)) }
+{
+    match words_in(document, name) {
+        Some(words) => held(read_stage(alloc, kind, words)),
+        None => Ok(Ok(None)),
+    }
+}
+
+/// What the rule of a field tells of a value, where the words of its first value were read: their error, or `TypeMismatch` of a value that
+/// is no document.
+pub fn word_told(word: &Word, value: &Value) -> Option<Code>
+    ensures { verdict_meant result ≡ fields.document_needed (λ ms. told (word_meant word.now)) (datum_of value.now) }
+{
+    match value {
+        Value::Doc(_) => match word {
+            Ok(_) => None,
+            Err(code) => Some(*code),
+        },
+        _ => Some(Code::TypeMismatch),
+    }
+}
+
+/// Puts a stage behind the others, if there is one. Fails for want of memory.
+pub(crate) fn put(stages: &mut Vec<Stage>, stage: Option<Stage>) -> Result<(), Memory>
+    ensures { OnOk result (map stage_of stages.new.items ≡ map stage_of stages.old.items ++ stage_list stage) }
+{
+    if let Some(stage) = stage {
+        stages.push(stage)?;
+    }
+    Ok(())
+}
+
+/// Puts the stage of words behind the others, if they are given. Fails for want of memory.
+pub fn put_word(stages: &mut Vec<Stage>, word: Word) -> Result<(), Memory>
+    ensures { OnOk result (map stage_of stages.new.items ≡ map stage_of stages.old.items ++ or_no_stages (word_meant word)) }
+{
+    match word {
+        Ok(stage) => put(stages, stage),
+        Err(_) => Ok(()),
+    }
+}
+
+// How many documents are passed over or kept, where it is some.
+fn some_given(document: &Document, name: &str) -> Option<u64>
+    ensures { result ≡ unless_zero (number_given name.now document.now) }
+{
+    match number_given(document, name) {
+        Some(0) => None,
+        number => number,
+    }
+}
+
+/// Puts how many documents are passed over, and how many are shown, behind the other stages. Fails for want of memory.
+pub fn put_numbers(stages: &mut Vec<Stage>, document: &Document) -> Result<(), Memory>
+    ensures { OnOk result (map stage_of stages.new.items ≡ (map stage_of stages.old.items
+        ++ stage_counted model.skip_stage (codes "skip") document.now) ++ stage_counted model.limit_stage (codes "limit") document.now) }
+{
+    if let Some(number) = some_given(document, "skip") {
+        stages.push(Stage::Skip(number))?;
+    }
+    if let Some(number) = some_given(document, "limit") {
+        stages.push(Stage::Limit(number))?;
+    }
+    Ok(())
+}

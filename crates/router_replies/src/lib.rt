@@ -1,0 +1,21 @@
+//! What the requests of a router's clients have to do, what they are told, and what is kept of it.
+#![tactic(auto)]
+
+mod batches;
+mod bodies;
+mod numbers;
+mod plans;
+mod records;
+mod refusals;
+mod replies;
+mod statements;
+mod tables;
+
+pub use batches::{DocumentList, batch_answer, empty_answer, is_only, next_answer};
+pub use bodies::is_taken;
+pub use numbers::count_told;
+pub use plans::{Plan, needs_read, plan_write, telling_of};
+pub use records::{block_records, life_record};
+pub use refusals::{excess_answer, not_open, overflow_answer, time_ahead};
+pub use replies::reply_to;
+pub use tables::{known_in, learn};

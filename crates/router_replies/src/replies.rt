@@ -1,0 +1,62 @@
+//! Replies.
+
+ghost use Rattle.std.specs.Prelude.{◌≡◌, ◌∷◌, [], ℕ, IfOk};
+ghost use Rattle.command_answers.specs.Answers.{answer_document};
+ghost use Rattle.command_answers.specs.AnswerMeanings.{answer_meant};
+ghost use Rattle.node_model.specs.Exchanges as asked;
+ghost use Rattle.node_traits.specs.Effects.{puts_of};
+ghost use Rattle.node_traits.specs.Lists.{listed};
+ghost use Rattle.opmsg_frames.specs.Replies as wire;
+ghost use Rattle.opmsg_frames.specs.RequestMeanings.{form_meant};
+ghost use Rattle.protocol_model.specs.Heads.{head_request};
+
+use bson_values::{Blob, Memory};
+use command_answers::{Answer, write_answer};
+use node_traits::ToLink;
+use opmsg_frames::write_reply;
+use protocol_model::Head;
+use std::alloc::Global;
+
+/// The most levels that a document has which is written.
+const MOST_LEVELS: usize = 104;
+
+/// The most bytes that a document has which is written.
+const MOST_BYTES: usize = 300_000_000;
+
+/// The bytes of the reply of this number to a request. Fails for want of memory, and where the answer is larger than one may be.
+fn bytes_of(alloc: Global, head: &Head, number: i32, answer: &Answer) -> Result<Blob, Memory>
+    ensures { IfOk result (λ bytes. bytes ≡ wire.reply_bytes (form_meant head.now.form) head.now.id number (answer_document (answer_meant answer.now))) }
+{
+    let document = write_answer(alloc, answer)?;
+    if document.levels() > MOST_LEVELS || document.size() > MOST_BYTES {
+        return Err(Memory);
+    }
+    let mut bytes = Vec::new(alloc);
+    write_reply(head.form, head.id, number, &document, &mut bytes)?;
+    Blob::of(alloc, &bytes)
+}
+
+/// The reply of this number to a request, for its link: none where none is wanted. Fails for want of memory, and where the answer is
+/// larger than one may be.
+pub fn reply_to(
+    alloc: Global,
+    link: u32,
+    number: i32,
+    head: &Head,
+    answer: &Answer,
+) -> Result<Option<ToLink>, Memory>
+    ensures { (id : asked.RequestId) (time : ℕ) → IfOk result (λ reply. listed reply ≡ puts_of (record {
+      id = id;
+      link = link;
+      number = number;
+      request = head_request head.now;
+      time = time;
+      document = answer_document (answer_meant answer.now);
+    } ∷ [])) }
+{
+    if head.more {
+        return Ok(None);
+    }
+    let bytes = bytes_of(alloc, head, number, answer)?;
+    Ok(Some(ToLink { link, bytes }))
+}

@@ -1,0 +1,50 @@
+//! The statements of a write, from the words of its client.
+
+ghost use Rattle.std.specs.Prelude.{◌≡◌, IfOk, Option, map};
+ghost use Rattle.std.specs.List.{AllByRecursion};
+ghost use Rattle.command_model.specs.Writes.{ClientNumber};
+ghost use Rattle.command_model.specs.CommandSizes.{IsKeepable};
+ghost use Rattle.node_model.specs.Exchanges as asked;
+ghost use Rattle.node_model.specs.RouterRows as rows;
+ghost use Rattle.protocol_model.specs.Statements as protocol;
+ghost use Rattle.protocol_model.specs.Statements.{statement_meant};
+ghost use Rattle.shard_records.specs.Meanings.{operation_meant};
+
+use bson_values::Memory;
+use protocol_model::{NewChange, NewDocument, Operation, Statement, StatementList};
+use std::alloc::Global;
+use value_compare::OpWords;
+
+/// The operation of these words, whose documents are moved. Fails for want of memory.
+fn operation_of(alloc: Global, words: OpWords) -> Result<Operation, Memory>
+    requires { IsKeepable (operation_meant words) }
+    ensures { IfOk result (λ operation. protocol.operation_meant operation ≡ operation_meant words) }
+{
+    match words {
+        OpWords::Insert(document) => Ok(Operation::Insert(NewDocument::of(alloc, document)?)),
+        words => Ok(Operation::Change(NewChange::of(alloc, words)?)),
+    }
+}
+
+/// The statements of these operations, numbered from 0 on. Fails for want of memory, and where they are more than 32 bits count, which no
+/// command reaches.
+pub(crate) fn statements_of(
+    alloc: Global,
+    operations: Vec<OpWords>,
+) -> Result<StatementList, Memory>
+    requires { AllByRecursion IsKeepable (map operation_meant operations.items) }
+    ensures { (given : Option ClientNumber) (id : asked.RequestId) → IfOk result (λ list. map (λ s. statement_meant given id s) list.items
+        ≡ rows.statements_from given id 0 (map operation_meant operations.items)) }
+{
+    let mut statements = Vec::new(alloc);
+    let mut index: u32 = 0;
+    for words in operations {
+        if index == u32::MAX {
+            return Err(Memory);
+        }
+        let operation = operation_of(alloc, words)?;
+        statements.push(Statement { index, operation })?;
+        index += 1;
+    }
+    Ok(statements)
+}

@@ -1,0 +1,5 @@
+pub mod Asks
+pub mod Halves
+pub mod EntryRecords
+pub mod Results
+pub mod Standings

@@ -1,0 +1,64 @@
+//! Answers of devices in words.
+
+use fixtures::{RowFault, number};
+use outside::streams::Failed;
+use std::alloc::{AllocError, Global};
+
+/// Puts an answer behind others, with a comma between.
+pub fn push_answer(answers: &mut String, answer: &str) -> Result<(), AllocError> {
+    if !answers.is_empty() {
+        answers.push_str(", ")?;
+    }
+    answers.push_str(answer)
+}
+
+/// The first word, and what stands behind it.
+pub fn first_word(words: &str) -> (&str, &str) {
+    match words.split_once(' ') {
+        Some(parts) => parts,
+        None => (words, ""),
+    }
+}
+
+/// Whether a call was done.
+pub fn done_word(done: Result<(), Failed>) -> &'static str {
+    match done {
+        Ok(()) => "ok",
+        Err(Failed) => "failed",
+    }
+}
+
+/// How many bytes a call read or put.
+pub fn count_words(alloc: Global, count: Result<u64, Failed>) -> Result<String, AllocError> {
+    match count {
+        Ok(count) => format!(in alloc; "{count}"),
+        Err(Failed) => String::from_str(alloc, "failed"),
+    }
+}
+
+/// How many bytes a call read, and the whole buffer behind it.
+pub fn read_words(
+    alloc: Global,
+    count: Result<usize, Failed>,
+    buffer: &[u8],
+) -> Result<String, AllocError> {
+    let Ok(count) = count else {
+        return String::from_str(alloc, "failed");
+    };
+    let digits = hex::encode(alloc, buffer)?;
+    format!(in alloc; "{count} {digits}")
+}
+
+/// A buffer with room for so many bytes, each of which is 07.
+pub fn buffer_of(alloc: Global, room: &str) -> Result<Vec<u8>, RowFault> {
+    let room: usize = number(room)?;
+    Ok(vec![in alloc; 7; room]?)
+}
+
+/// The number of the call that fails, in a list; or `none`.
+pub fn failing_calls(alloc: Global, words: &str) -> Result<Vec<u64>, RowFault> {
+    match words {
+        "none" => Ok(Vec::new(alloc)),
+        _ => Ok(vec![in alloc; number(words)?]?),
+    }
+}

@@ -1,0 +1,3 @@
+mod Counted
+mod Times
+pub mod Noted

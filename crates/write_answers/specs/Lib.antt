@@ -1,0 +1,2 @@
+pub mod Counts
+pub use Rattle.node_model.specs.RouterRows
