@@ -7,6 +7,7 @@ pub mod Readers
 pub mod Rests
 pub mod Sizes
 pub mod Sound
+pub mod Texts
 pub mod View
 pub use Rattle.bson_model.specs.Faults
 pub use Rattle.bson_model.specs.Grammar

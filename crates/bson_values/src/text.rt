@@ -5,6 +5,7 @@ ghost use Rattle.std.specs.Str.{IsUtf8};
 ghost use Rattle.bson_model.specs.Grammar.{HasNoZero};
 ghost use Rattle.bson_values.specs.Names.{has_no_zero};
 
+use arrayvec::ArrayString;
 use std::alloc::{AllocError, AllocFailed, Global};
 use std::marker::Model;
 
@@ -24,21 +25,29 @@ impl<T: Drop> From<AllocFailed<T>> for Memory {
     }
 }
 
+/// Where the bytes of a text stand: those of a short one in the value itself, since most names are short.
+#[derive(Debug, Drop)]
+enum Held {
+    Short(ArrayString<16>),
+    Long(String),
+}
+
 /// A text: bytes that are UTF-8.
 #[derive(Debug, Drop)]
 pub struct Text {
-    text: String,
+    held: Held,
 }
 
 impl Model for Text {
-    ghost use Rattle.std.specs.Prelude.{List, ℕ, string_bytes};
+    ghost use Rattle.std.specs.Prelude.{List, ℕ};
     ghost use Rattle.std.specs.Str.{IsUtf8};
+    ghost use Rattle.bson_values.specs.Texts.{held_bytes};
 
     ghost Value = { List ℕ };
 
-    ghost view = { λ t. string_bytes t.text };
+    ghost view = { λ t. held_bytes t.held };
 
-    ghost invariant = { λ t. IsUtf8 (string_bytes t.text) };
+    ghost invariant = { λ t. IsUtf8 (held_bytes t.held) };
 }
 
 impl Text {
@@ -46,8 +55,11 @@ impl Text {
     pub fn of(alloc: Global, text: &str) -> Result<Text, Memory>
         ensures { IfOk result (λ t. t ≡ text.now) }
     {
-        let text = String::from_str(alloc, text)?;
-        Ok(Text { text })
+        let held = match ArrayString::from(text) {
+            Ok(short) => Held::Short(short),
+            Err(_) => Held::Long(String::from_str(alloc, text)?),
+        };
+        Ok(Text { held })
     }
 
     /// The text's bytes.
@@ -55,15 +67,21 @@ impl Text {
         ensures text { result.now ≡ self.now }
         ensures utf8 { IsUtf8 self.now }
     {
-        self.text.as_str()
+        match &self.held {
+            Held::Short(text) => text.as_str(),
+            Held::Long(text) => text.as_str(),
+        }
     }
 
     /// The same text once more. Fails for want of memory.
     pub fn copy(&self) -> Result<Text, Memory>
         ensures { IfOk result (λ t. t ≡ self.now) }
     {
-        let text = self.text.clone()?;
-        Ok(Text { text })
+        let held = match &self.held {
+            Held::Short(text) => Held::Short(*text),
+            Held::Long(text) => Held::Long(text.clone()?),
+        };
+        Ok(Text { held })
     }
 }
 
