@@ -1,7 +1,7 @@
 //! Whether documents, arrays and values are the same data.
 
 ghost use Rattle.std.specs.Prelude.{◌≡◌, ◌↔◌, IsTrue};
-ghost use Rattle.bson_model.specs.Tree.{binary_value, value_depth};
+ghost use Rattle.bson_model.specs.Tree.{binary_value, object_id_value, string_value, value_depth};
 ghost use Rattle.bson_values.specs.View.{datum_of};
 
 use crate::value::{Array, Document, Field, Value};
@@ -81,10 +81,10 @@ impl Value {
         ensures { IsTrue result ↔ (datum_of self.now ≡ datum_of other.now) }
     {
         match self {
-            Value::Text(a) => matches!(other, Value::Text(b) if a.as_str() == b.as_str()),
+            Value::Text(a) => other.is_text(a.as_str()),
             Value::Doc(_) | Value::Array(_) => false,
             Value::Binary { subtype, bytes } => other.is_binary(*subtype, bytes.as_slice()),
-            Value::ObjectId(a) => matches!(other, Value::ObjectId(b) if a == b),
+            Value::ObjectId(a) => other.is_object_id(a),
             Value::Bool(a) => matches!(other, Value::Bool(b) if a == b),
             Value::Date(a) => matches!(other, Value::Date(b) if a == b),
             Value::Null => matches!(other, Value::Null),
@@ -93,6 +93,26 @@ impl Value {
             Value::Int64(a) => matches!(other, Value::Int64(b) if a == b),
             Value::MinKey => matches!(other, Value::MinKey),
             Value::MaxKey => matches!(other, Value::MaxKey),
+        }
+    }
+
+    // Whether the value is that string.
+    fn is_text(&self, text: &str) -> bool
+        ensures { IsTrue result ↔ (datum_of self.now ≡ string_value text.now) }
+    {
+        match self {
+            Value::Text(own) => own.as_str() == text,
+            _ => false,
+        }
+    }
+
+    // Whether the value is that ObjectId.
+    fn is_object_id(&self, id: &[u8; 12]) -> bool
+        ensures { IsTrue result ↔ (datum_of self.now ≡ object_id_value id.now) }
+    {
+        match self {
+            Value::ObjectId(own) => own == id,
+            _ => false,
         }
     }
 

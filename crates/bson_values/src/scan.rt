@@ -3,9 +3,10 @@
 //! `total` is the number of all bytes that were handed in, so the offset of the first of some bytes is total less
 //! their number. `room` is how many bytes, the last 00 with them, the document still has by its length.
 
-ghost use Rattle.std.specs.Prelude.{◌≡◌, ◌≢◌, ◌+◌, ◌<◌, ◌≤◌, length, IfOk, IfErr, IfNone};
+ghost use Rattle.std.specs.Prelude.{◌≡◌, ◌≢◌, ◌+◌, ◌<◌, ◌≤◌, length, IfOk, IfErr, IfNone, Some};
 ghost use Rattle.bson_values.specs.ReadFaults.{Gives};
-ghost use Rattle.bson_values.specs.Readers.{length_within, length_at, fixed_at, utf8_at, text_at, string_at, name_from, room_at, index_at, name_at, type_at};
+ghost use Rattle.bson_values.specs.Readers.{length_within, length_at, fixed_at, utf8_at, text_at, string_at, name_from, room_at, index_at, name_at, type_at, checked_type};
+ghost use Rattle.bson_values.specs.Types.{type_from};
 ghost use Rattle.bson_values.specs.Rests.{IsRest};
 
 use crate::element_type::ElementType;
@@ -206,8 +207,25 @@ pub fn read_name(total: usize, room: usize, bytes: &[u8]) -> Result<(&str, usize
     Ok((text, left, rest))
 }
 
+/// Judges the byte of an element's type, behind which there is so much room and these bytes stand.
+#[tactic(auto, unfolding(crate::specs::Readers::checked_type))]
+fn check_type(total: usize, room: usize, byte: u8, rest: &[u8]) -> Result<ElementType, BsonFault>
+    requires total { length rest.now < total }
+    ensures gives { Gives (λ x. (Some x, rest.now)) result (checked_type total room byte rest.now (type_from byte)) }
+{
+    let offset = total - (rest.len() + 1);
+    match ElementType::from_byte(byte) {
+        Some(_) if room == 0 => Err(BsonFault::Trailing { place: offset }),
+        Some(type_byte) => Ok(type_byte),
+        None => Err(BsonFault::BadType {
+            place: offset,
+            byte,
+        }),
+    }
+}
+
 /// Reads the type of the next element. There is none at the 00 that ends the document.
-#[tactic(auto, unfolding(crate::specs::Readers::type_at, crate::specs::Readers::checked_type))]
+#[tactic(auto, unfolding(crate::specs::Readers::type_at))]
 pub fn read_type(
     total: usize,
     room: usize,
@@ -227,23 +245,14 @@ pub fn read_type(
         return Err(BsonFault::Short { place: total });
     };
     let byte = *byte;
-    let offset = total - bytes.len();
     if byte == 0 {
         if room != 1 {
-            return Err(BsonFault::Trailing { place: offset });
+            return Err(BsonFault::Trailing {
+                place: total - bytes.len(),
+            });
         }
         return Ok((None, rest));
     }
-    match ElementType::from_byte(byte) {
-        Some(type_byte) => {
-            if room == 1 {
-                return Err(BsonFault::Trailing { place: offset });
-            }
-            Ok((Some(type_byte), rest))
-        }
-        None => Err(BsonFault::BadType {
-            place: offset,
-            byte,
-        }),
-    }
+    let type_byte = check_type(total, room - 1, byte, rest)?;
+    Ok((Some(type_byte), rest))
 }

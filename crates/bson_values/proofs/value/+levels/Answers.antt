@@ -1,7 +1,5 @@
-use Rattle.std.proofs.Common.{◌≡◌, ◌-◌, ◌^◌, max, min, arith}
+use Rattle.std.proofs.Common.{arith}
 use Rattle.std.proofs.lemmas.List.{drop_all}
-use Rattle.bson_model.specs.Tree.{array_depth, document_depth}
-use Rattle.bson_values.specs.View.{items_of, fields_of}
 use Rattle.bson_values.proofs.value.+levels.Goals as goal
 
 pub Array::levels-returns : goal.Array::levels-returns
