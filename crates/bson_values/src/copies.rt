@@ -13,7 +13,7 @@ impl Document {
     pub fn copy(&self) -> Result<Document, Memory>
         ensures { IfOk result (λ d. d ≡ self.now) }
     {
-        let mut copy = Document::new(*self.fields.allocator());
+        let mut copy = Document::with_room(*self.fields.allocator(), self.fields.len())?;
         for field in &self.fields {
             let field = field.copy()?;
             copy.push(field.name, field.value)?;

@@ -25,6 +25,9 @@ use std::alloc::Global;
 // How many levels there may be inside the outermost document.
 const DEPTH: u32 = MOST_DEPTH_KEPT - 1;
 
+// How many bytes a document without fields has.
+const LEAST_DOCUMENT: usize = 5;
+
 /// The fault of a document or an array where no level is left: its length is judged first.
 #[tactic(auto, unfolding(crate::specs::Readers::deep_at, crate::specs::Readers::deep_unless))]
 fn deep_fault(total: usize, room: usize, bytes: &[u8]) -> BsonFault
@@ -334,6 +337,16 @@ fn read_item(
     Ok((Some(value), rest))
 }
 
+// For how many fields a document of so many bytes has room at first: most fields have some 16 bytes, and one that is long takes no
+// more room than others.
+fn first_room(count: usize) -> usize {
+    if count <= LEAST_DOCUMENT {
+        0
+    } else {
+        (count / 16).max(4).min(16)
+    }
+}
+
 /// Reads a document: its length, its fields and the 00 behind them (BSON 1.1, `document`).
 #[cycle(reader)]
 #[tactic(auto, unfolding(crate::specs::Readers::document_with))]
@@ -351,7 +364,7 @@ fn read_document(
 {
     let (count, mut left) = read_length(total, 5, 0, room, bytes)?;
     let mut space = count - 4;
-    let mut document = Document::new(alloc);
+    let mut document = Document::with_room(alloc, first_room(count))?;
     'fields: loop {
         let (field, rest) = read_field(alloc, total, level, space, left)?;
         let Some(field) = field else {

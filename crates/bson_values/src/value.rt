@@ -1,6 +1,6 @@
 //! Values, and the documents and arrays that hold them.
 
-ghost use Rattle.std.specs.Prelude.{◌≡◌, ◌≤◌, ◌==◌, length, All, OnOk, OnErr};
+ghost use Rattle.std.specs.Prelude.{◌≡◌, ◌≤◌, ◌==◌, length, All, IfOk, OnOk, OnErr};
 ghost use Rattle.std.specs.Option.{option_map};
 ghost use Rattle.bson_model.specs.Tree.{no_items, item, joined_items, no_fields, field, get, joined};
 ghost use Rattle.bson_values.specs.Sizes.{datum_size, items_count, items_size, fields_count, fields_size};
@@ -167,6 +167,14 @@ impl Document {
         Document {
             fields: Vec::new(alloc),
         }
+    }
+
+    // The document without fields, with room for so many. Fails for want of memory.
+    pub(crate) fn with_room(alloc: Global, room: usize) -> Result<Document, Memory>
+        ensures { IfOk result (λ d. d ≡ no_fields) }
+    {
+        let fields = Vec::with_capacity(alloc, room)?;
+        Ok(Document { fields })
     }
 
     /// How many fields there are.
