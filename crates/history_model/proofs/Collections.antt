@@ -56,7 +56,7 @@ after_found namespace q rows (e ∷ es) ordered =
     after_found namespace q (row_written (bytes_eq e.namespace namespace) e (key_written e.operation) rows) es (row_in_order (bytes_eq e.namespace namespace) e (key_written e.operation) rows ordered)
     ∙ ap (λ (before : Option Fields). document_after namespace (Some q) before es) (row_found (bytes_eq e.namespace namespace) e (key_written e.operation) q rows ordered)
 
-none_in_order : AreInOrder []
+pub none_in_order : AreInOrder []
 unfolding IsStrictlySortedBy
 none_in_order = tt
 
@@ -82,11 +82,11 @@ never_found : (document : Fields) (found : Option Fields) → found ≡ Some doc
 never_found document None some none = absurd cc
 never_found document (Some d) some none = absurd cc
 
-above_row : (row : Datum × Fields) (rows : Rows) → AreInOrder (row ∷ rows) → AreAbove order_total row.0 rows
+pub above_row : (row : Datum × Fields) (rows : Rows) → AreInOrder (row ∷ rows) → AreAbove order_total row.0 rows
 unfolding IsStrictlySortedBy
 above_row row rows ordered = ordered.0
 
-later_rows : (row : Datum × Fields) (rows : Rows) → AreInOrder (row ∷ rows) → AreInOrder rows
+pub later_rows : (row : Datum × Fields) (rows : Rows) → AreInOrder (row ∷ rows) → AreInOrder rows
 unfolding IsStrictlySortedBy
 later_rows row rows ordered = ordered.1
 

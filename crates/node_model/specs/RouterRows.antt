@@ -9,6 +9,7 @@ use Rattle.reply_model.specs.Times.{time_of_moment}
 use Rattle.reply_model.specs.Refusals.{Refusal, bytes_evidence, cursor_evidence, time_ahead, without_evidence}
 use Rattle.reply_model.specs.Writes.{ClientNumber, WriteKind}
 use Rattle.reply_model.specs.Reading.{Reading}
+pub use Rattle.reply_model.specs.Reads.{is_on}
 use Rattle.command_model.specs.Cursors.{Batch, GetMore, KillCursors}
 use Rattle.reply_model.specs.Errors.{cursor_not_found, overflow, query_exceeded_memory}
 use Rattle.reply_model.specs.Cursors.{Cursor, open_cursor, ShowsNext, Kills}
@@ -78,10 +79,6 @@ plan_of r id silent (Ok (kill_command kill)) = needs_end kill
 
 abbrev pub owner_of_statement : Table → Statement → Option ℕ
 owner_of_statement t s = elim (key_written s.operation) [ None ↦ None | Some key ↦ owner_now t key ]
-
-abbrev pub is_on : ℕ → Option ℕ → Bool
-is_on shard None = false
-is_on shard (Some owner) = owner == shard
 
 -- the statements that follow one another and go to a shard
 abbrev pub run_to : Table → ℕ → List Statement → List Statement

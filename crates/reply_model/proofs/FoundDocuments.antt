@@ -1,6 +1,6 @@
 -- What stands under a key at a time is what the last entry under it left, of those up to then.
 use Rattle.std.proofs.Common.{◌≡◌, ℕ, ◌<◌, ◌≤◌, ◌⊎◌, inl, inr, List, [], ◌∷◌, ◌++◌, refl, ap, ◌∙◌, arith}
-use Rattle.std.specs.Prelude.{true, false, Option, None, Bool, if◌then◌else◌, filter, nat_le}
+use Rattle.std.specs.Prelude.{true, false, Option, None, Bool, if◌then◌else◌, nat_le}
 use Rattle.std.specs.List.{AllByRecursion}
 use Rattle.std.proofs.lemmas.Bool.{le-leb}
 use Rattle.std.proofs.lemmas.Bool.Decides.{leb_tells}
@@ -8,13 +8,10 @@ use Rattle.std.proofs.lemmas.List.Elements.{filter-append}
 use Rattle.command_model.specs.Tree.{Datum, Fields}
 use Rattle.history_model.specs.History.{effect, Entry, writes_to, document_after, document_left, document_at, IsBefore, Legal}
 use Rattle.history_model.proofs.Lists.{all_weaken}
+use Rattle.history_model.proofs.StandingDocuments.{no_later, up_to}
 use Rattle.history_model.proofs.LegalHistories.{all_untouched, document_after_append, follows_prefix}
 
 -- ENTRIES UP TO A TIME
-
--- the entries up to a time
-abbrev pub up_to : ℕ → List Entry → List Entry
-up_to time es = filter (λ (d : Entry). nat_le d.time time) es
 
 abbrev Told : ℕ → ℕ → Type 0
 Told a time = ((nat_le a time ≡ true) × (a ≤ time)) ⊎ ((nat_le a time ≡ false) × (time < a))
@@ -22,10 +19,6 @@ Told a time = ((nat_le a time ≡ true) × (a ≤ time)) ⊎ ((nat_le a time ≡
 whole_up_to : (time : ℕ) (es : List Entry) → AllByRecursion (λ e. e.time ≤ time) es → up_to time es ≡ es
 whole_up_to time [] all = refl
 whole_up_to time (e ∷ es) all = rw (le-leb e.time time all.0) (ap (λ l. e ∷ l) (whole_up_to time es all.1))
-
-no_later : (d e : Entry) → IsBefore d e → d.time ≤ e.time
-no_later d e (inl less) = omega arith
-no_later d e (inr equal) = omega arith
 
 -- of a legal history all that is before an entry of a time is of that time
 up_to_entry : (earlier later : List Entry) (e : Entry) (time : ℕ) → Legal (earlier ++ e ∷ later) → e.time ≤ time

@@ -23,7 +23,7 @@ use Rattle.query_model.proofs.KeysAsked.{valid_from}
 use Rattle.pipeline_model.specs.Halves.{may_stand_in}
 use Rattle.history_model.specs.History.{Operation, read_operation, key_read, key_written, effect, Entry, writes_to, document_after, document_left, document_at}
 use Rattle.history_model.specs.Documents.{Rows, AreInOrder, document_under, documents_at, ListsDocuments}
-use Rattle.history_model.proofs.Collections.{lists_collection}
+use Rattle.history_model.proofs.Collections.{above_row, later_rows, lists_collection, none_in_order}
 use Rattle.history_model.proofs.Keyed.{after_under}
 use Rattle.history_model.proofs.LegalHistories.{valid_of}
 
@@ -97,21 +97,9 @@ keyed_inside span key document keyed =
 abbrev AreKeyed : Rows → Type 0
 AreKeyed rows = AllByRecursion (λ (row : Datum × Fields). IsKeyed row.0 row.1) rows
 
-above_row : (row : Datum × Fields) (rows : Rows) → AreInOrder (row ∷ rows) → AreAbove order_total row.0 rows
-unfolding IsStrictlySortedBy
-above_row row rows ordered = ordered.0
-
-later_rows : (row : Datum × Fields) (rows : Rows) → AreInOrder (row ∷ rows) → AreInOrder rows
-unfolding IsStrictlySortedBy
-later_rows row rows ordered = ordered.1
-
 with_first : (row : Datum × Fields) (rows : Rows) → AreAbove order_total row.0 rows → AreInOrder rows → AreInOrder (row ∷ rows)
 unfolding IsStrictlySortedBy
 with_first row rows above ordered = (above, ordered)
-
-no_rows : AreInOrder []
-unfolding IsStrictlySortedBy
-no_rows = tt
 
 -- what is found behind the first row is found with it
 found_behind : (q : Datum) (row : Datum × Fields) (rows : Rows) (document : Fields) → AreInOrder (row ∷ rows) → document_under q rows ≡ Some document
@@ -159,7 +147,7 @@ module _ (span : Span) where
       by_test false rest = rest
 
   filtered_in_order : (rows : Rows) → AreInOrder rows → AreInOrder (filter in_span rows)
-  filtered_in_order [] ordered = no_rows
+  filtered_in_order [] ordered = none_in_order
   filtered_in_order (row ∷ rows) ordered = by_test (in_span row) (filtered_in_order rows (later_rows row rows ordered))
     where
       by_test : (b : Bool) → AreInOrder (filter in_span rows) → AreInOrder (cond b (row ∷ filter in_span rows) (filter in_span rows))

@@ -26,7 +26,8 @@ use Rattle.history_model.proofs.LegalHistories.{same_after}
 use Rattle.reply_model.specs.Reads.{MayGive}
 use Rattle.reply_model.specs.Earlier.{found, touches}
 use Rattle.reply_model.proofs.FilteredOrders.{filter_permutes, others_behind, passed_again, one_order, no_order}
-use Rattle.reply_model.proofs.FoundDocuments.{up_to, WritesNone, WritesNoneBetween, last_left, nothing_left, stands_since}
+use Rattle.history_model.proofs.StandingDocuments.{up_to}
+use Rattle.reply_model.proofs.FoundDocuments.{WritesNone, WritesNoneBetween, last_left, nothing_left, stands_since}
 use Rattle.reply_model.proofs.SpanDocuments.{listed_in_span}
 
 -- STAGES LOOK AT THE DOCUMENTS OF THEIR SPAN

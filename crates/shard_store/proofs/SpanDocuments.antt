@@ -13,7 +13,7 @@ use Rattle.value_model.proofs.Spans.{same_inside, same_is_key, same_value_equiva
 use Rattle.query_model.specs.Effects.{IsUnder}
 use Rattle.query_model.proofs.Entries.{AreAbove}
 use Rattle.history_model.specs.Documents.{Rows, AreInOrder, document_under, documents_at, ListsDocuments}
-use Rattle.history_model.proofs.Collections.{lists_collection, one_listing}
+use Rattle.history_model.proofs.Collections.{lists_collection, none_in_order, one_listing}
 use Rattle.history_model.proofs.Keyed.{after_under}
 use Rattle.node_model.specs.Halves.{may_stand_in}
 use Rattle.node_model.specs.History.{Entry, document_at}
@@ -115,10 +115,6 @@ same_listing under other documents same listed = record {
   found = λ key. listed.found key ∙ same key;
   shown = listed.shown;
 }
-
-none_in_order : AreInOrder []
-unfolding IsStrictlySortedBy
-none_in_order = tt
 
 -- where nothing stands, nothing is listed
 pub nothing_listed : (inside_it : Datum → Bool) (under : Datum → Option Fields) (documents : List Fields) → ((key : Datum) → under key ≡ None) →
