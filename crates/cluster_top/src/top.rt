@@ -37,9 +37,10 @@ pub struct Ended<D: Drop, L: Drop> {
     pub links: Vec<Spoken<L>>,
 }
 
-/// Runs the cluster as the arguments say. So far the one argument is `pipe`: one connection from `input` to `out`, which is served to
-/// its end; or `sim`: a script in `input`, which is played to its end. What the requests leave stands on the disks, whose files must be
-/// empty at the start. The acceptor and the gate are not used. `Status` has the statuses; with 2 and 6 nothing was taken or put, and with 10 2^40 bytes were taken.
+/// Runs the cluster as the arguments say. So far there is one argument: with `pipe` one connection from `input` to `out` is served to its
+/// end, with `sim` the script in `input` is played to its end. What the requests leave stands on the disks, whose files must be empty at
+/// the start. The acceptor and the gate are not used. `Status` has the statuses; with 2 and 6 nothing was taken or put, and with 10
+/// 2^40 bytes were taken.
 pub fn run<R, S, K, A, D, C, G>(
     rt: &R,
     alloc: Global,
