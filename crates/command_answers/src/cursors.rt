@@ -1,7 +1,7 @@
 //! The answer to `killCursors` (MongoDB manual, "killCursors").
 
 ghost use Rattle.std.specs.Prelude.{◌≡◌, IfOk};
-ghost use Rattle.command_model.specs.Cursors as model;
+ghost use Rattle.command_model.specs.KillCursors as model;
 
 use crate::parts::{add, add_number};
 use bson_values::{Array, Document, Memory, Value};

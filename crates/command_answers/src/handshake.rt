@@ -4,7 +4,9 @@ ghost use Rattle.std.specs.Prelude.{◌≡◌, IfOk, IsTrue, true, codes};
 ghost use Rattle.bson_values.specs.Tree.{boolean_value, no_fields, field};
 ghost use Rattle.bson_values.specs.Names.{has_no_zero};
 ghost use Rattle.bson_values.specs.View.{datum_of};
-ghost use Rattle.command_model.specs.Handshake.{done_document, handshake, hello_document, hello_ok, legacy_document};
+ghost use Rattle.command_model.specs.Handshake.{done_document, handshake, hello_ok};
+ghost use Rattle.command_model.specs.Hello.{hello_document};
+ghost use Rattle.command_model.specs.IsMaster.{legacy_document};
 ghost use Rattle.command_model.specs.AnswerParts as shown;
 
 use crate::answer;

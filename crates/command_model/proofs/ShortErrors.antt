@@ -27,7 +27,9 @@ use Rattle.command_model.specs.Reading.{check_concern, check_level, concern_rule
 use Rattle.command_model.specs.Find.{find_rules, read_shown}
 use Rattle.command_model.specs.Aggregate.{aggregate_rules, cursor_rules, pipeline_needed}
 use Rattle.command_model.specs.Count.{count_rules}
-use Rattle.command_model.specs.Cursors.{are_whole_numbers, check_cursor, cursors_needed, is_open_database, kill_rules, more_rules}
+use Rattle.command_model.specs.KillCursors.{are_whole_numbers, cursors_needed, kill_rules}
+use Rattle.command_model.specs.GetMore.{check_cursor, more_rules}
+use Rattle.command_model.specs.Cursors.{is_open_database}
 use Rattle.command_model.specs.Command.{Command}
 
 abbrev pub IsShort : Verdict → Type 0

@@ -11,7 +11,8 @@ use Rattle.base_model.specs.Refusals.{Evidence, Refusal, evidence_document, no_e
 use Rattle.base_model.specs.ReplyParts.{evidence_shown, refusal_reply, shown_if, write_error}
 use Rattle.command_model.specs.AnswerParts.{count, document_items, number, ok, operation_time_at}
 use Rattle.command_model.specs.Writes.{WriteKind, insert_kind, update_kind, delete_kind, WriteError, Upserted, WriteSummary, write_error_items, write_errors_shown, upserted_items, upserted_shown, changes_shown}
-use Rattle.command_model.specs.Cursors.{Batch, cursor_shown, batch_document, number_items, killed_document}
+use Rattle.command_model.specs.Cursors.{Batch, cursor_shown, batch_document}
+use Rattle.command_model.specs.KillCursors.{number_items, killed_document}
 use Rattle.command_model.specs.Count.{count_document}
 use Rattle.command_model.specs.Answers.{Answer, hello_answer, legacy_answer, done_answer, write_answer, first_answer, next_answer, count_answer, killed_answer, refusal_answer, answer_document}
 use Rattle.command_model.specs.CommandSizes.{IsSmallAnswer, IsSmallBatch, IsSmallError, IsSmallRefusal, IsSmallSummary, keys_length}

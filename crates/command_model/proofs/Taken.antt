@@ -12,15 +12,17 @@ use Rattle.base_model.specs.Refusals.{Refusal}
 use Rattle.command_model.specs.Checks.{Verdict, first_of, is_one_of}
 use Rattle.command_model.specs.Fields.{by_rule, check_fields, find_rule, names_of}
 use Rattle.command_model.specs.Forms.{CommandForm, SequenceRule, Sequences, check_collection, check_command, check_database, check_sequence, check_sequences, command_by, database_of, made_into}
-use Rattle.command_model.specs.Handshake.{handshake_form, legacy_of}
+use Rattle.command_model.specs.Handshake.{handshake_form}
+use Rattle.command_model.specs.IsMaster.{legacy_of, legacy_form}
 use Rattle.command_model.specs.Statements.{StatementForm, check_statements}
 use Rattle.command_model.specs.Writes.{WriteKind, insert_kind, update_kind, delete_kind, WriteCommand, check_count, check_documents, documents_asked, documents_needed, documents_of_value, or_documents, session_needed, some_needed, statement_form, write_form, write_rules}
 use Rattle.command_model.specs.Reading.{Reading}
 use Rattle.command_model.specs.Find.{Find, find_form}
 use Rattle.command_model.specs.Aggregate.{aggregate_form}
 use Rattle.command_model.specs.Count.{count_form}
-use Rattle.command_model.specs.Cursors.{more_form, kill_form}
-use Rattle.command_model.specs.Command.{Command, hello_command, legacy_command, ping_command, end_sessions_command, write_command, find_command, count_command, more_command, kill_command, legacy_form, rows, form_of, by_form, by_verdict, command_asked, command_in, command_of, or_refusal}
+use Rattle.command_model.specs.GetMore.{more_form}
+use Rattle.command_model.specs.KillCursors.{kill_form}
+use Rattle.command_model.specs.Command.{Command, hello_command, legacy_command, ping_command, end_sessions_command, write_command, find_command, count_command, more_command, kill_command, rows, form_of, by_form, by_verdict, command_asked, command_in, command_of, or_refusal}
 use Rattle.command_model.specs.CommandSizes.{IsKeepable, IsSmallCommand, IsTaken}
 use Rattle.opmsg_model.proofs.Lengths.{length-framed}
 use Rattle.command_model.proofs.ShortErrors.{IsShort, IsShortForm, collection_short, command_short, aggregate_short, count_rules_short, cursor_number_short, documents_sequence_short, find_short, handshake_short, kill_short, more_short, required_short, statements_short, two_needed_short, write_needed_short, write_short}
@@ -288,7 +290,7 @@ handshake_sound name command some small numbers = record {
   numbers = λ sent value others sequences. numbers (field name value others);
 }
 
-legacy_sound : (name : List ℕ) → IsSound name legacy_form
+legacy_sound : (name : List ℕ) → IsSound name (made_into legacy_command legacy_form)
 legacy_sound name = handshake_sound name (λ document. legacy_command (legacy_of document)) (λ ms. tt) (λ ms. tt) (λ ms. tt)
 
 reads_sound : AllByRecursion (λ row. IsSound row.name row.form) (drop 8 rows)

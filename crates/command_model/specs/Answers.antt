@@ -3,10 +3,13 @@ use Rattle.std.specs.Prelude.{ℕ, ℤ, List, Bool, codes}
 use Rattle.opmsg_model.specs.Tree.{Fields}
 use Rattle.base_model.specs.Refusals.{Refusal}
 use Rattle.base_model.specs.ReplyParts.{refusal_reply}
-use Rattle.command_model.specs.Handshake.{hello_document, legacy_document, done_document}
+use Rattle.command_model.specs.Hello.{hello_document}
+use Rattle.command_model.specs.IsMaster.{legacy_document}
+use Rattle.command_model.specs.Handshake.{done_document}
 use Rattle.command_model.specs.Writes.{WriteKind, WriteSummary, write_document}
 use Rattle.command_model.specs.Count.{count_document}
-use Rattle.command_model.specs.Cursors.{Batch, batch_document, killed_document}
+use Rattle.command_model.specs.Cursors.{Batch, batch_document}
+use Rattle.command_model.specs.KillCursors.{killed_document}
 
 pub data Answer : Type 0 where
   -- the router's last moment

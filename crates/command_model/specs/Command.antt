@@ -8,13 +8,17 @@ use Rattle.base_model.specs.Errors.{ErrorCode, command_not_found}
 use Rattle.base_model.specs.Refusals.{Refusal, no_document_at, without_evidence}
 use Rattle.command_model.specs.Checks.{Verdict}
 use Rattle.command_model.specs.Forms.{CommandForm, Sequences, check_command, command_by, made_into}
-use Rattle.command_model.specs.Handshake.{Legacy, handshake_form, legacy_of}
+use Rattle.command_model.specs.Hello.{hello_form}
+use Rattle.command_model.specs.IsMaster.{Legacy, legacy_form}
+use Rattle.command_model.specs.Ping.{ping_form}
+use Rattle.command_model.specs.EndSessions.{end_sessions_form}
 use Rattle.command_model.specs.Writes.{WriteCommand, insert_kind, update_kind, delete_kind, write_form}
 use Rattle.command_model.specs.Reading.{Reading}
 use Rattle.command_model.specs.Find.{Find, find_form}
 use Rattle.command_model.specs.Aggregate.{aggregate_form}
 use Rattle.command_model.specs.Count.{count_form}
-use Rattle.command_model.specs.Cursors.{GetMore, more_form, KillCursors, kill_form}
+use Rattle.command_model.specs.GetMore.{GetMore, more_form}
+use Rattle.command_model.specs.KillCursors.{KillCursors, kill_form}
 
 pub data Command : Type 0 where
   hello_command : Command
@@ -33,16 +37,13 @@ pub record Row : Type 0 where
   pub name : List ℕ
   pub form : CommandForm Command
 
-abbrev pub legacy_form : CommandForm Command
-legacy_form = handshake_form (λ document. legacy_command (legacy_of document))
-
 abbrev pub rows : List Row
 rows =
-    record { name = codes "hello"; form = handshake_form (λ document. hello_command) }
-    ∷ record { name = codes "isMaster"; form = legacy_form }
-    ∷ record { name = codes "ismaster"; form = legacy_form }
-    ∷ record { name = codes "ping"; form = handshake_form (λ document. ping_command) }
-    ∷ record { name = codes "endSessions"; form = handshake_form (λ document. end_sessions_command) }
+    record { name = codes "hello"; form = made_into (λ hello. hello_command) hello_form }
+    ∷ record { name = codes "isMaster"; form = made_into legacy_command legacy_form }
+    ∷ record { name = codes "ismaster"; form = made_into legacy_command legacy_form }
+    ∷ record { name = codes "ping"; form = made_into (λ ping. ping_command) ping_form }
+    ∷ record { name = codes "endSessions"; form = made_into (λ end_sessions. end_sessions_command) end_sessions_form }
     ∷ record { name = codes "insert"; form = made_into write_command (write_form insert_kind) }
     ∷ record { name = codes "update"; form = made_into write_command (write_form update_kind) }
     ∷ record { name = codes "delete"; form = made_into write_command (write_form delete_kind) }

@@ -1,16 +1,12 @@
--- The commands that look at `$db` and `helloOk` alone: `hello`, `isMaster`, `ping` and `endSessions` (MongoDB manual,
+-- What commands share that look at `$db` and `helloOk` alone: `hello`, `isMaster`, `ping` and `endSessions` (MongoDB manual,
 -- "hello", "ping", "endSessions"; the order of fields is own).
 use Rattle.std.specs.Prelude.{ℕ, List, [], ◌∷◌, Bool, true, false, None, if◌then◌else◌, codes}
-use Rattle.opmsg_model.specs.Tree.{string_value, boolean_value, Fields, no_fields, field, get}
-use Rattle.command_model.specs.Fields.{Rule, boolean_needed, boolean_or, string_needed}
+use Rattle.opmsg_model.specs.Tree.{string_value, boolean_value, Fields, no_fields, field}
+use Rattle.command_model.specs.Fields.{Rule, boolean_needed, string_needed}
 use Rattle.command_model.specs.Forms.{CommandForm, any_own, nothing_judged}
 use Rattle.command_model.specs.AnswerParts.{moment_shown, number, ok}
 use Rattle.opmsg_model.specs.Limits.{most_bytes_kept}
 use Rattle.command_model.specs.CommandLimits.{most_statements}
-
--- `isMaster`: whether `helloOk` is to be shown
-pub record Legacy : Type 0 where
-  pub shows_hello_ok : Bool
 
 abbrev pub handshake_rules : List Rule
 handshake_rules = record { name = codes "$db"; check = string_needed } ∷ record { name = codes "helloOk"; check = boolean_needed } ∷ []
@@ -26,9 +22,6 @@ handshake_form command = record {
   check_last = nothing_judged;
   command = λ database own document sequences. command document;
 }
-
-abbrev pub legacy_of : Fields → Legacy
-legacy_of document = record { shows_hello_ok = boolean_or false (get (codes "helloOk") document) }
 
 -- what a handshake tells at a moment, behind the field that says that writes are taken
 abbrev pub handshake : ℕ → Fields → Fields
@@ -46,12 +39,6 @@ handshake moment more =
 abbrev pub hello_ok : Bool → Fields → Fields
 hello_ok shown more = if shown then field (codes "helloOk") (boolean_value true) more else more
 
-abbrev pub hello_document : ℕ → Fields
-hello_document moment = field (codes "isWritablePrimary") (boolean_value true) (handshake moment (ok no_fields))
-
--- the same in the words of the old handshake
-abbrev pub legacy_document : ℕ → Bool → Fields
-legacy_document moment shown = field (codes "ismaster") (boolean_value true) (handshake moment (hello_ok shown (ok no_fields)))
-
+-- the answer to `ping` and `endSessions`
 abbrev pub done_document : Fields
 done_document = ok no_fields

@@ -4,6 +4,10 @@ pub mod Forms
 pub mod CommandLimits
 pub mod AnswerParts
 pub mod Handshake
+pub mod Hello
+pub mod IsMaster
+pub mod Ping
+pub mod EndSessions
 pub mod Statements
 pub mod Insert
 pub mod Update
@@ -14,6 +18,8 @@ pub mod Find
 pub mod Aggregate
 pub mod Count
 pub mod Cursors
+pub mod GetMore
+pub mod KillCursors
 pub mod Command
 pub mod Answers
 pub mod CommandSizes

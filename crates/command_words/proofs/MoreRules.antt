@@ -5,7 +5,7 @@ use Rattle.bson_values.specs.Tree.{Datum, Fields, field, get}
 use Rattle.cluster_base.specs.Codes.{meaning_of}
 use Rattle.cluster_base.specs.declared.code.Code.{Code}
 use Rattle.cluster_base.specs.declared.namespace.Namespace.{Namespace}
-use Rattle.command_model.specs.Cursors.{more_rules}
+use Rattle.command_model.specs.GetMore.{more_rules}
 use Rattle.command_model.specs.Errors.{failed_to_parse}
 use Rattle.command_model.specs.Fields.{check_fields}
 use Rattle.command_model.specs.Forms.{check_collection}

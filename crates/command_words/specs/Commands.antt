@@ -3,18 +3,19 @@ use Rattle.std.specs.Prelude.{◌≡◌, ℕ, map, Option, Result, Ok, Err}
 use Rattle.command_model.specs.Errors.{ErrorCode}
 use Rattle.command_model.specs.Refusals as history
 use Rattle.cluster_base.specs.Codes.{meaning_of}
-use Rattle.command_model.specs.Handshake as handshakes
+use Rattle.command_model.specs.IsMaster as legacies
 use Rattle.command_model.specs.Writes as writes
 use Rattle.command_model.specs.Reading as readings
 use Rattle.command_model.specs.Find as finds
-use Rattle.command_model.specs.Cursors as cursors
+use Rattle.command_model.specs.GetMore as mores
+use Rattle.command_model.specs.KillCursors as kills
 use Rattle.command_model.specs.Command as model
-use Rattle.command_words.specs.declared.handshake.Legacy as legacies
+use Rattle.command_words.specs.declared.is_master.Legacy as program_legacies
 use Rattle.command_words.specs.declared.writes.WriteCommand as program_writes
 use Rattle.command_words.specs.declared.reading.Reading as program_readings
 use Rattle.command_words.specs.declared.find.Find as program_finds
 use Rattle.command_words.specs.declared.get_more.GetMore as program_mores
-use Rattle.command_words.specs.declared.kill_cursors.KillCursors as program_kills
+use Rattle.command_words.specs.declared.kill_kills.KillCursors as program_kills
 use Rattle.command_words.specs.declared.command.Command.{Command}
 use Rattle.command_words.specs.declared.command.Command.TheVariants.{Hello, Legacy, Ping, EndSessions, Write, Find, Count, GetMore, KillCursors}
 use Rattle.command_words.specs.declared.fault.CommandFault.{CommandFault}
@@ -26,7 +27,7 @@ use Rattle.command_answers.specs.Kinds.{given_meant, kind_meant}
 use Rattle.command_answers.specs.Refusals.{refusal_meant}
 use Rattle.shard_records.specs.Meanings.{operation_meant}
 
-abbrev pub legacy_meant : legacies.Legacy → handshakes.Legacy
+abbrev pub legacy_meant : program_legacies.Legacy → legacies.Legacy
 legacy_meant legacy = record { shows_hello_ok = legacy.shows_hello_ok }
 
 abbrev pub write_meant : program_writes.WriteCommand → writes.WriteCommand
@@ -44,10 +45,10 @@ reading_meant reading = record { namespace = reading.namespace; stages = reading
 abbrev pub find_meant : program_finds.Find → finds.Find
 find_meant find = record { reading = reading_meant find.reading; batches = record { size = find.batches.size; single = find.batches.single } }
 
-abbrev pub more_meant : program_mores.GetMore → cursors.GetMore
+abbrev pub more_meant : program_mores.GetMore → mores.GetMore
 more_meant more = record { namespace = more.namespace; cursor = more.cursor; size = more.size }
 
-abbrev pub kill_meant : program_kills.KillCursors → cursors.KillCursors
+abbrev pub kill_meant : program_kills.KillCursors → kills.KillCursors
 kill_meant kill = record { namespace = kill.namespace; cursors = kill.cursors.items }
 
 abbrev pub command_meant : Command → model.Command

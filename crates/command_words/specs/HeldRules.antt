@@ -5,7 +5,7 @@ use Rattle.command_model.specs.Fields.{Rule, document_needed}
 use Rattle.command_model.specs.Find.{find_rules}
 use Rattle.command_model.specs.Aggregate.{aggregate_rules}
 use Rattle.command_model.specs.Count.{count_rules}
-use Rattle.command_model.specs.Cursors.{more_rules}
+use Rattle.command_model.specs.GetMore.{more_rules}
 use Rattle.command_fields.specs.Words.{array_needed}
 
 abbrev pub find_rules_held : (filter sort projection : Verdict) → List Rule

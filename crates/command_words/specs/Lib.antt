@@ -1,7 +1,6 @@
 pub mod Commands
 pub mod Drafts
 pub mod FindWords
-pub mod Handshakes
 pub mod Held
 pub mod HeldRules
 pub mod Rows

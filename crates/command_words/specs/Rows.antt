@@ -1,20 +1,27 @@
 -- What the program's rows are.
 use Rattle.std.specs.Prelude.{◌≡◌, ℕ, List, Option, Some, codes}
 use Rattle.command_model.specs.Forms.{CommandForm, made_into}
+use Rattle.command_model.specs.Hello.{hello_form}
+use Rattle.command_model.specs.IsMaster.{legacy_form}
+use Rattle.command_model.specs.Ping.{ping_form}
+use Rattle.command_model.specs.EndSessions.{end_sessions_form}
 use Rattle.command_model.specs.Writes.{write_form}
 use Rattle.command_answers.specs.Kinds.{kind_meant}
 use Rattle.command_model.specs.Find.{find_form}
 use Rattle.command_model.specs.Aggregate.{aggregate_form}
 use Rattle.command_model.specs.Count.{count_form}
-use Rattle.command_model.specs.Cursors.{more_form, kill_form}
-use Rattle.command_model.specs.Command.{Command, write_command, find_command, count_command, more_command, kill_command}
+use Rattle.command_model.specs.GetMore.{more_form}
+use Rattle.command_model.specs.KillCursors.{kill_form}
+use Rattle.command_model.specs.Command.{Command, hello_command, legacy_command, ping_command, end_sessions_command, write_command, find_command, count_command, more_command, kill_command}
 use Rattle.command_words.specs.declared.command.AnyForm.{AnyForm}
-use Rattle.command_words.specs.declared.command.AnyForm.TheVariants.{Handshake, Write, Find, Aggregate, Count, GetMore, KillCursors}
-use Rattle.command_words.specs.Handshakes.{handshake_meant}
+use Rattle.command_words.specs.declared.command.AnyForm.TheVariants.{Hello, IsMaster, Ping, EndSessions, Write, Find, Aggregate, Count, GetMore, KillCursors}
 use Rattle.command_words.specs.WriteNames.{name_meant}
 
 abbrev pub row_meant : AnyForm → CommandForm Command
-row_meant (Handshake form) = handshake_meant form
+row_meant (Hello form) = made_into (λ hello. hello_command) hello_form
+row_meant (IsMaster form) = made_into legacy_command legacy_form
+row_meant (Ping form) = made_into (λ ping. ping_command) ping_form
+row_meant (EndSessions form) = made_into (λ end_sessions. end_sessions_command) end_sessions_form
 row_meant (Write form) = made_into write_command (write_form (kind_meant form.kind))
 row_meant (Find form) = made_into find_command find_form
 row_meant (Aggregate form) = made_into find_command aggregate_form

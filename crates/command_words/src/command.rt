@@ -13,19 +13,22 @@ ghost use Rattle.command_model.specs.Command as model;
 ghost use Rattle.command_words.specs.Commands.{Answers, Tells};
 ghost use Rattle.command_answers.specs.Refusals.{refusal_meant};
 ghost use Rattle.command_words.specs.Drafts.{Drafts};
-ghost use Rattle.command_words.specs.Handshakes.{handshake_meant};
 ghost use Rattle.command_words.specs.Rows.{IsRowNamed, row_meant};
 ghost use Rattle.command_words.specs.declared.command.AnyForm.TheVariants.{Write};
 
 use crate::aggregate::AggregateForm;
 use crate::count::CountForm;
 use crate::draft::Draft;
+use crate::end_sessions::EndSessions;
 use crate::fault::CommandFault;
 use crate::find::{Find, FindForm};
 use crate::forms::read_by;
 use crate::get_more::{GetMore, MoreForm};
-use crate::handshake::{HandshakeForm, Legacy};
+use crate::handshake::HandshakeForm;
+use crate::hello::Hello;
+use crate::is_master::{IsMaster, Legacy};
 use crate::kill_cursors::{KillCursors, KillForm};
+use crate::ping::Ping;
 use crate::reading::Reading;
 use crate::writes::{WriteCommand, WriteForm};
 use bson_values::{BsonFault, Document};
@@ -55,7 +58,10 @@ pub enum Command {
 /// The forms that there are.
 #[derive(Clone, Copy)]
 pub(crate) enum AnyForm {
-    Handshake(HandshakeForm),
+    Hello(HandshakeForm<Hello>),
+    IsMaster(HandshakeForm<IsMaster>),
+    Ping(HandshakeForm<Ping>),
+    EndSessions(HandshakeForm<EndSessions>),
     Write(WriteForm),
     Find(FindForm),
     Aggregate(AggregateForm),
@@ -65,19 +71,22 @@ pub(crate) enum AnyForm {
 }
 
 // The form of the handshake of that name.
-fn handshake_named(name: &str) -> Option<HandshakeForm>
-    ensures { option_or (option_map handshake_meant result) (model.find_form_in name.now (drop 5 model.rows)) ≡ model.form_of name.now }
+fn handshake_named(name: &str) -> Option<AnyForm>
+    ensures found { option_or (option_map row_meant result) (model.find_form_in name.now (drop 5 model.rows)) ≡ model.form_of name.now }
+    ensures named { IsRowNamed result name.now }
 {
     if "hello" == name {
-        Some(HandshakeForm::Hello)
-    } else if "isMaster" == name {
-        Some(HandshakeForm::Legacy)
-    } else if "ismaster" == name {
-        Some(HandshakeForm::Legacy)
+        Some(AnyForm::Hello(HandshakeForm { handshake: Hello }))
+    } else if "isMaster" == name || "ismaster" == name {
+        Some(AnyForm::IsMaster(HandshakeForm {
+            handshake: IsMaster,
+        }))
     } else if "ping" == name {
-        Some(HandshakeForm::Ping)
+        Some(AnyForm::Ping(HandshakeForm { handshake: Ping }))
     } else if "endSessions" == name {
-        Some(HandshakeForm::EndSessions)
+        Some(AnyForm::EndSessions(HandshakeForm {
+            handshake: EndSessions,
+        }))
     } else {
         None
     }
@@ -132,7 +141,7 @@ fn form_of(name: &str) -> Option<AnyForm>
     ensures named { IsRowNamed result name.now }
 {
     if let Some(form) = handshake_named(name) {
-        return Some(AnyForm::Handshake(form));
+        return Some(form);
     }
     if let Some(form) = write_named(name) {
         return Some(AnyForm::Write(form));
@@ -156,7 +165,10 @@ fn draft_of(
         return Err(CheckFault::Refused(Code::CommandNotFound));
     };
     match form {
-        AnyForm::Handshake(form) => read_by(&form, alloc, sent, &own.value, document, sequences),
+        AnyForm::Hello(form) => read_by(&form, alloc, sent, &own.value, document, sequences),
+        AnyForm::IsMaster(form) => read_by(&form, alloc, sent, &own.value, document, sequences),
+        AnyForm::Ping(form) => read_by(&form, alloc, sent, &own.value, document, sequences),
+        AnyForm::EndSessions(form) => read_by(&form, alloc, sent, &own.value, document, sequences),
         AnyForm::Write(form) => read_by(&form, alloc, sent, &own.value, document, sequences),
         AnyForm::Find(form) => read_by(&form, alloc, sent, &own.value, document, sequences),
         AnyForm::Aggregate(form) => read_by(&form, alloc, sent, &own.value, document, sequences),

@@ -6,7 +6,7 @@ ghost use Rattle.bson_values.specs.View.{datum_of};
 ghost use Rattle.command_model.specs.Checks as checks;
 ghost use Rattle.command_model.specs.Command.{more_command};
 ghost use Rattle.command_model.specs.Cursors as cursors;
-ghost use Rattle.command_model.specs.Cursors.{more_form};
+ghost use Rattle.command_model.specs.GetMore.{more_form};
 ghost use Rattle.command_model.specs.Errors.{failed_to_parse, invalid_namespace};
 ghost use Rattle.command_model.specs.Forms.{check_collection, made_into};
 ghost use Rattle.command_words.specs.Held.{IsCollection, IsGiven, collection_told};

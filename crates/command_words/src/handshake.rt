@@ -1,38 +1,38 @@
-//! The commands that look at `$db` and `helloOk` alone: `hello`, `isMaster`, `ping` and `endSessions` (MongoDB manual,
+//! What commands share that look at `$db` and `helloOk` alone: `hello`, `isMaster`, `ping` and `endSessions` (MongoDB manual,
 //! "hello", "ping", "endSessions").
 
 ghost use Rattle.std.specs.Prelude.{◌≡◌, None};
-ghost use Rattle.bson_values.specs.View.{datum_of};
-ghost use Rattle.command_model.specs.Handshake.{handshake_rules};
-ghost use Rattle.command_words.specs.Handshakes.{handshake_meant};
+ghost use Rattle.bson_values.specs.Tree.{Fields};
+ghost use Rattle.command_model.specs.Command as model;
+ghost use Rattle.command_model.specs.Handshake.{handshake_form, handshake_rules};
+ghost use Rattle.command_words.specs.Commands.{command_meant};
 
 use crate::command::Command;
 use crate::draft::Draft;
 use crate::forms::CommandForm;
 use bson_values::{Document, Value};
 use cluster_base::Code;
-use command_fields::{
-    CheckFault, Rules, boolean_needed, boolean_or, check_behind_own, passed, string_needed,
-};
+use command_fields::{CheckFault, Rules, boolean_needed, check_behind_own, passed, string_needed};
 use opmsg_frames::Sequence;
 use std::alloc::Global;
 
-/// `isMaster`: whether `helloOk` is to be shown.
-#[derive(Clone, Copy, Debug, PartialEq, Eq)]
-pub struct Legacy {
-    pub shows_hello_ok: bool,
+/// A command that looks at two fields alone.
+pub(crate) trait Handshake {
+    // The command that a document asks for.
+    ghost asked: { Self → Fields → model.Command };
+
+    /// The command that a document asks for.
+    fn command(&self, document: &Document) -> Command
+        ensures { command_meant result ≡ asked self.now document.now };
 }
 
-/// The forms of the commands that look at two fields.
-#[derive(Clone, Copy, Debug, PartialEq, Eq)]
-pub(crate) enum HandshakeForm {
-    Hello,
-    Legacy,
-    Ping,
-    EndSessions,
+/// The form of such a command.
+#[derive(Clone, Copy)]
+pub(crate) struct HandshakeForm<H> {
+    pub handshake: H,
 }
 
-impl Rules for HandshakeForm {
+impl<H: Handshake> Rules for HandshakeForm<H> {
     ghost rules = { λ _. handshake_rules };
 
     ghost unlisted_verdict = { λ _. None };
@@ -52,12 +52,12 @@ impl Rules for HandshakeForm {
     }
 }
 
-impl CommandForm for HandshakeForm {
+impl<H: Handshake> CommandForm for HandshakeForm<H> {
     type Own = ();
 
     type Given = ();
 
-    ghost form = { handshake_meant };
+    ghost form = { λ form. handshake_form (H.asked form.handshake) };
 
     ghost is_name = { λ _ name. Unit {0} };
 
@@ -95,13 +95,6 @@ impl CommandForm for HandshakeForm {
         document: &Document,
         _sequences: &[Sequence],
     ) -> Result<Draft, CheckFault> {
-        match self {
-            HandshakeForm::Hello => Ok(Draft::Whole(Command::Hello)),
-            HandshakeForm::Legacy => Ok(Draft::Whole(Command::Legacy(Legacy {
-                shows_hello_ok: boolean_or(false, document, "helloOk"),
-            }))),
-            HandshakeForm::Ping => Ok(Draft::Whole(Command::Ping)),
-            HandshakeForm::EndSessions => Ok(Draft::Whole(Command::EndSessions)),
-        }
+        Ok(Draft::Whole(self.handshake.command(document)))
     }
 }

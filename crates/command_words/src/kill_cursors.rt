@@ -4,8 +4,8 @@ ghost use Rattle.std.specs.Prelude.{◌≡◌, [], IfOk, Some, codes};
 ghost use Rattle.bson_values.specs.Tree.{get};
 ghost use Rattle.bson_values.specs.View.{datum_of, items_of};
 ghost use Rattle.command_model.specs.Command.{kill_command};
-ghost use Rattle.command_model.specs.Cursors as cursors;
-ghost use Rattle.command_model.specs.Cursors.{kill_form, kill_rules};
+ghost use Rattle.command_model.specs.KillCursors as model;
+ghost use Rattle.command_model.specs.KillCursors.{kill_form, kill_rules};
 ghost use Rattle.command_model.specs.Errors.{failed_to_parse};
 ghost use Rattle.command_model.specs.Forms.{made_into};
 ghost use Rattle.command_fields.specs.FieldNames.{NamesCollection};
@@ -31,7 +31,7 @@ pub struct KillCursors {
 }
 
 fn are_whole_numbers(values: &[Value]) -> bool
-    ensures { result ≡ cursors.are_whole_numbers (items_of values.now) }
+    ensures { result ≡ model.are_whole_numbers (items_of values.now) }
 {
     for value in values {
         if whole_number(value).is_none() {
@@ -42,7 +42,7 @@ fn are_whole_numbers(values: &[Value]) -> bool
 }
 
 fn cursors_needed(value: &Value) -> Option<Code>
-    ensures { verdict_meant result ≡ cursors.cursors_needed (datum_of value.now) }
+    ensures { verdict_meant result ≡ model.cursors_needed (datum_of value.now) }
 {
     match value {
         Value::Array(array) => unless_passes(are_whole_numbers(array.values()), Code::TypeMismatch),
@@ -52,7 +52,7 @@ fn cursors_needed(value: &Value) -> Option<Code>
 
 // The numbers that these values are; 0 for another value. Fails for want of memory.
 fn numbers_in(alloc: Global, values: &[Value]) -> Result<Vec<i64>, Memory>
-    ensures { IfOk result (λ numbers. numbers.items ≡ cursors.numbers_in (items_of values.now)) }
+    ensures { IfOk result (λ numbers. numbers.items ≡ model.numbers_in (items_of values.now)) }
 {
     let mut numbers = Vec::new(alloc);
     for value in values {
@@ -63,7 +63,7 @@ fn numbers_in(alloc: Global, values: &[Value]) -> Result<Vec<i64>, Memory>
 
 // The cursors that a document names. Fails for want of memory.
 fn cursors_named(alloc: Global, document: &Document) -> Result<Vec<i64>, Memory>
-    ensures { IfOk result (λ numbers. numbers.items ≡ cursors.cursors_named (get (codes "cursors") document.now)) }
+    ensures { IfOk result (λ numbers. numbers.items ≡ model.cursors_named (get (codes "cursors") document.now)) }
 {
     match document.get("cursors") {
         Some(value) => match value {

@@ -5,7 +5,9 @@ use Rattle.std.specs.List.{AllByRecursion, slice_get}
 use Rattle.std.specs.Option.{unwrap_or}
 use Rattle.std.proofs.lemmas.Bool.{ltb-true}
 use Rattle.history_model.proofs.Lists.{in_back, in_first}
-use Rattle.command_model.specs.Cursors.{Batch, GetMore, KillCursors}
+use Rattle.command_model.specs.Cursors.{Batch}
+use Rattle.command_model.specs.GetMore.{GetMore}
+use Rattle.command_model.specs.KillCursors.{KillCursors}
 use Rattle.node_model.specs.Requests.{Request}
 use Rattle.node_model.specs.Errors.{cursor_not_found}
 use Rattle.node_model.specs.Refusals.{Refusal, cursor_evidence}

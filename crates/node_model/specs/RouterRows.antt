@@ -10,7 +10,9 @@ use Rattle.reply_model.specs.Refusals.{Refusal, bytes_evidence, cursor_evidence,
 use Rattle.reply_model.specs.Writes.{ClientNumber, WriteKind}
 use Rattle.reply_model.specs.Reading.{Reading}
 pub use Rattle.reply_model.specs.Reads.{is_on}
-use Rattle.command_model.specs.Cursors.{Batch, GetMore, KillCursors}
+use Rattle.command_model.specs.Cursors.{Batch}
+use Rattle.command_model.specs.GetMore.{GetMore}
+use Rattle.command_model.specs.KillCursors.{KillCursors}
 use Rattle.reply_model.specs.Errors.{cursor_not_found, overflow, query_exceeded_memory}
 use Rattle.reply_model.specs.Cursors.{Cursor, open_cursor, ShowsNext, Kills}
 use Rattle.pipeline_model.specs.Batches.{IsBatch}

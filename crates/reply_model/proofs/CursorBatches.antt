@@ -10,7 +10,8 @@ use Rattle.command_model.specs.Errors.{cursor_not_found}
 use Rattle.command_model.specs.Refusals.{Refusal, cursor_evidence}
 use Rattle.command_model.specs.Requests.{Request}
 use Rattle.command_model.specs.Find.{Find}
-use Rattle.command_model.specs.Cursors.{Batch, GetMore}
+use Rattle.command_model.specs.Cursors.{Batch}
+use Rattle.command_model.specs.GetMore.{GetMore}
 use Rattle.command_model.specs.Command.{Command, hello_command, legacy_command, ping_command, end_sessions_command, write_command, find_command, count_command, more_command, kill_command, command_of}
 use Rattle.command_model.specs.Answers.{next_answer, refusal_answer, answer_document}
 use Rattle.chunk_model.specs.Catalogue.{Creation}

@@ -9,7 +9,9 @@ use Rattle.command_model.specs.ReplyParts.{operation_time}
 use Rattle.command_model.specs.Writes.{WriteCommand, WriteKind}
 use Rattle.command_model.specs.Reading.{Reading}
 use Rattle.command_model.specs.Find.{Find}
-use Rattle.command_model.specs.Cursors.{Batch, GetMore, KillCursors}
+use Rattle.command_model.specs.Cursors.{Batch}
+use Rattle.command_model.specs.GetMore.{GetMore}
+use Rattle.command_model.specs.KillCursors.{KillCursors}
 use Rattle.command_model.specs.AnswerParts.{document_items}
 use Rattle.command_model.specs.Command.{Command, hello_command, legacy_command, ping_command, end_sessions_command, write_command, find_command, count_command, more_command, kill_command, command_of}
 use Rattle.command_model.specs.Answers.{hello_answer, legacy_answer, done_answer, first_answer, next_answer, count_answer, killed_answer, refusal_answer, answer_document}

@@ -6,7 +6,9 @@ use Rattle.command_model.specs.Tree.{Fields}
 use Rattle.command_model.specs.Errors.{cursor_not_found}
 use Rattle.command_model.specs.Refusals.{cursor_evidence}
 use Rattle.command_model.specs.Times.{timestamp}
-use Rattle.command_model.specs.Cursors.{Batch, GetMore, KillCursors, number_items}
+use Rattle.command_model.specs.Cursors.{Batch}
+use Rattle.command_model.specs.GetMore.{GetMore}
+use Rattle.command_model.specs.KillCursors.{KillCursors, number_items}
 use Rattle.command_model.specs.Command.{find_command, more_command, kill_command, command_of}
 use Rattle.command_model.specs.Answers.{first_answer, next_answer, killed_answer, refusal_answer, answer_document}
 use Rattle.pipeline_model.specs.SortKeys.{comes_before}

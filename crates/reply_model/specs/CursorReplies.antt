@@ -3,7 +3,9 @@ use Rattle.std.specs.Prelude.{◌≡◌, ◌≢◌, pos, List, [], ◌∷◌, �
 use Rattle.command_model.specs.Tree.{Fields}
 use Rattle.command_model.specs.Command.{find_command, more_command, kill_command, command_of}
 use Rattle.command_model.specs.Find.{Find}
-use Rattle.command_model.specs.Cursors.{Batch, GetMore, KillCursors}
+use Rattle.command_model.specs.Cursors.{Batch}
+use Rattle.command_model.specs.GetMore.{GetMore}
+use Rattle.command_model.specs.KillCursors.{KillCursors}
 use Rattle.command_model.specs.Answers.{first_answer, next_answer, answer_document}
 use Rattle.history_model.specs.History.{IsIn}
 use Rattle.reply_model.specs.Exchanges.{Answered}

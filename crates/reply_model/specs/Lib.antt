@@ -21,7 +21,7 @@ pub use Rattle.chunk_model.specs.Versions
 pub use Rattle.command_model.specs.Errors
 pub use Rattle.command_model.specs.Reading
 pub use Rattle.command_model.specs.Find
-pub use Rattle.command_model.specs.Handshake
+pub use Rattle.command_model.specs.IsMaster
 pub use Rattle.history_model.specs.History
 pub use Rattle.command_model.specs.Statements
 pub use Rattle.command_model.specs.Writes

@@ -8,8 +8,10 @@ use Rattle.command_model.specs.Refusals.{Refusal, bytes_evidence, cursor_evidenc
 use Rattle.command_model.specs.Writes.{ClientNumber, WriteCommand}
 use Rattle.command_model.specs.Reading.{Reading, Batches}
 use Rattle.command_model.specs.Find.{Find}
-use Rattle.command_model.specs.Cursors.{Batch, GetMore, KillCursors}
-use Rattle.command_model.specs.Handshake.{Legacy}
+use Rattle.command_model.specs.Cursors.{Batch}
+use Rattle.command_model.specs.GetMore.{GetMore}
+use Rattle.command_model.specs.KillCursors.{KillCursors}
+use Rattle.command_model.specs.IsMaster.{Legacy}
 use Rattle.command_model.specs.Command.{Command, hello_command, legacy_command, ping_command, end_sessions_command, write_command, find_command, count_command, more_command, kill_command, command_of}
 use Rattle.command_model.specs.Answers.{hello_answer, legacy_answer, done_answer, first_answer, next_answer, count_answer, killed_answer, refusal_answer, answer_document}
 use Rattle.pipeline_model.specs.Runs.{listed, overflowed, count_documents}

@@ -6,7 +6,8 @@ use Rattle.command_model.specs.Errors.{cursor_not_found}
 use Rattle.command_model.specs.Refusals.{cursor_evidence}
 use Rattle.command_model.specs.Reading.{Reading}
 use Rattle.command_model.specs.Find.{Find}
-use Rattle.command_model.specs.Cursors.{Batch, GetMore}
+use Rattle.command_model.specs.Cursors.{Batch}
+use Rattle.command_model.specs.GetMore.{GetMore}
 use Rattle.command_model.specs.Answers.{first_answer, next_answer, killed_answer, refusal_answer, answer_document}
 use Rattle.command_model.specs.SampleCommands.{database_d}
 use Rattle.command_model.specs.SampleRequests.{request, with_id}

@@ -4,7 +4,7 @@ ghost use Rattle.std.specs.Prelude.{◌≡◌, ◌∷◌, List, [], codes, Some,
 ghost use Rattle.command_model.specs.SampleCommands.{database_d};
 ghost use Rattle.command_model.specs.SampleRequests.{with_id};
 ghost use Rattle.command_model.specs.Command.{find_command, more_command, kill_command, command_of};
-ghost use Rattle.command_model.specs.Cursors.{KillCursors};
+ghost use Rattle.command_model.specs.KillCursors.{KillCursors};
 ghost use Rattle.command_model.specs.Tree.{boolean_value, field, no_fields};
 ghost use Rattle.chunk_model.specs.SampleCollections.{creation};
 ghost use Rattle.reply_model.specs.Cursors.{Cursor};

@@ -3,7 +3,9 @@ use Rattle.std.proofs.Common.{Global, ◌≡◌, map, refl, sym, subst, ℕ, ℤ
 use Rattle.std.specs.Prelude.{Some, None, nat_lt}
 use Rattle.std.specs.Arc.{arc_value}
 use Rattle.std.specs.declared.vec.Vec.{Vec}
-use Rattle.command_model.specs.Cursors.{Batch, GetMore, KillCursors}
+use Rattle.command_model.specs.Cursors.{Batch}
+use Rattle.command_model.specs.GetMore.{GetMore}
+use Rattle.command_model.specs.KillCursors.{KillCursors}
 use Rattle.node_model.specs.Answers.{Answer, answer_document, next_answer, killed_answer, refusal_answer}
 use Rattle.node_model.specs.Command.{command_of}
 use Rattle.node_model.specs.Cursors.{Cursor, Kills, ShowsNext, open_cursor}

@@ -1,7 +1,7 @@
 use Rattle.std.proofs.Common.{refl, rules, ℤ, pos, get_or, w64, SFits}
 use Rattle.std.proofs.lemmas.Int.{to_z-of_z}
 use Rattle.bson_values.specs.Tree.{int64_value}
-use Rattle.command_model.specs.Cursors.{number_items}
+use Rattle.command_model.specs.KillCursors.{number_items}
 use Rattle.command_answers.proofs.Arrays.{all_made, one_more}
 use Rattle.command_answers.proofs.cursors.cursor_array.Goals as goal
 

@@ -1,6 +1,6 @@
 use Rattle.std.proofs.Common.{◌≡◌, drop}
 use Rattle.bson_values.specs.Tree.{joined_items}
-use Rattle.command_model.specs.Cursors.{number_items}
+use Rattle.command_model.specs.KillCursors.{number_items}
 use Rattle.command_answers.proofs.cursors.cursor_array.Given as goal
 
 abbrev pub invariant-loop-cursor : goal.invariant-loop-cursor

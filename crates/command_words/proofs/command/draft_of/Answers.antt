@@ -1,24 +1,46 @@
 use Rattle.std.proofs.Common.{◌≡◌, arith, Some}
 use Rattle.opmsg_frames.specs.Lists.{pairs_of}
 use Rattle.opmsg_frames.specs.RequestMeanings.{form_meant}
-use Rattle.command_model.specs.Command.{form_of, write_command, find_command, count_command, more_command, kill_command}
+use Rattle.command_model.specs.Command.{form_of, hello_command, legacy_command, ping_command, end_sessions_command, write_command, find_command, count_command, more_command, kill_command}
 use Rattle.command_model.specs.Forms.{made_into}
 use Rattle.command_answers.specs.Kinds.{kind_meant}
+use Rattle.command_model.specs.Hello.{hello_form}
+use Rattle.command_model.specs.IsMaster.{legacy_form}
+use Rattle.command_model.specs.Ping.{ping_form}
+use Rattle.command_model.specs.EndSessions.{end_sessions_form}
 use Rattle.command_model.specs.Writes.{write_form}
 use Rattle.command_model.specs.Find.{find_form}
 use Rattle.command_model.specs.Aggregate.{aggregate_form}
 use Rattle.command_model.specs.Count.{count_form}
-use Rattle.command_model.specs.Cursors.{more_form, kill_form}
-use Rattle.command_words.specs.Handshakes.{handshake_meant}
+use Rattle.command_model.specs.GetMore.{more_form}
+use Rattle.command_model.specs.KillCursors.{kill_form}
 use Rattle.command_words.specs.Drafts.{Drafts}
 use Rattle.command_words.proofs.Asked.{told_by}
 use Rattle.command_words.proofs.command.draft_of.Goals as goal
 
-pub returns-in-Handshake : goal.returns-in-Handshake
-returns-in-Handshake c =
-    let found : Some (handshake_meant c.in-Handshake.form) ≡ form_of c.own-item.result.name = rw (c.in-Handshake.is, c.as_str.ensures.text) at c.in-Some.ensures.found in
-    told_by (λ told. Drafts c.args.document.now (pairs_of c.args.sequences.now) c.read_by.result told) (handshake_meant c.in-Handshake.form) (form_meant c.args.sent) c.args.document.now c.fields.result.now c.own-item.result
+pub returns-in-Hello : goal.returns-in-Hello
+returns-in-Hello c =
+    let found : Some (made_into (λ hello. hello_command) hello_form) ≡ form_of c.own-item.result.name = rw (c.in-Hello.is, c.as_str.ensures.text) at c.in-Some.ensures.found in
+    told_by (λ told. Drafts c.args.document.now (pairs_of c.args.sequences.now) c.read_by.result told) (made_into (λ hello. hello_command) hello_form) (form_meant c.args.sent) c.args.document.now c.fields.result.now c.own-item.result
     (pairs_of c.args.sequences.now) (omega (arith, c.in-len1-up.len_at_least)) c.own-item.is c.fields.ensures.fields found (λ others is. c.read_by.ensures c.own-item.result.name others tt is)
+
+pub returns-in-IsMaster : goal.returns-in-IsMaster
+returns-in-IsMaster c =
+    let found : Some (made_into legacy_command legacy_form) ≡ form_of c.own-item.result.name = rw (c.in-IsMaster.is, c.as_str.ensures.text) at c.in-Some.ensures.found in
+    told_by (λ told. Drafts c.args.document.now (pairs_of c.args.sequences.now) c.read_by-in-IsMaster.result told) (made_into legacy_command legacy_form) (form_meant c.args.sent) c.args.document.now c.fields.result.now c.own-item.result
+    (pairs_of c.args.sequences.now) (omega (arith, c.in-len1-up.len_at_least)) c.own-item.is c.fields.ensures.fields found (λ others is. c.read_by-in-IsMaster.ensures c.own-item.result.name others tt is)
+
+pub returns-in-Ping : goal.returns-in-Ping
+returns-in-Ping c =
+    let found : Some (made_into (λ ping. ping_command) ping_form) ≡ form_of c.own-item.result.name = rw (c.in-Ping.is, c.as_str.ensures.text) at c.in-Some.ensures.found in
+    told_by (λ told. Drafts c.args.document.now (pairs_of c.args.sequences.now) c.read_by-in-Ping.result told) (made_into (λ ping. ping_command) ping_form) (form_meant c.args.sent) c.args.document.now c.fields.result.now c.own-item.result
+    (pairs_of c.args.sequences.now) (omega (arith, c.in-len1-up.len_at_least)) c.own-item.is c.fields.ensures.fields found (λ others is. c.read_by-in-Ping.ensures c.own-item.result.name others tt is)
+
+pub returns-in-EndSessions : goal.returns-in-EndSessions
+returns-in-EndSessions c =
+    let found : Some (made_into (λ end_sessions. end_sessions_command) end_sessions_form) ≡ form_of c.own-item.result.name = rw (c.in-EndSessions.is, c.as_str.ensures.text) at c.in-Some.ensures.found in
+    told_by (λ told. Drafts c.args.document.now (pairs_of c.args.sequences.now) c.read_by-in-EndSessions.result told) (made_into (λ end_sessions. end_sessions_command) end_sessions_form) (form_meant c.args.sent) c.args.document.now c.fields.result.now c.own-item.result
+    (pairs_of c.args.sequences.now) (omega (arith, c.in-len1-up.len_at_least)) c.own-item.is c.fields.ensures.fields found (λ others is. c.read_by-in-EndSessions.ensures c.own-item.result.name others tt is)
 
 pub returns-in-Write : goal.returns-in-Write
 returns-in-Write c =

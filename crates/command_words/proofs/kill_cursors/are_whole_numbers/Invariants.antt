@@ -1,6 +1,6 @@
 use Rattle.std.proofs.Common.{◌≡◌, drop}
 use Rattle.bson_values.specs.View.{items_of}
-use Rattle.command_model.specs.Cursors.{are_whole_numbers}
+use Rattle.command_model.specs.KillCursors.{are_whole_numbers}
 use Rattle.command_words.proofs.kill_cursors.are_whole_numbers.Given as goal
 
 abbrev pub invariant-loop-value : goal.invariant-loop-value

@@ -3,7 +3,7 @@ use Rattle.std.proofs.Common.{◌≡◌, ℕ, ℤ, List, inl, inr, refl, true, s
 use Rattle.std.specs.Prelude.{Bool, false, ◌||◌, Ok}
 use Rattle.command_model.specs.Tree.{Fields}
 use Rattle.command_model.specs.Find.{Find}
-use Rattle.command_model.specs.Cursors.{GetMore}
+use Rattle.command_model.specs.GetMore.{GetMore}
 use Rattle.command_model.specs.Command.{find_command, more_command}
 use Rattle.chunk_model.specs.Catalogue.{Creation}
 use Rattle.history_model.specs.History.{Entry}

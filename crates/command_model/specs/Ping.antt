@@ -1,0 +1,6 @@
+-- `ping` (MongoDB manual, "ping"): nothing is asked but the answer, `done_document`.
+use Rattle.command_model.specs.Forms.{CommandForm}
+use Rattle.command_model.specs.Handshake.{handshake_form}
+
+abbrev pub ping_form : CommandForm (Unit {0})
+ping_form = handshake_form (λ document. tt)
