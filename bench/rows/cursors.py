@@ -93,7 +93,7 @@ def stays():
         Ask('{update: "c", updates: [{q: {_id: 2}, u: {x: 7}}], $db: "d"}', "{n: 1, nModified: 1, ok: 1, operationTime: Timestamp(1000, 7)}"),
         more("1L", next_("{_id: 2, x: 2}", 4, identifier=1), ", batchSize: 1"), more("1L", next_("{_id: 3, x: 3}", 4)),
         find(SORTED, first("{_id: 1, x: 1}, {_id: 2, x: 7}, {_id: 4, x: 4}", 0, seconds=1005)),
-    ], clock=[1000000] * 6 + [1005000])
+    ], clock=[1000000] * 6 + [1005000], keeps=(0, 1, 2))
     lines += connection_row("a cursor of a time that was named", [
         Ask(inserted("{_id: 1}, {_id: 2}")), Ask(inserted("{_id: 3}")),
         find(f'{one}, readConcern: {{level: "snapshot", atClusterTime: Timestamp(1000, 3)}}', first(listed(1), 3, identifier=1)),

@@ -47,14 +47,14 @@ def examples():
         sequence("1L", done(3, 4)), sequence("1L", done(3, 4), identifier=1),
         find("sort: {_id: 1}", first("{_id: 1}, {_id: 2}, {_id: 3}", 0, seconds=1005)),
         sequence("2L", done(0, 1, errors((0, 11000)), 1005), words="under another number they are new"),
-    ], clock=[1000000, 1005000, 1005000, 1005000], keeps=(1,))
+    ], clock=[1000000, 1005000, 1005000, 1005000], keeps=(0, 1, 2))
     again = insert("{_id: 1}, {_id: 4}", "2L", done(1, 6, errors((0, 11000))), ", ordered: false", identifier=7)
     lines += connection_row("an error is told again, behind a delete of what it met; an older number", [
         sequence("1L", done(3, 4)), again, delete("{q: {_id: 1}, limit: 1}", None, done(1, 7)), again, find("filter: {_id: 1}", first("", 7)),
         sequence("1L", done(0, 7, errors((0, 225, 2)))),
         sequence("1L", done(0, 7, errors((0, 225, 2), (1, 225, 2), (2, 225, 2))), ", ordered: false"),
         count("", counted(3, 7)),
-    ], keeps=(1,))
+    ], keeps=(0, 1, 2))
     return lines + connection_row("an upsert, then an insert under its number: nothing is put in", [
         update("{q: {_id: 1}, u: {$set: {x: 1}}, upsert: true}", "3L", done(1, 2, ", nModified: 0, upserted: [{index: 0, _id: 1}]")),
         insert("{_id: 2}", "3L", done(1, 2)),
@@ -64,7 +64,7 @@ def examples():
             words="another update under the number: the key that the upsert put in"),
         delete("{q: {_id: 1}, limit: 1}", "3L", done(1, 2)), count("", counted(1, 2)),
         insert("{_id: 3}, {_id: 4}", "3L", done(2, 3), words="the second has a number that is new"), count("", counted(2, 3)),
-    ], keeps=(1,))
+    ], keeps=(0, 1, 2))
 
 
 def kinds():
@@ -78,13 +78,13 @@ def kinds():
         delete(removed, "3L", done(1, 6)), insert("{_id: 1}", None, done(1, 7)), delete(removed, "3L", done(1, 6)), find("", first("{_id: 1}", 7)),
         delete("{q: {_id: 8}, limit: 1}", "4L", done(0, 8), words="it met no document, and is an entry all the same"),
         insert("{_id: 8}", None, done(1, 9)), delete("{q: {_id: 8}, limit: 1}", "4L", done(0, 8)), count("", counted(2, 9)),
-    ])
+    ], keeps=(0, 1, 2))
     lines += connection_row("an insert, then updates under its number", [
         insert("{_id: 1}, {_id: 1}", "1L", done(1, 3, errors((1, 11000)))),
         update("{q: {_id: 1}, u: {$set: {x: 1}}}", "1L", done(1, 2, ", nModified: 0")),
         update("{q: {_id: 1}, u: {$set: {x: 1}}}, {q: {_id: 1}, u: {$set: {x: 1}}}", "1L", done(1, 3, ", nModified: 0" + errors((1, 11000)))),
         find("", first("{_id: 1}", 3)),
-    ])
+    ], keeps=(0, 1, 2))
     lines += connection_row("errors of changes, told again", [
         insert('{_id: 1, a: "t"}', None, done(1, 2)),
         update("{q: {_id: 1}, u: {$inc: {a: 1}}}", "1L", done(0, 3, ", nModified: 0" + errors((0, 14))), words="of what is no number"),
@@ -94,7 +94,7 @@ def kinds():
             done(0, 6, ", nModified: 0" + errors((0, 28), (1, 66))), ", ordered: false"),
         update("{q: {_id: 1}, u: {a: {}}}", "4L", done(1, 7, ", nModified: 1")),
         update('{q: {_id: 1}, u: {$set: {"a.b": 1}}}', "4L", done(1, 7, ", nModified: 1")), find("", first("{_id: 1, a: {}}", 7)),
-    ])
+    ], keeps=(0, 1, 2))
     return lines + connection_row("ordered to its first error; sent again without order, the rest is done", [
         insert("{_id: 1}, {_id: 1}, {_id: 2}", "1L", done(1, 3, errors((1, 11000)))),
         insert("{_id: 1}, {_id: 1}, {_id: 2}", "1L", done(1, 3, errors((1, 11000)))), count("", counted(1, 3)),
@@ -102,7 +102,7 @@ def kinds():
         insert("{_id: 1}, {_id: 1}, {_id: 2}", "1L", done(2, 4, errors((1, 11000))), ", ordered: false"),
         insert("{_id: 1}, {_id: 1}, {_id: 2}", "1L", done(1, 3, errors((1, 11000))), words="ordered, the error that is told again ends it"),
         count("", counted(2, 4)),
-    ], keeps=(1,))
+    ], keeps=(0, 1, 2))
 
 
 def numbers():

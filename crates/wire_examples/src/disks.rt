@@ -4,8 +4,11 @@ use crate::faults::RowFault;
 use crate::plans::DiskPlan;
 use crate::row::Row;
 use bson_values::Blob;
-use journal_frames::Journal;
+use byteorder::{ByteOrder, LittleEndian};
+use journal_frames::{Journal, OpenFault};
+use outside::log::RecordList;
 use outside_memory::MemDisk;
+use record_reader::{RecordFault, read_record};
 use std::alloc::Global;
 
 /// A disk of these bytes.
@@ -44,6 +47,64 @@ fn are_kept(row: &Row, disks: &[MemDisk]) -> bool {
     true
 }
 
+/// The records that an opening of the journal in these bytes finds; none if it is not opened.
+fn records_in(alloc: Global, file: &[u8]) -> Result<Option<RecordList>, RowFault> {
+    let disk = disk_of(alloc, file, &[])?;
+    match Journal::open(alloc, disk) {
+        Ok((_journal, found)) => Ok(Some(found)),
+        Err(OpenFault::Memory(_)) => Err(RowFault::Memory),
+        Err(OpenFault::Damaged { .. } | OpenFault::Disk(_)) => Ok(None),
+    }
+}
+
+/// The record that the bytes from a gate on begin with, and the bytes from the next gate on, by its length; none behind a gate that is not open.
+fn split_record(file: &[u8]) -> Option<(&[u8], &[u8])> {
+    if file.len() < 9 || file[0] != 1 {
+        return None;
+    }
+    let (head, behind) = file.split_at(9);
+    let length = LittleEndian::read_u64(&head[1..]);
+    if length >= behind.len() as u64 {
+        return None;
+    }
+    Some(behind.split_at(length as usize))
+}
+
+/// Whether the bytes, all of them, are read as one record.
+fn is_record(alloc: Global, bytes: &[u8]) -> Result<bool, RowFault> {
+    match read_record(alloc, bytes) {
+        Ok(_record) => Ok(true),
+        Err(RecordFault::NoRecord) => Ok(false),
+        Err(RecordFault::Memory) => Err(RowFault::Memory),
+    }
+}
+
+/// Whether these are just the records that stand in the bytes, by their gates and lengths, and each is read.
+fn are_read(alloc: Global, found: &[Blob], file: &[u8]) -> Result<bool, RowFault> {
+    let mut rest = file;
+    for bytes in found {
+        let Some((record, behind)) = split_record(rest) else {
+            return Ok(false);
+        };
+        if bytes.as_slice() != record || !is_record(alloc, record)? {
+            return Ok(false);
+        }
+        rest = behind;
+    }
+    Ok(rest.len() < 2 || rest[0] != 1)
+}
+
+/// Whether an opening of the disk's journal finds just the records of the file that the row tells, and each is read.
+fn is_read(alloc: Global, plan: &DiskPlan, disk: &MemDisk) -> Result<bool, RowFault> {
+    if plan.kept.is_none() {
+        return Ok(true);
+    }
+    match records_in(alloc, disk.bytes())? {
+        Some(found) => are_read(alloc, found.as_slice(), disk.bytes()),
+        None => Ok(false),
+    }
+}
+
 /// Whether these are the first of the records.
 fn are_first(found: &[Blob], records: &[Vec<u8>]) -> bool {
     if records.len() < found.len() {
@@ -62,18 +123,17 @@ fn is_found(alloc: Global, plan: &DiskPlan, disk: &MemDisk) -> Result<bool, RowF
     let Some((least, most)) = plan.found else {
         return Ok(true);
     };
-    let copy = disk_of(alloc, disk.bytes(), &[])?;
-    let Ok((_journal, found)) = Journal::open(alloc, copy) else {
+    let Some(found) = records_in(alloc, disk.bytes())? else {
         return Ok(false);
     };
     let count = found.as_slice().len() as u64;
     Ok(least <= count && count <= most && are_first(found.as_slice(), &plan.records))
 }
 
-/// Whether an opening of each disk's journal finds what it has to.
+/// Whether an opening of each disk's journal finds what it has to, and what it finds is read.
 fn are_found(alloc: Global, row: &Row, disks: &[MemDisk]) -> Result<bool, RowFault> {
     for (plan, disk) in row.disks.iter().zip(disks) {
-        if !is_found(alloc, plan, disk)? {
+        if !is_read(alloc, plan, disk)? || !is_found(alloc, plan, disk)? {
             return Ok(false);
         }
     }

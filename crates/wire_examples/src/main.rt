@@ -11,8 +11,9 @@
 //! - `cut`: in each cutting in two and byte by byte the same comes of it;
 //! - `fail` and `take`, `put` or a disk (0 the catalogue's, 1 the shard's, 2 the router's), and the number of a call that fails;
 //! - `narrow` and the most bytes that a put takes;
-//! - `file`, a disk and its bytes at the start; `keeps`, a disk and its bytes at the end; `size`, a disk and the number of
-//!   these; `untouched`: the bytes of the start, and no call that changed the disk or made it stay;
+//! - `file`, a disk and its bytes at the start; `keeps`, a disk and its bytes at the end: an opening of its journal finds just the records that
+//!   stand in these by their gates and lengths, and all bytes of each are read as one record; `size`, a disk and the number of its bytes at the end;
+//!   `untouched`: the bytes of the start, and no call that changed the disk or made it stay;
 //! - `untaken` and how many bytes were left to take;
 //! - `record`, a disk and a record, and `finds`, a disk and two numbers: an opening of that disk's journal finds the first of its records, as
 //!   many as the first number or more, and at most as many as the second;
