@@ -1,12 +1,11 @@
-//! The answers to `hello`, `isMaster`, `ping` and `endSessions` (MongoDB manual, "hello", "ping", "endSessions").
+//! What the answers to `hello` and `isMaster` share, and the answer to `ping` and `endSessions` (MongoDB manual, "hello", "ping",
+//! "endSessions").
 
-ghost use Rattle.std.specs.Prelude.{◌≡◌, IfOk, IsTrue, true, codes};
+ghost use Rattle.std.specs.Prelude.{◌≡◌, IfOk, IsTrue, true};
 ghost use Rattle.bson_values.specs.Tree.{boolean_value, no_fields, field};
 ghost use Rattle.bson_values.specs.Names.{has_no_zero};
 ghost use Rattle.bson_values.specs.View.{datum_of};
-ghost use Rattle.command_model.specs.Handshake.{done_document, handshake, hello_ok};
-ghost use Rattle.command_model.specs.Hello.{hello_document};
-ghost use Rattle.command_model.specs.IsMaster.{legacy_document};
+ghost use Rattle.command_model.specs.Handshake.{done_document, handshake};
 ghost use Rattle.command_model.specs.AnswerParts as shown;
 
 use crate::answer;
@@ -40,8 +39,8 @@ fn moment_shown(moment: u64) -> Value
     }
 }
 
-// A handshake, whose first field, which says that writes are taken, has that name.
-fn handshake_of(alloc: Global, writable: &str, moment: u64) -> Result<Document, Memory>
+/// A handshake, whose first field, which says that writes are taken, has that name. Fails for want of memory.
+pub(crate) fn handshake_of(alloc: Global, writable: &str, moment: u64) -> Result<Document, Memory>
     requires { IsTrue (has_no_zero writable.now) }
     ensures { IfOk result (λ d. d ≡ field writable.now (boolean_value true) (handshake moment no_fields)) }
 {
@@ -66,35 +65,6 @@ fn handshake_of(alloc: Global, writable: &str, moment: u64) -> Result<Document, 
     add_number(&mut answer, alloc, "minWireVersion", 0)?;
     add_number(&mut answer, alloc, "maxWireVersion", LAST_WIRE_VERSION)?;
     add_boolean(&mut answer, alloc, "readOnly", false)?;
-    Ok(answer)
-}
-
-/// The answer to `hello` at a moment. Fails for want of memory.
-pub(crate) fn hello_answer(alloc: Global, moment: u64) -> Result<Document, Memory>
-    ensures { IfOk result (λ d. d ≡ hello_document moment) }
-{
-    let mut answer = handshake_of(alloc, "isWritablePrimary", moment)?;
-    add_number(&mut answer, alloc, "ok", 1)?;
-    Ok(answer)
-}
-
-// The handshake in the old words, and `helloOk`, if it is shown.
-fn old_handshake(alloc: Global, moment: u64, shown: bool) -> Result<Document, Memory>
-    ensures { IfOk result (λ d. d ≡ field (codes "ismaster") (boolean_value true) (handshake moment (hello_ok shown no_fields))) }
-{
-    let mut answer = handshake_of(alloc, "ismaster", moment)?;
-    if shown {
-        add_boolean(&mut answer, alloc, "helloOk", true)?;
-    }
-    Ok(answer)
-}
-
-/// The answer to `isMaster` at a moment. Fails for want of memory.
-pub(crate) fn legacy_answer(alloc: Global, moment: u64, shown: bool) -> Result<Document, Memory>
-    ensures { IfOk result (λ d. d ≡ legacy_document moment shown) }
-{
-    let mut answer = old_handshake(alloc, moment, shown)?;
-    add_number(&mut answer, alloc, "ok", 1)?;
     Ok(answer)
 }
 

@@ -4,9 +4,11 @@
 mod answer;
 mod batches;
 mod counts;
-mod cursors;
 mod documents;
 mod handshake;
+mod hello;
+mod is_master;
+mod kill_cursors;
 mod parts;
 mod refusal;
 mod writes;

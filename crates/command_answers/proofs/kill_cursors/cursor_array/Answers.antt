@@ -3,7 +3,7 @@ use Rattle.std.proofs.lemmas.Int.{to_z-of_z}
 use Rattle.bson_values.specs.Tree.{int64_value}
 use Rattle.command_model.specs.KillCursors.{number_items}
 use Rattle.command_answers.proofs.Arrays.{all_made, one_more}
-use Rattle.command_answers.proofs.cursors.cursor_array.Goals as goal
+use Rattle.command_answers.proofs.kill_cursors.cursor_array.Goals as goal
 
 pub loop-cursor-preserved : goal.loop-cursor-preserved
 loop-cursor-preserved c =
