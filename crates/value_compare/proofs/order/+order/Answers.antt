@@ -1,5 +1,5 @@
 -- The two pairs of one type that are compared at once.
-use Rattle.std.proofs.Common.{◌≡◌, refl, sym, Ordering, Less, Equal, Greater}
+use Rattle.std.proofs.Common.{◌≡◌, refl, Ordering, Less, Equal, Greater}
 use Rattle.std.specs.Ordering.{ordering_then}
 use Rattle.value_compare.proofs.order.+order.Goals as goal
 
