@@ -1,6 +1,6 @@
 //! The names of operators, and the operands of those that hold no queries and no tests.
 
-ghost use Rattle.std.specs.Prelude.{◌≡◌, Result, filter_map, is_some, option_map};
+ghost use Rattle.std.specs.Prelude.{◌≡◌, Result, drop, filter_map, is_some, option_map};
 ghost use Rattle.bson_values.specs.View.{datum_of};
 ghost use Rattle.bson_values.specs.Tree.{Fields};
 ghost use Rattle.query_model.specs.Paths.{as_document, begins_with_dollar, elements};
@@ -51,36 +51,44 @@ pub enum Operator {
 pub fn operator_named(name: &str) -> Option<Operator>
     ensures { option_map operator_of result ≡ named operators name.now }
 {
-    let operator = if "$eq" == name {
-        Operator::Plain(Plain::Eq)
+    if "$eq" == name {
+        Some(Operator::Plain(Plain::Eq))
     } else if "$ne" == name {
-        Operator::Plain(Plain::Ne)
+        Some(Operator::Plain(Plain::Ne))
     } else if "$gt" == name {
-        Operator::Plain(Plain::Gt)
+        Some(Operator::Plain(Plain::Gt))
     } else if "$gte" == name {
-        Operator::Plain(Plain::Gte)
+        Some(Operator::Plain(Plain::Gte))
     } else if "$lt" == name {
-        Operator::Plain(Plain::Lt)
+        Some(Operator::Plain(Plain::Lt))
     } else if "$lte" == name {
-        Operator::Plain(Plain::Lte)
-    } else if "$in" == name {
-        Operator::Plain(Plain::In)
-    } else if "$nin" == name {
-        Operator::Plain(Plain::Nin)
-    } else if "$all" == name {
-        Operator::Plain(Plain::All)
-    } else if "$size" == name {
-        Operator::Plain(Plain::Size)
-    } else if "$exists" == name {
-        Operator::Plain(Plain::Exists)
-    } else if "$elemMatch" == name {
-        Operator::Nested(Nested::ElemMatch)
-    } else if "$not" == name {
-        Operator::Nested(Nested::Not)
+        Some(Operator::Plain(Plain::Lte))
     } else {
-        return None;
-    };
-    Some(operator)
+        further_operator_named(name)
+    }
+}
+
+// The operator of that name, of those that do more than compare with one value.
+fn further_operator_named(name: &str) -> Option<Operator>
+    ensures { option_map operator_of result ≡ named (drop 6 operators) name.now }
+{
+    if "$in" == name {
+        Some(Operator::Plain(Plain::In))
+    } else if "$nin" == name {
+        Some(Operator::Plain(Plain::Nin))
+    } else if "$all" == name {
+        Some(Operator::Plain(Plain::All))
+    } else if "$size" == name {
+        Some(Operator::Plain(Plain::Size))
+    } else if "$exists" == name {
+        Some(Operator::Plain(Plain::Exists))
+    } else if "$elemMatch" == name {
+        Some(Operator::Nested(Nested::ElemMatch))
+    } else if "$not" == name {
+        Some(Operator::Nested(Nested::Not))
+    } else {
+        None
+    }
 }
 
 /// The connective of that name.
