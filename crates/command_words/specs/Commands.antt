@@ -15,7 +15,7 @@ use Rattle.command_words.specs.declared.writes.WriteCommand as program_writes
 use Rattle.command_words.specs.declared.reading.Reading as program_readings
 use Rattle.command_words.specs.declared.find.Find as program_finds
 use Rattle.command_words.specs.declared.get_more.GetMore as program_mores
-use Rattle.command_words.specs.declared.kill_kills.KillCursors as program_kills
+use Rattle.command_words.specs.declared.kill_cursors.KillCursors as program_kills
 use Rattle.command_words.specs.declared.command.Command.{Command}
 use Rattle.command_words.specs.declared.command.Command.TheVariants.{Hello, Legacy, Ping, EndSessions, Write, Find, Count, GetMore, KillCursors}
 use Rattle.command_words.specs.declared.fault.CommandFault.{CommandFault}
