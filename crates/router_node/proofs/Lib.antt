@@ -9,3 +9,4 @@ mod Started
 mod Shown
 mod Reached
 mod Told
+mod Again

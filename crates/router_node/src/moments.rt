@@ -32,7 +32,7 @@ impl RouterNode {
                 let letter = asker.asks_table(time, namespace, &request.work)?;
                 Ok(Some(letter))
             }
-            Wait::ForShards => match self.tables.find(namespace) {
+            Wait::ForShards => match self.table_of(namespace) {
                 Some(table) => {
                     asker.asks_shards(self.alloc, time, count, namespace, table, &request.work)
                 }
