@@ -95,15 +95,20 @@ impl Collection {
         self.document_at(*place as usize, time)
     }
 
-    /// The documents that stand under the keys of the span at the time, in the order of keys, each shared. Fails for want of memory.
-    pub fn scan_at(&self, span: &Span, time: Time) -> Result<Vec<Arc<Document, Global>>, Memory>
-        ensures { IfOk result (λ ds. ListsDocuments (λ k. if inside (span_of span.now) k then at_in self.now k time.0 else None) (map arc_value ds.items)) }
+    /// The documents that stand under the keys of the span at the time, in the order of keys. Fails for want of memory.
+    pub fn scan_at<'a>(
+        &'a self,
+        span: &Span,
+        time: Time,
+    ) -> Result<Vec<&'a Arc<Document, Global>>, Memory>
+        ensures { IfOk result (λ ds. ListsDocuments (λ k. if inside (span_of span.now) k then at_in self.now k time.0 else None)
+            (map (λ d. arc_value d.now) ds.items)) }
     {
         let mut documents = Vec::new(self.alloc);
         for (key, place) in self.places.range(edges(span)) {
             let _value = key.value();
             if let Some(document) = self.document_at(*place as usize, time) {
-                documents.push(Arc::try_clone(document)?)?;
+                documents.push(document)?;
             }
         }
         Ok(documents)

@@ -8,7 +8,7 @@ use Rattle.node_model.specs.Tree.{Fields}
 use Rattle.node_model.specs.Catalogue.{Creation}
 use Rattle.node_model.specs.Tables.{Table, first_shard}
 use Rattle.node_model.specs.Documents.{documents_at}
-use Rattle.node_model.specs.Halves.{Half, Rows, may_stand_in}
+use Rattle.node_model.specs.Halves.{Half, Rows, kept_at_head, may_stand_in}
 use Rattle.node_model.specs.Writes.{WriteCommand}
 use Rattle.node_model.specs.History.{StatementNumber, Entry, IsIn}
 use Rattle.node_model.specs.Exchanges.{RequestId, Asked, number_for, is_session_of, entries_by}
@@ -195,7 +195,7 @@ shown_grows v w asked more sender early late id namespace at half documents late
     record {
       read = read_grows v w asked more id namespace at half later s.read;
       owner = s.owner;
-      documents_are = s.documents_are ∙ ap (λ l. filter (may_stand_in half.span) l) (sym (settled_stay v w namespace at later s.settled));
+      documents_are = s.documents_are ∙ ap (λ l. kept_at_head half.stages (filter (may_stand_in half.span) l)) (sym (settled_stay v w namespace at later s.settled));
       settled = omega arith;
       past = omega arith;
     }

@@ -15,6 +15,7 @@ use Rattle.pipeline_model.proofs.PartRows.{chain_of, one_way_of}
 use Rattle.pipeline_model.proofs.OrderedLists.{sorted_from_up}
 use Rattle.pipeline_model.specs.Halves.{Half, Rows, IsHalf, may_stand_in, MergesInTurn}
 use Rattle.pipeline_model.specs.Split.{split}
+use Rattle.pipeline_model.proofs.KeptAtHead.{half_of_kept}
 use Rattle.pipeline_model.proofs.MergedHalves.{halves_merge}
 use Rattle.pipeline_model.proofs.OutsideSpan.{split_half_outside, split_run_outside}
 use Rattle.command_model.specs.Cursors.{Batch}
@@ -69,7 +70,8 @@ made_for v asked a sender time id namespace named at stages telling rows differe
     let half : m.half ≡ (split w.read.stages).0 = r.shows ∙ ap (λ (x : Reading). (split x.stages).0) read in
     let name : m.namespace ≡ w.read.namespace = r.name ∙ ap (λ (x : Reading). x.namespace) read in
     let here : IsHalf m.half (filter (may_stand_in m.half.span) (documents_at (entries_in v first_shard) m.namespace m.at)) rows =
-    subst (λ l. IsHalf m.half l rows) s.documents_are m.makes in
+    (half_of_kept m.half (filter (may_stand_in m.half.span) (documents_at (entries_in v first_shard) m.namespace m.at)) rows).0
+    (subst (λ l. IsHalf m.half l rows) s.documents_are m.makes) in
     let settled = s.settled in
     let past = s.past in
     record {

@@ -5,7 +5,7 @@ use Rattle.reply_model.specs.Notes.{Seen, new_statement, done_before, older_than
 use Rattle.reply_model.specs.History.{StatementNumber, Operation, Outcome, key_written, effect, Entry, document_left}
 use Rattle.reply_model.specs.Outcomes.{Done, done_of, was_done, is_older}
 use Rattle.reply_model.specs.Right.{ends}
-use Rattle.pipeline_model.specs.Halves.{Half, may_stand_in}
+use Rattle.pipeline_model.specs.Halves.{Half, kept_at_head, may_stand_in}
 use Rattle.history_model.specs.Documents as documents
 use Rattle.node_model.specs.Letters.{Statement}
 
@@ -58,6 +58,6 @@ pub data Repeats (ordered : Bool) (entries : List Entry) : List Statement → Li
   repeats : (s : Statement) (rest : List Statement) (d : Done) (dones : List Done) → seen_before s.number entries ≡ Some d → ends ordered d ≡ false → Repeats ordered entries rest dones → Repeats ordered entries (s ∷ rest) (d ∷ dones)
   ends_repeat : (s : Statement) (rest : List Statement) (d : Done) → seen_before s.number entries ≡ Some d → ends ordered d ≡ true → Repeats ordered entries (s ∷ rest) (d ∷ [])
 
--- the documents of a half at a time: those that may stand in its span
+-- the documents of a half at a time: of those that may stand in its span, those that the filter at the head of its stages keeps
 abbrev pub documents_at : List Entry → (namespace : List ℕ) → (at : ℕ) → Half → List Fields
-documents_at entries namespace at half = filter (may_stand_in half.span) (documents.documents_at entries namespace at)
+documents_at entries namespace at half = kept_at_head half.stages (filter (may_stand_in half.span) (documents.documents_at entries namespace at))

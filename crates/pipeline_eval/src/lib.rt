@@ -4,6 +4,7 @@
 mod answers;
 mod fault;
 mod half;
+mod kept;
 mod lengths;
 mod rows;
 mod runs;
@@ -14,6 +15,7 @@ mod tops;
 pub use answers::eval;
 pub use fault::EvalFault;
 pub use half::{eval_half, share_all};
+pub use kept::share_kept;
 pub use lengths::MOST_BYTES_ANSWERED;
 pub use rows::{PartCount, Rows};
 pub use sorting::sorted;

@@ -5,6 +5,7 @@ pub mod EachElement
 pub mod Fronts
 pub mod JoinedCells
 pub mod JoinedRows
+pub mod KeptAtHead
 pub mod KeptRows
 pub mod MergedHalves
 pub mod OneBatch

@@ -1,13 +1,14 @@
 -- The half of a pipeline that each part of the documents gets, and the merge of what the halves gave (MongoDB manual, "Aggregation
 -- Pipeline and Sharded Collections").
-use Rattle.std.specs.Prelude.{◌≡◌, ℕ, List, [], length, flat_map, sum_by, IsPermutation, IsSortedBy, Bool, true, Some, None, Ok, Err}
+use Rattle.std.specs.Prelude.{◌≡◌, ℕ, List, [], ◌∷◌, length, filter, flat_map, sum_by, IsPermutation, IsSortedBy, Bool, true, Some, None, Ok, Err}
 use Rattle.std.specs.List.Sorted.{IsStableBy}
 use Rattle.bson_model.specs.Tree.{Fields}
 use Rattle.value_model.specs.Keys.{Span, inside, valid_key}
+use Rattle.query_model.specs.Holds.{holds}
 use Rattle.pipeline_model.specs.SortKeys.{SortSpec, comes_before}
 use Rattle.pipeline_model.specs.GroupSpecs.{GroupSpec}
 use Rattle.pipeline_model.specs.Groups.{PartialRow, IsGrouped, IsJoined, documents_of}
-use Rattle.pipeline_model.specs.Stages.{Stage}
+use Rattle.pipeline_model.specs.Stages.{Stage, match_stage}
 use Rattle.pipeline_model.specs.Runs.{Outcome, listed, overflowed, Runs, count_documents}
 
 -- what a half gives
@@ -43,6 +44,11 @@ pub record IsHalf (half : Half) (docs : List Fields) (rows : Rows) : Type 0 wher
 -- the documents that may stand in the span: those with a key outside do not
 abbrev pub may_stand_in : Span → Fields → Bool
 may_stand_in span document = elim (valid_key document) [ Ok key ↦ inside span key | Err fault ↦ true ]
+
+-- what the filter at the head of some stages keeps of the documents, where one stands there
+abbrev pub kept_at_head : List Stage → List Fields → List Fields
+kept_at_head (match_stage asked ∷ rest) docs = filter (holds asked) docs
+kept_at_head stages docs = docs
 
 -- how rows are put together
 pub data Joining : Type 0 where

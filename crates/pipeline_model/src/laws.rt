@@ -8,7 +8,7 @@ ghost use Rattle.pipeline_model.specs.Projections.{Projection, project};
 ghost use Rattle.pipeline_model.specs.SortKeys.{SortSpec, order_keys};
 ghost use Rattle.pipeline_model.specs.Stages.{Stage, has_int64, is_plain_stage, read_pipeline};
 ghost use Rattle.pipeline_model.specs.Runs.{Outcome, Runs, listed, overflowed};
-ghost use Rattle.pipeline_model.specs.Halves.{Half, IsHalf, Merge, Merges, Rows, may_stand_in};
+ghost use Rattle.pipeline_model.specs.Halves.{Half, IsHalf, Merge, Merges, Rows, kept_at_head, may_stand_in};
 ghost use Rattle.pipeline_model.specs.Split.{split};
 ghost use Rattle.pipeline_model.specs.Batches.{IsBatch};
 
@@ -42,6 +42,12 @@ pub fn outside_the_span_adds_nothing()
         → split stages ≡ (half, merge) → IsHalf half (filter (may_stand_in half.span) docs) rows ↔ IsHalf half docs rows }
     ensures whole { (stages : List Stage) (half : Half) (merge : Merge) (docs : List Fields) (out : Outcome)
         → split stages ≡ (half, merge) → Runs stages (filter (may_stand_in half.span) docs) out ↔ Runs stages docs out }
+{}
+
+/// What the filter at the head of a half's stages drops adds nothing to what the half gives: of what it keeps the half gives the same.
+#[tactic(auto, using(crate::proofs::KeptAtHead::half_of_kept))]
+pub fn what_the_head_drops_adds_nothing()
+    ensures { (half : Half) (docs : List Fields) (rows : Rows) → IsHalf half (kept_at_head half.stages docs) rows ↔ IsHalf half docs rows }
 {}
 
 /// The half of a pipeline never overflows: its rows have exact sums.

@@ -15,6 +15,7 @@ use crate::node::ShardNode;
 use crate::plan::Plan;
 use bson_values::Memory;
 use cluster_base::{NodeId, Time};
+use pipeline_eval::share_kept;
 use pipeline_lang::Half;
 use protocol_model::{Body, HalfAsk, Message, ReadAsk, ReadRows, TimeAsk, TimeTold};
 use shard_asks::answer_half;
@@ -33,7 +34,8 @@ impl ShardNode {
         }
     }
 
-    // The documents of a read on the table that it was sent with, taken to make its half of. Fails for want of memory.
+    // The documents of a read on the table that it was sent with, taken to make its half of: those that the filter at the head of the half
+    // keeps, since it costs less to ask it than to share a document. Fails for want of memory.
     pub(crate) fn plan_read(&self, time: Time, ask: &ReadAsk) -> Result<Plan, Memory>
         requires fits { verdict_of (sent_meant ask.now.sent) self.now.me.0 (table_of ask.now.namespace self.now.tables.tables) ≡ fits }
         ensures planned { (m : Letter) → m.body ≡ read_ask_meant ask.now → time.0 ≡ heard (shard_meant self.now) m →
@@ -41,9 +43,10 @@ impl ShardNode {
         ensures follows { IfOk result (λ p. Follows self.now p) }
     {
         let asked: &Half = &ask.half;
-        let documents = self
+        let found = self
             .store
             .documents_at(&ask.namespace, &asked.span, ask.at)?;
+        let documents = share_kept(self.alloc, asked, found)?;
         let half = HalfAsk {
             id: ask.id,
             turn: ask.turn,

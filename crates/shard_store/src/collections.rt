@@ -52,16 +52,15 @@ impl Collections {
         self.by_name.get(namespace)?.get_at(key, time)
     }
 
-    /// The documents that stand in the namespace under the keys of the span at the time, in the order of keys, each shared. Fails for want
-    /// of memory.
-    pub fn scan_at(
-        &self,
+    /// The documents that stand in the namespace under the keys of the span at the time, in the order of keys. Fails for want of memory.
+    pub fn scan_at<'a>(
+        &'a self,
         namespace: &str,
         span: &Span,
         time: Time,
-    ) -> Result<Vec<Arc<Document, Global>>, Memory>
+    ) -> Result<Vec<&'a Arc<Document, Global>>, Memory>
         ensures { IfOk result (λ ds. ListsDocuments (λ k. if inside (span_of span.now) k then shown_in self.now namespace.now k time.0 else None)
-            (map arc_value ds.items)) }
+            (map (λ d. arc_value d.now) ds.items)) }
     {
         match self.by_name.get(namespace) {
             Some(collection) => collection.scan_at(span, time),

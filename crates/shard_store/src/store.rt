@@ -105,15 +105,14 @@ impl ShardStore {
         self.collections.get_at(namespace.as_str(), key, self.last)
     }
 
-    /// The documents that stood in the namespace at a time and may stand in the span, in the order of keys, each shared. Fails for want of
-    /// memory.
-    pub fn documents_at(
-        &self,
+    /// The documents that stood in the namespace at a time and may stand in the span, in the order of keys. Fails for want of memory.
+    pub fn documents_at<'a>(
+        &'a self,
         namespace: &Namespace,
         span: &Span,
         time: Time,
-    ) -> Result<Vec<Arc<Document, Global>>, Memory>
-        ensures { IfOk result (λ ds. map arc_value ds.items
+    ) -> Result<Vec<&'a Arc<Document, Global>>, Memory>
+        ensures { IfOk result (λ ds. map (λ d. arc_value d.now) ds.items
             ≡ filter (may_stand_in (span_of span.now)) (documents_at (entries_of self.now) namespace.now time.0)) }
     {
         self.collections.scan_at(namespace.as_str(), span, time)

@@ -21,7 +21,7 @@ returns c =
     let es = c.args.self.now.places.entries in
     let cs = c.args.self.now.chains.items in
     let t = c.args.time.0 in
-    let found = map (λ d. arc_value d) c.loop-key.documents.items in
+    let found = map (λ d. arc_value d.now) c.loop-key.documents.items in
     let all = c.into_iter-key-iterator.result in
     let between : all ≡ entries_between order (first_edge span) (last_edge span) es =
     c.into_iter-key-iterator.ensures.into_iter_gives ∙ c.range-key-items.ensures.between tt

@@ -15,7 +15,7 @@ returns c =
     let namespace = c.args.namespace.now in
     let time = c.args.time.0 in
     IfOk-weaker c.scan_at.result _ _
-    (λ list listed. span_documents span (entries_kept store.shard.0 store.entries.items) namespace time (map arc_value list.items)
+    (λ list listed. span_documents span (entries_kept store.shard.0 store.entries.items) namespace time (map (λ d. arc_value d.now) list.items)
     (same_listing _ _ _
     (λ key. ap (λ found. if inside span key then found else None)
     (ap (λ n. shown_in store.collections n key time) c.as_str.ensures.text ∙ store.shown namespace key time)) listed))
