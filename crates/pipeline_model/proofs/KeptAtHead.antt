@@ -28,6 +28,6 @@ runs_of_kept (stage ∷ rest) docs out = (λ h. h, λ h. h)
 
 pub half_of_kept : (half : Half) (docs : List Fields) (rows : Rows) → IsHalf half (kept_at_head half.stages docs) rows ↔ IsHalf half docs rows
 half_of_kept half docs rows = (
-  λ h. record { left = h.left; runs = (runs_of_kept half.stages docs (listed h.left)).0 h.runs; ends = h.ends; },
-  λ h. record { left = h.left; runs = (runs_of_kept half.stages docs (listed h.left)).1 h.runs; ends = h.ends; },
+  λ h. record { left = h.left; runs = (runs_of_kept half.stages docs (listed h.left)).0 h.runs; ends = h.ends },
+  λ h. record { left = h.left; runs = (runs_of_kept half.stages docs (listed h.left)).1 h.runs; ends = h.ends },
 )
