@@ -32,7 +32,7 @@ fn passing<'a>(
     asked: &Expr,
     documents: Vec<&'a Arc<Document, Global>>,
 ) -> Vec<&'a Arc<Document, Global>>
-    ensures { map (λ d. arc_value d.now) result.items ≡ filter (holds asked.now) (map (λ d. arc_value d.now) documents.items) }
+    ensures { map (λ d. arc_value d.now) result.items ≡ filter (holds asked.now) (map (λ d. arc_value d.now) documents.entry.items) }
 {
     let mut left = documents;
     left.retain(|document| holds(asked, document));
@@ -46,7 +46,7 @@ pub fn share_kept(
     half: &Half,
     documents: Vec<&Arc<Document, Global>>,
 ) -> Result<Vec<Arc<Document, Global>>, Memory>
-    ensures { IfOk result (λ kept. map arc_value kept.items ≡ kept_at_head (half_of half.now).stages (map (λ d. arc_value d.now) documents.items)) }
+    ensures { IfOk result (λ kept. map arc_value kept.items ≡ kept_at_head (half_of half.now).stages (map (λ d. arc_value d.now) documents.entry.items)) }
 {
     match half.stages.stages().split_first() {
         Some((Stage::Match(asked), _rest)) => share_found(alloc, &passing(asked, documents)),
