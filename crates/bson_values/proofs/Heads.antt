@@ -1,10 +1,11 @@
--- A field, and a value of an array, behind what stands before it.
-use Rattle.std.proofs.Common.{◌≡◌, ℕ, ◌-◌, List, Option, Some, None, Result, Ok, Err, refl, ◌∙◌, ap}
+-- A field, and a value of an array, behind what stands before it; and values of types that hold no values, at any level.
+use Rattle.std.proofs.Common.{◌≡◌, ℕ, zero, suc, ◌-◌, List, Option, Some, None, Result, Ok, Err, refl, ◌∙◌, ap}
 use Rattle.bson_model.specs.Tree.{Datum}
 use Rattle.bson_values.specs.declared.fault.BsonFault.{BsonFault}
 use Rattle.bson_values.specs.declared.element_type.ElementType.{ElementType}
 use Rattle.bson_values.specs.ReadFaults.{◌>>=◌}
-use Rattle.bson_values.specs.Readers.{Reader, name_at, index_at, type_at, name_behind, head_at, index_behind, item_head_at, field_behind, field_at, item_behind, item_at}
+use Rattle.bson_values.specs.declared.element_type.ElementType.TheVariants as types
+use Rattle.bson_values.specs.Readers.{Reader, name_at, index_at, type_at, name_behind, head_at, index_behind, item_head_at, field_behind, field_at, item_behind, item_at, scalar_at, value_at}
 
 -- ---- fields
 
@@ -83,3 +84,15 @@ pub item_behind_head : (total room : ℕ) (value_at : Reader) (bytes : List ℕ)
 item_behind_head total room value_at bytes head read h e =
     item_by_head total room value_at bytes
     ∙ (ap (λ (r : Result (Option (ElementType × ℕ) × List ℕ) BsonFault). r >>= λ h. item_from value_at h.0 h.1) h ∙ e)
+
+-- ---- values that hold no values
+
+pub int32_value_at : (total level room : ℕ) (bytes : List ℕ) → value_at total level types.Int32 room bytes ≡ scalar_at total types.Int32 room bytes
+unfolding value_at
+int32_value_at total zero room bytes = refl
+int32_value_at total (suc level) room bytes = refl
+
+pub text_value_at : (total level room : ℕ) (bytes : List ℕ) → value_at total level types.Text room bytes ≡ scalar_at total types.Text room bytes
+unfolding value_at
+text_value_at total zero room bytes = refl
+text_value_at total (suc level) room bytes = refl

@@ -17,6 +17,7 @@ use std::str;
 
 /// Judges a length that stands at an offset, and gives it with what stands behind it.
 #[tactic(auto, unfolding(crate::specs::Readers::length_within))]
+#[inline(always)]
 fn check_length(
     least: usize,
     beside: usize,
@@ -39,6 +40,7 @@ fn check_length(
 
 /// Reads a length that is at least so much, and has so many bytes beside those that it counts.
 #[tactic(auto, unfolding(crate::specs::Readers::length_at))]
+#[inline(always)]
 pub fn read_length(
     total: usize,
     least: usize,
@@ -70,6 +72,7 @@ pub fn read_length(
 
 /// Reads so many bytes.
 #[tactic(auto, unfolding(crate::specs::Readers::fixed_at))]
+#[inline(always)]
 pub fn read_fixed(
     total: usize,
     count: usize,
@@ -97,6 +100,7 @@ pub fn read_fixed(
 
 /// The text that the bytes are.
 #[tactic(auto, unfolding(crate::specs::Readers::utf8_at), using(crate::proofs::Utf8Tests::utf8_tests))]
+#[inline(always)]
 pub fn read_utf8(offset: usize, bytes: &[u8]) -> Result<&str, BsonFault>
     ensures gives { Gives (λ s. s.now) result (utf8_at offset bytes.now) }
     ensures same { IfOk result (λ s. s.now ≡ bytes.now) }
@@ -109,6 +113,7 @@ pub fn read_utf8(offset: usize, bytes: &[u8]) -> Result<&str, BsonFault>
 
 /// Reads a text whose length with its final 00 is known.
 #[tactic(auto, unfolding(crate::specs::Readers::text_at))]
+#[inline(always)]
 pub fn read_text(total: usize, count: usize, bytes: &[u8]) -> Result<(&str, &[u8]), BsonFault>
     requires total { length bytes.now ≤ total }
     requires count { 0 < count }
@@ -130,6 +135,7 @@ pub fn read_text(total: usize, count: usize, bytes: &[u8]) -> Result<(&str, &[u8
 
 /// Reads a string with its length (BSON 1.1, `string`).
 #[tactic(auto, unfolding(crate::specs::Readers::string_at))]
+#[inline(always)]
 pub fn read_string(total: usize, room: usize, bytes: &[u8]) -> Result<(&str, &[u8]), BsonFault>
     requires total { length bytes.now ≤ total }
     ensures gives { Gives (λ x. (x.0.now, x.1.now)) result (string_at total room bytes.now) }
@@ -140,6 +146,7 @@ pub fn read_string(total: usize, room: usize, bytes: &[u8]) -> Result<(&str, &[u
 }
 
 /// Finds a name's end, and gives the bytes before and behind it (BSON 1.1, `cstring`).
+#[inline(always)]
 pub fn scan_name(
     total: usize,
     offset: usize,
@@ -166,6 +173,7 @@ pub fn scan_name(
 
 /// What room is left behind a name, which is some.
 #[tactic(auto, unfolding(crate::specs::Readers::room_at))]
+#[inline(always)]
 pub fn check_room(total: usize, room: usize, rest: &[u8]) -> Result<usize, BsonFault>
     requires total { length rest.now < total }
     ensures gives { Gives (λ x. x) result (room_at total room rest.now) }
@@ -181,6 +189,7 @@ pub fn check_room(total: usize, room: usize, rest: &[u8]) -> Result<usize, BsonF
 
 /// Passes a name in an array, and gives the room and the bytes behind it.
 #[tactic(auto, unfolding(crate::specs::Readers::index_at))]
+#[inline(always)]
 pub fn skip_name(total: usize, room: usize, bytes: &[u8]) -> Result<(usize, &[u8]), BsonFault>
     requires total { length bytes.now ≤ total }
     ensures gives { Gives (λ x. (x.0, x.1.now)) result (index_at total room bytes.now) }
@@ -194,6 +203,7 @@ pub fn skip_name(total: usize, room: usize, bytes: &[u8]) -> Result<(usize, &[u8
 
 /// Reads a name in a document, and gives its text, and the room and the bytes behind it.
 #[tactic(auto, unfolding(crate::specs::Readers::name_at))]
+#[inline(always)]
 pub fn read_name(total: usize, room: usize, bytes: &[u8]) -> Result<(&str, usize, &[u8]), BsonFault>
     requires total { length bytes.now ≤ total }
     ensures gives { Gives (λ x. (x.0.now, x.1, x.2.now)) result (name_at total room bytes.now) }
@@ -209,6 +219,7 @@ pub fn read_name(total: usize, room: usize, bytes: &[u8]) -> Result<(&str, usize
 
 /// Judges the byte of an element's type, behind which there is so much room and these bytes stand.
 #[tactic(auto, unfolding(crate::specs::Readers::checked_type))]
+#[inline(always)]
 fn check_type(total: usize, room: usize, byte: u8, rest: &[u8]) -> Result<ElementType, BsonFault>
     requires total { length rest.now < total }
     ensures gives { Gives (λ x. (Some x, rest.now)) result (checked_type total room byte rest.now (type_from byte)) }
@@ -226,6 +237,7 @@ fn check_type(total: usize, room: usize, byte: u8, rest: &[u8]) -> Result<Elemen
 
 /// Reads the type of the next element. There is none at the 00 that ends the document.
 #[tactic(auto, unfolding(crate::specs::Readers::type_at))]
+#[inline(always)]
 pub fn read_type(
     total: usize,
     room: usize,
