@@ -8,7 +8,7 @@ ghost use Rattle.bson_model.specs.Faults.{Fault, HasFirstFault};
 ghost use Rattle.bson_model.specs.Tree.{Datum, Fields, field, int32_value, joined, no_fields, string_value};
 ghost use Rattle.bson_model.specs.Grammar.{AreBytes, BeginsWith, IsWithinDepth, ReadsAs};
 ghost use Rattle.bson_values.specs.ReadFaults.{Fails, Gives, fault_from};
-ghost use Rattle.bson_values.specs.Readers.{binary_at, boolean_at, deep_at, scalar_at, value_at, head_at};
+ghost use Rattle.bson_values.specs.Readers.{binary_at, boolean_at, deep_at, scalar_at, value_at};
 ghost use Rattle.bson_values.specs.Readers.{item_head_at, item_at, document_with, array_with, whole_at};
 ghost use Rattle.bson_values.specs.Rests.{IsRest};
 ghost use Rattle.bson_values.specs.View.{datum_of};
@@ -30,7 +30,6 @@ const LEAST_DOCUMENT: usize = 5;
 
 /// The fault of a document or an array where no level is left: its length is judged first.
 #[tactic(auto, unfolding(crate::specs::Readers::deep_at, crate::specs::Readers::deep_unless))]
-#[cold]
 fn deep_fault(total: usize, room: usize, bytes: &[u8]) -> BsonFault
     requires { length bytes.now ≤ total }
     ensures { result ≡ deep_at total room bytes.now }
@@ -49,7 +48,6 @@ fn deep_fault(total: usize, room: usize, bytes: &[u8]) -> BsonFault
 }
 
 #[tactic(auto, unfolding(crate::specs::Readers::binary_at, crate::specs::Readers::content_at))]
-#[inline(never)]
 fn read_binary(
     alloc: Global,
     total: usize,
@@ -79,7 +77,6 @@ fn read_binary(
 }
 
 #[tactic(auto, unfolding(crate::specs::Readers::boolean_at))]
-#[inline(always)]
 fn read_boolean(total: usize, room: usize, bytes: &[u8]) -> Result<(Value, &[u8]), BsonFault>
     requires total { length bytes.now ≤ total }
     requires room { 0 < room }
@@ -97,7 +94,6 @@ fn read_boolean(total: usize, room: usize, bytes: &[u8]) -> Result<(Value, &[u8]
 }
 
 #[tactic(auto, unfolding(crate::specs::Readers::scalar_at))]
-#[inline(never)]
 fn read_object_id(total: usize, room: usize, bytes: &[u8]) -> Result<(Value, &[u8]), BsonFault>
     requires total { length bytes.now ≤ total }
     requires room { 0 < room }
@@ -111,7 +107,6 @@ fn read_object_id(total: usize, room: usize, bytes: &[u8]) -> Result<(Value, &[u
 }
 
 #[tactic(auto, unfolding(crate::specs::Readers::scalar_at))]
-#[inline(always)]
 fn read_date(total: usize, room: usize, bytes: &[u8]) -> Result<(Value, &[u8]), BsonFault>
     requires total { length bytes.now ≤ total }
     requires room { 0 < room }
@@ -153,7 +148,6 @@ fn copy_string(
 }
 
 #[tactic(auto, unfolding(crate::specs::Readers::scalar_at))]
-#[inline(always)]
 fn read_timestamp(total: usize, room: usize, bytes: &[u8]) -> Result<(Value, &[u8]), BsonFault>
     requires total { length bytes.now ≤ total }
     requires room { 0 < room }
@@ -166,7 +160,6 @@ fn read_timestamp(total: usize, room: usize, bytes: &[u8]) -> Result<(Value, &[u
 }
 
 #[tactic(auto, unfolding(crate::specs::Readers::scalar_at))]
-#[inline(always)]
 fn read_int64(total: usize, room: usize, bytes: &[u8]) -> Result<(Value, &[u8]), BsonFault>
     requires total { length bytes.now ≤ total }
     requires room { 0 < room }
@@ -223,43 +216,9 @@ struct Head {
     room: usize,
 }
 
-/// Reads what stands before the next field's value. There is no field at the end of the document.
-#[tactic(auto, unfolding(crate::specs::Readers::head_at, crate::specs::Readers::name_behind))]
-#[inline(always)]
-fn read_head(
-    alloc: Global,
-    total: usize,
-    room: usize,
-    bytes: &[u8],
-) -> Result<(Option<Head>, &[u8]), BsonFault>
-    requires total { length bytes.now < total }
-    ensures gives { Gives (λ x. (option_map (λ h. (h.type_byte, h.name, h.room)) x.0, x.1.now)) result
-        (head_at total room bytes.now) }
-    ensures shorter { IfOk result (λ x. length x.1.now < length bytes.now) }
-    ensures some { IfOk result (λ x. IfSome x.0 (λ h.
-        (0 < h.room) × (length bytes.now + h.room ≡ length x.1.now + room))) }
-    ensures end { IfOk result (λ x. IfNone x.0 (length bytes.now ≡ length x.1.now + room)) }
-{
-    let (type_byte, rest) = read_type(total, room, bytes)?;
-    let Some(type_byte) = type_byte else {
-        return Ok((None, rest));
-    };
-    let (name, room, rest) = read_name(total, room - 1, rest)?;
-    let name = Name::of(alloc, name)?;
-    Ok((
-        Some(Head {
-            type_byte,
-            name,
-            room,
-        }),
-        rest,
-    ))
-}
-
 /// Reads what stands before the next value of an array: its type, and the room behind its name, which is passed. There
 /// is no value at the end of the array.
 #[tactic(auto, unfolding(crate::specs::Readers::item_head_at, crate::specs::Readers::index_behind))]
-#[inline(always)]
 fn read_item_head(
     total: usize,
     room: usize,
@@ -282,7 +241,6 @@ fn read_item_head(
 
 #[cycle(reader)]
 #[tactic(auto, unfolding(crate::specs::Readers::value_at))]
-#[inline(always)]
 fn read_value(
     alloc: Global,
     total: usize,
@@ -367,13 +325,15 @@ fn put_field<'a>(
             document.push(head.name, Value::Text(text))?;
             Ok(rest)
         }
-        _ => put_value(alloc, total, level, head, bytes, document),
+        _ => {
+            let rest = put_value(alloc, total, level, head, bytes, document)?;
+            Ok(rest)
+        }
     }
 }
 
 /// Reads the next value of an array, whatever its name. There is none at the end of the array.
 #[cycle(reader)]
-#[inline(always)]
 fn read_item(
     alloc: Global,
     total: usize,
@@ -398,7 +358,6 @@ fn read_item(
 
 // For how many fields a document of so many bytes has room at first: most fields have some 16 bytes, and one that is long takes no
 // more room than others.
-#[inline(always)]
 fn first_room(count: usize) -> usize {
     if count <= LEAST_DOCUMENT {
         0
@@ -426,9 +385,16 @@ fn read_document(
     let mut space = count - 4;
     let mut document = Document::with_room(alloc, first_room(count))?;
     'fields: loop {
-        let (head, rest) = read_head(alloc, total, space, left)?;
-        let Some(head) = head else {
+        let (type_byte, rest) = read_type(total, space, left)?;
+        let Some(type_byte) = type_byte else {
             return Ok((document, rest));
+        };
+        let (name, room, rest) = read_name(total, space - 1, rest)?;
+        let name = Name::of(alloc, name)?;
+        let head = Head {
+            type_byte,
+            name,
+            room,
         };
         let rest = put_field(alloc, total, level, head, rest, &mut document)?;
         space -= left.len() - rest.len();
@@ -467,7 +433,6 @@ fn read_array(
 
 // Which document, and which fault.
 #[tactic(auto, unfolding(crate::specs::Readers::whole_at, crate::specs::Readers::document_at))]
-#[inline(always)]
 fn read_exactly(alloc: Global, bytes: &[u8]) -> Result<(Document, usize), BsonFault>
     ensures exact { Gives (λ x. x) result (whole_at bytes.now) }
 {

@@ -189,7 +189,6 @@ pub fn check_room(total: usize, room: usize, rest: &[u8]) -> Result<usize, BsonF
 
 /// Passes a name in an array, and gives the room and the bytes behind it.
 #[tactic(auto, unfolding(crate::specs::Readers::index_at))]
-#[inline(always)]
 pub fn skip_name(total: usize, room: usize, bytes: &[u8]) -> Result<(usize, &[u8]), BsonFault>
     requires total { length bytes.now ≤ total }
     ensures gives { Gives (λ x. (x.0, x.1.now)) result (index_at total room bytes.now) }

@@ -1,8 +1,10 @@
-use Rattle.std.proofs.Common.{length, refl, arith, ◌<◌, ◌∙◌}
+use Rattle.std.proofs.Common.{length, refl, sym, arith, ◌<◌, ◌∙◌}
 use Rattle.std.proofs.lemmas.Int.{to_z-of_z}
 use Rattle.std.proofs.lemmas.Result.{err_from_is_err_and}
 use Rattle.bson_model.specs.Tree.{int32_value, string_value}
-use Rattle.bson_values.proofs.Heads.{field_behind_head, item_behind_head, int32_value_at, text_value_at}
+use Rattle.bson_values.proofs.Heads.{field_behind_type, field_behind_name, item_behind_head, int32_value_at, text_value_at}
+use Rattle.bson_values.specs.Readers.{field_behind}
+use Rattle.bson_values.proofs.Leaves.{named_no_zero}
 use Rattle.bson_values.proofs.ReaderLoops.{passes_on, goes_on, ends, fails, behind_length, items_goes_on, items_ends, items_fails, items_behind_length}
 use Rattle.bson_values.proofs.reader.+reader.Goals as goal
 
@@ -75,35 +77,47 @@ put_field-returns-in_ok-push-in-Text-clause-put t c = (
   c.in_ok-push-in-Text.ensures.ok,
 )
 
-pub read_document-returns-in_err-head-clause-gives : goal.read_document-returns-in_err-head-clause-gives
-read_document-returns-in_err-head-clause-gives t c =
-    let p = err_from_is_err_and c.from_residual-in_err-head.result c.from_residual-in_err-head.ensures.1 in
+pub read_document-of-requires : goal.read_document-of-requires
+read_document-of-requires t c = named_no_zero _ _ _ _ c.in_ok-name.ensures.gives
+
+pub read_document-returns-in_err-type_byte-clause-gives : goal.read_document-returns-in_err-type_byte-clause-gives
+read_document-returns-in_err-type_byte-clause-gives t c =
+    let p = err_from_is_err_and c.from_residual-in_err-type_byte.result c.from_residual-in_err-type_byte.ensures.1 in
     rw (p.1, p.2)
-    (passes_on _ _ _ (λ h. behind_length c.args.total _ c.args.room _ _ _ _ c.in_ok-count.ensures.gives (fails c.args.total _ _ _ c.fields.document c.fields.space c.fields.left.now _ (field_behind_head c.args.total c.fields.space _ _ _ _ h refl) c.fields.invariant.read)) c.in_err-head.ensures.gives)
+    (passes_on _ _ _ (λ h. behind_length c.args.total _ c.args.room _ _ _ _ c.in_ok-count.ensures.gives (fails c.args.total _ _ _ c.fields.document c.fields.space c.fields.left.now _ (field_behind_type c.args.total c.fields.space _ _ _ _ h refl) c.fields.invariant.read)) c.in_err-type_byte.ensures.gives)
 
 pub read_document-returns-in_default-clause-gives : goal.read_document-returns-in_default-clause-gives
+unfolding field_behind
 read_document-returns-in_default-clause-gives t c =
-    let gives = rw c.in_default.is at c.in_ok-head.ensures.gives in
+    let gives = rw c.in_default.is at c.in_ok-type_byte.ensures.gives in
     behind_length c.args.total _ c.args.room _ _ _ _ c.in_ok-count.ensures.gives
-    (ends c.args.total _ _ _ c.fields.document c.fields.space c.fields.left.now _ (field_behind_head c.args.total c.fields.space _ _ _ _ gives refl) c.fields.invariant.read)
+    (ends c.args.total _ _ _ c.fields.document c.fields.space c.fields.left.now _ (field_behind_type c.args.total c.fields.space _ _ _ _ gives refl) c.fields.invariant.read)
+
+pub read_document-returns-in_err-name-clause-gives : goal.read_document-returns-in_err-name-clause-gives
+read_document-returns-in_err-name-clause-gives t c =
+    let gives = rw c.in-Some.is at c.in_ok-type_byte.ensures.gives in
+    let p = err_from_is_err_and c.from_residual-in_err-name.result c.from_residual-in_err-name.ensures.1 in
+    rw (p.1, p.2)
+    (passes_on _ _ _ (λ h. behind_length c.args.total _ c.args.room _ _ _ _ c.in_ok-count.ensures.gives (fails c.args.total _ _ _ c.fields.document c.fields.space c.fields.left.now _ (field_behind_name c.args.total c.fields.space _ _ _ _ _ _ gives h refl) c.fields.invariant.read)) c.in_err-name.ensures.gives)
 
 pub read_document-returns-in_err-rest-clause-gives : goal.read_document-returns-in_err-rest-clause-gives
 read_document-returns-in_err-rest-clause-gives t c =
-    let gives = rw c.in-Some.is at c.in_ok-head.ensures.gives in
+    let gives = rw c.in-Some.is at c.in_ok-type_byte.ensures.gives in
     let p = err_from_is_err_and c.from_residual-in_err-rest.result c.from_residual-in_err-rest.ensures.1 in
+    let named = rw (sym c.in_ok-name-2.ensures) at c.in_ok-name.ensures.gives in
     rw (p.1, p.2)
-    (passes_on _ _ _ (λ h. behind_length c.args.total _ c.args.room _ _ _ _ c.in_ok-count.ensures.gives (fails c.args.total _ _ _ c.fields.document c.fields.space c.fields.left.now _ (field_behind_head c.args.total c.fields.space _ _ _ _ gives (rw h refl)) c.fields.invariant.read)) c.in_err-rest.ensures.fails)
+    (passes_on _ _ _ (λ h. behind_length c.args.total _ c.args.room _ _ _ _ c.in_ok-count.ensures.gives (fails c.args.total _ _ _ c.fields.document c.fields.space c.fields.left.now _ (field_behind_name c.args.total c.fields.space _ _ _ _ _ _ gives named (rw h refl)) c.fields.invariant.read)) c.in_err-rest.ensures.fails)
 
 pub read_document-fields-preserved : goal.read_document-fields-preserved
 read_document-fields-preserved t c =
-    let gives = rw c.in-Some.is at c.in_ok-head.ensures.gives in
+    let gives = rw c.in-Some.is at c.in_ok-type_byte.ensures.gives in
+    let named = rw (sym c.in_ok-name-2.ensures) at c.in_ok-name.ensures.gives in
     let put = c.in_ok-rest.ensures.put in
-    let some = rw c.in-Some.is at c.in_ok-head.ensures.some in
-    let shorter : length c.in_ok-rest.rest.now < length c.fields.left.now = omega (arith, c.in_ok-head.ensures.shorter, c.in_ok-rest.ensures.rest) in
+    let shorter : length c.in_ok-rest.rest.now < length c.fields.left.now = omega (arith, c.in_ok-type_byte.ensures.rest, c.in_ok-name.ensures.rest, c.in_ok-rest.ensures.rest) in
     record {
       below = omega (arith, shorter);
-      used = omega (arith, shorter, some, c.in_ok-rest.ensures.rest);
+      used = omega (arith, shorter, c.in_ok-type_byte.ensures.rest, c.in_ok-name.ensures.rest, c.in_ok-rest.ensures.rest);
       read =
           rw put.2
-          (goes_on c.args.total _ _ _ c.fields.document c.fields.space c.fields.left.now _ _ _ (field_behind_head c.args.total c.fields.space _ _ _ _ gives (rw put.1 refl)) shorter c.fields.invariant.read);
+          (goes_on c.args.total _ _ _ c.fields.document c.fields.space c.fields.left.now _ _ _ (field_behind_name c.args.total c.fields.space _ _ _ _ _ _ gives named (rw put.1 refl)) shorter c.fields.invariant.read);
     }
