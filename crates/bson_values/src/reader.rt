@@ -1,6 +1,7 @@
 //! Reading values, and the document at the beginning of some bytes.
 //!
-//! `total`, `room` and offsets are as in `scan`; `level` is how many levels a value may have inside.
+//! `total`, `room` and offsets are as in `scan`; `level` is how many levels a value may have inside. What is called for each field is
+//! inlined, so that its results stay in registers.
 
 ghost use Rattle.std.specs.Prelude.{◌≡◌, ◌≢◌, ◌+◌, ◌<◌, ◌≤◌, ◌++◌, ◌⊎◌, ℕ, List, Ok, Err, IfOk, IfErr, IfNone, IfSome, length, take};
 ghost use Rattle.std.specs.Option.{option_map};
@@ -219,6 +220,7 @@ struct Head {
 /// Reads what stands before the next value of an array: its type, and the room behind its name, which is passed. There
 /// is no value at the end of the array.
 #[tactic(auto, unfolding(crate::specs::Readers::item_head_at, crate::specs::Readers::index_behind))]
+#[inline(always)]
 fn read_item_head(
     total: usize,
     room: usize,
@@ -241,6 +243,7 @@ fn read_item_head(
 
 #[cycle(reader)]
 #[tactic(auto, unfolding(crate::specs::Readers::value_at))]
+#[inline(always)]
 fn read_value(
     alloc: Global,
     total: usize,
@@ -334,6 +337,7 @@ fn put_field<'a>(
 
 /// Reads the next value of an array, whatever its name. There is none at the end of the array.
 #[cycle(reader)]
+#[inline(always)]
 fn read_item(
     alloc: Global,
     total: usize,

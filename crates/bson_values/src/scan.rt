@@ -1,7 +1,8 @@
 //! Reading what holds no value: lengths, strings, names and types.
 //!
 //! `total` is the number of all bytes that were handed in, so the offset of the first of some bytes is total less
-//! their number. `room` is how many bytes, the last 00 with them, the document still has by its length.
+//! their number. `room` is how many bytes, the last 00 with them, the document still has by its length. What is called for each
+//! field is inlined, so that its results stay in registers.
 
 ghost use Rattle.std.specs.Prelude.{◌≡◌, ◌≢◌, ◌+◌, ◌<◌, ◌≤◌, length, IfOk, IfErr, IfNone, Some};
 ghost use Rattle.bson_values.specs.ReadFaults.{Gives};
@@ -189,6 +190,7 @@ pub fn check_room(total: usize, room: usize, rest: &[u8]) -> Result<usize, BsonF
 
 /// Passes a name in an array, and gives the room and the bytes behind it.
 #[tactic(auto, unfolding(crate::specs::Readers::index_at))]
+#[inline(always)]
 pub fn skip_name(total: usize, room: usize, bytes: &[u8]) -> Result<(usize, &[u8]), BsonFault>
     requires total { length bytes.now ≤ total }
     ensures gives { Gives (λ x. (x.0, x.1.now)) result (index_at total room bytes.now) }
