@@ -158,11 +158,9 @@ pub fn scan_name(
     ensures rest { IfOk result (λ x.
         (length x.0.now + (length x.1.now + 1) ≡ length bytes.now) × (length x.0.now < room)) }
 {
-    for (i, b) in bytes.iter().enumerate() {
-        if i == room {
-            return Err(BsonFault::BadText { place: offset });
-        }
-        if *b == 0 {
+    let end = bytes.len().min(room);
+    for i in 0..end {
+        if bytes[i] == 0 {
             return Ok((&bytes[..i], &bytes[i + 1..]));
         }
     }
