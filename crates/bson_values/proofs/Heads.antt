@@ -1,49 +1,29 @@
--- A field, and a value of an array, behind what stands before it.
-use Rattle.std.proofs.Common.{◌≡◌, ℕ, ◌-◌, List, Option, Some, None, Result, Ok, Err, refl, ◌∙◌, ap}
+-- A field, and a value of an array, behind what stands before it; and values of types that hold no values, at any level.
+use Rattle.std.proofs.Common.{◌≡◌, ℕ, zero, suc, ◌-◌, List, Option, Some, None, Result, Ok, Err, refl, ◌∙◌, ap}
 use Rattle.bson_model.specs.Tree.{Datum}
 use Rattle.bson_values.specs.declared.fault.BsonFault.{BsonFault}
 use Rattle.bson_values.specs.declared.element_type.ElementType.{ElementType}
 use Rattle.bson_values.specs.ReadFaults.{◌>>=◌}
-use Rattle.bson_values.specs.Readers.{Reader, name_at, index_at, type_at, name_behind, head_at, index_behind, item_head_at, field_behind, field_at, item_behind, item_at}
+use Rattle.bson_values.specs.declared.element_type.ElementType.TheVariants as types
+use Rattle.bson_values.specs.Readers.{Reader, name_at, index_at, type_at, index_behind, item_head_at, field_behind, field_at, item_behind, item_at, scalar_at, value_at}
 
 -- ---- fields
-
-abbrev pub field_from : Reader → Option (ElementType × List ℕ × ℕ) → List ℕ → Result (Option (List ℕ × Datum) × List ℕ) BsonFault
-field_from value_at None bytes = Ok (None, bytes)
-field_from value_at (Some head) bytes = value_at head.0 head.2 bytes >>= λ value. Ok (Some (head.1, value.0), value.1)
 
 abbrev pub named_value : Reader → ElementType → List ℕ × ℕ × List ℕ → Result (Option (List ℕ × Datum) × List ℕ) BsonFault
 named_value value_at k name = value_at k name.1 name.2 >>= λ value. Ok (Some (name.0, value.0), value.1)
 
-abbrev pub named_head : ElementType → List ℕ × ℕ × List ℕ → Result (Option (ElementType × List ℕ × ℕ) × List ℕ) BsonFault
-named_head k name = Ok (Some (k, name.0, name.1), name.2)
-
-by_name : (value_at : Reader) (k : ElementType) (n : Result (List ℕ × ℕ × List ℕ) BsonFault)
-    → (n >>= named_value value_at k) ≡ ((n >>= named_head k) >>= λ h. field_from value_at h.0 h.1)
-by_name value_at k (Ok x) = refl
-by_name value_at k (Err e) = refl
-
-by_type : (total room : ℕ) (value_at : Reader) (o : Option ElementType) (rest : List ℕ)
-    → field_behind total value_at room o rest ≡ (name_behind total room o rest >>= λ h. field_from value_at h.0 h.1)
-unfolding field_behind name_behind
-by_type total room value_at None rest = refl
-by_type total room value_at (Some k) rest = by_name value_at k (name_at total (room - 1) rest)
-
-by_start : (total room : ℕ) (value_at : Reader) (t : Result (Option ElementType × List ℕ) BsonFault)
-    → (t >>= λ k. field_behind total value_at room k.0 k.1) ≡ ((t >>= λ k. name_behind total room k.0 k.1) >>= λ h. field_from value_at h.0 h.1)
-by_start total room value_at (Ok x) = by_type total room value_at x.0 x.1
-by_start total room value_at (Err e) = refl
-
-by_head : (total room : ℕ) (value_at : Reader) (bytes : List ℕ) → field_at total value_at room bytes ≡ (head_at total room bytes >>= λ h. field_from value_at h.0 h.1)
-unfolding field_at head_at
-by_head total room value_at bytes = by_start total room value_at (type_at total room bytes)
-
-pub field_behind_head : (total room : ℕ) (value_at : Reader) (bytes : List ℕ) (head : Result (Option (ElementType × List ℕ × ℕ) × List ℕ) BsonFault)
+pub field_behind_type : (total room : ℕ) (value_at : Reader) (bytes : List ℕ) (type_byte : Result (Option ElementType × List ℕ) BsonFault)
     (read : Result (Option (List ℕ × Datum) × List ℕ) BsonFault)
-    → head_at total room bytes ≡ head → (head >>= λ h. field_from value_at h.0 h.1) ≡ read → field_at total value_at room bytes ≡ read
-field_behind_head total room value_at bytes head read h e =
-    by_head total room value_at bytes
-    ∙ (ap (λ (r : Result (Option (ElementType × List ℕ × ℕ) × List ℕ) BsonFault). r >>= λ h. field_from value_at h.0 h.1) h ∙ e)
+    → type_at total room bytes ≡ type_byte → (type_byte >>= λ k. field_behind total value_at room k.0 k.1) ≡ read → field_at total value_at room bytes ≡ read
+unfolding field_at
+field_behind_type total room value_at bytes type_byte read h e = rw h e
+
+pub field_behind_name : (total room : ℕ) (value_at : Reader) (bytes rest : List ℕ) (k : ElementType) (name : Result (List ℕ × ℕ × List ℕ) BsonFault)
+    (read : Result (Option (List ℕ × Datum) × List ℕ) BsonFault)
+    → type_at total room bytes ≡ Ok (Some k, rest) → name_at total (room - 1) rest ≡ name → (name >>= named_value value_at k) ≡ read
+    → field_at total value_at room bytes ≡ read
+unfolding field_at field_behind
+field_behind_name total room value_at bytes rest k name read h named e = rw (h, named) e
 
 -- ---- values of an array
 
@@ -83,3 +63,15 @@ pub item_behind_head : (total room : ℕ) (value_at : Reader) (bytes : List ℕ)
 item_behind_head total room value_at bytes head read h e =
     item_by_head total room value_at bytes
     ∙ (ap (λ (r : Result (Option (ElementType × ℕ) × List ℕ) BsonFault). r >>= λ h. item_from value_at h.0 h.1) h ∙ e)
+
+-- ---- values that hold no values
+
+pub int32_value_at : (total level room : ℕ) (bytes : List ℕ) → value_at total level types.Int32 room bytes ≡ scalar_at total types.Int32 room bytes
+unfolding value_at
+int32_value_at total zero room bytes = refl
+int32_value_at total (suc level) room bytes = refl
+
+pub text_value_at : (total level room : ℕ) (bytes : List ℕ) → value_at total level types.Text room bytes ≡ scalar_at total types.Text room bytes
+unfolding value_at
+text_value_at total zero room bytes = refl
+text_value_at total (suc level) room bytes = refl

@@ -141,14 +141,6 @@ module _ (total : ℕ) where
   unfoldable pub field_at : Reader → ℕ → List ℕ → Result (Option (List ℕ × Datum) × List ℕ) BsonFault
   field_at value_at room bytes = type_at room bytes >>= λ type_byte. field_behind value_at room type_byte.0 type_byte.1
 
-  -- what stands before a field's value: its type, its name and the room behind it, or nothing at the end of the document
-  unfoldable pub name_behind : ℕ → Option ElementType → List ℕ → Result (Option (ElementType × List ℕ × ℕ) × List ℕ) BsonFault
-  name_behind room None bytes = Ok (None, bytes)
-  name_behind room (Some type_byte) bytes = name_at (room - 1) bytes >>= λ name. Ok (Some (type_byte, name.0, name.1), name.2)
-
-  unfoldable pub head_at : ℕ → List ℕ → Result (Option (ElementType × List ℕ × ℕ) × List ℕ) BsonFault
-  head_at room bytes = type_at room bytes >>= λ type_byte. name_behind room type_byte.0 type_byte.1
-
   -- what stands before a value of an array: its type, and the room behind its name, or nothing at the end of the array
   unfoldable pub index_behind : ℕ → Option ElementType → List ℕ → Result (Option (ElementType × ℕ) × List ℕ) BsonFault
   index_behind room None bytes = Ok (None, bytes)

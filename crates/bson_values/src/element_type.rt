@@ -23,6 +23,7 @@ pub enum ElementType {
 
 impl ElementType {
     /// The type that the byte names.
+    #[inline(always)]
     pub fn from_byte(byte: u8) -> Option<ElementType>
         ensures { result ≡ type_from byte }
     {

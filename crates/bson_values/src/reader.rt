@@ -1,15 +1,16 @@
 //! Reading values, and the document at the beginning of some bytes.
 //!
-//! `total`, `room` and offsets are as in `scan`; `level` is how many levels a value may have inside.
+//! `total`, `room` and offsets are as in `scan`; `level` is how many levels a value may have inside. What is called for each field is
+//! inlined, so that its results stay in registers.
 
 ghost use Rattle.std.specs.Prelude.{◌≡◌, ◌≢◌, ◌+◌, ◌<◌, ◌≤◌, ◌++◌, ◌⊎◌, ℕ, List, Ok, Err, IfOk, IfErr, IfNone, IfSome, length, take};
 ghost use Rattle.std.specs.Option.{option_map};
 ghost use Rattle.bson_model.specs.Faults.{Fault, HasFirstFault};
-ghost use Rattle.bson_model.specs.Tree.{Fields};
+ghost use Rattle.bson_model.specs.Tree.{Datum, Fields, field, int32_value, joined, no_fields, string_value};
 ghost use Rattle.bson_model.specs.Grammar.{AreBytes, BeginsWith, IsWithinDepth, ReadsAs};
-ghost use Rattle.bson_values.specs.ReadFaults.{Gives, fault_from};
-ghost use Rattle.bson_values.specs.Readers.{binary_at, boolean_at, deep_at, scalar_at, value_at, head_at};
-ghost use Rattle.bson_values.specs.Readers.{item_head_at, field_at, item_at, document_with, array_with, whole_at};
+ghost use Rattle.bson_values.specs.ReadFaults.{Fails, Gives, fault_from};
+ghost use Rattle.bson_values.specs.Readers.{binary_at, boolean_at, deep_at, scalar_at, value_at};
+ghost use Rattle.bson_values.specs.Readers.{item_head_at, item_at, document_with, array_with, whole_at};
 ghost use Rattle.bson_values.specs.Rests.{IsRest};
 ghost use Rattle.bson_values.specs.View.{datum_of};
 
@@ -119,15 +120,32 @@ fn read_date(total: usize, room: usize, bytes: &[u8]) -> Result<(Value, &[u8]), 
 }
 
 #[tactic(auto, unfolding(crate::specs::Readers::scalar_at))]
-fn read_int32(total: usize, room: usize, bytes: &[u8]) -> Result<(Value, &[u8]), BsonFault>
+#[inline(always)]
+fn read_int32(total: usize, room: usize, bytes: &[u8]) -> Result<(i32, &[u8]), BsonFault>
     requires total { length bytes.now ≤ total }
     requires room { 0 < room }
-    ensures gives { Gives (λ x. (datum_of x.0, x.1.now)) result (scalar_at total ElementType.Int32 room bytes.now) }
+    ensures gives { Gives (λ x. (int32_value x.0, x.1.now)) result (scalar_at total ElementType.Int32 room bytes.now) }
     ensures rest { IfOk result (λ x. IsRest bytes.now room x.1.now) }
 {
     let (prefix, rest) = read_fixed(total, 4, room, bytes)?;
-    let number = LittleEndian::read_u32(prefix).cast_signed();
-    Ok((Value::Int32(number), rest))
+    Ok((LittleEndian::read_u32(prefix).cast_signed(), rest))
+}
+
+/// Reads a string, and copies it.
+#[tactic(auto, unfolding(crate::specs::Readers::scalar_at))]
+#[inline(always)]
+fn copy_string(
+    alloc: Global,
+    total: usize,
+    room: usize,
+    bytes: &[u8],
+) -> Result<(Text, &[u8]), BsonFault>
+    requires total { length bytes.now ≤ total }
+    ensures gives { Gives (λ x. (string_value x.0, x.1.now)) result (scalar_at total ElementType.Text room bytes.now) }
+    ensures rest { IfOk result (λ x. IsRest bytes.now room x.1.now) }
+{
+    let (text, rest) = read_string(total, room, bytes)?;
+    Ok((Text::of(alloc, text)?, rest))
 }
 
 #[tactic(auto, unfolding(crate::specs::Readers::scalar_at))]
@@ -170,8 +188,7 @@ fn read_scalar(
 {
     match type_byte {
         ElementType::Text => {
-            let (text, rest) = read_string(total, room, bytes)?;
-            let text = Text::of(alloc, text)?;
+            let (text, rest) = copy_string(alloc, total, room, bytes)?;
             Ok((Value::Text(text), rest))
         }
         ElementType::Doc => Err(deep_fault(total, room, bytes)),
@@ -181,7 +198,10 @@ fn read_scalar(
         ElementType::Bool => read_boolean(total, room, bytes),
         ElementType::Date => read_date(total, room, bytes),
         ElementType::Null => Ok((Value::Null, bytes)),
-        ElementType::Int32 => read_int32(total, room, bytes),
+        ElementType::Int32 => {
+            let (number, rest) = read_int32(total, room, bytes)?;
+            Ok((Value::Int32(number), rest))
+        }
         ElementType::Timestamp => read_timestamp(total, room, bytes),
         ElementType::Int64 => read_int64(total, room, bytes),
         ElementType::MinKey => Ok((Value::MinKey, bytes)),
@@ -197,41 +217,10 @@ struct Head {
     room: usize,
 }
 
-/// Reads what stands before the next field's value. There is no field at the end of the document.
-#[tactic(auto, unfolding(crate::specs::Readers::head_at, crate::specs::Readers::name_behind))]
-fn read_head(
-    alloc: Global,
-    total: usize,
-    room: usize,
-    bytes: &[u8],
-) -> Result<(Option<Head>, &[u8]), BsonFault>
-    requires total { length bytes.now < total }
-    ensures gives { Gives (λ x. (option_map (λ h. (h.type_byte, h.name, h.room)) x.0, x.1.now)) result
-        (head_at total room bytes.now) }
-    ensures shorter { IfOk result (λ x. length x.1.now < length bytes.now) }
-    ensures some { IfOk result (λ x. IfSome x.0 (λ h.
-        (0 < h.room) × (length bytes.now + h.room ≡ length x.1.now + room))) }
-    ensures end { IfOk result (λ x. IfNone x.0 (length bytes.now ≡ length x.1.now + room)) }
-{
-    let (type_byte, rest) = read_type(total, room, bytes)?;
-    let Some(type_byte) = type_byte else {
-        return Ok((None, rest));
-    };
-    let (name, room, rest) = read_name(total, room - 1, rest)?;
-    let name = Name::of(alloc, name)?;
-    Ok((
-        Some(Head {
-            type_byte,
-            name,
-            room,
-        }),
-        rest,
-    ))
-}
-
 /// Reads what stands before the next value of an array: its type, and the room behind its name, which is passed. There
 /// is no value at the end of the array.
 #[tactic(auto, unfolding(crate::specs::Readers::item_head_at, crate::specs::Readers::index_behind))]
+#[inline(always)]
 fn read_item_head(
     total: usize,
     room: usize,
@@ -254,6 +243,7 @@ fn read_item_head(
 
 #[cycle(reader)]
 #[tactic(auto, unfolding(crate::specs::Readers::value_at))]
+#[inline(always)]
 fn read_value(
     alloc: Global,
     total: usize,
@@ -283,38 +273,71 @@ fn read_value(
     }
 }
 
-/// Reads the next field. There is none at the end of the document.
+/// Reads the value behind a head, and puts it under its name behind the fields of a document.
 #[cycle(reader)]
-fn read_field(
+#[inline(never)]
+fn put_value<'a>(
     alloc: Global,
     total: usize,
     level: u32,
-    room: usize,
-    bytes: &[u8],
-) -> Result<(Option<Field>, &[u8]), BsonFault>
-    requires total { length bytes.now < total }
-    ensures gives { Gives (λ x. (option_map (λ m. (m.name, datum_of m.value)) x.0, x.1.now)) result
-        (field_at total (value_at total level) room bytes.now) }
-    ensures rest { IfOk result (λ x.
-        (length x.1.now < length bytes.now) × (length bytes.now ≤ length x.1.now + room)) }
-    ensures end { IfOk result (λ x. IfNone x.0 (length bytes.now ≡ length x.1.now + room)) }
+    head: Head,
+    bytes: &'a [u8],
+    document: &mut Document,
+) -> Result<&'a [u8], BsonFault>
+    requires total { length bytes.now ≤ total }
+    requires room { 0 < head.room }
+    ensures put { IfOk result (λ x. (d : Datum)
+        × (value_at total level head.type_byte head.room bytes.now ≡ Ok (d, x.now))
+        × (document.new ≡ joined document.old (field head.name d no_fields))) }
+    ensures fails { IfErr result (λ e. Fails e (value_at total level head.type_byte head.room bytes.now)) }
+    ensures rest { IfOk result (λ x. IsRest bytes.now head.room x.now) }
 {
-    let (head, rest) = read_head(alloc, total, room, bytes)?;
-    let Some(head) = head else {
-        return Ok((None, rest));
-    };
-    let (value, rest) = read_value(alloc, total, level, head.type_byte, head.room, rest)?;
-    Ok((
-        Some(Field {
-            name: head.name,
-            value,
-        }),
-        rest,
-    ))
+    let (value, rest) = read_value(alloc, total, level, head.type_byte, head.room, bytes)?;
+    document.push(head.name, value)?;
+    Ok(rest)
+}
+
+/// Reads the value behind a head, and puts it under its name behind the fields of a document. The most frequent types
+/// are put where they are read, since a value of one type is not copied through memory.
+#[cycle(reader)]
+#[inline(always)]
+fn put_field<'a>(
+    alloc: Global,
+    total: usize,
+    level: u32,
+    head: Head,
+    bytes: &'a [u8],
+    document: &mut Document,
+) -> Result<&'a [u8], BsonFault>
+    requires total { length bytes.now ≤ total }
+    requires room { 0 < head.room }
+    ensures put { IfOk result (λ x. (d : Datum)
+        × (value_at total level head.type_byte head.room bytes.now ≡ Ok (d, x.now))
+        × (document.new ≡ joined document.old (field head.name d no_fields))) }
+    ensures fails { IfErr result (λ e. Fails e (value_at total level head.type_byte head.room bytes.now)) }
+    ensures rest { IfOk result (λ x. IsRest bytes.now head.room x.now) }
+{
+    match head.type_byte {
+        ElementType::Int32 => {
+            let (number, rest) = read_int32(total, head.room, bytes)?;
+            document.push(head.name, Value::Int32(number))?;
+            Ok(rest)
+        }
+        ElementType::Text => {
+            let (text, rest) = copy_string(alloc, total, head.room, bytes)?;
+            document.push(head.name, Value::Text(text))?;
+            Ok(rest)
+        }
+        _ => {
+            let rest = put_value(alloc, total, level, head, bytes, document)?;
+            Ok(rest)
+        }
+    }
 }
 
 /// Reads the next value of an array, whatever its name. There is none at the end of the array.
 #[cycle(reader)]
+#[inline(always)]
 fn read_item(
     alloc: Global,
     total: usize,
@@ -366,11 +389,18 @@ fn read_document(
     let mut space = count - 4;
     let mut document = Document::with_room(alloc, first_room(count))?;
     'fields: loop {
-        let (field, rest) = read_field(alloc, total, level, space, left)?;
-        let Some(field) = field else {
+        let (type_byte, rest) = read_type(total, space, left)?;
+        let Some(type_byte) = type_byte else {
             return Ok((document, rest));
         };
-        document.push(field.name, field.value)?;
+        let (name, room, rest) = read_name(total, space - 1, rest)?;
+        let name = Name::of(alloc, name)?;
+        let head = Head {
+            type_byte,
+            name,
+            room,
+        };
+        let rest = put_field(alloc, total, level, head, rest, &mut document)?;
         space -= left.len() - rest.len();
         left = rest;
     }

@@ -1,7 +1,8 @@
 //! Reading what holds no value: lengths, strings, names and types.
 //!
 //! `total` is the number of all bytes that were handed in, so the offset of the first of some bytes is total less
-//! their number. `room` is how many bytes, the last 00 with them, the document still has by its length.
+//! their number. `room` is how many bytes, the last 00 with them, the document still has by its length. What is called for each
+//! field is inlined, so that its results stay in registers.
 
 ghost use Rattle.std.specs.Prelude.{◌≡◌, ◌≢◌, ◌+◌, ◌<◌, ◌≤◌, length, IfOk, IfErr, IfNone, Some};
 ghost use Rattle.bson_values.specs.ReadFaults.{Gives};
@@ -17,6 +18,7 @@ use std::str;
 
 /// Judges a length that stands at an offset, and gives it with what stands behind it.
 #[tactic(auto, unfolding(crate::specs::Readers::length_within))]
+#[inline(always)]
 fn check_length(
     least: usize,
     beside: usize,
@@ -39,6 +41,7 @@ fn check_length(
 
 /// Reads a length that is at least so much, and has so many bytes beside those that it counts.
 #[tactic(auto, unfolding(crate::specs::Readers::length_at))]
+#[inline(always)]
 pub fn read_length(
     total: usize,
     least: usize,
@@ -70,6 +73,7 @@ pub fn read_length(
 
 /// Reads so many bytes.
 #[tactic(auto, unfolding(crate::specs::Readers::fixed_at))]
+#[inline(always)]
 pub fn read_fixed(
     total: usize,
     count: usize,
@@ -97,6 +101,7 @@ pub fn read_fixed(
 
 /// The text that the bytes are.
 #[tactic(auto, unfolding(crate::specs::Readers::utf8_at), using(crate::proofs::Utf8Tests::utf8_tests))]
+#[inline(always)]
 pub fn read_utf8(offset: usize, bytes: &[u8]) -> Result<&str, BsonFault>
     ensures gives { Gives (λ s. s.now) result (utf8_at offset bytes.now) }
     ensures same { IfOk result (λ s. s.now ≡ bytes.now) }
@@ -109,6 +114,7 @@ pub fn read_utf8(offset: usize, bytes: &[u8]) -> Result<&str, BsonFault>
 
 /// Reads a text whose length with its final 00 is known.
 #[tactic(auto, unfolding(crate::specs::Readers::text_at))]
+#[inline(always)]
 pub fn read_text(total: usize, count: usize, bytes: &[u8]) -> Result<(&str, &[u8]), BsonFault>
     requires total { length bytes.now ≤ total }
     requires count { 0 < count }
@@ -130,6 +136,7 @@ pub fn read_text(total: usize, count: usize, bytes: &[u8]) -> Result<(&str, &[u8
 
 /// Reads a string with its length (BSON 1.1, `string`).
 #[tactic(auto, unfolding(crate::specs::Readers::string_at))]
+#[inline(always)]
 pub fn read_string(total: usize, room: usize, bytes: &[u8]) -> Result<(&str, &[u8]), BsonFault>
     requires total { length bytes.now ≤ total }
     ensures gives { Gives (λ x. (x.0.now, x.1.now)) result (string_at total room bytes.now) }
@@ -140,6 +147,7 @@ pub fn read_string(total: usize, room: usize, bytes: &[u8]) -> Result<(&str, &[u
 }
 
 /// Finds a name's end, and gives the bytes before and behind it (BSON 1.1, `cstring`).
+#[inline(always)]
 pub fn scan_name(
     total: usize,
     offset: usize,
@@ -150,11 +158,9 @@ pub fn scan_name(
     ensures rest { IfOk result (λ x.
         (length x.0.now + (length x.1.now + 1) ≡ length bytes.now) × (length x.0.now < room)) }
 {
-    for (i, b) in bytes.iter().enumerate() {
-        if i == room {
-            return Err(BsonFault::BadText { place: offset });
-        }
-        if *b == 0 {
+    let end = bytes.len().min(room);
+    for i in 0..end {
+        if bytes[i] == 0 {
             return Ok((&bytes[..i], &bytes[i + 1..]));
         }
     }
@@ -166,6 +172,7 @@ pub fn scan_name(
 
 /// What room is left behind a name, which is some.
 #[tactic(auto, unfolding(crate::specs::Readers::room_at))]
+#[inline(always)]
 pub fn check_room(total: usize, room: usize, rest: &[u8]) -> Result<usize, BsonFault>
     requires total { length rest.now < total }
     ensures gives { Gives (λ x. x) result (room_at total room rest.now) }
@@ -181,6 +188,7 @@ pub fn check_room(total: usize, room: usize, rest: &[u8]) -> Result<usize, BsonF
 
 /// Passes a name in an array, and gives the room and the bytes behind it.
 #[tactic(auto, unfolding(crate::specs::Readers::index_at))]
+#[inline(always)]
 pub fn skip_name(total: usize, room: usize, bytes: &[u8]) -> Result<(usize, &[u8]), BsonFault>
     requires total { length bytes.now ≤ total }
     ensures gives { Gives (λ x. (x.0, x.1.now)) result (index_at total room bytes.now) }
@@ -194,6 +202,7 @@ pub fn skip_name(total: usize, room: usize, bytes: &[u8]) -> Result<(usize, &[u8
 
 /// Reads a name in a document, and gives its text, and the room and the bytes behind it.
 #[tactic(auto, unfolding(crate::specs::Readers::name_at))]
+#[inline(always)]
 pub fn read_name(total: usize, room: usize, bytes: &[u8]) -> Result<(&str, usize, &[u8]), BsonFault>
     requires total { length bytes.now ≤ total }
     ensures gives { Gives (λ x. (x.0.now, x.1, x.2.now)) result (name_at total room bytes.now) }
@@ -209,6 +218,7 @@ pub fn read_name(total: usize, room: usize, bytes: &[u8]) -> Result<(&str, usize
 
 /// Judges the byte of an element's type, behind which there is so much room and these bytes stand.
 #[tactic(auto, unfolding(crate::specs::Readers::checked_type))]
+#[inline(always)]
 fn check_type(total: usize, room: usize, byte: u8, rest: &[u8]) -> Result<ElementType, BsonFault>
     requires total { length rest.now < total }
     ensures gives { Gives (λ x. (Some x, rest.now)) result (checked_type total room byte rest.now (type_from byte)) }
@@ -226,6 +236,7 @@ fn check_type(total: usize, room: usize, byte: u8, rest: &[u8]) -> Result<Elemen
 
 /// Reads the type of the next element. There is none at the 00 that ends the document.
 #[tactic(auto, unfolding(crate::specs::Readers::type_at))]
+#[inline(always)]
 pub fn read_type(
     total: usize,
     room: usize,

@@ -52,6 +52,7 @@ impl Model for Text {
 
 impl Text {
     /// Copies the text. Fails for want of memory.
+    #[inline(always)]
     pub fn of(alloc: Global, text: &str) -> Result<Text, Memory>
         ensures { IfOk result (λ t. t ≡ text.now) }
     {
@@ -104,6 +105,7 @@ impl Model for Name {
 
 impl Name {
     /// Copies the text, which holds no 00. Fails for want of memory.
+    #[inline(always)]
     pub fn of(alloc: Global, text: &str) -> Result<Name, Memory>
         requires { IsTrue (has_no_zero text.now) }
         ensures { IfOk result (λ n. n ≡ text.now) }

@@ -120,6 +120,7 @@ fn look_at_id(bytes: &[u8; 12])
 
 impl Value {
     // What the types alone say of the value; each arm touches it, so that the fact is known.
+    #[inline(always)]
     fn look(&self)
         ensures { IsDatum (datum_of self.now) }
     {
@@ -170,6 +171,7 @@ impl Document {
     }
 
     // The document without fields, with room for so many. Fails for want of memory.
+    #[inline(always)]
     pub(crate) fn with_room(alloc: Global, room: usize) -> Result<Document, Memory>
         ensures { IfOk result (λ d. d ≡ no_fields) }
     {
@@ -193,6 +195,7 @@ impl Document {
     }
 
     /// Puts a field behind the others. Fails for want of memory, and then changes nothing.
+    #[inline(always)]
     #[tactic(auto, using(crate::proofs::Views::pushed_fields))]
     pub fn push(&mut self, name: Name, value: Value) -> Result<(), Memory>
         ensures ok { OnOk result (self.new ≡ joined self.old (field name (datum_of value) no_fields)) }

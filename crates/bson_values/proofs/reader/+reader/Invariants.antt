@@ -4,19 +4,22 @@ use Rattle.bson_values.proofs.ReaderLoops.{ReadsOn, ReadsItemsOn}
 use Rattle.bson_values.proofs.reader.+reader.Given as goal
 
 abbrev pub decreases-read_value : goal.decreases-read_value
-decreases-read_value l = 3 * l.level
+decreases-read_value l = 4 * l.level
 
-abbrev pub decreases-read_field : goal.decreases-read_field
-decreases-read_field l = 3 * l.level + 1
+abbrev pub decreases-put_value : goal.decreases-put_value
+decreases-put_value l = 4 * l.level + 1
+
+abbrev pub decreases-put_field : goal.decreases-put_field
+decreases-put_field l = 4 * l.level + 2
 
 abbrev pub decreases-read_item : goal.decreases-read_item
-decreases-read_item l = 3 * l.level + 1
+decreases-read_item l = 4 * l.level + 1
 
 abbrev pub decreases-read_document : goal.decreases-read_document
-decreases-read_document l = 3 * l.level + 2
+decreases-read_document l = 4 * l.level + 3
 
 abbrev pub decreases-read_array : goal.decreases-read_array
-decreases-read_array l = 3 * l.level + 2
+decreases-read_array l = 4 * l.level + 3
 
 abbrev pub invariant-read_document-fields : goal.invariant-read_document-fields
 invariant-read_document-fields l = record {
