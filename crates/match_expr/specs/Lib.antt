@@ -4,6 +4,7 @@ pub mod Falls
 pub mod FieldTests
 pub mod Looks
 pub mod OperatorNames
+pub mod Sieves
 pub mod Sizes
 pub mod View
 pub use Rattle.field_paths.specs.ReadFaults

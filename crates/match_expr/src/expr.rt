@@ -5,16 +5,18 @@ ghost use Rattle.bson_values.specs.View.{datum_of};
 ghost use Rattle.query_model.specs.Holds.{holds};
 ghost use Rattle.query_model.specs.KeySpans as asked;
 ghost use Rattle.query_model.specs.KeySpans.{key_asked, key_equal};
+ghost use Rattle.query_model.specs.Queries.{no_clauses};
 ghost use Rattle.query_model.specs.Reading.{read_query};
 ghost use Rattle.value_compare.specs.Spans.{span_of};
 ghost use Rattle.value_compare.specs.Keys.{range_span};
 ghost use Rattle.field_paths.specs.ReadFaults.{Fails};
+ghost use Rattle.match_expr.specs.View.{query_before};
 
 use crate::keys;
 use crate::keys::as_key;
 use crate::matcher::query_holds;
 use crate::parser::parse_within;
-use crate::tree::Clauses;
+use crate::tree::{Clause, Clauses};
 use bson_values::{Document, Memory, Value};
 use field_paths::ParseFault;
 use std::alloc::Global;
@@ -59,6 +61,13 @@ impl Expr {
         let query = parse_within(alloc, MOST_LEVELS, document)?;
         let key = key_of(&query)?;
         Ok(Expr { query, key })
+    }
+
+    // Its clauses, in order.
+    pub(crate) fn clauses(&self) -> &[Clause]
+        ensures { query_before result.now no_clauses ≡ self.now }
+    {
+        self.query.clauses()
     }
 }
 

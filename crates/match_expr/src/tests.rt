@@ -117,8 +117,8 @@ fn has_ordered(comparison: Comparison, operand: &Value, array: &Array) -> bool
 
 // Whether a value, or an element of it, equals the operand.
 #[derive(Drop)]
-struct Equals<'a> {
-    operand: &'a Value,
+pub(crate) struct Equals<'a> {
+    pub(crate) operand: &'a Value,
 }
 
 impl<'a> Visitor for Equals<'a> {

@@ -7,7 +7,7 @@ ghost use Rattle.pipeline_lang.specs.Halves.{half_of};
 ghost use Rattle.pipeline_model.specs.Halves.{kept_at_head};
 
 use bson_values::{Document, Memory};
-use match_expr::{Expr, holds};
+use match_expr::{Expr, holds, sieve_of};
 use pipeline_lang::{Half, Stage};
 use std::alloc::Global;
 use std::sync::Arc;
@@ -27,6 +27,21 @@ fn share_found(
     Ok(all)
 }
 
+// The documents without some of which the filter does not hold. It takes a part of what the filter takes, so that the processor has
+// the next documents on their way from memory meanwhile. Takes no memory.
+fn sifted<'a>(
+    asked: &Expr,
+    documents: Vec<&'a Arc<Document, Global>>,
+) -> Vec<&'a Arc<Document, Global>>
+    ensures { filter (holds asked.now) (map (λ d. arc_value d.now) result.items) ≡ filter (holds asked.now) (map (λ d. arc_value d.now) documents.entry.items) }
+{
+    let mut left = documents;
+    if let Some(sieve) = sieve_of(asked) {
+        left.retain(|document| sieve.lets_pass(document));
+    }
+    left
+}
+
 // Those that the filter holds of. Takes no memory.
 fn passing<'a>(
     asked: &Expr,
@@ -34,7 +49,7 @@ fn passing<'a>(
 ) -> Vec<&'a Arc<Document, Global>>
     ensures { map (λ d. arc_value d.now) result.items ≡ filter (holds asked.now) (map (λ d. arc_value d.now) documents.entry.items) }
 {
-    let mut left = documents;
+    let mut left = sifted(asked, documents);
     left.retain(|document| holds(asked, document));
     left
 }

@@ -9,4 +9,4 @@ pub returns : goal.returns
 returns c =
     ap (λ ds. map (λ d. arc_value d.now) ds)
     (filter_same _ (λ d. holds c.args.asked.now (arc_value d.now)) _ (λ d b f t. search rules) _ _ c.retain.ensures.filtered)
-    ∙ map_filtered (λ d. arc_value d.now) (holds c.args.asked.now) c.args.documents.items
+    ∙ map_filtered (λ d. arc_value d.now) (holds c.args.asked.now) c.sifted-left.result.items ∙ c.sifted-left.ensures

@@ -13,4 +13,4 @@ unfolding shown_in
 returns-in-None c =
     let here : get_by_text c.args.self.now.by_name c.args.namespace.now ≡ None = grind (arith, text_keys) in
     nothing_listed (inside (span_of c.args.span.now)) (λ key. shown_in c.args.self.now c.args.namespace.now key c.args.time.0) _
-    (λ key. ap (λ o. at_of o key c.args.time.0) here) (ap (λ documents. map arc_value documents) c.new.ensures.items)
+    (λ key. ap (λ o. at_of o key c.args.time.0) here) (ap (λ documents. map (λ d. arc_value d.now) documents) c.new.ensures.items)
