@@ -140,7 +140,7 @@ fn is_numbered(document: &Document, n: &str) -> Result<bool, RowFault> {
 }
 
 // Whether the documents are `{_id: n}` of these numbers, in order.
-fn are_numbered(documents: &[Arc<Document, Global>], numbers: &str) -> Result<bool, RowFault> {
+fn are_numbered(documents: &[&Arc<Document, Global>], numbers: &str) -> Result<bool, RowFault> {
     let mut wanted = numbers.split_whitespace();
     for document in documents {
         let Some(n) = wanted.next() else {

@@ -24,7 +24,7 @@ returns-clause-planned c = λ m body timed.
     ∙ ap (λ (n : List ℕ). says s s.me c.args.time.0 (half_ask (id_meant ask.id) ask.turn n ask.at.0 (half_of (arc_value c.in_ok-try_clone.field-0)) documents)) c.in_ok-copy.ensures
     ∙ ap (λ (h : Half). says s s.me c.args.time.0 (half_ask (id_meant ask.id) ask.turn ask.namespace ask.at.0 (half_of h) documents)) c.in_ok-try_clone.ensures
     ∙ ap (λ (ds : List Fields). says s s.me c.args.time.0 (half_ask (id_meant ask.id) ask.turn ask.namespace ask.at.0 half ds)) (c.in_ok-documents.ensures
-    ∙ ap (λ (ds : List Fields). kept_at_head _ ds) c.in_ok-found.ensures
+    ∙ ap (λ (ds : List Fields). kept_at_head (half_of c.deref-asked.result.now).stages ds) c.in_ok-found.ensures
     ∙ ap (λ (h : Half). documents_at s.entries ask.namespace ask.at.0 (half_of h)) c.deref-asked.ensures) in
     told_planned s (letter_input m) c.of_message.result s.me c.args.time.0 (heard s m)
     (half_ask (id_meant ask.id) ask.turn ask.namespace ask.at.0 half (documents_at s.entries ask.namespace ask.at.0 half)) _
