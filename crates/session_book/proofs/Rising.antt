@@ -63,6 +63,10 @@ module _ (notes : List Noted) (rising : IsRising notes) (index : ℕ) where
   holds_there (noted ∷ rest) is place holds =
       record { in_range = holds.in_range; first = λ d. found_at place d holds; some = not_none (with_index index notes) (get_or notes place noted) (found_at place noted holds) }
 
+  -- where a note has the index, it stands
+  pub holds_at : (place : ℕ) → place < length notes → ((d : Noted) → (get_or notes place d).index ≡ index) → Holds notes index place
+  holds_at place in_range is_it = holds_there notes refl place (record { in_range = in_range; is_it = is_it })
+
   -- a binary search by index ends at the note, or at the gap for it
   pub searched : (r : Result ℕ ℕ) → IsSearchInRange r (length notes) → IsBinarySearchResult (λ (noted : Noted). nat_cmp noted.index index) notes r →
       record { found : IfOk r (Holds notes index); absent : IfErr r (IsGapFor notes index) }

@@ -1,6 +1,6 @@
 //! What is kept of one session.
 
-ghost use Rattle.std.specs.Prelude.{◌≡◌, ◌<◌, ◌≤◌, ◌+◌, ◌==◌, ℕ, ℤ, [], Some, None, IfOk, IfErr, OnOk, if◌then◌else◌};
+ghost use Rattle.std.specs.Prelude.{◌≡◌, ◌<◌, ◌≤◌, ◌+◌, ◌==◌, ℕ, ℤ, [], Some, None, IfOk, IfErr, IfSome, OnOk, if◌then◌else◌};
 ghost use Rattle.std.specs.List.{insert};
 ghost use Rattle.std.specs.Option.{option_map};
 ghost use Rattle.std.specs.Vec.{vec_capacity, vec_len};
@@ -199,13 +199,38 @@ fn gap_among(notes: &[Noted], index: u32) -> usize
     }
 }
 
+// Where the statement of that index stands, if there is one for each index from the first on: those of most commands were all done.
+fn place_in_row(notes: &[Noted], index: u32) -> Option<usize>
+    requires { IsRising notes.now }
+    ensures { IfSome result (Holds notes.now index) }
+{
+    let first = notes.first()?;
+    let place = index.checked_sub(first.index)? as usize;
+    match notes.get(place) {
+        Some(noted) if noted.index == index => Some(place),
+        _ => None,
+    }
+}
+
+// Where the statement of that index stands, or where it would go, by a search among all.
+fn search_among(notes: &[Noted], index: u32) -> Result<usize, usize>
+    requires { IsRising notes.now }
+    ensures found { IfOk result (Holds notes.now index) }
+    ensures absent { IfErr result (IsGapFor notes.now index) }
+{
+    notes.binary_search_by_key(&index, |noted| noted.index)
+}
+
 // Where the statement of that index stands, or where it would go.
 fn place_among(notes: &[Noted], index: u32) -> Result<usize, usize>
     requires { IsRising notes.now }
     ensures found { IfOk result (Holds notes.now index) }
     ensures absent { IfErr result (IsGapFor notes.now index) }
 {
-    notes.binary_search_by_key(&index, |noted| noted.index)
+    match place_in_row(notes, index) {
+        Some(place) => Ok(place),
+        None => search_among(notes, index),
+    }
 }
 
 // Puts a statement at its place, where there is room.

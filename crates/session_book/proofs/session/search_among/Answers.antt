@@ -1,7 +1,7 @@
 use Rattle.std.proofs.Common.{rules}
 use Rattle.std.proofs.lemmas.List.Sorted.{answers_always}
 use Rattle.session_book.proofs.Rising.{searched}
-use Rattle.session_book.proofs.session.place_among.Goals as goal
+use Rattle.session_book.proofs.session.search_among.Goals as goal
 
 -- the closure gives a note's index
 pub returns : goal.returns
