@@ -1,13 +1,14 @@
 //! Tables: the chunks of a collection.
 
-ghost use Rattle.std.specs.Prelude.{◌≡◌, ◌<◌, ◌^◌, ◌↔◌, false, IfOk, IfSome, None, Some, length, map};
+ghost use Rattle.std.specs.Prelude.{◌≡◌, ◌<◌, ◌^◌, ◌↔◌, false, true, IfOk, IfSome, None, Some, length, map};
 ghost use Rattle.std.specs.List.{AllByRecursion};
 ghost use Rattle.std.specs.Option.{option_map};
+ghost use Rattle.bson_values.specs.Tree.{Datum};
 ghost use Rattle.bson_values.specs.View.{datum_of};
 ghost use Rattle.chunk_model.specs.Tables.{collection_version, first_table, is_longer, owner_at, owner_now, shard_version};
 ghost use Rattle.chunk_table.specs.Meanings.{chunk_meant, table_of_parts, version_meant};
 ghost use Rattle.chunk_table.specs.Whole.{IsWritableChunk, follow_from};
-ghost use Rattle.value_compare.specs.Keys.{min_bound};
+ghost use Rattle.value_compare.specs.Keys.{is_key, min_bound};
 
 use crate::chunk::{
     Chunk, Owned, OwnedList, chunk_of, copy_all, follow, greatest_on, greatest_version,
@@ -174,6 +175,16 @@ impl Table {
         match newest {
             Some(shard) => shard,
             None => unreachable!(),
+        }
+    }
+
+    /// The shard that has every key now, where the table has one chunk.
+    pub fn sole_owner(&self) -> Option<NodeId>
+        ensures { IfSome result (λ shard. (key : Datum) → is_key key ≡ true → owner_now self.now key ≡ Some shard.0) }
+    {
+        match self.chunks.as_slice() {
+            [chunk] => chunk.history.newest(),
+            _ => None,
         }
     }
 
