@@ -53,7 +53,7 @@ fn run_to(
     ensures { (given : Option writes.ClientNumber) (id : asked.RequestId) → IfOk result (λ run.
         map (λ s. statement_meant given id s) run.items ≡ rows.run_to table.now shard.0 (map (λ s. statement_meant given id s) statements.now)) }
 {
-    let mut run = Vec::new(alloc);
+    let mut run = Vec::with_capacity(alloc, statements.len())?;
     for statement in statements {
         let there = goes_to(alloc, table, shard, statement)?;
         if there {

@@ -1,7 +1,8 @@
 //! Which shards have what requests are of.
 
-ghost use Rattle.std.specs.Prelude.{◌≡◌, Option, Some, IfOk};
+ghost use Rattle.std.specs.Prelude.{◌≡◌, Option, Some, IfOk, true};
 ghost use Rattle.std.specs.Option.{option_map, is_some};
+ghost use Rattle.bson_values.specs.Tree.{Datum};
 ghost use Rattle.bson_values.specs.View.{datum_of};
 ghost use Rattle.command_model.specs.Statements.{key_asked_by};
 ghost use Rattle.command_model.specs.Writes.{ClientNumber};
@@ -12,6 +13,7 @@ ghost use Rattle.pipeline_lang.specs.Halves.{half_of};
 ghost use Rattle.protocol_model.specs.Statements as protocol;
 ghost use Rattle.protocol_model.specs.Statements.{statement_meant};
 ghost use Rattle.shard_records.specs.Meanings.{operation_meant};
+ghost use Rattle.value_compare.specs.Keys.{is_key};
 
 use bson_values::{Memory, Value};
 use chunk_table::Table;
@@ -63,8 +65,24 @@ fn key_of_operation(alloc: Global, operation: &Operation) -> Result<Key, Memory>
     }
 }
 
-/// The shard that has the key that a statement writes. Fails for want of memory.
-#[tactic(auto, using(crate::proofs::Keys::owner_by_key))]
+/// An operation writes a key, since it may be kept. For proofs alone: it does nothing.
+#[tactic(auto, using(crate::proofs::Keys::key_kept))]
+fn writes_key(operation: &Operation)
+    ensures { (key : Datum) × (key_written (protocol.operation_meant operation.now) ≡ Some key) × (is_key key ≡ true) }
+{
+    match operation {
+        Operation::Insert(document) => {
+            document.document();
+        }
+        Operation::Change(change) => {
+            change.words();
+        }
+    }
+}
+
+/// The shard that has the key that a statement writes: that of all keys, or else that of the chunk with the key. Fails for want of
+/// memory.
+#[tactic(auto, using(crate::proofs::Keys::owner_by_key, crate::proofs::Keys::owner_by_sole))]
 pub(crate) fn owner_of_statement(
     alloc: Global,
     table: &Table,
@@ -73,6 +91,10 @@ pub(crate) fn owner_of_statement(
     ensures { (given : Option ClientNumber) (id : asked.RequestId) → IfOk result (λ shard.
         rows.owner_of_statement table.now (statement_meant given id statement.now) ≡ Some shard.0) }
 {
+    if let Some(shard) = table.sole_owner() {
+        writes_key(&statement.operation);
+        return Ok(shard);
+    }
     let key = key_of_operation(alloc, &statement.operation)?;
     Ok(table.owner_now(&key))
 }
