@@ -1,13 +1,14 @@
 //! Texts, names and bytes: the parts of a document that hold no value.
 
-ghost use Rattle.std.specs.Prelude.{◌≡◌, IfOk, IsTrue};
+ghost use Rattle.std.specs.Prelude.{◌≡◌, ◌≤◌, take, IfOk, IfSome, IsTrue};
 ghost use Rattle.std.specs.Str.{IsUtf8};
 ghost use Rattle.bson_model.specs.Grammar.{HasNoZero};
 ghost use Rattle.bson_values.specs.Names.{has_no_zero};
+ghost use Rattle.bson_values.specs.declared.text.TheConstants.{MOST_SHORT};
 
-use arrayvec::ArrayString;
 use std::alloc::{AllocError, AllocFailed, Global};
 use std::marker::Model;
+use std::str;
 
 /// Want of memory, the only way in which building a value fails.
 #[derive(Clone, Copy, Debug, PartialEq, Eq)]
@@ -25,10 +26,52 @@ impl<T: Drop> From<AllocFailed<T>> for Memory {
     }
 }
 
-/// Where the bytes of a text stand: those of a short one in the value itself, since most names are short.
+/// How many bytes of a text stand in the value itself at most: as many as a `String` and its tag leave room for.
+const MOST_SHORT: usize = 30;
+
+/// The bytes of a short text, and how many of them count. A length of one byte leaves room for more of them.
+#[derive(Clone, Copy, Debug)]
+struct Short {
+    length: u8,
+    bytes: [u8; MOST_SHORT],
+    ghost fits: { length ≤ MOST_SHORT },
+    ghost utf8: { ∥ IsUtf8 (take length bytes) ∥₁ },
+}
+
+impl Short {
+    ghost use Rattle.bson_values.specs.Texts.{short_bytes};
+
+    /// Copies the text, where it is short.
+    #[inline(always)]
+    fn of(text: &str) -> Option<Short>
+        ensures { IfSome result (λ s. short_bytes s ≡ text.now) }
+    {
+        let length = text.len();
+        if length > MOST_SHORT {
+            return None;
+        }
+        let mut bytes = [0; MOST_SHORT];
+        bytes[..length].copy_from_slice(text.as_bytes());
+        Some(Short {
+            length: length as u8,
+            bytes,
+        })
+    }
+
+    /// The text's bytes.
+    #[inline(always)]
+    fn as_str(&self) -> &str
+        ensures { result.now ≡ short_bytes self.now }
+    {
+        // The bytes that count are those of a text, by the invariant.
+        unsafe { str::from_utf8_unchecked(&self.bytes[..self.length as usize]) }
+    }
+}
+
+/// Where the bytes of a text stand: those of a short one in the value itself, since most texts are short.
 #[derive(Debug, Drop)]
 enum Held {
-    Short(ArrayString<16>),
+    Short(Short),
     Long(String),
 }
 
@@ -56,9 +99,9 @@ impl Text {
     pub fn of(alloc: Global, text: &str) -> Result<Text, Memory>
         ensures { IfOk result (λ t. t ≡ text.now) }
     {
-        let held = match ArrayString::from(text) {
-            Ok(short) => Held::Short(short),
-            Err(_) => Held::Long(String::from_str(alloc, text)?),
+        let held = match Short::of(text) {
+            Some(short) => Held::Short(short),
+            None => Held::Long(String::from_str(alloc, text)?),
         };
         Ok(Text { held })
     }
