@@ -4,7 +4,8 @@
 //! their number. `room` is how many bytes, the last 00 with them, the document still has by its length. What is called for each
 //! field is inlined, so that its results stay in registers.
 
-ghost use Rattle.std.specs.Prelude.{◌≡◌, ◌≢◌, ◌+◌, ◌<◌, ◌≤◌, length, IfOk, IfErr, IfNone, Some};
+ghost use Rattle.std.specs.Prelude.{◌≡◌, ◌≢◌, ◌+◌, ◌<◌, ◌≤◌, length, IfOk, IfErr, IfNone, IsTrue, Some};
+ghost use Rattle.std.specs.Str.{IsAscii};
 ghost use Rattle.bson_values.specs.ReadFaults.{Gives};
 ghost use Rattle.bson_values.specs.Readers.{length_within, length_at, fixed_at, utf8_at, text_at, string_at, name_from, room_at, index_at, name_at, type_at, checked_type};
 ghost use Rattle.bson_values.specs.Types.{type_from};
@@ -99,6 +100,18 @@ pub fn read_fixed(
     Ok(bytes.split_at(count))
 }
 
+/// Whether the bytes are ASCII, as most texts are: one test of all their bits costs less than a test of each byte.
+#[inline(always)]
+fn is_ascii(bytes: &[u8]) -> bool
+    ensures { IsTrue result → IsAscii bytes.now }
+{
+    let mut joined = 0;
+    for byte in bytes {
+        joined |= *byte;
+    }
+    joined < 0x80
+}
+
 /// The text that the bytes are.
 #[tactic(auto, unfolding(crate::specs::Readers::utf8_at), using(crate::proofs::Utf8Tests::utf8_tests))]
 #[inline(always)]
@@ -106,6 +119,10 @@ pub fn read_utf8(offset: usize, bytes: &[u8]) -> Result<&str, BsonFault>
     ensures gives { Gives (λ s. s.now) result (utf8_at offset bytes.now) }
     ensures same { IfOk result (λ s. s.now ≡ bytes.now) }
 {
+    if is_ascii(bytes) {
+        // ASCII is UTF-8.
+        return Ok(unsafe { str::from_utf8_unchecked(bytes) });
+    }
     match str::from_utf8(bytes) {
         Ok(text) => Ok(text),
         Err(_) => Err(BsonFault::BadText { place: offset }),
