@@ -78,6 +78,10 @@ module _ (places : List (Session × ℕ)) (kept : List Statements) (apart : AreA
 
   module _ (none : place_of places s ≡ None) (more : List (Session × ℕ)) (w : Statements)
       (added : (x : history.Session) → place_of more x ≡ (if same_session s x then Some (length kept) else place_of places x)) where
+    -- its place is behind the others
+    pub added_there : place_of more s ≡ Some (length kept)
+    added_there = added s ∙ ap (λ (b : Bool). if b then Some (length kept) else place_of places s) (itself s)
+
     longer : length (kept ++ w ∷ []) ≡ length kept + 1
     longer = length-append kept (w ∷ [])
 

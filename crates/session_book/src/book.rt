@@ -2,6 +2,7 @@
 #![tactic(auto, unfolding(crate::specs::Books::seen_in, crate::specs::Books::room_in))]
 
 ghost use Rattle.std.specs.Prelude.{◌≡◌, ◌≢◌, ◌≤◌, ◌+◌, ◌++◌, ◌∷◌, List, [], Some, None, OnOk, OnErr, if◌then◌else◌};
+ghost use Rattle.std.specs.Option.{ForSome};
 ghost use Rattle.history_model.specs.History as history;
 ghost use Rattle.history_model.specs.History.{StatementNumber};
 ghost use Rattle.history_model.specs.Notes.{Note, new_statement, same_session, seen_with};
@@ -33,6 +34,13 @@ pub enum Seen<'a> {
     Older(i64),
 }
 
+/// A session, and the place of what is kept of it.
+#[derive(Clone, Copy)]
+struct Place {
+    session: Session,
+    place: u32,
+}
+
 /// What each numbered statement was told (MongoDB manual, "Retryable Writes" and "Server Sessions"). The map has the places of what is
 /// kept of sessions and not what is kept, so that what a search goes through is small.
 ///
@@ -43,6 +51,9 @@ pub struct Book {
     alloc: Global,
     places: BTreeMap<Session, u32>,
     kept: Vec<Kept>,
+    // That of the session begun or noted in last: the statements of a message have one session, so that most need no search.
+    latest: Option<Place>,
+    ghost known: { ForSome latest (λ p. place_of places.entries (session_meant p.session) ≡ Some p.place) },
     ghost apart: { AreApart places.entries kept.items },
 }
 
@@ -57,6 +68,7 @@ impl Book {
             alloc,
             places: BTreeMap::new(alloc),
             kept: Vec::new(alloc),
+            latest: None,
         }
     }
 
@@ -64,9 +76,19 @@ impl Book {
     pub fn look(&self, s: &Stmt) -> Seen
         ensures { seen_meant result ≡ seen_in self.now (number_meant s.now) }
     {
-        match self.places.get(&s.session) {
-            Some(place) => self.kept[*place as usize].look(s.txn, s.index),
+        match self.place(&s.session) {
+            Some(place) => self.kept[place as usize].look(s.txn, s.index),
             None => Seen::New,
+        }
+    }
+
+    // The place of what is kept of a session, if something is.
+    fn place(&self, session: &Session) -> Option<u32>
+        ensures { result ≡ place_of self.now.places.entries (session_meant session.now) }
+    {
+        match &self.latest {
+            Some(latest) if latest.session == *session => Some(latest.place),
+            _ => self.places.get(session).copied(),
         }
     }
 
@@ -79,8 +101,8 @@ impl Book {
         ensures others { (t : Session) → room_in self.old t ≤ room_in self.new t }
         ensures same { (n : StatementNumber) → seen_in self.new n ≡ seen_in self.old n }
     {
-        if let Some(place) = self.places.get(&s.session) {
-            let kept = &mut self.kept[*place as usize];
+        if let Some(place) = self.place(&s.session) {
+            let kept = &mut self.kept[place as usize];
             return kept.reserve();
         }
         let kept = Kept::new(self.alloc, s.txn);
@@ -97,8 +119,8 @@ impl Book {
         ensures others { (t : Session) → room_in self.old t ≤ room_in self.new t }
         ensures same { (n : StatementNumber) → seen_in self.new n ≡ seen_in self.old n }
     {
-        if let Some(place) = self.places.get(&s.session) {
-            let kept = &mut self.kept[*place as usize];
+        if let Some(place) = self.place(&s.session) {
+            let kept = &mut self.kept[place as usize];
             return kept.reserve_run(count);
         }
         let kept = Kept::with_room(self.alloc, s.txn, count)?;
@@ -118,6 +140,7 @@ impl Book {
         self.kept.reserve(1)?;
         self.places.insert(s, place)?;
         self.kept.push_reserved(kept);
+        self.latest = Some(Place { session: s, place });
         Ok(())
     }
 
@@ -130,8 +153,12 @@ impl Book {
         ensures room { (t : Session) → room_in self.old t ≤ room_in self.new t + 1 }
         ensures other_rooms { (t : Session) → session_meant t ≢ session_meant s.now.session → room_in self.old t ≤ room_in self.new t }
     {
-        if let Some(place) = self.places.get(&s.session) {
-            let kept = &mut self.kept[*place as usize];
+        if let Some(place) = self.place(&s.session) {
+            self.latest = Some(Place {
+                session: s.session,
+                place,
+            });
+            let kept = &mut self.kept[place as usize];
             kept.note(
                 s.txn,
                 Noted {

@@ -7,7 +7,6 @@ use Rattle.history_model.specs.Notes.{seen_with}
 use Rattle.session_book.specs.Meanings.{session_meant, number_meant}
 use Rattle.session_book.specs.Places.{place_of, statements_at}
 use Rattle.session_book.specs.Books.{kept_of, room_of, seen_in, room_in, note_meant}
-use Rattle.session_book.proofs.Sessions.{place_at}
 use Rattle.session_book.proofs.Places.{kept_by, kept_there, changes_there}
 use Rattle.session_book.proofs.Booked.{seen_noted, room_less, room_elsewhere}
 use Rattle.history_model.proofs.Noted.{one_more_note}
@@ -16,16 +15,16 @@ use Rattle.session_book.proofs.book.Book.note.Goals as goal
 pub index_mut-kept-requires : goal.index_mut-kept-requires
 index_mut-kept-requires c =
     let s = session_meant c.args.s.now.session in
-    let at : place_of c.args.self.now.places.entries s ≡ Some c.in-Some.place.now = place_at c.args.self.now.places c.args.s.now.session ∙ sym c.in-Some.ensures.value in
-    rw c.args.self.now.kept.ok.0 (c.args.self.now.apart.inside s c.in-Some.place.now at)
+    let at : place_of c.args.self.now.places.entries s ≡ Some c.in-Some.place = sym c.in-Some.ensures in
+    rw c.args.self.now.kept.ok.0 (c.args.self.now.apart.inside s c.in-Some.place at)
 
 pub note-requires-clause-room : goal.note-requires-clause-room
 unfolding room_in
 note-requires-clause-room c =
     let s = session_meant c.args.s.now.session in
-    let at : place_of c.args.self.now.places.entries s ≡ Some c.in-Some.place.now = place_at c.args.self.now.places c.args.s.now.session ∙ sym c.in-Some.ensures.value in
+    let at : place_of c.args.self.now.places.entries s ≡ Some c.in-Some.place = sym c.in-Some.ensures in
     let here : kept_of c.args.self.now s ≡ Some c.index_mut-kept.result.now =
-    kept_there c.args.self.now.places.entries c.args.self.now.kept.items c.args.self.now.apart s c.in-Some.place.now at c.index_mut-kept.result.now c.index_mut-kept.ensures.value in
+    kept_there c.args.self.now.places.entries c.args.self.now.kept.items c.args.self.now.apart s c.in-Some.place at c.index_mut-kept.result.now c.index_mut-kept.ensures.value in
     rw here at c.requires.room
 
 pub note-requires-clause-new : goal.note-requires-clause-new
@@ -33,9 +32,9 @@ unfolding seen_in
 note-requires-clause-new c =
     let fits : FitsSigned w64 c.args.s.now.txn = search rules in
     let s = session_meant c.args.s.now.session in
-    let at : place_of c.args.self.now.places.entries s ≡ Some c.in-Some.place.now = place_at c.args.self.now.places c.args.s.now.session ∙ sym c.in-Some.ensures.value in
+    let at : place_of c.args.self.now.places.entries s ≡ Some c.in-Some.place = sym c.in-Some.ensures in
     let here : kept_of c.args.self.now s ≡ Some c.index_mut-kept.result.now =
-    kept_there c.args.self.now.places.entries c.args.self.now.kept.items c.args.self.now.apart s c.in-Some.place.now at c.index_mut-kept.result.now c.index_mut-kept.ensures.value in
+    kept_there c.args.self.now.places.entries c.args.self.now.kept.items c.args.self.now.apart s c.in-Some.place at c.index_mut-kept.result.now c.index_mut-kept.ensures.value in
     rw (to_z-of_z fits) (rw here at c.requires.new)
 
 pub returns-in-Some : goal.returns-in-Some
@@ -45,13 +44,13 @@ returns-in-Some c =
     let s = session_meant c.args.s.now.session in
     let es = c.args.self.now.places.entries in
     let kept = c.args.self.now.kept.items in
-    let place = c.in-Some.place.now in
+    let place = c.in-Some.place in
     let was = c.index_mut-kept.result.now in
     let now = c.note.new.self in
     let old = kept_by es kept in
     let new = kept_by es (slice_set kept place now) in
     let fits : FitsSigned w64 c.args.s.now.txn = search rules in
-    let at : place_of c.args.self.now.places.entries s ≡ Some c.in-Some.place.now = place_at c.args.self.now.places c.args.s.now.session ∙ sym c.in-Some.ensures.value in
+    let at : place_of c.args.self.now.places.entries s ≡ Some c.in-Some.place = sym c.in-Some.ensures in
     let change = changes_there es kept c.args.self.now.apart s place at now was c.index_mut-kept.ensures.value in
     let seen = seen_noted stmt c.args.time c.args.reply old new was now change (rw (to_z-of_z fits) at c.note.ensures.seen) in
     record {
@@ -65,6 +64,6 @@ pub returns-in_default : goal.returns-in_default
 unfolding room_in
 returns-in_default c =
     let s = session_meant c.args.s.now.session in
-    let at : place_of c.args.self.now.places.entries s ≡ None = place_at c.args.self.now.places c.args.s.now.session ∙ sym c.in_default.ensures.value in
+    let at : place_of c.args.self.now.places.entries s ≡ None = sym c.in_default.ensures in
     let room : 1 ≤ room_of (statements_at c.args.self.now.kept.items None) = rw at at c.requires.room in
     absurd (omega (arith, room))

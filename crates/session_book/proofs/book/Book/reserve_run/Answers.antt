@@ -1,10 +1,9 @@
-use Rattle.std.proofs.Common.{◌≡◌, Some, None, refl, sym, ◌∙◌, arith}
+use Rattle.std.proofs.Common.{◌≡◌, Some, None, refl, sym, arith}
 use Rattle.std.specs.List.{slice_set}
 use Rattle.std.proofs.lemmas.Result.{on_ok_weaker}
 use Rattle.session_book.specs.Meanings.{session_meant}
 use Rattle.session_book.specs.Places.{place_of}
 use Rattle.session_book.specs.Books.{kept_of, seen_in, room_in}
-use Rattle.session_book.proofs.Sessions.{place_at}
 use Rattle.session_book.proofs.Places.{kept_by, changes_there, now_there}
 use Rattle.session_book.proofs.Booked.{Changes, none_done, same_done, seen_same, room_no_less}
 use Rattle.session_book.proofs.book.Book.reserve_run.Goals as goal
@@ -12,8 +11,8 @@ use Rattle.session_book.proofs.book.Book.reserve_run.Goals as goal
 pub index_mut-kept-requires : goal.index_mut-kept-requires
 index_mut-kept-requires c =
     let s = session_meant c.args.s.now.session in
-    let at : place_of c.args.self.now.places.entries s ≡ Some c.in-Some.place.now = place_at c.args.self.now.places c.args.s.now.session ∙ sym c.in-Some.ensures.value in
-    rw c.args.self.now.kept.ok.0 (c.args.self.now.apart.inside s c.in-Some.place.now at)
+    let at : place_of c.args.self.now.places.entries s ≡ Some c.in-Some.place = sym c.in-Some.ensures in
+    rw c.args.self.now.kept.ok.0 (c.args.self.now.apart.inside s c.in-Some.place at)
 
 -- the session has notes, or had room made
 pub returns-in-Some : goal.returns-in-Some
@@ -22,12 +21,12 @@ returns-in-Some c =
     let s = session_meant c.args.s.now.session in
     let es = c.args.self.now.places.entries in
     let kept = c.args.self.now.kept.items in
-    let place = c.in-Some.place.now in
+    let place = c.in-Some.place in
     let was = c.index_mut-kept.result.now in
     let now = c.reserve_run.new.self in
     let old = kept_by es kept in
     let new = kept_by es (slice_set kept place now) in
-    let at : place_of c.args.self.now.places.entries s ≡ Some c.in-Some.place.now = place_at c.args.self.now.places c.args.s.now.session ∙ sym c.in-Some.ensures.value in
+    let at : place_of c.args.self.now.places.entries s ≡ Some c.in-Some.place = sym c.in-Some.ensures in
     let change = changes_there es kept c.args.self.now.apart s place at now was c.index_mut-kept.ensures.value in
     record {
       room = on_ok_weaker c.reserve_run.result (λ room. rw (now_there es kept c.args.self.now.apart s place at now) room) c.reserve_run.ensures.room;
@@ -36,14 +35,14 @@ returns-in-Some c =
     }
 
 pub begin-requires : goal.begin-requires
-begin-requires c = place_at c.args.self.now.places c.args.s.now.session ∙ sym c.in_default.ensures.value
+begin-requires c = sym c.in_default.ensures
 
 -- the session is new
 pub returns-clause-others : goal.returns-clause-others
 unfolding room_in
 returns-clause-others c = λ t.
     let s = session_meant c.args.s.now.session in
-    let at : place_of c.args.self.now.places.entries (session_meant c.args.s.now.session) ≡ None = place_at c.args.self.now.places c.args.s.now.session ∙ sym c.in_default.ensures.value in
+    let at : place_of c.args.self.now.places.entries (session_meant c.args.s.now.session) ≡ None = sym c.in_default.ensures in
     let change : Changes (session_meant c.args.s.now.session) (kept_of c.args.self.now) (kept_of c.begin.new.self) None c.in_ok-kept.kept = record { here = rw at refl; changed = c.in_ok-begin.ensures.ok } in
     room_no_less s (kept_of c.args.self.now) (kept_of c.begin.new.self) None c.in_ok-kept.kept change (omega arith) (session_meant t)
 
@@ -51,6 +50,6 @@ pub returns-clause-same : goal.returns-clause-same
 unfolding seen_in
 returns-clause-same c = λ n.
     let s = session_meant c.args.s.now.session in
-    let at : place_of c.args.self.now.places.entries (session_meant c.args.s.now.session) ≡ None = place_at c.args.self.now.places c.args.s.now.session ∙ sym c.in_default.ensures.value in
+    let at : place_of c.args.self.now.places.entries (session_meant c.args.s.now.session) ≡ None = sym c.in_default.ensures in
     let change : Changes (session_meant c.args.s.now.session) (kept_of c.args.self.now) (kept_of c.begin.new.self) None c.in_ok-kept.kept = record { here = rw at refl; changed = c.in_ok-begin.ensures.ok } in
     seen_same s (kept_of c.args.self.now) (kept_of c.begin.new.self) None c.in_ok-kept.kept change (none_done c.in_ok-kept.kept c.in_ok-kept.ensures.none) n

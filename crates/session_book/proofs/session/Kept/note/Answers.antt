@@ -1,4 +1,4 @@
-use Rattle.std.proofs.Common.{◌≡◌, ap, ◌∙◌, ℕ}
+use Rattle.std.proofs.Common.{◌≡◌, ◌∙◌, ℕ}
 use Rattle.std.specs.Prelude.{if◌then◌else◌, Some, ◌==◌}
 use Rattle.std.proofs.Math.Facts.{to_z-of_z}
 use Rattle.session_book.specs.Statements.{with_index, notes_in}
