@@ -8,7 +8,7 @@ ghost use Rattle.shard_records.specs.Meanings.{operation_lent};
 ghost use Rattle.shard_records.specs.RecordFormat.{spelled, IsSound};
 ghost use Rattle.shard_records.specs.Records.{table_record};
 ghost use Rattle.shard_records.specs.Sizes.{IsWritableKey};
-ghost use Rattle.shard_store.specs.Entries.{operation_of};
+ghost use Rattle.shard_store.specs.Entries.{operation_in};
 ghost use Rattle.shard_store.specs.Outcomes.{outcome_meant};
 
 use bson_values::{Blob, Document, Memory};
@@ -16,9 +16,8 @@ use chunk_table::Table;
 use cluster_base::{Namespace, Stmt};
 use protocol_model::Operation;
 use shard_records::{WordsRef, write_entry, write_table};
-use shard_store::{EntryResult, Words};
+use shard_store::{EntryResult, LentWords};
 use std::alloc::Global;
-use std::sync::Arc;
 
 // What a statement does, lent; it may be kept.
 fn words_of(operation: &Operation) -> WordsRef<'_>
@@ -34,14 +33,14 @@ fn words_of(operation: &Operation) -> WordsRef<'_>
     }
 }
 
-/// What a statement does, shared; it may be kept. Fails for want of memory.
-pub fn share_words(operation: &Operation) -> Result<Words, Memory>
-    ensures words { IfOk result (λ words. operation_of words ≡ operation_meant operation.now) }
+/// What a statement does, lent; it may be kept.
+pub fn lend_words(operation: &Operation) -> LentWords<'_>
+    ensures words { operation_in result ≡ operation_meant operation.now }
     ensures keepable { IsKeepable (operation_meant operation.now) }
 {
     match operation {
-        Operation::Insert(document) => Ok(Words::Insert(Arc::try_clone(document.document())?)),
-        Operation::Change(change) => Ok(Words::Change(Arc::try_clone(change.words())?)),
+        Operation::Insert(document) => LentWords::Insert(document.document()),
+        Operation::Change(change) => LentWords::Change(change.words()),
     }
 }
 

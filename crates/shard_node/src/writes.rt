@@ -27,7 +27,7 @@ use bson_values::Memory;
 use cluster_base::Time;
 use node_traits::MailList;
 use protocol_model::{Body, Statement, WriteAsk, WriteDone};
-use shard_asks::{StatementResult, WriteResult, done_of, ends, entry_bytes, share_words};
+use shard_asks::{StatementResult, WriteResult, done_of, ends, entry_bytes, lend_words};
 use shard_store::{Plan as Entries, StatementAnswer, statement_number};
 
 /// So many statements of an ask are served in one step at most.
@@ -56,7 +56,7 @@ impl ShardNode {
         ensures number { entries.new.number ≡ entries.old.number }
     {
         let before = entries.time();
-        let words = share_words(&statement.operation)?;
+        let words = lend_words(&statement.operation);
         let told = self.store.serve(entries, self.alloc, &ask.namespace, statement.index, words)?;
         let Some(told) = told else {
             return Ok(None);

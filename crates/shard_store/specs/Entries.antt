@@ -13,6 +13,8 @@ use Rattle.session_book.specs.Meanings.{number_meant}
 use Rattle.shard_records.specs.Meanings.{operation_meant}
 use Rattle.shard_store.specs.declared.entry.Words.{Words}
 use Rattle.shard_store.specs.declared.entry.Words.TheVariants.{Insert, Change}
+use Rattle.shard_store.specs.declared.entry.LentWords.{LentWords}
+use Rattle.shard_store.specs.declared.entry.LentWords.TheVariants as lent
 use Rattle.shard_store.specs.declared.entry.Left.{Left}
 use Rattle.shard_store.specs.declared.entry.Left.TheVariants.{Same, Other}
 use Rattle.shard_store.specs.declared.entry.Planned.{Planned}
@@ -22,6 +24,11 @@ use Rattle.shard_store.specs.Outcomes.{outcome_meant, reply_meant}
 abbrev pub operation_of : Words → Operation
 operation_of (Insert document) = insert_operation (arc_value document)
 operation_of (Change words) = operation_meant (arc_value words)
+
+-- what a statement does whose words are lent
+abbrev pub operation_in : LentWords → Operation
+operation_in (lent.Insert document) = insert_operation (arc_value document.now)
+operation_in (lent.Change words) = operation_meant (arc_value words.now)
 
 -- what stands once a statement left this, where that stood before
 abbrev pub left_behind : Left → Option Fields → Option Fields

@@ -4,7 +4,7 @@ ghost use Rattle.std.specs.Prelude.{◌≡◌};
 ghost use Rattle.shard_store.specs.Outcomes.{statement_of};
 
 use crate::outcome::EntryOutcome;
-use bson_values::Document;
+use bson_values::{Document, Memory};
 use cluster_base::{RequestId, Session, Stmt, Time};
 use command_answers::ClientNumber;
 use std::alloc::Global;
@@ -18,6 +18,30 @@ pub enum Words {
     Insert(Arc<Document, Global>),
     /// Does what the words say: mostly an update or a delete, since the document of an insert is copied.
     Change(Arc<OpWords, Global>),
+}
+
+/// What a statement does, in words that are lent: only those of an entry are shared.
+#[derive(Clone, Copy)]
+pub enum LentWords<'a> {
+    /// Puts the document in.
+    Insert(&'a Arc<Document, Global>),
+    /// Does what the words say.
+    Change(&'a Arc<OpWords, Global>),
+}
+
+impl LentWords<'_> {
+    ghost use Rattle.std.specs.Prelude.{◌≡◌, IfOk};
+    ghost use Rattle.shard_store.specs.Entries.{operation_in, operation_of};
+
+    // The same words, shared. Fails for want of memory.
+    pub(crate) fn share(self) -> Result<Words, Memory>
+        ensures { IfOk result (λ words. operation_of words ≡ operation_in self.entry) }
+    {
+        match self {
+            LentWords::Insert(document) => Ok(Words::Insert(Arc::try_clone(document)?)),
+            LentWords::Change(words) => Ok(Words::Change(Arc::try_clone(words)?)),
+        }
+    }
 }
 
 /// What a statement leaves under its key.

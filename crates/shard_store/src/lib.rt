@@ -9,7 +9,7 @@ mod outcome;
 mod plan;
 mod store;
 
-pub use entry::{Left, Planned, Words, statement_number};
+pub use entry::{Left, LentWords, Planned, statement_number};
 pub use fault::WriteFault;
 pub use outcome::{EntryOutcome, EntryResult, StatementAnswer};
 pub use plan::Plan;

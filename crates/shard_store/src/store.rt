@@ -18,14 +18,14 @@ ghost use Rattle.session_book.specs.Books.{NotesAre, room_in};
 ghost use Rattle.node_traits.specs.Ids.{id_meant};
 ghost use Rattle.shard_records.specs.Meanings.{operation_meant};
 ghost use Rattle.shard_store.specs.Outcomes.{done_meant};
-ghost use Rattle.shard_store.specs.Entries.{Kept, entries_kept, entry_meant, notes_kept, operation_of};
+ghost use Rattle.shard_store.specs.Entries.{Kept, entries_kept, entry_meant, notes_kept, operation_in};
 ghost use Rattle.shard_store.specs.Codes.{AreShown, noted-prop, shown-prop};
 ghost use Rattle.shard_store.specs.Collections.{last_under, room_under};
 ghost use Rattle.shard_store.specs.Plans.{AreNext, IsEffect, IsNext, IsOf, IsPlan, IsServed, made_by, planned_in, time_of};
 
 use crate::collections::Collections;
 use crate::effect::{Effect, key_of_op};
-use crate::entry::{Planned, Words, statement_number};
+use crate::entry::{LentWords, Planned, statement_number};
 use crate::outcome::{EntryOutcome, EntryResult, StatementAnswer};
 use crate::plan::Plan;
 use bson_values::{Document, Memory};
@@ -160,13 +160,18 @@ impl ShardStore {
     }
 
     // What a statement does behind the entries. Fails for want of memory.
-    fn effect(&self, alloc: Global, namespace: &Namespace, words: &Words) -> Result<Effect, Memory>
-        requires { IsKeepable (operation_of words.now) }
-        ensures { IfOk result (λ e. IsEffect (entries_of self.now) namespace.now (operation_of words.now) e.key e.left e.outcome) }
+    fn effect(
+        &self,
+        alloc: Global,
+        namespace: &Namespace,
+        words: LentWords,
+    ) -> Result<Effect, Memory>
+        requires { IsKeepable (operation_in words) }
+        ensures { IfOk result (λ e. IsEffect (entries_of self.now) namespace.now (operation_in words.entry) e.key e.left e.outcome) }
     {
         match words {
-            Words::Insert(document) => self.insert(alloc, namespace, document),
-            Words::Change(words) => self.change(alloc, namespace, words),
+            LentWords::Insert(document) => self.insert(alloc, namespace, document),
+            LentWords::Change(words) => self.change(alloc, namespace, words),
         }
     }
 
@@ -179,16 +184,16 @@ impl ShardStore {
         alloc: Global,
         namespace: &Namespace,
         index: u32,
-        words: Words,
+        words: LentWords,
     ) -> Result<Option<StatementAnswer>, Memory>
         requires plan { IsPlan (entries_of self.now) (last_of self.now) namespace.now plan.old }
-        requires keepable { IsKeepable (operation_of words) }
+        requires keepable { IsKeepable (operation_in words) }
         requires room { time_of plan.old < 2 ^ 64 - 1 }
         ensures plan { OnOk result (IsPlan (entries_of self.now) (last_of self.now) namespace.now plan.new) }
         ensures served { IfOk result (λ told. (made : List Entry)
             × (made_by (shard_of self.now) namespace.now plan.new ≡ made_by (shard_of self.now) namespace.now plan.old ++ made)
             × IsServed (shard_of self.now) namespace.now (entries_of self.now ++ made_by (shard_of self.now) namespace.now plan.old) (time_of plan.old)
-            (record { number = number_for (given_meant plan.old.number) (id_meant plan.old.id) index; operation = operation_of words })
+            (record { number = number_for (given_meant plan.old.number) (id_meant plan.old.id) index; operation = operation_in words.entry })
             (option_map (done_meant index) told) made (time_of plan.new)) }
         ensures first { planned_in plan.old ≡ [] → IfOk result (λ told. IsSome told) }
         ensures id { plan.new.id ≡ plan.old.id }
@@ -200,10 +205,11 @@ impl ShardStore {
         if (index as u64) < plan.free {
             return Ok(None);
         }
-        let Effect { key, left, outcome } = self.effect(alloc, namespace, &words)?;
+        let Effect { key, left, outcome } = self.effect(alloc, namespace, words)?;
         if plan.has_key(&key) {
             return Ok(None);
         }
+        let words = words.share()?;
         let time = Time(plan.last.0 + 1);
         let told = EntryResult {
             time,

@@ -22,7 +22,7 @@ returns-clause-served c =
     let index = c.args.statement.now.index in
     let later : time_of c.serve.new.plan ≢ time_of c.args.entries.now = λ e. c.if-time-before.false (c.time.ensures ∙ e ∙ sym c.time-before.ensures) in
     step_new _ c.args.self.now.me.0 c.args.ask.now.namespace _ c.args.entries.now c.serve.new.plan _ _ _ _ _ c.args.ask.now.number id index c.in-WasDone.entry c.statement_number-number.result _ _ _ (search rules)
-    c.in_ok-told.ensures.served (rw (c.requires.number, c.requires.id, c.in_ok-words.ensures.words) refl)
+    c.in_ok-told.ensures.served (rw (c.requires.number, c.requires.id, c.lend_words-words.ensures.words) refl)
     (ap (option_map (done_meant index)) c.in-Some.is ∙ ap (λ t. Some (done_meant index t)) c.in-WasDone.is) c.in_ok-done-2.ensures later
     c.statement_number-number.ensures refl refl c.in_ok-record.ensures.0 c.in_ok-record.ensures.1 refl
 
@@ -31,5 +31,5 @@ returns-then-time-before-clause-served c =
     let index = c.args.statement.now.index in
     let still : time_of c.serve.new.plan ≡ time_of c.args.entries.now = sym c.time.ensures ∙ c.if-time-before.true ∙ c.time-before.ensures in
     step_old _ c.args.self.now.me.0 c.args.ask.now.namespace _ c.args.entries.now c.serve.new.plan _ _ _ _ _ _ _ (search rules)
-    c.in_ok-told.ensures.served (rw (c.requires.number, c.requires.id, c.in_ok-words.ensures.words) refl)
+    c.in_ok-told.ensures.served (rw (c.requires.number, c.requires.id, c.lend_words-words.ensures.words) refl)
     (ap (option_map (done_meant index)) c.in-Some.is) c.in_ok-done.ensures still refl

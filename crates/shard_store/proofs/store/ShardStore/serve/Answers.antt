@@ -8,7 +8,7 @@ use Rattle.node_model.specs.Exchanges.{number_for}
 use Rattle.node_traits.specs.Ids.{id_meant}
 use Rattle.shard_store.proofs.Following.{again, next_from, own_from, served_next}
 use Rattle.shard_store.proofs.Lists.{none_passes}
-use Rattle.shard_store.specs.Entries.{entry_meant, operation_of}
+use Rattle.shard_store.specs.Entries.{entry_meant, operation_in, operation_of}
 use Rattle.shard_store.specs.Outcomes.{done_meant}
 use Rattle.shard_store.specs.Plans.{AreNext, IsEffect, IsServed, left_for_later, made_by, time_of}
 use Rattle.shard_store.specs.Stores.{entries_of, last_of, shard_of}
@@ -22,7 +22,7 @@ returns-in-Some-clause-served c = (
   [],
   sym (append-nil (made_by (shard_of c.args.self.now) c.args.namespace.now c.args.plan.now)),
   again (shard_of c.args.self.now) c.args.namespace.now (entries_of c.args.self.now) (last_of c.args.self.now) c.args.plan.now.number c.args.plan.now.id
-      c.args.plan.now.planned.items c.args.index (time_of c.args.plan.now) (operation_of c.args.words) (done_meant c.args.index c.in-Some.told)
+      c.args.plan.now.planned.items c.args.index (time_of c.args.plan.now) (operation_in c.args.words) (done_meant c.args.index c.in-Some.told)
       c.requires.plan.next (search rules),
 )
 
@@ -49,12 +49,12 @@ returns-clause-plan c =
     let p : Planned = record {
       statement = c.statement_number.result;
       time = record { 0 = plan.last.0 + 1 };
-      words = c.args.words;
+      words = c.in_ok-words.words;
       key = e.key;
       left = e.left;
       outcome = e.outcome;
     } in
-    let does : IsEffect (entries_of store) name (operation_of p.words) p.key p.left p.outcome = c.in_ok-key.ensures in
+    let does : IsEffect (entries_of store) name (operation_of p.words) p.key p.left p.outcome = rw c.in_ok-words.ensures c.in_ok-key.ensures in
     let next = next_from (entries_of store) (last_of store) name p plan.number plan.id c.args.index (omega (arith, c.requires.plan.before)) c.statement_number.ensures does (search rules) in
     c.in_ok-push.ensures.plan (entries_of store) (last_of store) name c.requires.plan next (own_from plan.number plan.id p.statement c.args.index c.statement_number.ensures)
 
@@ -67,13 +67,13 @@ returns-clause-served c =
     let p : Planned = record {
       statement = c.statement_number.result;
       time = record { 0 = plan.last.0 + 1 };
-      words = c.args.words;
+      words = c.in_ok-words.words;
       key = e.key;
       left = e.left;
       outcome = e.outcome;
     } in
     let told : EntryResult = record { time = p.time; outcome = c.in_ok-copy.field-0 } in
-    let does : IsEffect (entries_of store) name (operation_of p.words) p.key p.left p.outcome = c.in_ok-key.ensures in
+    let does : IsEffect (entries_of store) name (operation_of p.words) p.key p.left p.outcome = rw c.in_ok-words.ensures c.in_ok-key.ensures in
     let next = next_from (entries_of store) (last_of store) name p plan.number plan.id c.args.index (omega (arith, c.requires.plan.before)) c.statement_number.ensures does (search rules) in
     let pushed = c.in_ok-push.ensures.plan (entries_of store) (last_of store) name c.requires.plan next (own_from plan.number plan.id p.statement c.args.index c.statement_number.ensures) in
     let all : AreNext (entries_of store) (last_of store) name plan.number plan.id (plan.planned.items ++ p ∷ []) =
@@ -86,9 +86,9 @@ returns-clause-served c =
           ∙ map-append (entry_meant (shard_of store) name) plan.planned.items (p ∷ []),
       subst
           (λ (t : ℕ). IsServed (shard_of store) name (entries_of store ++ made_by (shard_of store) name plan) (time_of plan)
-          (record { number = number_for (given_meant plan.number) (id_meant plan.id) c.args.index; operation = operation_of p.words })
+          (record { number = number_for (given_meant plan.number) (id_meant plan.id) c.args.index; operation = operation_in c.args.words })
           (Some (done_meant c.args.index (WasDone told))) (entry_meant (shard_of store) name p ∷ []) t)
           (sym c.in_ok-push.ensures.time)
-          (served_next (shard_of store) name (entries_of store) (last_of store) plan.number plan.id plan.planned.items p c.args.index (time_of plan) (operation_of p.words) told all
-          c.statement_number.ensures refl refl refl c.in_ok-copy.ensures),
+          (served_next (shard_of store) name (entries_of store) (last_of store) plan.number plan.id plan.planned.items p c.args.index (time_of plan) (operation_in c.args.words) told all
+          c.statement_number.ensures refl c.in_ok-words.ensures refl c.in_ok-copy.ensures),
     )
