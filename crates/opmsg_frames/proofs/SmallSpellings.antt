@@ -1,10 +1,11 @@
 -- How long the spelling of a document is that was read.
-use Rattle.std.proofs.Common.{◌≡◌, ℕ, ◌+◌, ◌*◌, ◌<◌, ◌≤◌, List, ◌++◌, length, ap, arith, length-append}
+use Rattle.std.proofs.Common.{◌≡◌, ℕ, ◌+◌, ◌*◌, ◌<◌, ◌≤◌, List, ◌++◌, length, take, ap, arith, length-append}
 use Rattle.std.specs.Fmt.{decimal}
 use Rattle.std.proofs.lemmas.Fmt.{length-decimal-le}
+use Rattle.std.proofs.lemmas.List.{length-take-le}
 use Rattle.opmsg_model.specs.Tree.{Datum, string_value, document_value, array_value, binary_value, object_id_value, boolean_value, date_value, null_value, int32_value, timestamp_value, int64_value, min_key_value, max_key_value, Items, no_items, item, Fields, no_fields, field}
 use Rattle.opmsg_model.specs.Spelling.{type_byte_of, framed, element, written, written_value, written_items, written_fields}
-use Rattle.opmsg_model.specs.Grammar.{ReadsValue, ReadsItems, ReadsFields, ReadsAs}
+use Rattle.opmsg_model.specs.Grammar.{ReadsValue, ReadsItems, ReadsFields, ReadsAs, IsWithinDepth}
 use Rattle.opmsg_model.proofs.Lengths.{length-framed, length-element}
 use Rattle.opmsg_model.specs.Requests.{IsKept}
 use Rattle.opmsg_model.specs.MessageSizes.{IsSmall}
@@ -68,3 +69,7 @@ written_short bytes ms (body, e, low, reads) few =
 
 pub kept_small : (bytes : List ℕ) (ms : Fields) → IsKept bytes ms → length bytes ≤ 48000000 → IsSmall ms
 kept_small bytes ms (reads, depth) few = (depth, omega (arith, few, written_short bytes ms reads (omega (arith, few))))
+
+-- a document that begins short bytes
+pub prefix_small : (bytes : List ℕ) (n : ℕ) (ms : Fields) → length bytes ≤ 48000000 → n ≤ length bytes → ReadsAs (take n bytes) ms → IsWithinDepth ms → IsSmall ms
+prefix_small bytes n ms few le reads depth = kept_small (take n bytes) ms (reads, depth) (omega (arith, few, le, length-take-le n bytes le))

@@ -1,8 +1,10 @@
 //! Reading the documents of a message whose outline is right.
 
-ghost use Rattle.std.specs.Prelude.{◌≡◌, ◌<◌, ◌^◌, ◌++◌, ◌∷◌, [], ℕ, List, length};
+ghost use Rattle.std.specs.Prelude.{◌≡◌, ◌≤◌, ◌++◌, ◌∷◌, [], ℕ, IfOk, List, length};
 ghost use Rattle.std.specs.List.{AllByRecursion, concat, flat_map};
 ghost use Rattle.opmsg_model.specs.Faults.{HasFirstFault};
+ghost use Rattle.opmsg_model.specs.MessageSizes.{IsSmall};
+ghost use Rattle.opmsg_model.specs.Messages.{most_bytes};
 ghost use Rattle.opmsg_model.specs.Tree.{Fields};
 ghost use Rattle.opmsg_model.specs.Requests.{AreKept, FirstFaulty, Hold, IsKept};
 ghost use Rattle.opmsg_model.specs.Sections.{IsSection, IsStated, Section, bodies, documents_in, section_bytes, sequence_bytes, sequence_section};
@@ -15,8 +17,9 @@ use std::alloc::Global;
 
 /// Reads the document that the bytes are, all of them.
 pub(crate) fn read_whole(alloc: Global, bytes: &[u8]) -> Result<Document, BsonFault>
-    ensures { IsStated bytes.now →
+    ensures kept { IsStated bytes.now →
         ReadOutcome (λ doc. IsKept bytes.now doc) (λ fault offset. HasFirstFault bytes.now fault offset) result }
+    ensures small { length bytes.now ≤ most_bytes → IfOk result (λ doc. IsSmall doc) }
 {
     let (doc, _) = read(alloc, bytes)?;
     Ok(doc)
@@ -24,6 +27,7 @@ pub(crate) fn read_whole(alloc: Global, bytes: &[u8]) -> Result<Document, BsonFa
 
 /// Reads documents, one behind the other.
 fn read_documents(alloc: Global, bytes: &[u8]) -> Result<DocList, BsonFault>
+    requires { length bytes.now ≤ most_bytes }
     ensures { (documents : List (List ℕ)) → bytes.now ≡ concat documents → AllByRecursion IsStated documents →
         ReadOutcome (λ list. AreKept documents list) (λ fault offset. FirstFaulty documents fault offset) result }
 {
@@ -43,6 +47,7 @@ fn take_sequence(
     content: &[u8],
     sequences: &mut SequenceList,
 ) -> Result<(), BsonFault>
+    requires { length content.now ≤ most_bytes }
     ensures { (identifier : List ℕ) (documents : List (List ℕ)) → content.now ≡ sequence_bytes identifier documents →
         IsSection (sequence_section identifier documents) →
         ReadOutcome (λ done. (mss : List Fields) × AreKept documents mss × (sequences.new ≡ sequences.old ++ (identifier, mss) ∷ []))
@@ -67,7 +72,8 @@ pub(crate) fn read_sections(
     alloc: Global,
     bytes: &[u8],
 ) -> Result<(Document, SequenceList), BsonFault>
-    ensures { (sections : List Section) → bytes.now ≡ flat_map section_bytes sections → length bytes.now < 2 ^ 32 →
+    requires { length bytes.now ≤ most_bytes }
+    ensures { (sections : List Section) → bytes.now ≡ flat_map section_bytes sections →
         AllByRecursion IsSection sections → bodies sections ≡ 1 →
         ReadOutcome (λ x. Hold sections (x.0 ∷ []) x.1) (λ fault offset. FirstFaulty (documents_in sections) fault offset) result }
 {

@@ -1,13 +1,15 @@
 //! The documents of document sequences.
 
 ghost use Rattle.std.specs.Prelude.{◌≡◌, ◌++◌, ◌∷◌, [], OnErr, OnOk};
+ghost use Rattle.std.specs.List.{AllByRecursion};
+ghost use Rattle.opmsg_model.specs.MessageSizes.{IsSmall};
 ghost use Rattle.opmsg_frames.specs.Lists.{pairs_of};
 
 use bson_values::{Document, Memory, Text};
 use std::alloc::Global;
 use std::marker::Model;
 
-/// A row of documents, in order.
+/// A row of documents, in order, each as small as a message has it.
 #[derive(Drop)]
 pub struct DocList {
     documents: Vec<Document>,
@@ -24,6 +26,11 @@ impl Model for DocList {
     ghost coded = { coded_list fields_code };
 
     ghost view = { λ l. l.documents.items };
+
+    ghost use Rattle.std.specs.List.{AllByRecursion};
+    ghost use Rattle.opmsg_model.specs.MessageSizes.{IsSmall};
+
+    ghost invariant = { λ l. AllByRecursion IsSmall l.documents.items };
 }
 
 impl DocList {
@@ -38,6 +45,7 @@ impl DocList {
 
     /// Puts a document behind the others. Fails for want of memory, and then changes nothing.
     pub fn push(&mut self, document: Document) -> Result<(), Memory>
+        requires small { IsSmall document }
         ensures ok { OnOk result (self.new ≡ self.old ++ document ∷ []) }
         ensures err { OnErr result (self.new ≡ self.old) }
     {
@@ -47,14 +55,16 @@ impl DocList {
 
     /// The documents, in order.
     pub fn as_slice(&self) -> &[Document]
-        ensures { result.now ≡ self.now }
+        ensures documents { result.now ≡ self.now }
+        ensures small { AllByRecursion IsSmall self.now }
     {
         self.documents.as_slice()
     }
 
     /// The documents, in order. The row is taken apart, and nothing is copied.
     pub fn into_documents(self) -> Vec<Document>
-        ensures { result.items ≡ self }
+        ensures documents { result.items ≡ self }
+        ensures small { AllByRecursion IsSmall self }
     {
         self.documents
     }

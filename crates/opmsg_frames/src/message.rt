@@ -1,6 +1,6 @@
 //! Reading a whole message whose outline is right.
 
-ghost use Rattle.std.specs.Prelude.{◌≡◌, ◌≢◌, ◌⊎◌, ◌<◌, ◌≤◌, ◌^◌, ◌∷◌, [], List, None, true, drop, take, length, IfOk};
+ghost use Rattle.std.specs.Prelude.{◌≡◌, ◌≢◌, ◌⊎◌, ◌≤◌, ◌∷◌, [], List, None, true, drop, take, length, IfOk};
 ghost use Rattle.std.specs.Int.{w32, cast_signed};
 ghost use Rattle.std.specs.List.{AllByRecursion, flat_map};
 ghost use Rattle.opmsg_model.specs.Frames.{IsFirst};
@@ -48,7 +48,8 @@ fn is_more(bytes: &[u8]) -> bool
 
 /// Reads the documents of sections, one of which is of kind 0.
 fn read_body(alloc: Global, bytes: &[u8]) -> Result<Body, Memory>
-    ensures { (sections : List Section) → bytes.now ≡ flat_map section_bytes sections → length bytes.now < 2 ^ 32 →
+    requires { length bytes.now ≤ most_bytes }
+    ensures { (sections : List Section) → bytes.now ≡ flat_map section_bytes sections →
         AllByRecursion IsSection sections → bodies sections ≡ 1 →
         IfOk result (λ body. (meant : wire.Body) × IsBody body meant × wire.HasBody sections meant) }
 {
