@@ -60,12 +60,7 @@ pub taken_small : (sent : wire.Form) (body : Body) (command : Command) → IsTak
 taken_small sent body command taken told =
     subst (λ (r : Result Command Refusal). IsTaken r) told (command_taken (record { id = pos 0; more = false; form = sent; body = body_of body; bytes = [] }) taken.small)
 
--- documents and sequences, from one on
-pub small_on : (documents : List Fields) (i : ℕ) (d : Fields) → i < length documents → d ≡ get_or documents i d → IsSmall d → AreSmall (drop (i + 1) documents) → AreSmall (drop i documents)
-small_on documents i d inside here small rest =
-    let cut : drop i documents ≡ d ∷ drop (i + 1) documents = rw add-one (drop-cons documents i d inside ∙ ap (λ (first : Fields). first ∷ drop (suc i) documents) (sym here)) in
-    subst (λ (l : List Fields). AreSmall l) (sym cut) (small, rest)
-
+-- sequences, from one on
 pub sequences_on : (sequences : List Sequence) (i : ℕ) (s : Sequence) → i < length sequences → s ≡ get_or sequences i s → AreSmall s.documents
     → AreSmallSequences (pairs_of (drop (i + 1) sequences)) → AreSmallSequences (pairs_of (drop i sequences))
 sequences_on sequences i s inside here small rest =

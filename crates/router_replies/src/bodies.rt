@@ -5,7 +5,7 @@ ghost use Rattle.bson_values.specs.ReadFaults.{fault_offset};
 ghost use Rattle.command_model.specs.MessageSizes.{IsSmall};
 ghost use Rattle.opmsg_frames.specs.Lists.{pairs_of};
 ghost use Rattle.opmsg_model.specs.Messages.{most_bytes};
-ghost use Rattle.router_replies.specs.Bodies.{AreSmall, AreSmallSequences, IsTakenBody};
+ghost use Rattle.router_replies.specs.Bodies.{AreSmallSequences, IsTakenBody};
 
 use bson_values::{BsonFault, Document};
 use opmsg_frames::{Body, Sequence};
@@ -26,30 +26,14 @@ fn is_small(document: &Document) -> bool
     document.levels() <= MOST_LEVELS && document.size() <= MOST_BYTES
 }
 
-/// Whether documents are as small as those that are read.
-#[tactic(auto, using(crate::proofs::TakenBodies::small_on))]
-fn are_small(documents: &[Document]) -> bool
-    ensures { IsTrue result → AreSmall documents.now }
-{
-    for document in documents {
-        if !is_small(document) {
-            return false;
-        }
-    }
-    true
-}
-
-/// Whether the documents of sequences are as small as those that are read.
+/// Tells that the documents of sequences are as small as those that are read: each list says it of its own.
 #[tactic(auto, using(crate::proofs::TakenBodies::sequences_on))]
-fn are_small_sequences(sequences: &[Sequence]) -> bool
-    ensures { IsTrue result → AreSmallSequences (pairs_of sequences.now) }
+fn are_small_sequences(sequences: &[Sequence])
+    ensures { AreSmallSequences (pairs_of sequences.now) }
 {
     for sequence in sequences {
-        if !are_small(sequence.documents.as_slice()) {
-            return false;
-        }
+        let _documents = sequence.documents.as_slice();
     }
-    true
 }
 
 /// Whether a fault stands where it can in a message.
@@ -68,7 +52,10 @@ pub fn is_taken(body: &Body) -> bool
     ensures { IsTrue result → IsTakenBody body.now }
 {
     match body {
-        Body::Read { doc, sequences } => is_small(doc) && are_small_sequences(sequences.as_slice()),
+        Body::Read { doc, sequences } => {
+            are_small_sequences(sequences.as_slice());
+            is_small(doc)
+        }
         Body::Faulty(fault) => is_inside(fault),
     }
 }
