@@ -1,7 +1,7 @@
 //! The book: what a statement is against those that were noted.
 #![tactic(auto, unfolding(crate::specs::Books::seen_in, crate::specs::Books::room_in))]
 
-ghost use Rattle.std.specs.Prelude.{◌≡◌, ◌≢◌, ◌≤◌, ◌+◌, ◌++◌, ◌∷◌, List, [], Some, None, OnOk, OnErr, if◌then◌else◌};
+ghost use Rattle.std.specs.Prelude.{IsTrue, ◌≡◌, ◌≢◌, ◌≤◌, ◌+◌, ◌++◌, ◌∷◌, List, [], Some, None, OnOk, OnErr, if◌then◌else◌};
 ghost use Rattle.std.specs.Option.{ForSome};
 ghost use Rattle.history_model.specs.History as history;
 ghost use Rattle.history_model.specs.History.{StatementNumber};
@@ -32,6 +32,28 @@ pub enum Seen<'a> {
     },
     /// Its session has this greater transaction.
     Older(i64),
+}
+
+// Whether the identifiers are one. They are compared for each statement, which is cheaper byte by byte than as slices of any length.
+fn same_id(id: &[u8; 16], other: &[u8; 16]) -> bool
+    ensures { IsTrue result → id.now ≡ other.now }
+{
+    for i in 0..16 {
+        if id[i] != other[i] {
+            return false;
+        }
+    }
+    true
+}
+
+// Whether both are a session of one identifier, or one of a router's.
+fn is_same(session: &Session, other: &Session) -> bool
+    ensures { IsTrue result → session_meant session.now ≡ session_meant other.now }
+{
+    match (session, other) {
+        (Session::Client(id), Session::Client(other)) => same_id(id, other),
+        _ => session == other,
+    }
 }
 
 /// A session, and the place of what is kept of it.
@@ -87,7 +109,7 @@ impl Book {
         ensures { result ≡ place_of self.now.places.entries (session_meant session.now) }
     {
         match &self.latest {
-            Some(latest) if latest.session == *session => Some(latest.place),
+            Some(latest) if is_same(&latest.session, session) => Some(latest.place),
             _ => self.places.get(session).copied(),
         }
     }
