@@ -47,10 +47,6 @@ equals_is (Client a) (Router m k q) = refl
 equals_is (Router n l r) (Client b) = refl
 equals_is (Router n l r) (Router m k q) = refl
 
--- equal ones have one meaning
-pub equal_meant : (a b : Session) → session_equals a b ≡ true → session_meant a ≡ session_meant b
-equal_meant a b equal = same_session_is (session_meant a) (session_meant b) (sym (equals_is a b) ∙ equal)
-
 lookup_alike : {K X : Type 0} (p q : K → Bool) → ((k : K) → p k ≡ q k) → (es : List (K × X)) → lookup p es ≡ lookup q es
 lookup_alike p q alike [] = refl
 lookup_alike p q alike (e ∷ es) = rw (alike e.0, lookup_alike p q alike es) refl
