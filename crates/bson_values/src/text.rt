@@ -1,6 +1,6 @@
 //! Texts, names and bytes: the parts of a document that hold no value.
 
-ghost use Rattle.std.specs.Prelude.{◌≡◌, ◌≤◌, take, IfOk, IfSome, IsTrue};
+ghost use Rattle.std.specs.Prelude.{◌≡◌, ◌≤◌, ◌<◌, take, IfOk, IfSome, IsTrue};
 ghost use Rattle.std.specs.Str.{IsUtf8};
 ghost use Rattle.bson_model.specs.Grammar.{HasNoZero};
 ghost use Rattle.bson_values.specs.Names.{has_no_zero};
@@ -29,28 +29,32 @@ impl<T: Drop> From<AllocFailed<T>> for Memory {
 /// How many bytes of a text stand in the value itself at most: as many as a `String` and its tag leave room for.
 const MOST_SHORT: usize = 30;
 
-/// The bytes of a short text, and how many of them count. A length of one byte leaves room for more of them.
+/// How many bytes of a name stand in the field itself at most: with their length they are two words.
+const MOST_SHORT_NAME: usize = 15;
+
+/// The bytes of a short text, at most N, and how many of them count. A length of one byte leaves room for more of them.
 #[derive(Clone, Copy, Debug)]
-struct Short {
+struct Short<const N: usize> {
     length: u8,
-    bytes: [u8; MOST_SHORT],
-    ghost fits: { length ≤ MOST_SHORT },
+    bytes: [u8; N],
+    ghost fits: { length ≤ N },
     ghost utf8: { ∥ IsUtf8 (take length bytes) ∥₁ },
 }
 
-impl Short {
+impl<const N: usize> Short<N> {
     ghost use Rattle.bson_values.specs.Texts.{short_bytes};
 
     /// Copies the text, where it is short.
     #[inline(always)]
-    fn of(text: &str) -> Option<Short>
+    fn of(text: &str) -> Option<Short<N>>
+        requires length_fits { N < 256 }
         ensures { IfSome result (λ s. short_bytes s ≡ text.now) }
     {
         let length = text.len();
-        if length > MOST_SHORT {
+        if length > N {
             return None;
         }
-        let mut bytes = [0; MOST_SHORT];
+        let mut bytes = [0; N];
         bytes[..length].copy_from_slice(text.as_bytes());
         Some(Short {
             length: length as u8,
@@ -71,7 +75,7 @@ impl Short {
 /// Where the bytes of a text stand: those of a short one in the value itself, since most texts are short.
 #[derive(Debug, Drop)]
 enum Held {
-    Short(Short),
+    Short(Short<MOST_SHORT>),
     Long(String),
 }
 
@@ -129,21 +133,37 @@ impl Text {
     }
 }
 
+/// The bytes of a short name. They are aligned, since a name that is moved is then moved in whole words.
+#[derive(Clone, Copy, Debug)]
+struct ShortName {
+    bytes: Short<MOST_SHORT_NAME>,
+    aligned: [u64; 0],
+}
+
+/// Where the bytes of a name stand: those of a short one in the field itself, since most names are short.
+#[derive(Debug, Drop)]
+enum HeldName {
+    Short(ShortName),
+    Long(Box<String>),
+}
+
 /// The name of a field: a text without 00 (BSON 1.1, `cstring`).
 #[derive(Debug, Drop)]
 pub struct Name {
-    text: Text,
+    held: HeldName,
 }
 
 impl Model for Name {
     ghost use Rattle.std.specs.Prelude.{List, ℕ};
+    ghost use Rattle.std.specs.Str.{IsUtf8};
     ghost use Rattle.bson_model.specs.Grammar.{HasNoZero};
+    ghost use Rattle.bson_values.specs.Texts.{name_bytes};
 
     ghost Value = { List ℕ };
 
-    ghost view = { λ n. n.text };
+    ghost view = { λ n. name_bytes n.held };
 
-    ghost invariant = { λ n. HasNoZero n.text };
+    ghost invariant = { λ n. IsUtf8 (name_bytes n.held) × HasNoZero (name_bytes n.held) };
 }
 
 impl Name {
@@ -153,8 +173,11 @@ impl Name {
         requires { IsTrue (has_no_zero text.now) }
         ensures { IfOk result (λ n. n ≡ text.now) }
     {
-        let text = Text::of(alloc, text)?;
-        Ok(Name { text })
+        let held = match Short::of(text) {
+            Some(bytes) => HeldName::Short(ShortName { bytes, aligned: [] }),
+            None => HeldName::Long(Box::new(alloc, String::from_str(alloc, text)?)?),
+        };
+        Ok(Name { held })
     }
 
     /// The name's bytes.
@@ -163,15 +186,21 @@ impl Name {
         ensures no_zero { HasNoZero self.now }
         ensures utf8 { IsUtf8 self.now }
     {
-        self.text.as_str()
+        match &self.held {
+            HeldName::Short(name) => name.bytes.as_str(),
+            HeldName::Long(name) => name.as_str(),
+        }
     }
 
     /// The same name once more. Fails for want of memory.
     pub fn copy(&self) -> Result<Name, Memory>
         ensures { IfOk result (λ n. n ≡ self.now) }
     {
-        let text = self.text.copy()?;
-        Ok(Name { text })
+        let held = match &self.held {
+            HeldName::Short(name) => HeldName::Short(*name),
+            HeldName::Long(name) => HeldName::Long(name.clone()?),
+        };
+        Ok(Name { held })
     }
 }
 
