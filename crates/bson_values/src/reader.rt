@@ -17,7 +17,7 @@ ghost use Rattle.bson_values.specs.View.{datum_of};
 use crate::element_type::ElementType;
 use crate::fault::BsonFault;
 use crate::limits::{LENGTH_LIMIT, MOST_DEPTH_KEPT};
-use crate::scan::{read_fixed, read_length, read_name, read_string, read_type, skip_name};
+use crate::scan::{read_fixed, read_length, read_name, read_text, read_type, skip_name};
 use crate::text::{Blob, Name, Text};
 use crate::value::{Array, Document, Field, Value};
 use byteorder::{ByteOrder, LittleEndian};
@@ -131,8 +131,8 @@ fn read_int32(total: usize, room: usize, bytes: &[u8]) -> Result<(i32, &[u8]), B
     Ok((LittleEndian::read_u32(prefix).cast_signed(), rest))
 }
 
-/// Reads a string, and copies it.
-#[tactic(auto, unfolding(crate::specs::Readers::scalar_at))]
+/// Reads a string with its length, and copies it (BSON 1.1, `string`).
+#[tactic(auto, unfolding(crate::specs::Readers::scalar_at, crate::specs::Readers::string_at))]
 #[inline(always)]
 fn copy_string(
     alloc: Global,
@@ -144,8 +144,9 @@ fn copy_string(
     ensures gives { Gives (λ x. (string_value x.0, x.1.now)) result (scalar_at total ElementType.Text room bytes.now) }
     ensures rest { IfOk result (λ x. IsRest bytes.now room x.1.now) }
 {
-    let (text, rest) = read_string(total, room, bytes)?;
-    Ok((Text::of(alloc, text)?, rest))
+    let (count, front) = read_length(total, 1, 4, room, bytes)?;
+    let (text, rest) = read_text(total, count, front)?;
+    Ok((Text::of_front(alloc, text, front)?, rest))
 }
 
 #[tactic(auto, unfolding(crate::specs::Readers::scalar_at))]
@@ -393,8 +394,9 @@ fn read_document(
         let Some(type_byte) = type_byte else {
             return Ok((document, rest));
         };
-        let (name, room, rest) = read_name(total, space - 1, rest)?;
-        let name = Name::of(alloc, name)?;
+        let front = rest;
+        let (name, room, rest) = read_name(total, space - 1, front)?;
+        let name = Name::of_front(alloc, name, front)?;
         let head = Head {
             type_byte,
             name,

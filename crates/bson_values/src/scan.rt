@@ -4,10 +4,10 @@
 //! their number. `room` is how many bytes, the last 00 with them, the document still has by its length. What is called for each
 //! field is inlined, so that its results stay in registers.
 
-ghost use Rattle.std.specs.Prelude.{◌≡◌, ◌≢◌, ◌+◌, ◌<◌, ◌≤◌, length, IfOk, IfErr, IfNone, IsTrue, Some};
+ghost use Rattle.std.specs.Prelude.{◌≡◌, ◌≢◌, ◌+◌, ◌<◌, ◌≤◌, length, take, IfOk, IfErr, IfNone, IsTrue, Some};
 ghost use Rattle.std.specs.Str.{IsAscii};
 ghost use Rattle.bson_values.specs.ReadFaults.{Gives};
-ghost use Rattle.bson_values.specs.Readers.{length_within, length_at, fixed_at, utf8_at, text_at, string_at, name_from, room_at, index_at, name_at, type_at, checked_type};
+ghost use Rattle.bson_values.specs.Readers.{length_within, length_at, fixed_at, utf8_at, text_at, name_from, room_at, index_at, name_at, type_at, checked_type};
 ghost use Rattle.bson_values.specs.Types.{type_from};
 ghost use Rattle.bson_values.specs.Rests.{IsRest};
 
@@ -137,6 +137,7 @@ pub fn read_text(total: usize, count: usize, bytes: &[u8]) -> Result<(&str, &[u8
     requires count { 0 < count }
     ensures gives { Gives (λ x. (x.0.now, x.1.now)) result (text_at total count bytes.now) }
     ensures rest { IfOk result (λ x. length x.1.now + count ≡ length bytes.now) }
+    ensures front { IfOk result (λ x. x.0.now ≡ take (length x.0.now) bytes.now) }
 {
     if bytes.len() < count {
         return Err(BsonFault::Short { place: total });
@@ -151,18 +152,6 @@ pub fn read_text(total: usize, count: usize, bytes: &[u8]) -> Result<(&str, &[u8
     Ok((text, rest))
 }
 
-/// Reads a string with its length (BSON 1.1, `string`).
-#[tactic(auto, unfolding(crate::specs::Readers::string_at))]
-#[inline(always)]
-pub fn read_string(total: usize, room: usize, bytes: &[u8]) -> Result<(&str, &[u8]), BsonFault>
-    requires total { length bytes.now ≤ total }
-    ensures gives { Gives (λ x. (x.0.now, x.1.now)) result (string_at total room bytes.now) }
-    ensures rest { IfOk result (λ x. IsRest bytes.now room x.1.now) }
-{
-    let (count, rest) = read_length(total, 1, 4, room, bytes)?;
-    read_text(total, count, rest)
-}
-
 /// Finds a name's end, and gives the bytes before and behind it (BSON 1.1, `cstring`).
 #[inline(always)]
 pub fn scan_name(
@@ -174,6 +163,7 @@ pub fn scan_name(
     ensures gives { Gives (λ x. (x.0.now, x.1.now)) result (name_from total offset room bytes.now) }
     ensures rest { IfOk result (λ x.
         (length x.0.now + (length x.1.now + 1) ≡ length bytes.now) × (length x.0.now < room)) }
+    ensures front { IfOk result (λ x. x.0.now ≡ take (length x.0.now) bytes.now) }
 {
     let end = bytes.len().min(room);
     for i in 0..end {
@@ -225,6 +215,7 @@ pub fn read_name(total: usize, room: usize, bytes: &[u8]) -> Result<(&str, usize
     ensures gives { Gives (λ x. (x.0.now, x.1, x.2.now)) result (name_at total room bytes.now) }
     ensures rest { IfOk result (λ x. (0 < x.1) × (length x.2.now < length bytes.now)
         × (length bytes.now + x.1 ≡ length x.2.now + room)) }
+    ensures front { IfOk result (λ x. x.0.now ≡ take (length x.0.now) bytes.now) }
 {
     let offset = total - bytes.len();
     let (name, rest) = scan_name(total, offset, room, bytes)?;

@@ -1,6 +1,6 @@
 //! Texts, names and bytes: the parts of a document that hold no value.
 
-ghost use Rattle.std.specs.Prelude.{◌≡◌, ◌≤◌, ◌<◌, take, IfOk, IfSome, IsTrue};
+ghost use Rattle.std.specs.Prelude.{◌≡◌, ◌≤◌, ◌<◌, length, take, IfOk, IfSome, IsTrue};
 ghost use Rattle.std.specs.Str.{IsUtf8};
 ghost use Rattle.bson_model.specs.Grammar.{HasNoZero};
 ghost use Rattle.bson_values.specs.Names.{has_no_zero};
@@ -62,6 +62,29 @@ impl<const N: usize> Short<N> {
         })
     }
 
+    /// Copies the text that the bytes begin with, where it is short: as many bytes as there is room for, whatever stands behind the text, since
+    /// a copy whose length is known stays in registers.
+    #[inline(always)]
+    fn of_front(text: &str, bytes: &[u8]) -> Option<Short<N>>
+        requires length_fits { N < 256 }
+        requires front { text.now ≡ take (length text.now) bytes.now }
+        ensures { IfSome result (λ s. short_bytes s ≡ text.now) }
+    {
+        let length = text.len();
+        if length > N {
+            return None;
+        }
+        if bytes.len() < N {
+            return Short::of(text);
+        }
+        let mut copy = [0; N];
+        copy.copy_from_slice(&bytes[..N]);
+        Some(Short {
+            length: length as u8,
+            bytes: copy,
+        })
+    }
+
     /// The text's bytes.
     #[inline(always)]
     fn as_str(&self) -> &str
@@ -104,6 +127,19 @@ impl Text {
         ensures { IfOk result (λ t. t ≡ text.now) }
     {
         let held = match Short::of(text) {
+            Some(short) => Held::Short(short),
+            None => Held::Long(String::from_str(alloc, text)?),
+        };
+        Ok(Text { held })
+    }
+
+    /// Copies the text that the bytes begin with. Fails for want of memory.
+    #[inline(always)]
+    pub(crate) fn of_front(alloc: Global, text: &str, bytes: &[u8]) -> Result<Text, Memory>
+        requires { text.now ≡ take (length text.now) bytes.now }
+        ensures { IfOk result (λ t. t ≡ text.now) }
+    {
+        let held = match Short::of_front(text, bytes) {
             Some(short) => Held::Short(short),
             None => Held::Long(String::from_str(alloc, text)?),
         };
@@ -174,6 +210,20 @@ impl Name {
         ensures { IfOk result (λ n. n ≡ text.now) }
     {
         let held = match Short::of(text) {
+            Some(bytes) => HeldName::Short(ShortName { bytes, aligned: [] }),
+            None => HeldName::Long(Box::new(alloc, String::from_str(alloc, text)?)?),
+        };
+        Ok(Name { held })
+    }
+
+    /// Copies the text that the bytes begin with, which holds no 00. Fails for want of memory.
+    #[inline(always)]
+    pub(crate) fn of_front(alloc: Global, text: &str, bytes: &[u8]) -> Result<Name, Memory>
+        requires name { IsTrue (has_no_zero text.now) }
+        requires front { text.now ≡ take (length text.now) bytes.now }
+        ensures { IfOk result (λ n. n ≡ text.now) }
+    {
+        let held = match Short::of_front(text, bytes) {
             Some(bytes) => HeldName::Short(ShortName { bytes, aligned: [] }),
             None => HeldName::Long(Box::new(alloc, String::from_str(alloc, text)?)?),
         };

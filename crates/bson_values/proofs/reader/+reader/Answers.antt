@@ -77,8 +77,8 @@ put_field-returns-in_ok-push-in-Text-clause-put t c = (
   c.in_ok-push-in-Text.ensures.ok,
 )
 
-pub read_document-of-requires : goal.read_document-of-requires
-read_document-of-requires t c = named_no_zero _ _ _ _ c.in_ok-name.ensures.gives
+pub read_document-of_front-requires-clause-name : goal.read_document-of_front-requires-clause-name
+read_document-of_front-requires-clause-name t c = named_no_zero _ _ _ _ c.in_ok-name.ensures.gives
 
 pub read_document-returns-in_err-type_byte-clause-gives : goal.read_document-returns-in_err-type_byte-clause-gives
 read_document-returns-in_err-type_byte-clause-gives t c =
