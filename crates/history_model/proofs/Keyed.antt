@@ -10,6 +10,7 @@ use Rattle.query_model.specs.Queries.{Query, QueryFault}
 use Rattle.query_model.specs.Reading.{◌>>=◌, read_query}
 use Rattle.query_model.specs.Writes.{Write, delete_write}
 use Rattle.query_model.specs.Effects.{Effect, IsUnder, unmet, effect_of, left_by, write_key}
+use Rattle.query_model.proofs.KeysAsked.{write_is_key}
 use Rattle.query_model.proofs.KeysStay.{BeginsAsRead, write_keeps, keyless_unmet}
 use Rattle.query_model.proofs.ReadWrites.{insert_begins, update_begins}
 use Rattle.query_model.specs.Edits.{WriteFault, same_key}
@@ -23,6 +24,14 @@ delete_begins (Ok asked) write e = begins write e
     begins : (w : Write) → Path (Result Write QueryFault) (Ok (delete_write asked)) (Ok w) → BeginsAsRead w
     begins w same = let is : delete_write asked ≡ w = cc in subst (λ (x : Write). BeginsAsRead x) is tt
 delete_begins (Err fault) write e = absurd cc
+
+read_is_key : (read : Result Write QueryFault) (key : Datum) → key_read read ≡ Some key → is_key key ≡ true
+read_is_key (Ok write) key e = write_is_key write key e
+read_is_key (Err fault) key e = absurd (cc)
+
+-- an operation writes under what may be a key
+pub written_is_key : (operation : Operation) (key : Datum) → key_written operation ≡ Some key → is_key key ≡ true
+written_is_key operation key e = read_is_key (read_operation operation) key e
 
 read_begins : (operation : Operation) (write : Write) → read_operation operation ≡ Ok write → BeginsAsRead write
 read_begins (insert_operation document) write e = insert_begins document write e

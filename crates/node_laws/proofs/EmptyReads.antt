@@ -5,7 +5,7 @@ use Rattle.std.specs.List.{AllByRecursion}
 use Rattle.std.proofs.lemmas.Bool.{eqb-true, leb-true, leb-false}
 use Rattle.value_model.specs.Keys.{is_key}
 use Rattle.query_model.specs.KeySpans.{key_asked, key_equal}
-use Rattle.reply_model.proofs.SpanDocuments.{asked_is_key}
+use Rattle.query_model.proofs.KeysAsked.{asked_is_key}
 use Rattle.chunk_model.proofs.FirstTables.{every_key_at}
 use Rattle.history_model.proofs.Lists.{all_at, all_from}
 use Rattle.node_model.specs.Tree.{Datum, null_value}

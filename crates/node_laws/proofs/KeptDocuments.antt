@@ -19,9 +19,8 @@ use Rattle.query_model.specs.Effects.{HasSameKey, IsUnder}
 use Rattle.chunk_model.proofs.FirstTables.{every_key_at}
 use Rattle.history_model.specs.Documents.{document_under, row_written, rows_after, rows_at, documents_at}
 use Rattle.history_model.proofs.Collections.{lists_collection}
-use Rattle.history_model.proofs.Keyed.{after_under}
+use Rattle.history_model.proofs.Keyed.{after_under, written_is_key}
 use Rattle.history_model.proofs.Lists.{all_weaken, all_at, in_cons, in_none}
-use Rattle.reply_model.proofs.SpanDocuments.{written_is_key}
 use Rattle.node_model.specs.Tree.{Datum, Fields}
 use Rattle.node_model.specs.Catalogue.{Creation}
 use Rattle.node_model.specs.Tables.{first_table, first_shard, owner_at}

@@ -22,7 +22,7 @@ use Rattle.node_model.specs.RouterRows.{asks_shards, asks_table, is_enough, enou
 use Rattle.node_model.specs.RouterRows.{is_answered}
 use Rattle.chunk_model.proofs.FirstTables.{every_key}
 use Rattle.command_model.proofs.Judged.{HasKey}
-use Rattle.reply_model.proofs.SpanDocuments.{written_is_key}
+use Rattle.history_model.proofs.Keyed.{written_is_key}
 use Rattle.node_laws.proofs.RouterAsks.{only_span}
 use Rattle.node_laws.proofs.MadeEntries.{index_at}
 use Rattle.node_progress.proofs.Leads.{AskFits, IsReading, HasNext, IsGoing, IsNext, Leads}

@@ -11,7 +11,7 @@ use Rattle.node_model.specs.History.{Operation, insert_operation, key_read, key_
 use Rattle.node_model.specs.Tables.{Table, owner_now}
 use Rattle.node_model.specs.Exchanges.{RequestId, number_for}
 use Rattle.node_model.specs.RouterRows.{owner_of_statement}
-use Rattle.reply_model.proofs.SpanDocuments.{written_is_key}
+use Rattle.history_model.proofs.Keyed.{written_is_key}
 use Rattle.value_compare.specs.Keys.{is_key, valid_key}
 
 pub key_by_document : (document : Fields) (key : Datum) → valid_key document ≡ Ok key → key_written (insert_operation document) ≡ Some key

@@ -27,7 +27,7 @@ fn share_found(
     Ok(all)
 }
 
-// The documents without some of which the filter does not hold. It takes a part of what the filter takes, so that the processor has
+// The documents, but for some of those that the filter drops. It takes a part of what the filter takes, so that the processor has
 // the next documents on their way from memory meanwhile. Takes no memory.
 fn sifted<'a>(
     asked: &Expr,

@@ -2,14 +2,17 @@
 use Rattle.std.proofs.Common.{◌≡◌, inl, inr, ℕ, List, [], ◌∷◌, refl, sym, ap, ◌∙◌}
 use Rattle.std.specs.Prelude.{Bool, true, false, ◌&&◌, ◌||◌, ◌⊎◌, Option, Some, None, Result, Ok, Err, if◌then◌else◌, codes}
 use Rattle.std.specs.Option.{option_or}
+use Rattle.std.specs.Result.{result_ok}
 use Rattle.std.proofs.lemmas.Slice.Eq.{bytes_eq-Decides}
 use Rattle.bson_model.specs.Tree.{Datum, array_value, Fields, get}
 use Rattle.value_model.specs.Order.{same_value}
-use Rattle.value_model.specs.Keys.{is_key, KeyFault, absent_key, wrong_kind, valid_key, Span, inside, point_span}
+use Rattle.value_model.specs.Keys.{is_key, key_of, KeyFault, absent_key, wrong_kind, valid_key, Span, inside, point_span}
 use Rattle.value_model.proofs.Spans.{whole_inside}
 use Rattle.query_model.specs.Paths.{Path, elements_of}
 use Rattle.query_model.specs.Queries.{Query, no_clauses, clause, path_clause, connective_clause, Tests, no_tests, test, eq_test}
 use Rattle.query_model.specs.Holds.{Found, found_at, alone, is_null, is_equal, holds, clause_holds, tests_hold, test_holds}
+use Rattle.query_model.specs.Writes.{Write, insert_write, update_write, delete_write}
+use Rattle.query_model.specs.Effects.{write_key}
 use Rattle.query_model.specs.KeySpans.{is_id, equality_in, key_asked, whole_span, span_of}
 use Rattle.bson_model.proofs.Booleans.{both}
 
@@ -34,6 +37,25 @@ kept_key d key false keeps e = absurd cc
 pub valid_from : (found : Option Datum) (key : Datum) → valid found ≡ Ok key → (found ≡ Some key) × (is_key key ≡ true)
 valid_from None key e = absurd cc
 valid_from (Some d) key e = kept_key d key (is_key d) refl e
+
+valid_is_key : (document : Fields) (key : Datum) (found : Result Datum KeyFault) → valid_key document ≡ found → result_ok found ≡ Some key → is_key key ≡ true
+valid_is_key document key (Ok own) is e = let same : own ≡ key = cc in ap is_key (sym same) ∙ (valid_from (key_of document) own is).1
+valid_is_key document key (Err fault) is e = absurd (cc)
+
+pub asked_is_key : (found : Option Datum) (key : Datum) → elim found as (λ o. Option Datum) [ None ↦ None | Some x ↦ if is_key x then Some x else None ]
+    ≡ Some key → is_key key ≡ true
+asked_is_key None key e = absurd (cc)
+asked_is_key (Some x) key e = by_test (is_key x) refl e
+  where
+    by_test : (b : Bool) → is_key x ≡ b → (if b then Some x else None) ≡ Some key → is_key key ≡ true
+    by_test true is e = let same : x ≡ key = cc in ap is_key (sym same) ∙ is
+    by_test false is e = absurd (cc)
+
+-- what a change writes under is a key
+pub write_is_key : (write : Write) (key : Datum) → write_key write ≡ Some key → is_key key ≡ true
+write_is_key (insert_write document) key e = valid_is_key document key (valid_key document) refl e
+write_is_key (update_write asked change start) key e = asked_is_key (key_asked asked) key e
+write_is_key (delete_write asked) key e = asked_is_key (key_asked asked) key e
 
 no_elements : (key : Datum) → is_key key ≡ true → elements_of key ≡ []
 no_elements (array_value ds) e = absurd cc

@@ -5,7 +5,6 @@ use Rattle.std.specs.List.{AllByRecursion}
 use Rattle.std.specs.List.Sorted.{IsStrictlySortedBy}
 use Rattle.std.specs.Map.{values_of}
 use Rattle.std.specs.Ordering.{is_eq}
-use Rattle.std.specs.Result.{result_ok}
 use Rattle.std.specs.Str.{bytes_eq}
 use Rattle.bson_model.proofs.Booleans.{both}
 use Rattle.command_model.specs.Tree.{Datum, Fields}
@@ -13,47 +12,17 @@ use Rattle.value_model.specs.Order.{order}
 use Rattle.value_model.specs.Keys.{Span, inside, is_key, key_of, KeyFault, valid_key}
 use Rattle.value_model.proofs.Flat.{order_total}
 use Rattle.value_model.proofs.Spans.{same_is_key, same_inside}
-use Rattle.query_model.specs.KeySpans.{key_asked}
-use Rattle.query_model.specs.Queries.{QueryFault}
-use Rattle.query_model.specs.Writes.{Write, insert_write, update_write, delete_write}
-use Rattle.query_model.specs.Effects.{HasSameKey, IsUnder, write_key}
+use Rattle.query_model.specs.Effects.{HasSameKey, IsUnder}
 use Rattle.query_model.specs.Edits.{same_key}
 use Rattle.query_model.proofs.Entries.{equal_is, itself, AreAbove, above_never, same_find}
-use Rattle.query_model.proofs.KeysAsked.{valid_from}
 use Rattle.pipeline_model.specs.Halves.{may_stand_in}
-use Rattle.history_model.specs.History.{Operation, read_operation, key_read, key_written, effect, Entry, writes_to, document_after, document_left, document_at}
+use Rattle.history_model.specs.History.{Operation, key_written, effect, Entry, writes_to, document_after, document_left, document_at}
 use Rattle.history_model.specs.Documents.{Rows, AreInOrder, document_under, documents_at, ListsDocuments}
 use Rattle.history_model.proofs.Collections.{above_row, later_rows, lists_collection, none_in_order}
-use Rattle.history_model.proofs.Keyed.{after_under}
+use Rattle.history_model.proofs.Keyed.{after_under, written_is_key}
 use Rattle.history_model.proofs.LegalHistories.{valid_of}
 
 -- KEYS
-
-valid_is_key : (document : Fields) (key : Datum) (found : Result Datum KeyFault) → valid_key document ≡ found → result_ok found ≡ Some key → is_key key ≡ true
-valid_is_key document key (Ok own) is e = let same : own ≡ key = cc in ap is_key (sym same) ∙ (valid_from (key_of document) own is).1
-valid_is_key document key (Err fault) is e = absurd (cc)
-
-pub asked_is_key : (found : Option Datum) (key : Datum) → elim found as (λ o. Option Datum) [ None ↦ None | Some x ↦ if is_key x then Some x else None ]
-    ≡ Some key → is_key key ≡ true
-asked_is_key None key e = absurd (cc)
-asked_is_key (Some x) key e = by_test (is_key x) refl e
-  where
-    by_test : (b : Bool) → is_key x ≡ b → (if b then Some x else None) ≡ Some key → is_key key ≡ true
-    by_test true is e = let same : x ≡ key = cc in ap is_key (sym same) ∙ is
-    by_test false is e = absurd (cc)
-
-write_is_key : (write : Write) (key : Datum) → write_key write ≡ Some key → is_key key ≡ true
-write_is_key (insert_write document) key e = valid_is_key document key (valid_key document) refl e
-write_is_key (update_write asked change start) key e = asked_is_key (key_asked asked) key e
-write_is_key (delete_write asked) key e = asked_is_key (key_asked asked) key e
-
-read_is_key : (read : Result Write QueryFault) (key : Datum) → key_read read ≡ Some key → is_key key ≡ true
-read_is_key (Ok write) key e = write_is_key write key e
-read_is_key (Err fault) key e = absurd (cc)
-
--- an operation writes under what may be a key
-pub written_is_key : (operation : Operation) (key : Datum) → key_written operation ≡ Some key → is_key key ≡ true
-written_is_key operation key e = read_is_key (read_operation operation) key e
 
 hit_is_key : (written : Option Datum) (operation : Operation) (key : Datum) → key_written operation ≡ written → same_key written (Some key) ≡ true
     → is_key key ≡ true

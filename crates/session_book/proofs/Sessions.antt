@@ -1,6 +1,6 @@
--- The order of sessions, and their test for being equal, tell them apart as their meanings are.
+-- The order of sessions tells them apart as their meanings are.
 use Rattle.std.proofs.Common.{◌≡◌, ℕ, List, [], ◌∷◌, refl, sym, ap, ◌∙◌, arith}
-use Rattle.std.specs.Prelude.{Bool, true, ◌&&◌, Option, Some, ◌==◌, if◌then◌else◌}
+use Rattle.std.specs.Prelude.{Bool, ◌&&◌, Option, Some, ◌==◌, if◌then◌else◌}
 use Rattle.std.specs.declared.cmp.Ordering.{Ordering}
 use Rattle.std.specs.Ordering.{is_eq, nat_cmp, ordering_then}
 use Rattle.std.specs.Map.{lookup}
@@ -10,11 +10,9 @@ use Rattle.std.proofs.lemmas.Map.Text.{is_eq-slice_cmp}
 use Rattle.cluster_base.specs.declared.identity.Session.{Session}
 use Rattle.cluster_base.specs.declared.identity.Session.TheVariants.{Client, Router}
 use Rattle.cluster_base.specs.contracts.identity.SessionOrd.TheImpl as session_ord
-use Rattle.cluster_base.specs.contracts.identity.SessionPartialEq.TheImpl as session_eq
 use Rattle.history_model.specs.History as history
 use Rattle.history_model.specs.History.{client_session, router_session}
 use Rattle.history_model.specs.Notes.{same_session}
-use Rattle.history_model.proofs.Noted.{same_session_is}
 use Rattle.session_book.specs.Meanings.{session_meant}
 use Rattle.session_book.specs.Places.{place_of}
 
@@ -37,15 +35,6 @@ order_is (Client a) (Client b) = is_eq-slice_cmp a b
 order_is (Client a) (Router m k q) = refl
 order_is (Router n l r) (Client b) = refl
 order_is (Router n l r) (Router m k q) = three n.0 m.0 l k r q
-
-abbrev pub session_equals : Session → Session → Bool
-session_equals = (session_eq.ghosts).eq
-
-equals_is : (a b : Session) → session_equals a b ≡ same_session (session_meant a) (session_meant b)
-equals_is (Client a) (Client b) = refl
-equals_is (Client a) (Router m k q) = refl
-equals_is (Router n l r) (Client b) = refl
-equals_is (Router n l r) (Router m k q) = refl
 
 lookup_alike : {K X : Type 0} (p q : K → Bool) → ((k : K) → p k ≡ q k) → (es : List (K × X)) → lookup p es ≡ lookup q es
 lookup_alike p q alike [] = refl

@@ -1,21 +1,16 @@
 -- What a store says of itself, once it has one more entry.
 use Rattle.std.proofs.Common.{◌≡◌, ◌≤◌, ◌<◌, ◌⊎◌, inl, inr, ℕ, List, [], ◌∷◌, ◌++◌, refl, sym, ap, subst, ◌∙◌, arith}
-use Rattle.std.specs.Prelude.{Bool, true, false, ◌&&◌, Option, Some, None, Result, Ok, Err, IfSome, OnOk, filter, nat_le, if◌then◌else◌}
+use Rattle.std.specs.Prelude.{Bool, true, false, ◌&&◌, Option, Some, None, Result, Ok, Err, IfSome, OnOk, filter, nat_le}
 use Rattle.std.specs.List.{AllByRecursion}
-use Rattle.std.specs.Result.{result_ok}
 use Rattle.std.specs.Str.{bytes_eq}
 use Rattle.std.proofs.lemmas.List.{map-append}
-use Rattle.bson_values.specs.Tree.{Datum, Fields}
+use Rattle.bson_values.specs.Tree.{Datum}
 use Rattle.value_compare.specs.Order.{same_value}
-use Rattle.value_model.specs.Keys.{KeyFault, is_key, key_of, valid_key}
+use Rattle.value_model.specs.Keys.{is_key}
 use Rattle.value_model.proofs.Spans.{same_is_key}
-use Rattle.node_model.specs.History.{same_key, key_read, key_written, read_operation, Entry, writes_to, document_after, document_at, IsIn}
+use Rattle.node_model.specs.History.{same_key, key_written, Entry, writes_to, document_after, document_at, IsIn}
 use Rattle.history_model.proofs.Lists.{in_push}
-use Rattle.query_model.proofs.KeysAsked.{valid_from}
-use Rattle.query_model.specs.KeySpans.{key_asked}
-use Rattle.query_model.specs.Queries.{QueryFault}
-use Rattle.query_model.specs.Writes.{Write, insert_write, update_write, delete_write}
-use Rattle.query_model.specs.Effects.{write_key}
+use Rattle.history_model.proofs.Keyed.{written_is_key}
 use Rattle.shard_store.specs.Collections.{room_under}
 use Rattle.shard_store.specs.declared.collections.Collections.{Collections}
 use Rattle.shard_store.specs.Entries.{Kept, entry_meant, entries_kept, note_kept, notes_kept}
@@ -63,30 +58,6 @@ same_rooms c m n ps qs name same all =
 
 -- NOTHING STANDS UNDER WHAT IS NO KEY
 
-valid_is : (found : Result Datum KeyFault) (document : Fields) (key : Datum) → valid_key document ≡ found → result_ok found ≡ Some key → is_key key ≡ true
-valid_is (Ok d) document key is e =
-    let same : d ≡ key = cc in
-    ap is_key (sym same) ∙ (valid_from (key_of document) d is).1
-valid_is (Err fault) document key is e = absurd cc
-
-asked_is : (asked : Option Datum) (key : Datum) → elim asked [ None ↦ None | Some x ↦ if is_key x then Some x else None ] ≡ Some key → is_key key ≡ true
-asked_is None key e = absurd cc
-asked_is (Some x) key e = by_test (is_key x) refl e
-  where
-    by_test : (b : Bool) → is_key x ≡ b → (if b then Some x else None) ≡ Some key → is_key key ≡ true
-    by_test true is h = let same : x ≡ key = cc in ap is_key (sym same) ∙ is
-    by_test false is h = absurd cc
-
-write_is : (write : Write) (key : Datum) → write_key write ≡ Some key → is_key key ≡ true
-write_is (insert_write document) key e = valid_is (valid_key document) document key refl e
-write_is (update_write asked change start) key e = asked_is (key_asked asked) key e
-write_is (delete_write asked) key e = asked_is (key_asked asked) key e
-
--- an operation acts under what is a key
-read_is : (read : Result Write QueryFault) (key : Datum) → key_read read ≡ Some key → is_key key ≡ true
-read_is (Ok write) key e = write_is write key e
-read_is (Err fault) key e = absurd cc
-
 other_key : (written : Option Datum) (d : Datum) → is_key d ≡ false → ((key : Datum) → written ≡ Some key → is_key key ≡ true) → same_key written (Some d) ≡ false
 other_key None d none own = refl
 other_key (Some key) d none own = by_test (same_value key d) refl
@@ -102,7 +73,7 @@ and_false false b e = refl
 never_writes : (namespace : List ℕ) (d : Datum) → is_key d ≡ false → (e : Entry) → writes_to namespace (Some d) e ≡ false
 never_writes namespace d none e =
     and_false (bytes_eq e.namespace namespace) (same_key (key_written e.operation) (Some d))
-    (other_key (key_written e.operation) d none (λ key is. read_is (read_operation e.operation) key is))
+    (other_key (key_written e.operation) d none (λ key is. written_is_key e.operation key is))
 
 never_left : (namespace : List ℕ) (d : Datum) → is_key d ≡ false → (es : List Entry) → document_after namespace (Some d) None es ≡ None
 never_left namespace d none [] = refl
