@@ -14,7 +14,8 @@ The program is $CLUSTER, or `cluster` at the top of the repository, run as `clus
 given). Without PostgreSQL (`initdb`, `pg_ctl`, `psql`) its rows are left out, which is said. Clients, program and server share one
 processor. Every reply is looked at, behind its time, but the batches between. Each figure is the best of some rounds; in these it is the mean
 of a row of requests but the first, for which nothing is warm yet, and of reads the best of ten rows, of lists the best of ten. Few and many
-documents are written in turn, so that both meet the same disk. Ends with status 1 where a wanted bound does not hold, or a reply is wrong.
+documents are written and read in turn, so that both meet the same disk and the same minute of the machine, and neither has the processor's
+caches to itself; no reply between is kept. Ends with status 1 where a wanted bound does not hold, or a reply is wrong.
 Usage: queries.py [ROUNDS]
 """
 import functools
@@ -138,9 +139,10 @@ def batches(link, count):
     cursor = field(field(read_fields(opened, 21)[0], "cursor")[1], "id")[1]
     more = message(1, f'{{getMore: {cursor}L, collection: "c", batchSize: {BATCH}, $db: "d"}}')
     second, at_first = answered(link, [more])
-    between, _ = answered(link, [more] * (count // BATCH - 3))
+    for _ in range(count // BATCH - 3):
+        between = link.ask(more)
     last, at_last = answered(link, [more])
-    for place, (reply, is_open) in enumerate(((opened, True), (second[0], True), (between[-1], True), (last[0], False))):
+    for place, (reply, is_open) in enumerate(((opened, True), (second[0], True), (between, True), (last[0], False))):
         if len(told(reply)) != BATCH or (field(field(read_fields(reply, 21)[0], "cursor")[1], "id")[1] == cursor) != is_open:
             sys.exit(f"queries: a wrong batch: {line(reply)}")
     return at_first, at_last
@@ -157,15 +159,12 @@ class Best(dict):
 
 
 def read(best, link, count):
-    """One round of reads of so many documents."""
-    finds = [find(number, "_id", number) for number in spread(count, ASKS)]
-    scans = [find(number, "place", values(number)[2]) for number in spread(count, SCANS + 1)]
-    for _ in range(ROWS):
-        second, last = batches(link, count)
-        best.note(count, "the second batch of a list", seconds=second)
-        best.note(count, "the last batch of a list", seconds=last)
-        best.note(count, "a find by _id", seconds=each(link, finds))
-        best.note(count, "a find that scans", seconds=each(link, scans))
+    """A row of reads of so many documents."""
+    second, last = batches(link, count)
+    best.note(count, "the second batch of a list", seconds=second)
+    best.note(count, "the last batch of a list", seconds=last)
+    best.note(count, "a find by _id", seconds=each(link, [find(number, "_id", number) for number in spread(count, ASKS)]))
+    best.note(count, "a find that scans", seconds=each(link, [find(number, "place", values(number)[2]) for number in spread(count, SCANS + 1)]))
 
 
 def measure(best):
@@ -173,7 +172,9 @@ def measure(best):
     links = {count: Link() for count in (FEW, MANY)}
     for count, link in links.items():
         best.note(count, "inserts of 1,000", seconds=each(link, loads(count)))
-        read(best, link, count)
+    for _ in range(ROWS):
+        for count, link in links.items():
+            read(best, link, count)
     for count, took in in_turn(links, lambda count: [increase(number) for number in spread(count, ASKS)]).items():
         best.note(count, "$inc by _id", seconds=took)
     for count, took in in_turn(links, lambda count: [insert([number]) for number in range(count, count + ASKS)]).items():
