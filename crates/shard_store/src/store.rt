@@ -79,6 +79,8 @@ impl ShardStore {
 
     /// What the statement with this index of a request, to which its client gave this number or none, is told unless it is new: what it was
     /// told before, or that its session has a greater transaction. Fails for want of memory.
+    // Inlined, so that the number is read where it stands.
+    #[inline(always)]
     pub fn look(
         &self,
         number: Option<ClientNumber>,
