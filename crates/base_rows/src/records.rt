@@ -4,7 +4,7 @@ ghost use Rattle.std.specs.Prelude.{IfOk};
 ghost use Rattle.shard_records.specs.Meanings.{outcome_meant, record_meant, operation_meant};
 ghost use Rattle.shard_records.specs.Sizes.{FitsRecord, IsWritableOperation, IsWritableKey, IsWritableRecord};
 
-use bson_values::{Document, Name, Value};
+use bson_values::{Aligned, Document, Name, Value};
 use cluster_base::{NameFault, Namespace, NodeId, Session, Stmt, Time};
 use fixtures::{RowFault, Rows, bytes_of, field, number};
 use shard_records::{Record, write_record};
@@ -71,7 +71,7 @@ fn key_of(word: &str) -> Result<Option<Key>, RowFault>
         return Ok(None);
     }
     let n = number(word)?;
-    Ok(Key::of(Value::Int32(n)).ok())
+    Ok(Key::of(Value::Int32(Aligned::of(n))).ok())
 }
 
 // `{_id: n}`
@@ -80,7 +80,7 @@ fn document_of(alloc: Global, word: &str) -> Result<Document, RowFault>
 {
     let n = number(word)?;
     let mut document = Document::new(alloc);
-    document.push(Name::of(alloc, "_id")?, Value::Int32(n))?;
+    document.push(Name::of(alloc, "_id")?, Value::Int32(Aligned::of(n)))?;
     Ok(document)
 }
 

@@ -1,11 +1,11 @@
 -- A field, and a value of an array, behind what stands before it; and values of types that hold no values, at any level.
 use Rattle.std.proofs.Common.{◌≡◌, ℕ, zero, suc, ◌-◌, List, Option, Some, None, Result, Ok, Err, refl, ◌∙◌, ap}
-use Rattle.bson_model.specs.Tree.{Datum}
+use Rattle.bson_model.specs.Tree.{Datum, string_value}
 use Rattle.bson_values.specs.declared.fault.BsonFault.{BsonFault}
 use Rattle.bson_values.specs.declared.element_type.ElementType.{ElementType}
 use Rattle.bson_values.specs.ReadFaults.{◌>>=◌}
 use Rattle.bson_values.specs.declared.element_type.ElementType.TheVariants as types
-use Rattle.bson_values.specs.Readers.{Reader, name_at, index_at, type_at, index_behind, item_head_at, field_behind, field_at, item_behind, item_at, scalar_at, value_at}
+use Rattle.bson_values.specs.Readers.{Reader, name_at, index_at, type_at, index_behind, item_head_at, field_behind, field_at, item_behind, item_at, string_at, scalar_at, value_at}
 
 -- ---- fields
 
@@ -75,3 +75,9 @@ pub text_value_at : (total level room : ℕ) (bytes : List ℕ) → value_at tot
 unfolding value_at
 text_value_at total zero room bytes = refl
 text_value_at total (suc level) room bytes = refl
+
+-- what a text is, once its string is read
+pub text_behind_string : (total level room : ℕ) (bytes : List ℕ) (read : Result (List ℕ × List ℕ) BsonFault) → string_at total room bytes ≡ read → value_at total level types.Text room bytes ≡ (read >>= λ x. Ok (string_value x.0, x.1))
+unfolding scalar_at
+text_behind_string total level room bytes read h =
+    text_value_at total level room bytes ∙ ap (λ (r : Result (List ℕ × List ℕ) BsonFault). r >>= λ x. Ok (string_value x.0, x.1)) h

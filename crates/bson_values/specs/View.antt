@@ -9,12 +9,12 @@ abbrev pub datum_of : Value → Datum
 datum_of (Text s) = string_value s
 datum_of (Doc ms) = document_value ms
 datum_of (Array ds) = array_value ds
-datum_of (Binary subtype bytes) = binary_value subtype bytes
-datum_of (ObjectId bytes) = object_id_value bytes
-datum_of (Bool b) = boolean_value b
+datum_of (Binary bytes subtype) = binary_value subtype bytes
+datum_of (ObjectId id) = object_id_value id.content
+datum_of (Bool b) = boolean_value b.content
 datum_of (Date z) = date_value z
 datum_of Null = null_value
-datum_of (Int32 z) = int32_value z
+datum_of (Int32 z) = int32_value z.content
 datum_of (Timestamp n) = timestamp_value n
 datum_of (Int64 z) = int64_value z
 datum_of MinKey = min_key_value

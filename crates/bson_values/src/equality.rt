@@ -84,11 +84,11 @@ impl Value {
             Value::Text(a) => other.is_text(a.as_str()),
             Value::Doc(_) | Value::Array(_) => false,
             Value::Binary { subtype, bytes } => other.is_binary(*subtype, bytes.as_slice()),
-            Value::ObjectId(a) => other.is_object_id(a),
-            Value::Bool(a) => matches!(other, Value::Bool(b) if a == b),
+            Value::ObjectId(a) => other.is_object_id(&a.content),
+            Value::Bool(a) => matches!(other, Value::Bool(b) if a.content == b.content),
             Value::Date(a) => matches!(other, Value::Date(b) if a == b),
             Value::Null => matches!(other, Value::Null),
-            Value::Int32(a) => matches!(other, Value::Int32(b) if a == b),
+            Value::Int32(a) => matches!(other, Value::Int32(b) if a.content == b.content),
             Value::Timestamp(a) => matches!(other, Value::Timestamp(b) if a == b),
             Value::Int64(a) => matches!(other, Value::Int64(b) if a == b),
             Value::MinKey => matches!(other, Value::MinKey),
@@ -111,7 +111,7 @@ impl Value {
         ensures { IsTrue result ↔ (datum_of self.now ≡ object_id_value id.now) }
     {
         match self {
-            Value::ObjectId(own) => own == id,
+            Value::ObjectId(own) => own.content == *id,
             _ => false,
         }
     }

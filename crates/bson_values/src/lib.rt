@@ -18,5 +18,5 @@ pub use fault::BsonFault;
 pub use limits::{LENGTH_LIMIT, MOST_BYTES_KEPT, MOST_DEPTH_KEPT};
 pub use reader::{document_or_fault, one_fault, one_spelling, read};
 pub use text::{Blob, Memory, Name, Text, is_name};
-pub use value::{Array, Document, Field, Value};
+pub use value::{Aligned, Array, Document, Field, Value};
 pub use writer::write;

@@ -10,7 +10,7 @@ ghost use Rattle.bson_model.specs.Tree.{Datum, Fields, field, int32_value, joine
 ghost use Rattle.bson_model.specs.Grammar.{AreBytes, BeginsWith, IsWithinDepth, ReadsAs};
 ghost use Rattle.bson_values.specs.ReadFaults.{Fails, Gives, fault_from};
 ghost use Rattle.bson_values.specs.Readers.{binary_at, boolean_at, deep_at, scalar_at, value_at};
-ghost use Rattle.bson_values.specs.Readers.{item_head_at, item_at, document_with, array_with, whole_at};
+ghost use Rattle.bson_values.specs.Readers.{item_head_at, item_at, document_with, array_with, string_at, whole_at};
 ghost use Rattle.bson_values.specs.Rests.{IsRest};
 ghost use Rattle.bson_values.specs.View.{datum_of};
 
@@ -19,7 +19,7 @@ use crate::fault::BsonFault;
 use crate::limits::{LENGTH_LIMIT, MOST_DEPTH_KEPT};
 use crate::scan::{read_fixed, read_length, read_name, read_text, read_type, skip_name};
 use crate::text::{Blob, Name, Text};
-use crate::value::{Array, Document, Field, Value};
+use crate::value::{Aligned, Array, Document, Field, Value};
 use byteorder::{ByteOrder, LittleEndian};
 use std::alloc::Global;
 
@@ -86,8 +86,8 @@ fn read_boolean(total: usize, room: usize, bytes: &[u8]) -> Result<(Value, &[u8]
 {
     match bytes {
         [] => Err(BsonFault::Short { place: total }),
-        [0, rest @ ..] => Ok((Value::Bool(false), rest)),
-        [1, rest @ ..] => Ok((Value::Bool(true), rest)),
+        [0, rest @ ..] => Ok((Value::Bool(Aligned::of(false)), rest)),
+        [1, rest @ ..] => Ok((Value::Bool(Aligned::of(true)), rest)),
         [_, ..] => Err(BsonFault::BadBool {
             place: total - bytes.len(),
         }),
@@ -104,7 +104,7 @@ fn read_object_id(total: usize, room: usize, bytes: &[u8]) -> Result<(Value, &[u
     let (prefix, rest) = read_fixed(total, 12, room, bytes)?;
     let mut id = [0; 12];
     id.copy_from_slice(prefix);
-    Ok((Value::ObjectId(id), rest))
+    Ok((Value::ObjectId(Aligned::of(id)), rest))
 }
 
 #[tactic(auto, unfolding(crate::specs::Readers::scalar_at))]
@@ -131,22 +131,18 @@ fn read_int32(total: usize, room: usize, bytes: &[u8]) -> Result<(i32, &[u8]), B
     Ok((LittleEndian::read_u32(prefix).cast_signed(), rest))
 }
 
-/// Reads a string with its length, and copies it (BSON 1.1, `string`).
-#[tactic(auto, unfolding(crate::specs::Readers::scalar_at, crate::specs::Readers::string_at))]
+/// Reads a string with its length (BSON 1.1, `string`): its text, the bytes that the text begins, and those behind it.
+#[tactic(auto, unfolding(crate::specs::Readers::string_at))]
 #[inline(always)]
-fn copy_string(
-    alloc: Global,
-    total: usize,
-    room: usize,
-    bytes: &[u8],
-) -> Result<(Text, &[u8]), BsonFault>
+fn read_string(total: usize, room: usize, bytes: &[u8]) -> Result<(&str, &[u8], &[u8]), BsonFault>
     requires total { length bytes.now ≤ total }
-    ensures gives { Gives (λ x. (string_value x.0, x.1.now)) result (scalar_at total ElementType.Text room bytes.now) }
-    ensures rest { IfOk result (λ x. IsRest bytes.now room x.1.now) }
+    ensures gives { Gives (λ x. (x.0.now, x.2.now)) result (string_at total room bytes.now) }
+    ensures front { IfOk result (λ x. x.0.now ≡ take (length x.0.now) x.1.now) }
+    ensures rest { IfOk result (λ x. IsRest bytes.now room x.2.now) }
 {
     let (count, front) = read_length(total, 1, 4, room, bytes)?;
     let (text, rest) = read_text(total, count, front)?;
-    Ok((Text::of_front(alloc, text, front)?, rest))
+    Ok((text, front, rest))
 }
 
 #[tactic(auto, unfolding(crate::specs::Readers::scalar_at))]
@@ -189,8 +185,8 @@ fn read_scalar(
 {
     match type_byte {
         ElementType::Text => {
-            let (text, rest) = copy_string(alloc, total, room, bytes)?;
-            Ok((Value::Text(text), rest))
+            let (text, _, rest) = read_string(total, room, bytes)?;
+            Ok((Value::Text(Text::of(alloc, text)?), rest))
         }
         ElementType::Doc => Err(deep_fault(total, room, bytes)),
         ElementType::Array => Err(deep_fault(total, room, bytes)),
@@ -201,7 +197,7 @@ fn read_scalar(
         ElementType::Null => Ok((Value::Null, bytes)),
         ElementType::Int32 => {
             let (number, rest) = read_int32(total, room, bytes)?;
-            Ok((Value::Int32(number), rest))
+            Ok((Value::Int32(Aligned::of(number)), rest))
         }
         ElementType::Timestamp => read_timestamp(total, room, bytes),
         ElementType::Int64 => read_int64(total, room, bytes),
@@ -321,11 +317,16 @@ fn put_field<'a>(
     match head.type_byte {
         ElementType::Int32 => {
             let (number, rest) = read_int32(total, head.room, bytes)?;
-            document.push(head.name, Value::Int32(number))?;
+            document.push(head.name, Value::Int32(Aligned::of(number)))?;
             Ok(rest)
         }
         ElementType::Text => {
-            let (text, rest) = copy_string(alloc, total, head.room, bytes)?;
+            let (text, front, rest) = read_string(total, head.room, bytes)?;
+            if let Some(text) = Text::of_short_front(text, front) {
+                document.push(head.name, Value::Text(text))?;
+                return Ok(rest);
+            }
+            let text = Text::of(alloc, text)?;
             document.push(head.name, Value::Text(text))?;
             Ok(rest)
         }

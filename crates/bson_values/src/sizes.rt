@@ -52,7 +52,7 @@ impl Value {
             Value::Doc(document) => document.size(),
             Value::Array(array) => array.size(),
             Value::Binary { subtype: _, bytes } => bytes.as_slice().len() + 5,
-            Value::ObjectId(bytes) => bytes.as_slice().len(),
+            Value::ObjectId(bytes) => bytes.content.as_slice().len(),
             Value::Bool(_) => 1,
             Value::Int32(_) => 4,
             Value::Date(_) | Value::Timestamp(_) | Value::Int64(_) => 8,

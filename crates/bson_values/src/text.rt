@@ -74,11 +74,16 @@ impl<const N: usize> Short<N> {
         if length > N {
             return None;
         }
-        if bytes.len() < N {
-            return Short::of(text);
-        }
+        // Where too few bytes stand, as many are made of them, so that there is one copy.
+        let mut padded = [0; N];
+        let front = if bytes.len() < N {
+            padded[..length].copy_from_slice(text.as_bytes());
+            &padded
+        } else {
+            &bytes[..N]
+        };
         let mut copy = [0; N];
-        copy.copy_from_slice(&bytes[..N]);
+        copy.copy_from_slice(front);
         Some(Short {
             length: length as u8,
             bytes: copy,
@@ -133,17 +138,16 @@ impl Text {
         Ok(Text { held })
     }
 
-    /// Copies the text that the bytes begin with. Fails for want of memory.
+    /// The text that the bytes begin with, where it is short: it asks for no memory, and may be put where it is read.
     #[inline(always)]
-    pub(crate) fn of_front(alloc: Global, text: &str, bytes: &[u8]) -> Result<Text, Memory>
+    pub(crate) fn of_short_front(text: &str, bytes: &[u8]) -> Option<Text>
         requires { text.now ≡ take (length text.now) bytes.now }
-        ensures { IfOk result (λ t. t ≡ text.now) }
+        ensures { IfSome result (λ t. t ≡ text.now) }
     {
-        let held = match Short::of_front(text, bytes) {
-            Some(short) => Held::Short(short),
-            None => Held::Long(String::from_str(alloc, text)?),
-        };
-        Ok(Text { held })
+        let short = Short::of_front(text, bytes)?;
+        Some(Text {
+            held: Held::Short(short),
+        })
     }
 
     /// The text's bytes.

@@ -11,6 +11,22 @@ use crate::text::{Blob, Memory, Name, Text};
 use std::alloc::Global;
 use std::marker::Model;
 
+/// What takes less than a word, at the beginning of one: so a value of any type is moved in whole words.
+#[derive(Clone, Copy, Debug)]
+pub struct Aligned<T> {
+    pub content: T,
+    words: [u64; 0],
+}
+
+impl<T> Aligned<T> {
+    /// The content, aligned.
+    pub fn of(content: T) -> Aligned<T>
+        ensures { result.content ≡ content }
+    {
+        Aligned { content, words: [] }
+    }
+}
+
 /// A value of one of the kept types (BSON 1.1, `element`).
 #[cycle(value)]
 #[derive(Drop)]
@@ -21,18 +37,18 @@ pub enum Value {
     Doc(Document),
     /// An array, type 04.
     Array(Array),
-    /// Bytes and their subtype, type 05.
-    Binary { subtype: u8, bytes: Blob },
+    /// Bytes and their subtype, type 05. What takes whole words stands first, as in each value.
+    Binary { bytes: Blob, subtype: u8 },
     /// An ObjectId, type 07.
-    ObjectId([u8; 12]),
+    ObjectId(Aligned<[u8; 12]>),
     /// A boolean, type 08.
-    Bool(bool),
+    Bool(Aligned<bool>),
     /// A date, type 09, in milliseconds since 1970.
     Date(i64),
     /// Null, type 0A.
     Null,
     /// A 32-bit number, type 10.
-    Int32(i32),
+    Int32(Aligned<i32>),
     /// A timestamp, type 11: seconds in the high 32 bits, a count in the low.
     Timestamp(u64),
     /// A 64-bit number, type 12.
@@ -138,7 +154,7 @@ impl Value {
                 let _subtype = *subtype;
             }
             Value::ObjectId(bytes) => {
-                look_at_id(bytes);
+                look_at_id(&bytes.content);
             }
             Value::Bool(_) => {}
             Value::Date(n) => {
@@ -146,7 +162,7 @@ impl Value {
             }
             Value::Null => {}
             Value::Int32(n) => {
-                let _n = *n;
+                let _n = n.content;
             }
             Value::Timestamp(n) => {
                 let _n = *n;
@@ -203,6 +219,11 @@ impl Document {
     {
         let _name = name.as_str();
         value.look();
+        // Where there is room, what is put is not moved through a call.
+        if self.fields.len() < self.fields.capacity() {
+            self.fields.push_reserved(Field { name, value });
+            return Ok(());
+        }
         self.fields.push(Field { name, value })?;
         Ok(())
     }

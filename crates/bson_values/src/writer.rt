@@ -151,10 +151,10 @@ fn put_scalar(value: &Value, out: &mut Vec<u8>) -> Result<(), Memory>
     match value {
         Value::Text(text) => put_text(text.as_str(), out),
         Value::Binary { subtype, bytes } => put_binary(*subtype, bytes.as_slice(), out),
-        Value::ObjectId(bytes) => put(bytes, out),
-        Value::Bool(b) => put(&[u8::from(*b)], out),
+        Value::ObjectId(bytes) => put(&bytes.content, out),
+        Value::Bool(b) => put(&[u8::from(b.content)], out),
         Value::Date(n) => put_u64(n.cast_unsigned(), out),
-        Value::Int32(n) => put_u32(n.cast_unsigned(), out),
+        Value::Int32(n) => put_u32(n.content.cast_unsigned(), out),
         Value::Timestamp(n) => put_u64(*n, out),
         Value::Int64(n) => put_u64(n.cast_unsigned(), out),
         Value::Doc(_) | Value::Array(_) => Ok(()),

@@ -5,7 +5,7 @@ ghost use Rattle.chunk_table.specs.Meanings.{chunk_meant};
 ghost use Rattle.chunk_table.specs.Whole.{IsWritableBound, IsWritableChunk};
 ghost use Rattle.value_compare.specs.Bounds.{bound_of};
 
-use bson_values::Value;
+use bson_values::{Aligned, Value};
 use chunk_table::{Chunk, Owned, OwnedList, Table, Version};
 use cluster_base::{NameFault, Namespace, NodeId, Time};
 use fixtures::{RowFault, Rows, field, number};
@@ -113,7 +113,7 @@ fn read_bound(word: &str) -> Result<Bound, RowFault>
 fn at(n: i32) -> Result<Bound, RowFault>
     ensures { IfOk result (λ b. IsWritableBound (bound_of b)) }
 {
-    match Key::of(Value::Int32(n)) {
+    match Key::of(Value::Int32(Aligned::of(n))) {
         Ok(key) => Ok(Bound::At(key)),
         Err(_value) => Err(RowFault::Form),
     }

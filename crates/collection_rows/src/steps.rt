@@ -136,7 +136,7 @@ fn document_of(alloc: Global, n: &str) -> Result<Option<Arc<Document, Global>>, 
 // Whether the document is `{_id: n}`.
 fn is_numbered(document: &Document, n: &str) -> Result<bool, RowFault> {
     let n: i32 = number(n)?;
-    Ok(matches!(document.get("_id"), Some(Value::Int32(found)) if *found == n))
+    Ok(matches!(document.get("_id"), Some(Value::Int32(found)) if found.content == n))
 }
 
 // Whether the documents are `{_id: n}` of these numbers, in order.

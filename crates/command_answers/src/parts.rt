@@ -7,7 +7,7 @@ ghost use Rattle.bson_values.specs.View.{datum_of};
 ghost use Rattle.command_model.specs.AnswerParts as shown;
 ghost use Rattle.command_model.specs.AnswerParts.{ok, operation_time_at};
 
-use bson_values::{Document, Memory, Name, Text, Value};
+use bson_values::{Aligned, Document, Memory, Name, Text, Value};
 use cluster_base::Time;
 use std::alloc::Global;
 
@@ -17,7 +17,7 @@ pub(crate) fn count_shown(count: u64) -> Value
     ensures { datum_of result ≡ shown.count count }
 {
     if count < 1 << 31 {
-        Value::Int32(count as i32)
+        Value::Int32(Aligned::of(count as i32))
     } else {
         Value::Int64(count as i64)
     }
@@ -61,7 +61,7 @@ pub(crate) fn add_number(
     requires { IsTrue (has_no_zero name.now) }
     ensures { OnOk result (document.new ≡ joined document.old (field name.now (int32_value number) no_fields)) }
 {
-    add(document, alloc, name, Value::Int32(number))
+    add(document, alloc, name, Value::Int32(Aligned::of(number)))
 }
 
 /// Puts a boolean behind the others. Fails for want of memory.
@@ -74,7 +74,7 @@ pub(crate) fn add_boolean(
     requires { IsTrue (has_no_zero name.now) }
     ensures { OnOk result (document.new ≡ joined document.old (field name.now (boolean_value boolean) no_fields)) }
 {
-    add(document, alloc, name, Value::Bool(boolean))
+    add(document, alloc, name, Value::Bool(Aligned::of(boolean)))
 }
 
 /// Puts what the answer of an operation ends with behind the others: `ok`, and the time. Fails for want of memory.

@@ -9,7 +9,7 @@ ghost use Rattle.bson_values.specs.View.{datum_of};
 ghost use Rattle.command_answers.specs.Refusals.{evidence_meant, refusal_meant};
 
 use crate::parts::{add, add_number, add_text};
-use bson_values::{Document, Memory, Value};
+use bson_values::{Aligned, Document, Memory, Value};
 use cluster_base::{Code, NodeId, Time};
 use std::alloc::Global;
 
@@ -61,9 +61,9 @@ fn node_shown(node: NodeId) -> Value
     ensures { datum_of result ≡ history.node_shown node.0 }
 {
     if node.0 < 1 << 31 {
-        Value::Int32(node.0 as i32)
+        Value::Int32(Aligned::of(node.0 as i32))
     } else {
-        Value::Int32(i32::MAX)
+        Value::Int32(Aligned::of(i32::MAX))
     }
 }
 

@@ -106,7 +106,7 @@ pub fn boolean_or(other: bool, document: &Document, name: &str) -> bool
 {
     match document.get(name) {
         Some(value) => match value {
-            Value::Bool(boolean) => *boolean,
+            Value::Bool(boolean) => boolean.content,
             _ => other,
         },
         None => other,
@@ -127,7 +127,7 @@ pub fn whole_number(value: &Value) -> Option<i64>
     ensures { result ≡ whole_number (datum_of value.now) }
 {
     match value {
-        Value::Int32(number) => Some(i64::from(*number)),
+        Value::Int32(number) => Some(i64::from(number.content)),
         Value::Int64(number) => Some(*number),
         _ => None,
     }

@@ -56,7 +56,10 @@ fn limit_needed(value: &Value) -> Option<Code>
     ensures { verdict_meant result ≡ deletes.limit_needed (datum_of value.now) }
 {
     match value {
-        Value::Int32(limit) => unless_passes(*limit == 0 || *limit == 1, Code::BadValue),
+        Value::Int32(limit) => unless_passes(
+            limit.content == 0 || limit.content == 1,
+            Code::BadValue,
+        ),
         Value::Int64(limit) => unless_passes(*limit == 0 || *limit == 1, Code::BadValue),
         _ => Some(Code::TypeMismatch),
     }

@@ -11,7 +11,7 @@ use crate::absorb::Cell;
 use crate::fault::GroupFault;
 use crate::key::GroupKey;
 use crate::spec::{GroupField, GroupSpec};
-use bson_values::{Document, Name, Value};
+use bson_values::{Aligned, Document, Name, Value};
 use std::alloc::Global;
 use std::collections::VecDeque;
 
@@ -32,7 +32,7 @@ fn shown_sum(total: i128, narrow: bool) -> Result<Value, GroupFault>
     ensures shows { Shows datum_of result (shown (sum_cell total narrow)) }
 {
     if narrow && fits_int32(total) {
-        return Ok(Value::Int32(total as i32));
+        return Ok(Value::Int32(Aligned::of(total as i32)));
     }
     if fits_int64(total) {
         return Ok(Value::Int64(total as i64));
@@ -45,7 +45,7 @@ fn shown_count(count: u64) -> Result<Value, GroupFault>
     ensures shows { Shows datum_of result (shown (count_cell count)) }
 {
     if count < 0x8000_0000 {
-        return Ok(Value::Int32(count as i32));
+        return Ok(Value::Int32(Aligned::of(count as i32)));
     }
     if count < 0x8000_0000_0000_0000 {
         return Ok(Value::Int64(count as i64));

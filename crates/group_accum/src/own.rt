@@ -40,7 +40,7 @@ fn summand_of(value: &Value) -> Cell
 {
     match value {
         Value::Int32(n) => Cell::Sum {
-            total: i128::from(*n),
+            total: i128::from(n.content),
             narrow: true,
         },
         Value::Int64(n) => Cell::Sum {

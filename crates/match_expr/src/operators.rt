@@ -181,12 +181,12 @@ pub fn plain_test(alloc: Global, operator: Plain, value: &Value) -> Result<Test,
             _ => Err(ParseFault::BadOperand),
         },
         Plain::Size => match value {
-            Value::Int32(n) => Ok(Test::Size(i64::from(*n))),
+            Value::Int32(n) => Ok(Test::Size(i64::from(n.content))),
             Value::Int64(n) => Ok(Test::Size(*n)),
             _ => Err(ParseFault::BadOperand),
         },
         Plain::Exists => match value {
-            Value::Bool(b) => Ok(Test::Exists(*b)),
+            Value::Bool(b) => Ok(Test::Exists(b.content)),
             _ => Err(ParseFault::BadOperand),
         },
     }

@@ -9,7 +9,7 @@ ghost use Rattle.pipeline_model.specs.Groups.{IsGrouped, count_value};
 ghost use Rattle.pipeline_model.specs.Projections.{project};
 ghost use Rattle.pipeline_model.specs.Runs.{count_documents};
 
-use bson_values::{Document, Memory, Name, Value};
+use bson_values::{Aligned, Document, Memory, Name, Value};
 use group_accum::{GroupSpec, Groups};
 use match_expr::{Expr, holds};
 use projection::{Projection, project};
@@ -80,7 +80,7 @@ fn count_value(count: usize) -> Result<Value, Memory>
     ensures { IfOk result (λ v. datum_of v ≡ count_value count) }
 {
     if count < 0x8000_0000 {
-        return Ok(Value::Int32(count as i32));
+        return Ok(Value::Int32(Aligned::of(count as i32)));
     }
     if count < 0x8000_0000_0000_0000 {
         return Ok(Value::Int64(count as i64));

@@ -74,7 +74,7 @@ fn parse_natural(value: &Value) -> Result<u64, ParseFault>
     ensures gives { Gives (λ n. n) result (read_natural (datum_of value.now)) }
 {
     match value {
-        Value::Int32(n) => natural_of(i64::from(*n)),
+        Value::Int32(n) => natural_of(i64::from(n.content)),
         Value::Int64(n) => natural_of(*n),
         _ => Err(ParseFault::BadOperand),
     }

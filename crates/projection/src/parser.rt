@@ -42,8 +42,8 @@ fn parse_treatment(alloc: Global, value: &Value) -> Result<Treatment, ParseFault
     ensures gives { Gives treatment_of result (read_treatment (datum_of value.now)) }
 {
     match value {
-        Value::Bool(is_shown) => Ok(switch(*is_shown)),
-        Value::Int32(n) => Ok(switch(*n != 0)),
+        Value::Bool(is_shown) => Ok(switch(is_shown.content)),
+        Value::Int32(n) => Ok(switch(n.content != 0)),
         Value::Int64(n) => Ok(switch(*n != 0)),
         Value::Text(text) => parse_computed(alloc, text.as_str()),
         _ => Err(ParseFault::BadOperand),

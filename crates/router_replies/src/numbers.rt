@@ -35,7 +35,7 @@ fn number_in(value: &Value) -> Option<u64>
     ensures small { IfSome result (λ n. n < 2 ^ 63) }
 {
     match value {
-        Value::Int32(n) => short_number(*n),
+        Value::Int32(n) => short_number(n.content),
         Value::Int64(n) => long_number(*n),
         _ => None,
     }

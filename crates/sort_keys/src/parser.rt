@@ -53,7 +53,7 @@ fn parse_direction(value: &Value) -> Result<Direction, ParseFault>
     ensures gives { Gives direction_of result (read_direction (datum_of value.now)) }
 {
     let number = match value {
-        Value::Int32(n) => i64::from(*n),
+        Value::Int32(n) => i64::from(n.content),
         Value::Int64(n) => *n,
         _ => return Err(ParseFault::BadOperand),
     };

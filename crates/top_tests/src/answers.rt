@@ -1,6 +1,6 @@
 //! Answers against their documents, spelled by hand: those that no short connection gets.
 
-use bson_values::{Document, Text, Value, read};
+use bson_values::{Aligned, Document, Text, Value, read};
 use cluster_base::{Code, Namespace, Time};
 use command_answers::{
     Answer, Batch, Evidence, Refusal, StatementIndex, Upserted, WriteError, WriteKind, write_answer,
@@ -109,7 +109,7 @@ fn errors_stand_in_order(rt: HostRuntime) -> Result<(), Fail> {
 fn updates_are_counted_and_their_keys_told(rt: HostRuntime) -> Result<(), Fail> {
     let alloc = rt.alloc();
     let mut keys = Vec::new(alloc);
-    keys.push(upserted(alloc, 0, Value::Int32(7))?)?;
+    keys.push(upserted(alloc, 0, Value::Int32(Aligned::of(7)))?)?;
     keys.push(upserted(alloc, 2, Value::Text(Text::of(alloc, "a")?))?)?;
     let mut errors = Vec::new(alloc);
     errors.push(error(3, Code::ImmutableField).ok_or("no index")?)?;

@@ -9,7 +9,7 @@ ghost use Rattle.update_ops.specs.View.{number_datum};
 
 use crate::change::Number;
 use crate::fault::ApplyFault;
-use bson_values::{Memory, Value};
+use bson_values::{Aligned, Memory, Value};
 use value_compare::compare;
 
 // A sum of which one number at least is an int64.
@@ -29,7 +29,7 @@ fn short_sum(a: i32, b: i32) -> Result<Value, ApplyFault>
     ensures gives { Gives (λ v. datum_of v) result (short_sum (a +ℤ b)) }
 {
     match a.checked_add(b) {
-        Some(sum) => Ok(Value::Int32(sum)),
+        Some(sum) => Ok(Value::Int32(Aligned::of(sum))),
         None => long_sum(i64::from(a), i64::from(b)),
     }
 }
@@ -39,8 +39,8 @@ fn add_int32(n: i32, found: Option<&Value>) -> Result<Value, ApplyFault>
     ensures gives { Gives (λ v. datum_of v) result (sum_with (int32_value n) (option_map (λ v. datum_of v.now) found.entry)) }
 {
     match found {
-        None => Ok(Value::Int32(n)),
-        Some(Value::Int32(z)) => short_sum(*z, n),
+        None => Ok(Value::Int32(Aligned::of(n))),
+        Some(Value::Int32(z)) => short_sum(z.content, n),
         Some(Value::Int64(z)) => long_sum(*z, i64::from(n)),
         Some(_) => Err(ApplyFault::NotNumber),
     }
@@ -52,7 +52,7 @@ fn add_int64(n: i64, found: Option<&Value>) -> Result<Value, ApplyFault>
 {
     match found {
         None => Ok(Value::Int64(n)),
-        Some(Value::Int32(z)) => long_sum(i64::from(*z), n),
+        Some(Value::Int32(z)) => long_sum(i64::from(z.content), n),
         Some(Value::Int64(z)) => long_sum(*z, n),
         Some(_) => Err(ApplyFault::NotNumber),
     }

@@ -56,7 +56,7 @@ fn parse_number(value: &Value) -> Result<Number, ParseFault>
     ensures gives { Gives (λ n. inc_edit (number_datum n)) result (read_edit inc_operator (datum_of value.now)) }
 {
     match value {
-        Value::Int32(n) => Ok(Number::Int32(*n)),
+        Value::Int32(n) => Ok(Number::Int32(n.content)),
         Value::Int64(n) => Ok(Number::Int64(*n)),
         _ => Err(ParseFault::BadOperand),
     }

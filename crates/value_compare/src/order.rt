@@ -39,8 +39,8 @@ pub fn compare(a: &Value, b: &Value) -> Ordering
 {
     match (a, b) {
         // Most keys are of these types, and most comparisons are of keys.
-        (Value::ObjectId(a), Value::ObjectId(b)) => a.as_slice().cmp(b.as_slice()),
-        (Value::Int32(a), Value::Int32(b)) => a.cmp(b),
+        (Value::ObjectId(a), Value::ObjectId(b)) => a.content.as_slice().cmp(b.content.as_slice()),
+        (Value::Int32(a), Value::Int32(b)) => a.content.cmp(&b.content),
         _ => compare_by_class(a, b),
     }
 }
@@ -75,9 +75,9 @@ fn compare_scalars(a: &Value, b: &Value) -> Ordering
     ensures { result ≡ order_scalars (scalar_of (datum_of a.now)) (scalar_of (datum_of b.now)) }
 {
     match (a, b) {
-        (Value::Int32(a), Value::Int32(b)) => a.cmp(b),
-        (Value::Int32(a), Value::Int64(b)) => i64::from(*a).cmp(b),
-        (Value::Int64(a), Value::Int32(b)) => a.cmp(&i64::from(*b)),
+        (Value::Int32(a), Value::Int32(b)) => a.content.cmp(&b.content),
+        (Value::Int32(a), Value::Int64(b)) => i64::from(a.content).cmp(b),
+        (Value::Int64(a), Value::Int32(b)) => a.cmp(&i64::from(b.content)),
         (Value::Int64(a), Value::Int64(b)) => a.cmp(b),
         (Value::Text(a), Value::Text(b)) => a.as_str().cmp(b.as_str()),
         (
@@ -87,8 +87,8 @@ fn compare_scalars(a: &Value, b: &Value) -> Ordering
                 bytes: others,
             },
         ) => compare_binaries(*subtype, bytes.as_slice(), *other, others.as_slice()),
-        (Value::ObjectId(a), Value::ObjectId(b)) => a.as_slice().cmp(b.as_slice()),
-        (Value::Bool(a), Value::Bool(b)) => a.cmp(b),
+        (Value::ObjectId(a), Value::ObjectId(b)) => a.content.as_slice().cmp(b.content.as_slice()),
+        (Value::Bool(a), Value::Bool(b)) => a.content.cmp(&b.content),
         (Value::Date(a), Value::Date(b)) => a.cmp(b),
         (Value::Timestamp(a), Value::Timestamp(b)) => a.cmp(b),
         _ => Ordering::Equal,

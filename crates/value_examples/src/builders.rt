@@ -4,7 +4,7 @@ ghost use Rattle.std.specs.Prelude.{◌≡◌, ◌≤◌, IfOk};
 ghost use Rattle.bson_values.specs.Tree.{document_depth, value_depth};
 ghost use Rattle.bson_values.specs.View.{datum_of};
 
-use bson_values::{Array, Blob, Document, Memory, Name, Text, Value, is_name, write};
+use bson_values::{Aligned, Array, Blob, Document, Memory, Name, Text, Value, is_name, write};
 use fixtures::{RowFault, Rows, bytes_of, field, number};
 use std::alloc::Global;
 
@@ -67,8 +67,8 @@ fn document(alloc: Global, content: &str) -> Result<Value, RowFault>
 {
     let n = number(content)?;
     let mut inner = Document::new(alloc);
-    inner.push(Name::of(alloc, "b")?, Value::Int32(n))?;
-    inner.push(Name::of(alloc, "c")?, Value::Int32(n))?;
+    inner.push(Name::of(alloc, "b")?, Value::Int32(Aligned::of(n)))?;
+    inner.push(Name::of(alloc, "c")?, Value::Int32(Aligned::of(n)))?;
     Ok(Value::Doc(inner))
 }
 
@@ -77,8 +77,8 @@ fn array(alloc: Global, content: &str) -> Result<Value, RowFault>
 {
     let n = number(content)?;
     let mut inner = Array::new(alloc);
-    inner.push(Value::Int32(n))?;
-    inner.push(Value::Int32(n))?;
+    inner.push(Value::Int32(Aligned::of(n)))?;
+    inner.push(Value::Int32(Aligned::of(n)))?;
     if inner.len() != 2 || inner.is_empty() {
         return Err(RowFault::Form);
     }
@@ -92,7 +92,7 @@ fn scalar(alloc: Global, type_name: &str, content: &str) -> Result<Value, RowFau
         "string" => string(alloc, content),
         "binary" => binary(alloc, content),
         "object_id" => object_id(alloc, content),
-        "bool" => Ok(Value::Bool(content == "true")),
+        "bool" => Ok(Value::Bool(Aligned::of(content == "true"))),
         "null" => Ok(Value::Null),
         "min_key" => Ok(Value::MinKey),
         "max_key" => Ok(Value::MaxKey),
@@ -120,7 +120,7 @@ fn int32(n: i64) -> Result<Value, RowFault>
     ensures { IfOk result (λ v. value_depth (datum_of v) ≡ 0) }
 {
     match i32::try_from(n) {
-        Ok(n) => Ok(Value::Int32(n)),
+        Ok(n) => Ok(Value::Int32(Aligned::of(n))),
         Err(_) => Err(RowFault::Form),
     }
 }
@@ -154,5 +154,5 @@ fn object_id(alloc: Global, content: &str) -> Result<Value, RowFault>
     }
     let mut id = [0; 12];
     id.copy_from_slice(&bytes);
-    Ok(Value::ObjectId(id))
+    Ok(Value::ObjectId(Aligned::of(id)))
 }

@@ -1,6 +1,6 @@
 //! Large and deep values are compared in the time and on the stack that a program has.
 
-use bson_values::{Document, Memory, Name, Value};
+use bson_values::{Aligned, Document, Memory, Name, Value};
 use fixtures::push;
 use std::alloc::Global;
 use std::cmp::Ordering;
@@ -52,7 +52,7 @@ fn long(alloc: Global, last: i64) -> Result<Value, Memory> {
 
 // 100 documents, each in the one before, and the number in the innermost.
 fn deep(alloc: Global, last: i32) -> Result<Value, Memory> {
-    let mut value = Value::Int32(last);
+    let mut value = Value::Int32(Aligned::of(last));
     for _ in 0..100 {
         value = holding(alloc, value)?;
     }

@@ -2,7 +2,7 @@ use Rattle.std.proofs.Common.{length, refl, sym, arith, ◌<◌, ◌∙◌}
 use Rattle.std.proofs.lemmas.Int.{to_z-of_z}
 use Rattle.std.proofs.lemmas.Result.{err_from_is_err_and}
 use Rattle.bson_model.specs.Tree.{int32_value, string_value}
-use Rattle.bson_values.proofs.Heads.{field_behind_type, field_behind_name, item_behind_head, int32_value_at, text_value_at}
+use Rattle.bson_values.proofs.Heads.{field_behind_type, field_behind_name, item_behind_head, int32_value_at, text_behind_string}
 use Rattle.bson_values.specs.Readers.{field_behind}
 use Rattle.bson_values.proofs.Leaves.{named_no_zero}
 use Rattle.bson_values.proofs.ReaderLoops.{passes_on, goes_on, ends, fails, behind_length, items_goes_on, items_ends, items_fails, items_behind_length}
@@ -68,13 +68,20 @@ put_field-returns-in_ok-push-in-Int32-clause-put t c = (
 pub put_field-returns-in_err-text-in-Text-clause-fails : goal.put_field-returns-in_err-text-in-Text-clause-fails
 put_field-returns-in_err-text-in-Text-clause-fails t c =
     let p = err_from_is_err_and c.from_residual-in_err-text-in-Text.result c.from_residual-in_err-text-in-Text.ensures.1 in
-    rw (p.1, p.2, c.in-Text.is) (passes_on _ _ _ (λ h. text_value_at _ _ _ _ ∙ h) c.in_err-text-in-Text.ensures.gives)
+    rw (p.1, p.2, c.in-Text.is) (passes_on _ _ _ (λ h. text_behind_string _ _ _ _ _ h) c.in_err-text-in-Text.ensures.gives)
 
-pub put_field-returns-in_ok-push-in-Text-clause-put : goal.put_field-returns-in_ok-push-in-Text-clause-put
-put_field-returns-in_ok-push-in-Text-clause-put t c = (
-  string_value c.in_ok-text-in-Text.text,
-  rw c.in-Text.is (text_value_at _ _ _ _ ∙ c.in_ok-text-in-Text.ensures.gives),
-  c.in_ok-push-in-Text.ensures.ok,
+pub put_field-returns-in-Some-clause-put : goal.put_field-returns-in-Some-clause-put
+put_field-returns-in-Some-clause-put t c = (
+  string_value c.in_ok-text-in-Text.text.now,
+  rw c.in-Text.is (text_behind_string _ _ _ _ _ c.in_ok-text-in-Text.ensures.gives),
+  rw c.in-Some.ensures at c.in_ok-push-in-Text.ensures.ok,
+)
+
+pub put_field-returns-in_ok-push-in-Text-2-clause-put : goal.put_field-returns-in_ok-push-in-Text-2-clause-put
+put_field-returns-in_ok-push-in-Text-2-clause-put t c = (
+  string_value c.in_ok-text-in-Text.text.now,
+  rw c.in-Text.is (text_behind_string _ _ _ _ _ c.in_ok-text-in-Text.ensures.gives),
+  rw c.in_ok-text-in-Text-2.ensures at c.in_ok-push-in-Text-2.ensures.ok,
 )
 
 pub read_document-of_front-requires-clause-name : goal.read_document-of_front-requires-clause-name
