@@ -45,7 +45,7 @@ ghost use Rattle.std.specs.Prelude.{◌≡◌, ◌<◌, ℕ, Some};
 ghost use Rattle.bson_values.specs.Tree.{Datum};
 ghost use Rattle.mvcc_collection.specs.Collections.{last_in};
 
-use bson_values::{Document, Memory, Value, read};
+use bson_values::{Aligned, Document, Memory, Value, read};
 use byteorder::{BigEndian, ByteOrder, LittleEndian};
 use cluster_base::{Session, Stmt, Time};
 use mvcc_collection::Collection;
@@ -139,7 +139,7 @@ fn object_id(number: u32) -> Value {
     let mut id = [7; 12];
     BigEndian::write_u32(&mut id, 1_700_000_000u32.saturating_add(number / 100));
     BigEndian::write_u32(&mut id[8..], number);
-    Value::ObjectId(id)
+    Value::ObjectId(Aligned::of(id))
 }
 
 // So many keys, in the order.

@@ -175,7 +175,7 @@ fn tell_pipeline(
 fn rows_of(alloc: Global, half: &Half, documents: &[Arc<Document, Global>]) -> Result<Vec<Rows>, EvalFault> {
     let mut all = Vec::new(alloc);
     for part in documents.chunks(5000) {
-        let rows = eval_half(alloc, half, part)?;
+        let rows = eval_half(alloc, half, shared(alloc, part)?)?;
         all.push(rows)?;
     }
     Ok(all)
