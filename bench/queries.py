@@ -14,14 +14,17 @@ The program is $CLUSTER, or `cluster` at the top of the repository, run as `clus
 given). Without PostgreSQL (`initdb`, `pg_ctl`, `psql`) its rows are left out, which is said. Clients, program and server share one
 processor. Every reply is looked at, behind its time, but the batches between. Each figure is the best of some rounds; in these it is the mean
 of a row of requests but the first, for which nothing is warm yet, and of reads the best of ten rows, of lists the best of ten. Few and many
-documents are written and read in turn, so that both meet the same disk and the same minute of the machine, and neither has the processor's
-caches to itself; no reply between is kept. Ends with status 1 where a wanted bound does not hold, or a reply is wrong.
+documents are written and read in turn, so that both meet the same disk and the same moment of the machine, and neither has the processor's
+caches to itself; how many times as long it takes among many is the median of all turns. Ends with status 1 where a wanted bound does not
+hold, or a reply is wrong.
 Usage: queries.py [ROUNDS]
 """
+import collections
 import functools
 import os
 import pathlib
 import re
+import statistics
 import sys
 import time
 
@@ -149,22 +152,34 @@ def batches(link, count):
 
 
 class Best(dict):
-    """The least seconds for each name."""
+    """The least seconds for each name; and of what is done in turn, among few documents and among many, each turn's ratio."""
+
+    def __init__(self):
+        super().__init__()
+        self.turns = collections.defaultdict(list)
 
     def note(self, *name, seconds):
         self[name] = min(seconds, self.get(name, seconds))
+
+    def note_turn(self, name, took):
+        """Notes the seconds of one turn, by the number of documents."""
+        for count, seconds in took.items():
+            self.note(count, name, seconds=seconds)
+        self.turns[name].append(took[MANY] / took[FEW])
 
     def ratio(self, one, other):
         return self[one] / self[other]
 
 
-def read(best, link, count):
-    """A row of reads of so many documents."""
+def read(link, count):
+    """Seconds for a row of reads of so many documents, by name."""
     second, last = batches(link, count)
-    best.note(count, "the second batch of a list", seconds=second)
-    best.note(count, "the last batch of a list", seconds=last)
-    best.note(count, "a find by _id", seconds=each(link, [find(number, "_id", number) for number in spread(count, ASKS)]))
-    best.note(count, "a find that scans", seconds=each(link, [find(number, "place", values(number)[2]) for number in spread(count, SCANS + 1)]))
+    return {
+        "the second batch of a list": second,
+        "the last batch of a list": last,
+        "a find by _id": each(link, [find(number, "_id", number) for number in spread(count, ASKS)]),
+        "a find that scans": each(link, [find(number, "place", values(number)[2]) for number in spread(count, SCANS + 1)]),
+    }
 
 
 def measure(best):
@@ -173,12 +188,11 @@ def measure(best):
     for count, link in links.items():
         best.note(count, "inserts of 1,000", seconds=each(link, loads(count)))
     for _ in range(ROWS):
-        for count, link in links.items():
-            read(best, link, count)
-    for count, took in in_turn(links, lambda count: [increase(number) for number in spread(count, ASKS)]).items():
-        best.note(count, "$inc by _id", seconds=took)
-    for count, took in in_turn(links, lambda count: [insert([number]) for number in range(count, count + ASKS)]).items():
-        best.note(count, "an insert", seconds=took)
+        rows = {count: read(link, count) for count, link in links.items()}
+        for name in rows[FEW]:
+            best.note_turn(name, {count: row[name] for count, row in rows.items()})
+    best.note_turn("$inc by _id", in_turn(links, lambda count: [increase(number) for number in spread(count, ASKS)]))
+    best.note_turn("an insert", in_turn(links, lambda count: [insert([number]) for number in range(count, count + ASKS)]))
     for link in links.values():
         link.end()
 
@@ -222,7 +236,7 @@ def tell_growth(best):
     """Whether nothing that touches few documents takes longer among many."""
     held = []
     for name in ("a find by _id", "$inc by _id", "an insert", "the second batch of a list", "the last batch of a list"):
-        few, many, growth = best[FEW, name], best[MANY, name], best.ratio((MANY, name), (FEW, name))
+        few, many, growth = best[FEW, name], best[MANY, name], statistics.median(best.turns[name])
         figure = f"{many * 1e6:.0f} us to {few * 1e6:.0f} us, {growth:.2f}"
         held.append(tell(f"{name} of {MANY:,} documents to one of {FEW:,}", figure, "at most 1.3", growth <= 1.3))
     return held
