@@ -11,9 +11,10 @@ use crate::text::{Blob, Memory, Name, Text};
 use std::alloc::Global;
 use std::marker::Model;
 
-/// What takes less than a word, at the beginning of one: so a value of any type is moved in whole words.
+/// What need not stand at the beginning of a word, at the beginning of one: so a value of any type is moved in whole words.
 #[derive(Clone, Copy, Debug)]
 pub struct Aligned<T> {
+    /// What is aligned.
     pub content: T,
     words: [u64; 0],
 }
@@ -37,7 +38,7 @@ pub enum Value {
     Doc(Document),
     /// An array, type 04.
     Array(Array),
-    /// Bytes and their subtype, type 05. What takes whole words stands first, as in each value.
+    /// Bytes and their subtype, type 05. The bytes stand first, since they begin a word.
     Binary { bytes: Blob, subtype: u8 },
     /// An ObjectId, type 07.
     ObjectId(Aligned<[u8; 12]>),
