@@ -38,19 +38,19 @@ pub fn drive<R: Threads + Sync, N: Node<Request = Request>, L: Log, S: Source, K
     clock: &C,
 ) -> Ending
     requires at { first_router < vec_len seats.old }
-    requires open { AreOpen L.is_open seats.old.items }
-    ensures driven { AreAskedAsRead N.asks → AreHeld (seat_view N.state L.tells L.records L.holds) seats.old.items (start 1).nodes →
+    requires open { AreOpen L.facts.is_open seats.old.items }
+    ensures driven { AreAskedAsRead N.asks → AreHeld (seat_view N.state L.facts) seats.old.items (start 1).nodes →
         IsDriven command (source_call S.tells S.left S.fault_count input.old input.new) (sink_call K.tells K.held K.fault_count out.old out.new)
-        (C.gives clock.now) (AreKept (seat_view N.state L.tells L.records L.holds) seats.new.items)
-        (LeaveKept (seat_since N.state L.tells L.records L.holds L.finds L.moment L.left_since (since_then seats.old.items (start 1))) seats.new.items)
+        (C.gives clock.now) (AreKept (seat_view N.state L.facts) seats.new.items)
+        (LeaveKept (seat_since N.state L.facts (since_then seats.old.items (start 1))) seats.new.items)
         result.status result.rest }
-    ensures open { result.status ≢ statuses.DiskFailed → result.status ≢ statuses.OutOfMemory → AreOpen L.is_open seats.new.items }
+    ensures open { result.status ≢ statuses.DiskFailed → result.status ≢ statuses.OutOfMemory → AreOpen L.facts.is_open seats.new.items }
     ensures len { vec_len seats.new ≡ vec_len seats.old }
     ensures read_fault { RoseWhere (result.status ≡ statuses.ReadFailed) (S.fault_count input.old) (S.fault_count input.new) }
     ensures write_fault { RoseWhere (result.status ≡ statuses.WriteFailed) (K.fault_count out.old) (K.fault_count out.new) }
-    ensures disk_fault { HaveRisenWhere (result.status ≡ statuses.DiskFailed) (faults_of L.fault_count seats.old.items)
-        (faults_of L.fault_count seats.new.items) }
-    ensures places { places_of L.place seats.new.items ≡ places_of L.place seats.old.items }
+    ensures disk_fault { HaveRisenWhere (result.status ≡ statuses.DiskFailed) (faults_of L.facts.fault_count seats.old.items)
+        (faults_of L.facts.fault_count seats.new.items) }
+    ensures places { places_of L.facts.place seats.new.items ≡ places_of L.facts.place seats.old.items }
 {
     match command {
         Command::Pipe => pipe_driver::pipe(rt, alloc, input, out, seats, clock, MOST_TAKEN),

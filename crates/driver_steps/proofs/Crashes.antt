@@ -1,20 +1,21 @@
 -- What a crash leaves while events lead on.
-use Rattle.std.proofs.Common.{◌≡◌, ◌⊎◌, inl, inr, ℕ, zero, suc, ◌≤◌, List, [], ◌∷◌, ◌++◌, map, Bool, IsTrue, sym, ap, subst, ◌∙◌, arith}
+use Rattle.std.proofs.Common.{◌≡◌, ◌⊎◌, inl, inr, ℕ, zero, suc, ◌≤◌, List, [], ◌∷◌, ◌++◌, map, IsTrue, sym, ap, subst, ◌∙◌, arith}
 use Rattle.std.specs.Prelude.{Some}
 use Rattle.std.specs.List.{slice_get, slice_set}
 use Rattle.std.proofs.lemmas.List.{map-append}
-use Rattle.outside.specs.Disks.{Outcomes}
-use Rattle.outside.specs.Logs.{WithOrWithout}
+use Rattle.outside.specs.Logs.{IsDurable, LogFacts, WithOrWithout}
 use Rattle.node_model.specs.Journal.{Kept, record_kept}
 use Rattle.node_model.specs.RecordFormat.{spelled}
 use Rattle.node_model.specs.States.{NodeState}
 use Rattle.node_model.specs.World.{Held, World, Event, Run, stands, Happens, goes, journal_at}
+use Rattle.node_model.proofs.Journals.{journal_got}
 use Rattle.node_model.proofs.Schedules.{run_then}
 use Rattle.node_traits.specs.Calls.{LeavesAlso}
 use Rattle.node_traits.specs.Effects.{spellings}
 use Rattle.driver_steps.specs.declared.seat.Seat.{Seat}
-use Rattle.driver_steps.specs.Crashes.{Since, LeadsTo, Passes, LeavesKept}
+use Rattle.driver_steps.specs.Crashes.{Noted, Since, LeadsTo, Passes, LeavesKept, LeavesNoLess, LeavesSinceNotes, leaves_kept, with_notes}
 use Rattle.driver_steps.specs.Seats.{AreHeld, AreKept, LeaveKept, seat_since, seat_view, since_then}
+use Rattle.driver_steps.proofs.Seats.{HeldAt, held_at}
 
 -- THE WAY
 
@@ -52,78 +53,102 @@ each_set R (x ∷ items) (suc at) t all here (suc k) s got = each_set (λ n. R (
 
 -- ONE LOG
 
-module _ {L : Type 0} (finds : List ℕ → List (List ℕ) → Type 0) (moment : L → ℕ) (left_since : L → ℕ → Outcomes) (first : World) (at : ℕ) where
+module _ {L : Type 0} (facts : LogFacts L) (at : ℕ) where
   -- it was left alone
-  pub kept_on : (old new : L) (v w : World) → LeavesKept finds moment left_since first old new at v → LeadsTo v w
-      → LeavesKept finds moment left_since first old new at w
-  kept_on old new v w k on = record {
+  pub kept_on : (first : World) (old new : L) (v w : World) → LeavesKept facts first old new at v → LeadsTo v w → LeavesKept facts first old new at w
+  kept_on first old new v w k on = record {
     came = leads_on first v w k.came on;
     left = record { later = k.left.later; each = λ t file le left. passed_on _ first v w _ (k.left.each t file le left) on };
   }
 
-  module _ (old new after : L) (v w : World) (kept more : List Kept) (k : LeavesKept finds moment left_since first old new at v)
-      (whole : LeavesAlso moment left_since new after (λ file. WithOrWithout (finds file) (spellings kept) (spellings more)))
+  pub no_less_on : (given : World) (m : ℕ) (new : L) (v w : World) → LeavesNoLess facts given m new at v → LeadsTo v w
+      → LeavesNoLess facts given m new at w
+  no_less_on given m new v w k on = record {
+    came = leads_on given v w k.came on;
+    later = k.later;
+    left = λ file left. passes_on given v w _ (k.left file left) on;
+  }
+
+  module _ (new after : L) (v w : World) (kept more : List Kept)
+      (whole : LeavesAlso facts.moment facts.left_since new after (λ file. WithOrWithout (facts.finds file) (spellings kept) (spellings more)))
       (was : journal_at v.nodes at ≡ kept) (is : journal_at w.nodes at ≡ kept ++ more) (on : LeadsTo v w) where
-    found : (file : List ℕ) → WithOrWithout (finds file) (spellings kept) (spellings more)
-        → Passes first w (λ x. finds file (spellings (journal_at x.nodes at)))
-    found file (inl without) = record {
+    found : (first : World) → LeadsTo first v → (file : List ℕ) → WithOrWithout (facts.finds file) (spellings kept) (spellings more)
+        → Passes first w (λ x. facts.finds file (spellings (journal_at x.nodes at)))
+    found first came file (inl without) = record {
       world = v;
-      before = k.came;
+      before = came;
       behind = on;
-      has = subst (λ (l : List Kept). finds file (spellings l)) (sym was) without;
+      has = subst (λ (l : List Kept). facts.finds file (spellings l)) (sym was) without;
     }
-    found file (inr with_more) = record {
+    found first came file (inr with_more) = record {
       world = w;
-      before = leads_on first v w k.came on;
+      before = leads_on first v w came on;
       behind = leads_nowhere w;
-      has = subst (λ (l : List Kept). finds file (spellings l)) (sym is)
-          (subst (λ (l : List (List ℕ)). finds file l) (sym (spellings_append kept more)) with_more);
+      has = subst (λ (l : List Kept). facts.finds file (spellings l)) (sym is)
+          (subst (λ (l : List (List ℕ)). facts.finds file l) (sym (spellings_append kept more)) with_more);
     }
 
-    left_then : (t : ℕ) (file : List ℕ) → t ≤ moment old
-        → left_since new t file ⊎ WithOrWithout (finds file) (spellings kept) (spellings more)
-        → left_since old t file ⊎ Passes first w (λ x. finds file (spellings (journal_at x.nodes at)))
-    left_then t file le (inl left) = passed_on _ first v w _ (k.left.each t file le left) on
-    left_then t file le (inr whole_file) = inr (found file whole_file)
+    left_then : (first : World) (old : L) (k : LeavesKept facts first old new at v) (t : ℕ) (file : List ℕ) → t ≤ facts.moment old
+        → facts.left_since new t file ⊎ WithOrWithout (facts.finds file) (spellings kept) (spellings more)
+        → facts.left_since old t file ⊎ Passes first w (λ x. facts.finds file (spellings (journal_at x.nodes at)))
+    left_then first old k t file le (inl left) = passed_on _ first v w _ (k.left.each t file le left) on
+    left_then first old k t file le (inr whole_file) = inr (found first k.came file whole_file)
 
     -- records were appended to it, or were to be
-    pub kept_step : LeavesKept finds moment left_since first old after at w
-    kept_step = record {
+    pub kept_step : (first : World) (old : L) → LeavesKept facts first old new at v → LeavesKept facts first old after at w
+    kept_step first old k = record {
       came = leads_on first v w k.came on;
       left = record {
         later = omega (arith, k.left.later, whole.later);
-        each = λ t file le left. left_then t file le (whole.each t file (omega (arith, le, k.left.later)) left);
+        each = λ t file le left. left_then first old k t file le (whole.each t file (omega (arith, le, k.left.later)) left);
       };
+    }
+
+    no_less_then : (given : World) (m : ℕ) (n : LeavesNoLess facts given m new at v) (file : List ℕ)
+        → facts.left_since new m file ⊎ WithOrWithout (facts.finds file) (spellings kept) (spellings more)
+        → Passes given w (λ x. facts.finds file (spellings (journal_at x.nodes at)))
+    no_less_then given m n file (inl left) = passes_on given v w _ (n.left file left) on
+    no_less_then given m n file (inr whole_file) = found given n.came file whole_file
+
+    pub no_less_step : (given : World) (m : ℕ) → LeavesNoLess facts given m new at v → LeavesNoLess facts given m after at w
+    no_less_step given m n = record {
+      came = leads_on given v w n.came on;
+      later = omega (arith, n.later, whole.later);
+      left = λ file left. no_less_then given m n file (whole.each m file n.later left);
     }
 
 -- ALL LOGS
 
-module _ {N L : Type 0} (state : N → NodeState) (told : Bool) (records : L → List (List ℕ)) (holds : L → List (List ℕ) → Type 0)
-    (finds : List ℕ → List (List ℕ) → Type 0) (moment : L → ℕ) (left_since : L → ℕ → Outcomes) (since : Since L) where
+module _ {N L : Type 0} (state : N → NodeState) (facts : LogFacts L) (since : Since L) where
   -- the node at a place took a step, or was to
   pub step_leaves : (seats : List (Seat N L)) (w : World) (at : ℕ) (s t : Seat N L) (more : List Kept)
-      → LeaveKept (seat_since state told records holds finds moment left_since since) seats w → slice_get seats at ≡ Some s
-      → (IsTrue told → LeavesAlso moment left_since s.log t.log (λ file. WithOrWithout (finds file) (records s.log) (spellings more)))
-      → (x : World) (kept : List Kept) → LeadsTo w x → (IsTrue told → records s.log ≡ spellings kept) → journal_at w.nodes at ≡ kept
+      → LeaveKept (seat_since state facts since) seats w → slice_get seats at ≡ Some s
+      → (IsTrue facts.tells → LeavesAlso facts.moment facts.left_since s.log t.log
+      (λ file. WithOrWithout (facts.finds file) (facts.records s.log) (spellings more)))
+      → (x : World) (kept : List Kept) → LeadsTo w x → (IsTrue facts.tells → facts.records s.log ≡ spellings kept) → journal_at w.nodes at ≡ kept
       → journal_at x.nodes at ≡ kept ++ more
-      → LeaveKept (seat_since state told records holds finds moment left_since since) (slice_set seats at t) x
+      → LeaveKept (seat_since state facts since) (slice_set seats at t) x
   step_leaves seats w at s t more all got whole x kept on written was is =
-      each_set (λ k (z : Seat N L). (tells : IsTrue told) (old : L) → slice_get since.logs k ≡ Some old
-      → LeavesKept finds moment left_since since.world old z.log k x) seats at t
-      (λ k z there tells old began. kept_on finds moment left_since since.world k old z.log w x (all k z there tells old began) on)
-      (λ tells old began.
-      kept_step finds moment left_since since.world at old s.log t.log w x kept more (all at s got tells old began)
-      (subst (λ (l : List (List ℕ)). LeavesAlso moment left_since s.log t.log (λ file. WithOrWithout (finds file) l (spellings more)))
-      (written tells) (whole tells)) was is on)
+      each_set (λ k (z : Seat N L). leaves_kept facts since z.log k x) seats at t
+      (λ k z there tells. (
+        λ old began. kept_on facts k since.world old z.log w x ((all k z there tells).0 old began) on,
+        λ j n m had of. no_less_on facts k n.world m z.log w x ((all k z there tells).1 j n m had of) on,
+      ))
+      (λ tells.
+      let also : LeavesAlso facts.moment facts.left_since s.log t.log (λ file. WithOrWithout (facts.finds file) (spellings kept) (spellings more)) =
+      subst (λ (l : List (List ℕ)). LeavesAlso facts.moment facts.left_since s.log t.log (λ file. WithOrWithout (facts.finds file) l (spellings more)))
+      (written tells) (whole tells) in (
+        λ old began. kept_step facts at s.log t.log w x kept more also was is on since.world old ((all at s got tells).0 old began),
+        λ j n m had of. no_less_step facts at s.log t.log w x kept more also was is on n.world m ((all at s got tells).1 j n m had of),
+      ))
 
   -- it took none
   pub same_leaves : (seats : List (Seat N L)) (w : World) (at : ℕ) (s t : Seat N L)
-      → LeaveKept (seat_since state told records holds finds moment left_since since) seats w → slice_get seats at ≡ Some s → t.log ≡ s.log
-      → LeaveKept (seat_since state told records holds finds moment left_since since) (slice_set seats at t) w
+      → LeaveKept (seat_since state facts since) seats w → slice_get seats at ≡ Some s → t.log ≡ s.log
+      → LeaveKept (seat_since state facts since) (slice_set seats at t) w
   same_leaves seats w at s t all got same =
-      each_set (λ k (z : Seat N L). (tells : IsTrue told) (old : L) → slice_get since.logs k ≡ Some old
-      → LeavesKept finds moment left_since since.world old z.log k w) seats at t all
-      (λ tells old began. subst (λ (l : L). LeavesKept finds moment left_since since.world old l at w) (sym same) (all at s got tells old began))
+      each_set (λ k (z : Seat N L). leaves_kept facts since z.log k w) seats at t all
+      (subst (λ (l : L). leaves_kept facts since l at w) (sym same) (all at s got))
 
 -- THE START
 
@@ -138,19 +163,19 @@ module _ {N L : Type 0} where
       → slice_get (map (λ (z : Seat N L). z.log) seats) at ≡ Some old → s.log ≡ old
   same_log seats at s old got began = let both : Some s.log ≡ Some old = sym (logs_there seats at s got) ∙ began in cc both
 
-module _ {N L : Type 0} (state : N → NodeState) (told : Bool) (records : L → List (List ℕ)) (holds : L → List (List ℕ) → Type 0)
-    (finds : List ℕ → List (List ℕ) → Type 0) (moment : L → ℕ) (left_since : L → ℕ → Outcomes) where
+module _ {N L : Type 0} (state : N → NodeState) (facts : LogFacts L) where
   -- nothing happened since then
-  pub start_leaves : (seats : List (Seat N L)) (w : World)
-      → LeaveKept (seat_since state told records holds finds moment left_since (since_then seats w)) seats w
-  start_leaves seats w at s got tells old began =
-      subst (λ (l : L). LeavesKept finds moment left_since w l s.log at w) (same_log seats at s old got began)
-      (record { came = leads_nowhere w; left = record { later = omega arith; each = λ t file le left. inl left } })
+  pub start_leaves : (seats : List (Seat N L)) (w : World) → LeaveKept (seat_since state facts (since_then seats w)) seats w
+  start_leaves seats w at s got tells = (
+    λ old began. subst (λ (l : L). LeavesKept facts w l s.log at w) (same_log seats at s old got began)
+        (record { came = leads_nowhere w; left = record { later = omega arith; each = λ t file le left. inl left } }),
+    λ k n m had of. absurd (cc had),
+  )
 
   module _ (since : Since L) where
     -- of nodes of which nothing was said of crashes
-    pub held_since : (seats : List (Seat N L)) (held : List Held) → AreHeld (seat_view state told records holds) seats held
-        → AreHeld (seat_since state told records holds finds moment left_since since) seats held
+    pub held_since : (seats : List (Seat N L)) (held : List Held) → AreHeld (seat_view state facts) seats held
+        → AreHeld (seat_since state facts since) seats held
     held_since [] [] are = tt
     held_since [] (h ∷ held) are = absurd are
     held_since (s ∷ seats) [] are = absurd are
@@ -163,9 +188,64 @@ module _ {N L : Type 0} (state : N → NodeState) (told : Bool) (records : L →
       held_since seats held are.1,
     )
 
-    pub kept_plain : (seats : List (Seat N L)) (held : List Held) → AreKept (seat_since state told records holds finds moment left_since since) seats held
-        → AreKept (seat_view state told records holds) seats held
+    pub held_plain : (seats : List (Seat N L)) (held : List Held) → AreHeld (seat_since state facts since) seats held
+        → AreHeld (seat_view state facts) seats held
+    held_plain [] [] are = tt
+    held_plain [] (h ∷ held) are = absurd are
+    held_plain (s ∷ seats) [] are = absurd are
+    held_plain (s ∷ seats) (h ∷ held) are = (
+      record {
+        same = are.0.same;
+        written = are.0.written;
+        keeps = record { sound = are.0.keeps.sound; found = are.0.keeps.found };
+      },
+      held_plain seats held are.1,
+    )
+
+    pub kept_plain : (seats : List (Seat N L)) (held : List Held) → AreKept (seat_since state facts since) seats held
+        → AreKept (seat_view state facts) seats held
     kept_plain [] [] are = tt
     kept_plain [] (h ∷ held) are = absurd are
     kept_plain (s ∷ seats) [] are = absurd are
     kept_plain (s ∷ seats) (h ∷ held) are = (record { sound = are.0.sound; found = are.0.found }, kept_plain seats held are.1)
+
+    -- A NOTE OF ALL DISKS
+
+    moments_there : (seats : List (Seat N L)) (at : ℕ) (s : Seat N L) (m : ℕ) → slice_get seats at ≡ Some s
+        → slice_get (map (λ (z : Seat N L). facts.moment z.log) seats) at ≡ Some m → m ≡ facts.moment s.log
+    moments_there [] at s m got of = absurd (cc)
+    moments_there (x ∷ seats) zero s m got of = cc
+    moments_there (x ∷ seats) (suc at) s m got of = moments_there seats at s m got of
+
+    module _ (seats : List (Seat N L)) (w : World) (are : AreHeld (seat_since state facts since) seats w.nodes)
+        (durable : (at : ℕ) (s : Seat N L) → slice_get seats at ≡ Some s → IsDurable facts s.log) where
+      no_less_now : (at : ℕ) (s : Seat N L) → slice_get seats at ≡ Some s → IsTrue facts.tells → LeavesNoLess facts w (facts.moment s.log) s.log at w
+      no_less_now at s got tells =
+          let place : HeldAt (seat_since state facts since s) w.nodes at = held_at (seat_since state facts since) seats w.nodes at s are got in
+          record {
+            came = leads_nowhere w;
+            later = omega arith;
+            left = λ file left. record {
+              world = w;
+              before = leads_nowhere w;
+              behind = leads_nowhere w;
+              has = subst (λ (l : List Kept). facts.finds file (spellings l)) (sym (journal_got w.nodes at place.old place.here))
+                  (subst (λ (l : List (List ℕ)). facts.finds file l) (place.is.written tells) (durable at s got tells file left));
+            };
+          }
+
+      -- where all disks are noted while all logs are durable, a crash from then on leaves no less than what the nodes keep
+      pub note_leaves : (length : ℕ) → LeaveKept (seat_since state facts since) seats w
+          → LeaveKept (seat_since state facts
+          (with_notes since (record { world = w; moments = map (λ (z : Seat N L). facts.moment z.log) seats; length = length } ∷ since.noted))) seats w
+      note_leaves length all at s got tells = ((all at s got tells).0, noted_by)
+        where
+          noted_by : LeavesSinceNotes facts (record { world = w; moments = map (λ (z : Seat N L). facts.moment z.log) seats; length = length } ∷ since.noted)
+              s.log at w
+          noted_by zero n m had of =
+              let same : record { world = w; moments = map (λ (z : Seat N L). facts.moment z.log) seats; length = length } ≡ n = cc had in
+              subst (λ (x : World). LeavesNoLess facts x m s.log at w) (ap (λ (x : Noted). x.world) same)
+              (subst (λ (t : ℕ). LeavesNoLess facts w t s.log at w)
+              (sym (moments_there seats at s m got (subst (λ (x : Noted). slice_get x.moments at ≡ Some m) (sym same) of)))
+              (no_less_now at s got tells))
+          noted_by (suc k) n m had of = (all at s got tells).1 k n m had of

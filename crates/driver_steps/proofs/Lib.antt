@@ -1,4 +1,5 @@
 pub mod Crashes
+pub mod DiskNotes
 pub mod Seats
 pub mod Stepping
 pub mod Moves

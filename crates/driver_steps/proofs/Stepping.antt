@@ -3,8 +3,7 @@ use Rattle.std.proofs.Common.{◌≡◌, inl, inr, ℕ, ◌≤◌, List, [], ◌
 use Rattle.std.specs.Prelude.{Some, if◌then◌else◌}
 use Rattle.std.specs.List.{slice_get, slice_set}
 use Rattle.outside.specs.Causes.{Rose}
-use Rattle.outside.specs.Disks.{Outcomes}
-use Rattle.outside.specs.Logs.{WithOrWithout}
+use Rattle.outside.specs.Logs.{LogFacts, WithOrWithout}
 use Rattle.node_model.specs.Exchanges.{Answered, reply_put}
 use Rattle.node_model.specs.Journal.{Kept}
 use Rattle.node_model.specs.Letters.{Letter, Input, Reply, Effect}
@@ -137,27 +136,26 @@ module _ {S : Type 0} (view : S → SeatView) (seats : List S) (w : World) (at :
 
 -- ONE NODE OF ALL
 
-module _ {N L : Type 0} (state : N → NodeState) (told : Bool) (records : L → List (List ℕ)) (holds : L → List (List ℕ) → Type 0)
-    (finds : List ℕ → List (List ℕ) → Type 0) (moment : L → ℕ) (left_since : L → ℕ → Outcomes) where
+module _ {N L : Type 0} (state : N → NodeState) (facts : LogFacts L) where
   abbrev pub view_since : Since L → Seat N L → SeatView
-  view_since since seat = seat_since state told records holds finds moment left_since since seat
+  view_since since seat = seat_since state facts since seat
 
   pub done : (since : Since L) (seats : List (Seat N L)) (w : World) (at : ℕ) (s t : Seat N L) (i : Input) (mail : List Letter) (replies : List ToLink)
       → AreHeld (view_since since) seats w.nodes → LeaveKept (view_since since) seats w → slice_get seats at ≡ Some s
-      → StepDone (state s.node) i mail replies (log_call told records holds finds moment left_since s.log t.log) (state t.node)
-      → (holds s.log (records s.log) → holds t.log (records t.log))
+      → StepDone (state s.node) i mail replies (log_call facts s.log t.log) (state t.node)
+      → (facts.holds s.log (facts.records s.log) → facts.holds t.log (facts.records t.log))
       → HasStepped (view_since since) (slice_set seats at t) w at i mail replies
   done since seats w at s t i mail replies are leave got d kept =
       stepped (view_since since) seats w at s t i d.effect are got d.sound (λ tells. tells)
-      (step_leaves state told records holds finds moment left_since since seats w at s t d.effect.written leave got d.kept.whole)
+      (step_leaves state facts since seats w at s t d.effect.written leave got d.kept.whole)
       mail replies d.step d.sent d.told d.kept.grown kept
 
   still_held : (since : Since L) (s t : Seat N L) (h : Held) → IsHeld (view_since since s) h → (state t.node ≡ state s.node) × (t.log ≡ s.log)
       → IsHeld (view_since since t) h
   still_held since s t h is (same, unchanged) = record {
     same = is.same ∙ sym same;
-    written = λ tells. ap records unchanged ∙ is.written tells;
-    keeps = record { sound = is.keeps.sound; found = λ tells. subst (λ (l : L). holds l (spellings h.kept)) (sym unchanged) (is.keeps.found tells) };
+    written = λ tells. ap facts.records unchanged ∙ is.written tells;
+    keeps = record { sound = is.keeps.sound; found = λ tells. subst (λ (l : L). facts.holds l (spellings h.kept)) (sym unchanged) (is.keeps.found tells) };
   }
 
   still : (since : Since L) (seats : List (Seat N L)) (w : World) (at : ℕ) (s t : Seat N L) → AreHeld (view_since since) seats w.nodes
@@ -166,7 +164,7 @@ module _ {N L : Type 0} (state : N → NodeState) (told : Bool) (records : L →
   still since seats w at s t are leave got unchanged =
       let here : HeldAt (view_since since s) w.nodes at = held_at (view_since since) seats w.nodes at s are got in (
         held_still (view_since since) seats w.nodes at t here.old are here.here (still_held since s t here.old here.is unchanged),
-        same_leaves state told records holds finds moment left_since since seats w at s t leave got unchanged.1,
+        same_leaves state facts since seats w at s t leave got unchanged.1,
       )
 
   -- FAULTS
@@ -174,7 +172,7 @@ module _ {N L : Type 0} (state : N → NodeState) (told : Bool) (records : L →
   -- what the fault of a step says of its node and log
   abbrev pub Fails : StepFault → Input → (s t : Seat N L) → Type 0
   Fails fault i s t =
-      ByStepFault fault (λ faults. StepBroken (state s.node) i (log_call told records holds finds moment left_since s.log t.log))
+      ByStepFault fault (λ faults. StepBroken (state s.node) i (log_call facts s.log t.log))
       ((state t.node ≡ state s.node) × (t.log ≡ s.log))
 
   pub failed : (since : Since L) (seats : List (Seat N L)) (w : World) (at : ℕ) (s t : Seat N L) (i : Input) (fault : StepFault)
@@ -183,7 +181,7 @@ module _ {N L : Type 0} (state : N → NodeState) (told : Bool) (records : L →
       (AreHeld (view_since since) (slice_set seats at t) w.nodes × LeaveKept (view_since since) (slice_set seats at t) w)
   failed since seats w at s t i (Disk faults) are leave got b =
       broken (view_since since) seats w at s t i b.effect are got b.sound (λ tells. tells)
-      (step_leaves state told records holds finds moment left_since since seats w at s t b.effect.written leave got b.left.whole) b.new b.step b.left.left
+      (step_leaves state facts since seats w at s t b.effect.written leave got b.left.whole) b.new b.step b.left.left
   failed since seats w at s t i Steps are leave got unchanged = still since seats w at s t are leave got unchanged
   failed since seats w at s t i Memory are leave got unchanged = still since seats w at s t are leave got unchanged
 

@@ -2,7 +2,8 @@
 use Rattle.std.specs.Prelude.{◌≡◌, ℕ, ◌+◌, ◌-◌, ◌^◌, Bool, IsTrue, List, [], ◌∷◌, map, Some, Result, Ok, Err}
 use Rattle.std.specs.List.{slice_get, AllByRecursion}
 use Rattle.outside.specs.Devices.{NoneFell, OneRose}
-use Rattle.outside.specs.Disks.{Outcomes}
+use Rattle.outside.specs.Logs.{IsDurable, LogFacts}
+use Rattle.outside.specs.Notes.{Note}
 use Rattle.node_model.specs.Journal.{Kept}
 use Rattle.node_model.specs.States.{NodeState}
 use Rattle.node_model.specs.World.{Held, World}
@@ -21,24 +22,23 @@ pub record SeatView : Type 1 where
   pub leaves : (at : ℕ) → World → Type 0
 
 -- of crashes nothing
-abbrev pub seat_view : {N L : Type 0} → (N → NodeState) → Bool → (L → List (List ℕ)) → (L → List (List ℕ) → Type 0) → Seat N L → SeatView
-seat_view state_of told records_of holds_in seat = record {
+abbrev pub seat_view : {N L : Type 0} → (N → NodeState) → LogFacts L → Seat N L → SeatView
+seat_view state_of facts seat = record {
   state = state_of seat.node;
-  tells = told;
-  records = records_of seat.log;
-  holds = holds_in seat.log;
+  tells = facts.tells;
+  records = facts.records seat.log;
+  holds = facts.holds seat.log;
   leaves = λ at w. Unit {0};
 }
 
 -- of crashes what they leave since then
-abbrev pub seat_since : {N L : Type 0} → (N → NodeState) → Bool → (L → List (List ℕ)) → (L → List (List ℕ) → Type 0) → (List ℕ → List (List ℕ)
-    → Type 0) → (L → ℕ) → (L → ℕ → Outcomes) → Since L → Seat N L → SeatView
-seat_since state_of told records_of holds_in finds_in moment left_since since seat = record {
+abbrev pub seat_since : {N L : Type 0} → (N → NodeState) → LogFacts L → Since L → Seat N L → SeatView
+seat_since state_of facts since seat = record {
   state = state_of seat.node;
-  tells = told;
-  records = records_of seat.log;
-  holds = holds_in seat.log;
-  leaves = leaves_kept told finds_in moment left_since since seat.log;
+  tells = facts.tells;
+  records = facts.records seat.log;
+  holds = facts.holds seat.log;
+  leaves = leaves_kept facts since seat.log;
 }
 
 -- an opening of the log finds what is kept, and nothing else
@@ -52,9 +52,9 @@ pub record IsHeld (seat : SeatView) (held : Held) : Type 0 where
   pub written : IsTrue seat.tells → seat.records ≡ spellings held.kept
   pub keeps : Keeps seat held.kept
 
--- from these on, at the start of a run from a world
+-- from these on, at the start of a run from a world, with no note yet
 abbrev pub since_then : {N L : Type 0} → List (Seat N L) → World → Since L
-since_then seats w = record { logs = map (λ s. s.log) seats; world = w }
+since_then seats w = record { logs = map (λ s. s.log) seats; world = w; noted = [] }
 
 -- these nodes with their logs, in order
 abbrev pub AreHeld : {S : Type 0} → (S → SeatView) → List S → List Held → Type 0
@@ -79,6 +79,19 @@ LeaveKept {S} view seats w = (at : ℕ) (s : S) → slice_get seats at ≡ Some 
 -- records can be appended to each log
 abbrev pub AreOpen : {N L : Type 0} → (L → Bool) → List (Seat N L) → Type 0
 AreOpen is_open seats = AllByRecursion (λ s. IsTrue (is_open s.log)) seats
+
+-- a crash at this moment leaves of each log a file in which an opening finds its records
+abbrev pub AreDurable : {N L : Type 0} → LogFacts L → List (Seat N L) → Type 0
+AreDurable {N} {L} facts seats = (at : ℕ) (s : Seat N L) → slice_get seats at ≡ Some s → IsDurable facts s.log
+
+-- the notes of their disks, in order, before which the sink held so many bytes
+abbrev pub notes_of : {N L : Type 0} → LogFacts L → (length : ℕ) → List (Seat N L) → List Note
+notes_of facts length seats = map (λ s. record { place = facts.place s.log; moment = facts.moment s.log; length = length }) seats
+
+-- this holds but where a disk failed
+abbrev pub UnlessDiskFailed : {X : Type 0} → Result X StepFault → Type 0 → Type 0
+UnlessDiskFailed (Ok x) holds = holds
+UnlessDiskFailed (Err fault) holds = ByStepFault fault (λ faults. Unit {0}) holds
 
 -- how many steps are left to all nodes
 abbrev pub left_of : {N L : Type 0} → (N → ℕ) → List (Seat N L) → ℕ

@@ -3,12 +3,14 @@
 
 mod deliveries;
 mod network;
+mod notes;
 mod rounds;
 mod seat;
 mod steps;
 
 pub use deliveries::{deliver, settle};
 pub use network::Network;
+pub use notes::note_disks;
 pub use rounds::{ask, give_moments, open_all};
 pub use seat::Seat;
 pub use steps::{happen, step_node};

@@ -5,7 +5,7 @@ ghost use Rattle.node_model.specs.Schedule.{moments_given, openings};
 ghost use Rattle.node_model.specs.World.{IsRouter, World, client_event};
 ghost use Rattle.node_traits.specs.declared.outputs.ToLink.{ToLink};
 ghost use Rattle.driver_steps.specs.Crashes.{Since};
-ghost use Rattle.driver_steps.specs.Seats.{AreOpen, TellsFaults, faults_of, places_of, seat_since};
+ghost use Rattle.driver_steps.specs.Seats.{AreOpen, TellsFaults, UnlessDiskFailed, faults_of, places_of, seat_since};
 ghost use Rattle.driver_steps.specs.Moves.{BeginWith, HasHappened, HasRun, HasStopped};
 ghost use Rattle.driver_steps.specs.Worlds.{StandsFor, network_view};
 
@@ -23,24 +23,24 @@ pub fn open_all<N: Node, L: Log>(
     seats: &mut Vec<Seat<N, L>>,
     network: &mut Network<N::Mail>,
 ) -> Result<(), StepFault>
-    requires { AreOpen L.is_open seats.old.items }
+    requires { AreOpen L.facts.is_open seats.old.items }
     ensures opened { (since : Since L) (w : World) (next : ℕ) (handed : List ToLink) →
-        StandsFor (seat_since N.state L.tells L.records L.holds L.finds L.moment L.left_since since) seats.old.items
+        StandsFor (seat_since N.state L.facts since) seats.old.items
         (network_view (λ m. N.Mail.letter m) network.old) handed w next →
-        OnOk result (HasRun (seat_since N.state L.tells L.records L.holds L.finds L.moment L.left_since since) seats.new.items
+        OnOk result (HasRun (seat_since N.state L.facts since) seats.new.items
         (network_view (λ m. N.Mail.letter m) network.new) handed w next
         (openings 0 (vec_len seats.old))) }
     ensures stopped { (since : Since L) (w : World) (next : ℕ) (handed : List ToLink) →
-        StandsFor (seat_since N.state L.tells L.records L.holds L.finds L.moment L.left_since since) seats.old.items
+        StandsFor (seat_since N.state L.facts since) seats.old.items
         (network_view (λ m. N.Mail.letter m) network.old) handed w next →
-        IfErr result (λ e. HasStopped (seat_since N.state L.tells L.records L.holds L.finds L.moment L.left_since since) seats.new.items
+        IfErr result (λ e. HasStopped (seat_since N.state L.facts since) seats.new.items
         network.new.replies.items handed w (λ events. BeginWith events (openings 0 (vec_len seats.old))) e) }
     ensures len { vec_len seats.new ≡ vec_len seats.old }
-    ensures open { OnOk result (AreOpen L.is_open seats.new.items) }
+    ensures open { UnlessDiskFailed result (AreOpen L.facts.is_open seats.new.items) }
 
     // Of the logs' disks.
-    ensures faults { TellsFaults result (faults_of L.fault_count seats.old.items) (faults_of L.fault_count seats.new.items) }
-    ensures places { places_of L.place seats.new.items ≡ places_of L.place seats.old.items }
+    ensures faults { TellsFaults result (faults_of L.facts.fault_count seats.old.items) (faults_of L.facts.fault_count seats.new.items) }
+    ensures places { places_of L.facts.place seats.new.items ≡ places_of L.facts.place seats.old.items }
 {
     let count = seats.len();
     'nodes: for at in 0..count {
@@ -61,24 +61,24 @@ pub fn give_moments<N: Node, L: Log>(
     network: &mut Network<N::Mail>,
     moment: u64,
 ) -> Result<(), StepFault>
-    requires { AreOpen L.is_open seats.old.items }
+    requires { AreOpen L.facts.is_open seats.old.items }
     ensures given { (since : Since L) (w : World) (next : ℕ) (handed : List ToLink) →
-        StandsFor (seat_since N.state L.tells L.records L.holds L.finds L.moment L.left_since since) seats.old.items
+        StandsFor (seat_since N.state L.facts since) seats.old.items
         (network_view (λ m. N.Mail.letter m) network.old) handed w next →
-        OnOk result (HasRun (seat_since N.state L.tells L.records L.holds L.finds L.moment L.left_since since) seats.new.items
+        OnOk result (HasRun (seat_since N.state L.facts since) seats.new.items
         (network_view (λ m. N.Mail.letter m) network.new) handed w next
         (moments_given 0 (vec_len seats.old) moment)) }
     ensures stopped { (since : Since L) (w : World) (next : ℕ) (handed : List ToLink) →
-        StandsFor (seat_since N.state L.tells L.records L.holds L.finds L.moment L.left_since since) seats.old.items
+        StandsFor (seat_since N.state L.facts since) seats.old.items
         (network_view (λ m. N.Mail.letter m) network.old) handed w next →
-        IfErr result (λ e. HasStopped (seat_since N.state L.tells L.records L.holds L.finds L.moment L.left_since since) seats.new.items
+        IfErr result (λ e. HasStopped (seat_since N.state L.facts since) seats.new.items
         network.new.replies.items handed w (λ events. BeginWith events (moments_given 0 (vec_len seats.old) moment)) e) }
     ensures len { vec_len seats.new ≡ vec_len seats.old }
-    ensures open { OnOk result (AreOpen L.is_open seats.new.items) }
+    ensures open { UnlessDiskFailed result (AreOpen L.facts.is_open seats.new.items) }
 
     // Of the logs' disks.
-    ensures faults { TellsFaults result (faults_of L.fault_count seats.old.items) (faults_of L.fault_count seats.new.items) }
-    ensures places { places_of L.place seats.new.items ≡ places_of L.place seats.old.items }
+    ensures faults { TellsFaults result (faults_of L.facts.fault_count seats.old.items) (faults_of L.facts.fault_count seats.new.items) }
+    ensures places { places_of L.facts.place seats.new.items ≡ places_of L.facts.place seats.old.items }
 {
     let count = seats.len();
     'nodes: for at in 0..count {
@@ -103,25 +103,25 @@ pub fn ask<N: Node, L: Log>(
     request: N::Request,
 ) -> Result<(), StepFault>
     requires at { at < vec_len seats.old }
-    requires open { AreOpen L.is_open seats.old.items }
+    requires open { AreOpen L.facts.is_open seats.old.items }
     ensures asked { (since : Since L) (w : World) (next : ℕ) (handed : List ToLink) →
-        StandsFor (seat_since N.state L.tells L.records L.holds L.finds L.moment L.left_since since) seats.old.items
+        StandsFor (seat_since N.state L.facts since) seats.old.items
         (network_view (λ m. N.Mail.letter m) network.old) handed w next
         → IsRouter w.nodes at →
-        OnOk result (HasHappened (seat_since N.state L.tells L.records L.holds L.finds L.moment L.left_since since) seats.new.items
+        OnOk result (HasHappened (seat_since N.state L.facts since) seats.new.items
         (network_view (λ m. N.Mail.letter m) network.new) handed w next (client_event at link number (N.asks request))) }
     ensures stopped { (since : Since L) (w : World) (next : ℕ) (handed : List ToLink) →
-        StandsFor (seat_since N.state L.tells L.records L.holds L.finds L.moment L.left_since since) seats.old.items
+        StandsFor (seat_since N.state L.facts since) seats.old.items
         (network_view (λ m. N.Mail.letter m) network.old) handed w next
         → IsRouter w.nodes at →
-        IfErr result (λ e. HasStopped (seat_since N.state L.tells L.records L.holds L.finds L.moment L.left_since since) seats.new.items
+        IfErr result (λ e. HasStopped (seat_since N.state L.facts since) seats.new.items
         network.new.replies.items handed w (λ events. BeginWith events (client_event at link number (N.asks request) ∷ [])) e) }
     ensures len { vec_len seats.new ≡ vec_len seats.old }
-    ensures open { OnOk result (AreOpen L.is_open seats.new.items) }
+    ensures open { UnlessDiskFailed result (AreOpen L.facts.is_open seats.new.items) }
 
     // Of the logs' disks.
-    ensures faults { TellsFaults result (faults_of L.fault_count seats.old.items) (faults_of L.fault_count seats.new.items) }
-    ensures places { places_of L.place seats.new.items ≡ places_of L.place seats.old.items }
+    ensures faults { TellsFaults result (faults_of L.facts.fault_count seats.old.items) (faults_of L.facts.fault_count seats.new.items) }
+    ensures places { places_of L.facts.place seats.new.items ≡ places_of L.facts.place seats.old.items }
 {
     match happen(seats, network, at, N::client(link, number, request)) {
         Ok(()) => Ok(()),

@@ -5,7 +5,7 @@ ghost use Rattle.node_model.specs.World.{World};
 ghost use Rattle.node_traits.specs.Effects.{ByStepFault};
 ghost use Rattle.node_traits.specs.declared.outputs.ToLink.{ToLink};
 ghost use Rattle.driver_steps.specs.Crashes.{Since};
-ghost use Rattle.driver_steps.specs.Seats.{AreHeld, AreOpen, LeaveKept, TellsFaults, faults_of, left_of, places_of, seat_since};
+ghost use Rattle.driver_steps.specs.Seats.{AreHeld, AreOpen, LeaveKept, TellsFaults, UnlessDiskFailed, faults_of, left_of, places_of, seat_since};
 ghost use Rattle.driver_steps.specs.Moves.{HasMoved, HasStepped, IsBroken, IsCutShort};
 ghost use Rattle.driver_steps.specs.Worlds.{StandsFor, network_view};
 
@@ -24,26 +24,26 @@ pub fn step_node<N: Node, L: Log>(
     input: N::Input,
 ) -> Result<Outputs<N::Mail>, StepFault>
     requires at { at < vec_len seats.old }
-    requires open { AreOpen L.is_open seats.old.items }
+    requires open { AreOpen L.facts.is_open seats.old.items }
     ensures stepped { (since : Since L) (w : World) →
-        AreHeld (seat_since N.state L.tells L.records L.holds L.finds L.moment L.left_since since) seats.old.items w.nodes →
-        LeaveKept (seat_since N.state L.tells L.records L.holds L.finds L.moment L.left_since since) seats.old.items w →
-        IfOk result (λ outputs. HasStepped (seat_since N.state L.tells L.records L.holds L.finds L.moment L.left_since since) seats.new.items w at
+        AreHeld (seat_since N.state L.facts since) seats.old.items w.nodes →
+        LeaveKept (seat_since N.state L.facts since) seats.old.items w →
+        IfOk result (λ outputs. HasStepped (seat_since N.state L.facts since) seats.new.items w at
         (N.meaning input) (map (λ message. N.Mail.letter message) outputs.mail) outputs.replies) }
     ensures failed { (since : Since L) (w : World) →
-        AreHeld (seat_since N.state L.tells L.records L.holds L.finds L.moment L.left_since since) seats.old.items w.nodes →
-        LeaveKept (seat_since N.state L.tells L.records L.holds L.finds L.moment L.left_since since) seats.old.items w →
+        AreHeld (seat_since N.state L.facts since) seats.old.items w.nodes →
+        LeaveKept (seat_since N.state L.facts since) seats.old.items w →
         IfErr result (λ e. ByStepFault e
-        (λ faults. IsBroken (seat_since N.state L.tells L.records L.holds L.finds L.moment L.left_since since) seats.new.items w at (N.meaning input))
-        (AreHeld (seat_since N.state L.tells L.records L.holds L.finds L.moment L.left_since since) seats.new.items w.nodes
-        × LeaveKept (seat_since N.state L.tells L.records L.holds L.finds L.moment L.left_since since) seats.new.items w)) }
+        (λ faults. IsBroken (seat_since N.state L.facts since) seats.new.items w at (N.meaning input))
+        (AreHeld (seat_since N.state L.facts since) seats.new.items w.nodes
+        × LeaveKept (seat_since N.state L.facts since) seats.new.items w)) }
     ensures len { vec_len seats.new ≡ vec_len seats.old }
-    ensures open { OnOk result (AreOpen L.is_open seats.new.items) }
+    ensures open { UnlessDiskFailed result (AreOpen L.facts.is_open seats.new.items) }
     ensures falls { OnOk result (left_of N.steps seats.new.items + 1 ≡ left_of N.steps seats.old.items) }
 
     // Of the logs' disks.
-    ensures faults { TellsFaults result (faults_of L.fault_count seats.old.items) (faults_of L.fault_count seats.new.items) }
-    ensures places { places_of L.place seats.new.items ≡ places_of L.place seats.old.items }
+    ensures faults { TellsFaults result (faults_of L.facts.fault_count seats.old.items) (faults_of L.facts.fault_count seats.new.items) }
+    ensures places { places_of L.facts.place seats.new.items ≡ places_of L.facts.place seats.old.items }
 {
     let seat = &mut seats[at];
     match seat.node.step(&mut seat.log, input) {
@@ -63,24 +63,24 @@ pub fn happen<N: Node, L: Log>(
     input: N::Input,
 ) -> Result<(), StepFault>
     requires at { at < vec_len seats.old }
-    requires open { AreOpen L.is_open seats.old.items }
+    requires open { AreOpen L.facts.is_open seats.old.items }
     ensures moved { (since : Since L) (w : World) (next : ℕ) (handed : List ToLink) →
-        StandsFor (seat_since N.state L.tells L.records L.holds L.finds L.moment L.left_since since) seats.old.items
+        StandsFor (seat_since N.state L.facts since) seats.old.items
         (network_view (λ m. N.Mail.letter m) network.old) handed w next →
-        OnOk result (HasMoved (seat_since N.state L.tells L.records L.holds L.finds L.moment L.left_since since) seats.new.items
+        OnOk result (HasMoved (seat_since N.state L.facts since) seats.new.items
         (network_view (λ m. N.Mail.letter m) network.new) handed w next at (N.meaning input)) }
     ensures cut { (since : Since L) (w : World) (next : ℕ) (handed : List ToLink) →
-        StandsFor (seat_since N.state L.tells L.records L.holds L.finds L.moment L.left_since since) seats.old.items
+        StandsFor (seat_since N.state L.facts since) seats.old.items
         (network_view (λ m. N.Mail.letter m) network.old) handed w next →
-        IfErr result (λ e. IsCutShort (seat_since N.state L.tells L.records L.holds L.finds L.moment L.left_since since) seats.new.items
+        IfErr result (λ e. IsCutShort (seat_since N.state L.facts since) seats.new.items
         network.new.replies.items handed w at (N.meaning input) e) }
     ensures len { vec_len seats.new ≡ vec_len seats.old }
-    ensures open { OnOk result (AreOpen L.is_open seats.new.items) }
+    ensures open { UnlessDiskFailed result (AreOpen L.facts.is_open seats.new.items) }
     ensures falls { OnOk result (left_of N.steps seats.new.items + 1 ≡ left_of N.steps seats.old.items) }
 
     // Of the logs' disks.
-    ensures faults { TellsFaults result (faults_of L.fault_count seats.old.items) (faults_of L.fault_count seats.new.items) }
-    ensures places { places_of L.place seats.new.items ≡ places_of L.place seats.old.items }
+    ensures faults { TellsFaults result (faults_of L.facts.fault_count seats.old.items) (faults_of L.facts.fault_count seats.new.items) }
+    ensures places { places_of L.facts.place seats.new.items ≡ places_of L.facts.place seats.old.items }
 {
     let outputs = match step_node(seats, at, input) {
         Ok(outputs) => outputs,

@@ -2,6 +2,7 @@
 use Rattle.std.specs.Prelude.{◌≡◌, ℕ, List, [], ◌∷◌, ◌++◌, length, Bool, IsTrue, refl}
 use Rattle.std.specs.Coded.{Coded, code_by, coded×, coded_list, coded_ℕ, coded_bool}
 use Rattle.outside.specs.Disks.{LeavesOnly, Only, Outcomes, Within}
+use Rattle.outside.specs.Logs.{LogFacts}
 use Rattle.journal_frames.specs.Files.{Fit, Stands, blocks}
 
 -- a disk with the records that stand on it, where it tells its file, and whether more can be appended
@@ -14,6 +15,20 @@ abbrev pub journal_code : {D : Type 0} → Coded D → Coded (JournalView D)
 journal_code {D} code =
     code_by (D × (List (List ℕ) × Bool)) (coded× code (coded× (coded_list (coded_list coded_ℕ)) coded_bool))
     (λ j. (j.disk, (j.records, j.is_open))) (λ p. record { disk = p.0; records = p.1.0; is_open = p.1.1 }) (λ _. refl)
+
+-- what contracts say of a journal as a log
+abbrev pub journal_facts : {D : Type 0} → Bool → (D → List ℕ) → (D → ℕ) → (D → ℕ → Outcomes) → (D → ℕ) → (D → List ℕ) → LogFacts (JournalView D)
+journal_facts disk_tells content moment_of left fault_count_of place_of = record {
+  tells = disk_tells;
+  records = λ j. j.records;
+  is_open = λ j. j.is_open;
+  holds = λ j records. IsTrue disk_tells → Stands (content j.disk) records;
+  finds = Stands;
+  moment = λ j. moment_of j.disk;
+  left_since = λ j t file. left j.disk t file;
+  fault_count = λ j. fault_count_of j.disk;
+  place = λ j. place_of j.disk;
+}
 
 -- open records and a closed gate
 abbrev pub at_rest : List (List ℕ) → List ℕ

@@ -5,7 +5,7 @@ ghost use Rattle.outside.specs.Disks.{LeavesOnly};
 ghost use Rattle.outside.specs.Logs.{ByFault, WithOrWithout};
 ghost use Rattle.journal_frames.specs.Files.{HaveSameRecords, IsDamaged, Stands, StandsWithOrWithout, body};
 ghost use Rattle.journal_frames.specs.Openings.{IfDamaged, IfDiskFailed, UnlessDiskFailed, disk_left};
-ghost use Rattle.journal_frames.specs.Views.{IsAtRest, IsFound, at_rest};
+ghost use Rattle.journal_frames.specs.Views.{IsAtRest, IsFound, at_rest, journal_facts};
 
 use crate::file::{LoadFault, load};
 use crate::gates::{close_end, put_records, write_first_gate};
@@ -184,23 +184,17 @@ impl<D: Disk> Journal<D> {
 }
 
 impl<D: Disk> Log for Journal<D> {
-    ghost tells = { D.tells };
+    type Of = D;
 
-    ghost records = { λ j. j.records };
+    ghost facts = { journal_facts D.tells D.content D.moment D.left_since D.fault_count D.place };
 
-    ghost is_open = { λ j. j.is_open };
-
-    ghost holds = { λ j records. IsTrue D.tells → Stands (D.content j.disk) records };
-
-    ghost finds = { λ file records. Stands file records };
-
-    ghost moment = { λ j. D.moment j.disk };
-
-    ghost left_since = { λ j t file. D.left_since j.disk t file };
-
-    ghost fault_count = { λ j. D.fault_count j.disk };
-
-    ghost place = { λ j. D.place j.disk };
+    fn device(&self) -> &D
+        ensures disk { result.now ≡ self.now.disk }
+        ensures durable { IsTrue self.now.is_open → IsTrue D.tells → (file : List ℕ) → D.left_since self.now.disk (D.moment self.now.disk) file →
+            Stands file self.now.records }
+    {
+        &self.disk
+    }
 
     /// Appends a record, as `append_all` does.
     fn append(&mut self, bytes: &[u8]) -> Result<(), LogFault>

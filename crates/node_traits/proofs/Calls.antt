@@ -1,29 +1,28 @@
 -- What a call says of a log that it left alone, or appended to.
 use Rattle.std.proofs.Common.{◌≡◌, inl, ℕ, List, [], ◌++◌, Bool, IsTrue, sym, arith, append-nil}
 use Rattle.outside.specs.Disks.{LeavesOnly, Outcomes}
-use Rattle.outside.specs.Logs.{WithOrWithout}
+use Rattle.outside.specs.Logs.{LogFacts, WithOrWithout}
 use Rattle.node_traits.specs.Calls.{Appended, LeavesAlso, LeftOff, log_call}
 
-module _ {L : Type 0} (tells : Bool) (records : L → List (List ℕ)) (holds : L → List (List ℕ) → Type 0) (finds : List ℕ → List (List ℕ)
-    → Type 0) (moment : L → ℕ) (left_since : L → ℕ → Outcomes) where
+module _ {L : Type 0} (facts : LogFacts L) where
   -- a log that was left alone has no record more
-  pub left_alone : (log : L) → Appended (log_call tells records holds finds moment left_since log log) []
+  pub left_alone : (log : L) → Appended (log_call facts log log) []
   left_alone log = record {
-    grown = λ told. sym (append-nil (records log));
+    grown = λ told. sym (append-nil (facts.records log));
     whole = λ told. record { later = omega arith; each = λ t file le left. inl left };
   }
 
-  also : (old new : L) (P : Outcomes) → LeavesOnly moment left_since old new P → LeavesAlso moment left_since old new P
+  also : (old new : L) (P : Outcomes) → LeavesOnly facts.moment facts.left_since old new P → LeavesAlso facts.moment facts.left_since old new P
   also old new P only = record { later = only.later; each = only.before }
 
   -- what an append says
-  pub was_appended : (old new : L) (more : List (List ℕ)) → (IsTrue tells → records new ≡ records old ++ more) → (IsTrue tells
-      → LeavesOnly moment left_since old new (λ file. WithOrWithout (finds file) (records old) more))
-      → Appended (log_call tells records holds finds moment left_since old new) more
+  pub was_appended : (old new : L) (more : List (List ℕ)) → (IsTrue facts.tells → facts.records new ≡ facts.records old ++ more) → (IsTrue facts.tells
+      → LeavesOnly facts.moment facts.left_since old new (λ file. WithOrWithout (facts.finds file) (facts.records old) more))
+      → Appended (log_call facts old new) more
   was_appended old new more grown whole = record { grown = grown; whole = λ told. also old new _ (whole told) }
 
   -- what one says that failed at a disk
-  pub was_left_off : (old new : L) (more : List (List ℕ)) → WithOrWithout (holds new) (records old) more → (IsTrue tells
-      → LeavesOnly moment left_since old new (λ file. WithOrWithout (finds file) (records old) more))
-      → LeftOff (log_call tells records holds finds moment left_since old new) more
+  pub was_left_off : (old new : L) (more : List (List ℕ)) → WithOrWithout (facts.holds new) (facts.records old) more → (IsTrue facts.tells
+      → LeavesOnly facts.moment facts.left_since old new (λ file. WithOrWithout (facts.finds file) (facts.records old) more))
+      → LeftOff (log_call facts old new) more
   was_left_off old new more left whole = record { left = left; whole = λ told. also old new _ (whole told) }

@@ -1,7 +1,7 @@
 -- What a call says of the log that was lent to it.
 use Rattle.std.specs.Prelude.{◌≡◌, ◌⊎◌, ℕ, ◌≤◌, Bool, IsTrue, List, ◌++◌}
 use Rattle.outside.specs.Disks.{Outcomes}
-use Rattle.outside.specs.Logs.{WithOrWithout}
+use Rattle.outside.specs.Logs.{LogFacts, WithOrWithout}
 
 -- A crash since an earlier moment left what it might have left before the call, or a file that has P.
 pub record LeavesAlso {L : Type 0} (moment : L → ℕ) (left_since : L → ℕ → Outcomes) (old new : L) (P : Outcomes) : Type 0 where
@@ -19,15 +19,14 @@ pub record LogCall : Type 1 where
   pub leaves_also : Outcomes → Type 0
 
 -- a log as it was and as it is
-abbrev pub log_call : {L : Type 0} → Bool → (L → List (List ℕ)) → (L → List (List ℕ) → Type 0) → (List ℕ → List (List ℕ) → Type 0) → (L → ℕ) → (L
-    → ℕ → Outcomes) → L → L → LogCall
-log_call told records holds_in finds_in moment left_since old new = record {
-  tells = told;
-  before = records old;
-  after = records new;
-  holds = holds_in new;
-  finds = finds_in;
-  leaves_also = λ P. LeavesAlso moment left_since old new P;
+abbrev pub log_call : {L : Type 0} → LogFacts L → L → L → LogCall
+log_call facts old new = record {
+  tells = facts.tells;
+  before = facts.records old;
+  after = facts.records new;
+  holds = facts.holds new;
+  finds = facts.finds;
+  leaves_also = λ P. LeavesAlso facts.moment facts.left_since old new P;
 }
 
 -- after a crash during the call an opening finds the records of before, or all of these more

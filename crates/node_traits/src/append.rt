@@ -15,20 +15,20 @@ use outside::log::{Log, LogFault};
 /// - `StepFault::Disk` only if the disk of the log met a fault: then all of the records stand or none does.
 /// - `StepFault::Memory` for want of memory: the log is as it was.
 pub fn append_records<L: Log>(log: &mut L, records: &[Blob]) -> Result<(), StepFault>
-    requires open { IsTrue (L.is_open log.old) }
-    ensures done { OnOk result (Appended (log_call L.tells L.records L.holds L.finds L.moment L.left_since log.old log.new) records.now) }
+    requires open { IsTrue (L.facts.is_open log.old) }
+    ensures done { OnOk result (Appended (log_call L.facts log.old log.new) records.now) }
     ensures failed { IfErr result (λ e. ByStepFault e
-        (λ faults. LeftOff (log_call L.tells L.records L.holds L.finds L.moment L.left_since log.old log.new) records.now)
+        (λ faults. LeftOff (log_call L.facts log.old log.new) records.now)
         (log.new ≡ log.old)) }
     ensures never_last { IfErr result (λ e. OnLast e ⊥) }
-    ensures open { OnOk result (IsTrue (L.is_open log.new)) }
-    ensures kept { L.holds log.old (L.records log.old) → OnOk result (L.holds log.new (L.records log.new)) }
+    ensures open { OnOk result (IsTrue (L.facts.is_open log.new)) }
+    ensures kept { L.facts.holds log.old (L.facts.records log.old) → OnOk result (L.facts.holds log.new (L.facts.records log.new)) }
     ensures cause { IfErr result (λ e. ByStepFault e
-        (λ faults. (faults ≡ L.fault_count log.new) × Rose (L.fault_count log.old) (L.fault_count log.new))
+        (λ faults. (faults ≡ L.facts.fault_count log.new) × Rose (L.facts.fault_count log.old) (L.facts.fault_count log.new))
         (Unit {0})) }
-    ensures calm { OnOk result (L.fault_count log.new ≡ L.fault_count log.old) }
-    ensures later { L.fault_count log.old ≤ L.fault_count log.new }
-    ensures place { L.place log.new ≡ L.place log.old }
+    ensures calm { OnOk result (L.facts.fault_count log.new ≡ L.facts.fault_count log.old) }
+    ensures later { L.facts.fault_count log.old ≤ L.facts.fault_count log.new }
+    ensures place { L.facts.place log.new ≡ L.facts.place log.old }
 {
     if records.is_empty() {
         return Ok(());

@@ -72,17 +72,17 @@ pub trait Node: Drop {
         log: &mut L,
         input: Self::Input,
     ) -> Result<Outputs<Self::Mail>, StepFault>
-        requires open { IsTrue (L.is_open log.old) }
+        requires open { IsTrue (L.facts.is_open log.old) }
         ensures done { IfOk result (λ outputs. StepDone (state self.old) (meaning input)
             (map (λ message. Self.Mail.letter message) outputs.mail) outputs.replies
-            (log_call L.tells L.records L.holds L.finds L.moment L.left_since log.old log.new) (state self.new)) }
+            (log_call L.facts log.old log.new) (state self.new)) }
         ensures failed { IfErr result (λ e. ByStepFault e
             (λ faults. StepBroken (state self.old) (meaning input)
-            (log_call L.tells L.records L.holds L.finds L.moment L.left_since log.old log.new))
+            (log_call L.facts log.old log.new))
             ((state self.new ≡ state self.old) × (log.new ≡ log.old))) }
         ensures last { IfErr result (λ e. OnLast e (IsLast (steps self.old) (state self.old) (meaning input))) }
-        ensures open { OnOk result (IsTrue (L.is_open log.new)) }
-        ensures kept { L.holds log.old (L.records log.old) → OnOk result (L.holds log.new (L.records log.new)) }
+        ensures open { OnOk result (IsTrue (L.facts.is_open log.new)) }
+        ensures kept { L.facts.holds log.old (L.facts.records log.old) → OnOk result (L.facts.holds log.new (L.facts.records log.new)) }
 
         // Each step counts but the last, which is refused.
         ensures counted { OnOk result (steps self.new ≡ steps self.old + 1) }
@@ -91,9 +91,9 @@ pub trait Node: Drop {
 
         // Of the log's disk.
         ensures cause { IfErr result (λ e. ByStepFault e
-            (λ faults. (faults ≡ L.fault_count log.new) × Rose (L.fault_count log.old) (L.fault_count log.new))
+            (λ faults. (faults ≡ L.facts.fault_count log.new) × Rose (L.facts.fault_count log.old) (L.facts.fault_count log.new))
             (Unit {0})) }
-        ensures calm { OnOk result (L.fault_count log.new ≡ L.fault_count log.old) }
-        ensures later { L.fault_count log.old ≤ L.fault_count log.new }
-        ensures place { L.place log.new ≡ L.place log.old };
+        ensures calm { OnOk result (L.facts.fault_count log.new ≡ L.facts.fault_count log.old) }
+        ensures later { L.facts.fault_count log.old ≤ L.facts.fault_count log.new }
+        ensures place { L.facts.place log.new ≡ L.facts.place log.old };
 }

@@ -11,3 +11,4 @@ pub mod gate;
 pub mod log;
 pub mod standard;
 pub mod streams;
+pub mod witness;

@@ -7,7 +7,9 @@ ghost use Rattle.outside.specs.Causes.{Rose, next_count};
 mod file;
 
 use crate::clock::Clock;
+use crate::disk::Disk;
 use crate::streams::{Failed, Sink, Source};
+use crate::witness::Witness;
 pub use file::FileDisk;
 use std::io::{Read, Write};
 use std::rt;
@@ -106,6 +108,11 @@ impl<W: Write + Drop> Sink for StdSink<W> {
             }
         }
     }
+}
+
+impl<W: Write + Drop, D: Disk> Witness<D> for StdSink<W> {
+    /// It keeps no notes.
+    fn note(&mut self, _disk: &D) {}
 }
 
 /// Writes bytes of the front of the piece, at least one if it has any, flushes the writer, and gives their number.

@@ -1,6 +1,7 @@
 //! Streams of bytes: where bytes come from, where bytes go to, and the links that clients open.
 ghost use Rattle.std.specs.Prelude.{◌≡◌, ℕ, ◌<◌, ◌≤◌, List, [], length, take, Bool, IsTrue, IfOk, OnOk, OnErr};
 ghost use Rattle.outside.specs.Causes.{Rose};
+ghost use Rattle.outside.specs.Notes.{Note};
 ghost use Rattle.outside.specs.Streams.{Took, Put};
 
 /// The device failed. What it was asked for was not done, and its count of faults rose.
@@ -46,6 +47,9 @@ pub trait Sink {
     // The bytes that were put, where the type tells them.
     ghost held: { Self → List ℕ };
 
+    // The disks that were noted, in order, where the type tells them. Only a witness takes notes.
+    ghost noted: { Self → List Note } = { λ _. [] };
+
     // How many faults the sink met.
     ghost fault_count: { Self → ℕ };
 
@@ -60,6 +64,7 @@ pub trait Sink {
         ensures count { IfOk result (λ n. n ≤ length piece.now) }
         ensures some { IfOk result (λ n. 0 < length piece.now → 0 < n) }
         ensures put { IfOk result (λ n. Put tells (held self.old) (take n piece.now) (held self.new)) }
+        ensures noted { noted self.new ≡ noted self.old }
         ensures nothing { OnErr result (Put tells (held self.old) [] (held self.new)) }
         ensures cause { OnErr result (Rose (fault_count self.old) (fault_count self.new)) }
         ensures calm { OnOk result (fault_count self.new ≡ fault_count self.old) }

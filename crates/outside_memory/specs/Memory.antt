@@ -1,5 +1,6 @@
 -- What the memory forms are, as values.
-use Rattle.std.specs.Prelude.{ℕ, ◌+◌, ◌-◌, min, List, [], ◌∷◌, ◌++◌, length, take, drop, replicate}
+use Rattle.std.specs.Prelude.{ℕ, ◌+◌, ◌-◌, min, List, [], ◌∷◌, ◌++◌, length, map, take, drop, replicate}
+use Rattle.outside.specs.Notes.{Note}
 use Rattle.outside_memory.specs.FaultPlan.{PlanState, fresh_plan, after_call, after_fault}
 use Rattle.outside_memory.specs.declared.call.Call.{Call}
 use Rattle.outside_memory.specs.declared.call.Call.TheVariants.{Cut, Sync}
@@ -7,22 +8,6 @@ use Rattle.outside_memory.specs.declared.call.Call.TheVariants.{Cut, Sync}
 -- a source: the bytes that are left, and the plan of its calls
 pub record SourceState : Type 0 where
   pub left : List ℕ
-  pub plan : PlanState
-
--- a sink: the bytes that it holds, how many it has room for before it asks for memory, and the plan of its calls
-pub record SinkState : Type 0 where
-  pub held : List ℕ
-  pub room : ℕ
-  pub plan : PlanState
-
--- a link: where it takes from, and where it puts to
-pub record LinkState : Type 0 where
-  pub source : SourceState
-  pub sink : SinkState
-
--- an acceptor: the links that are still to come, in order, and the plan of its calls
-pub record AcceptorState : Type 0 where
-  pub links : List LinkState
   pub plan : PlanState
 
 -- A disk: its bytes, how many it has room for before it asks for memory, and the plan of its calls; the bytes that it was
@@ -36,9 +21,35 @@ pub record DiskState : Type 0 where
   pub calls : List Call
   pub list_room : ℕ
 
+-- a sink: the bytes that it holds, how many it has room for before it asks for memory, the plan of its calls, and
+-- the disks that were noted, as they were, each with the length of what it held
+pub record SinkState : Type 0 where
+  pub held : List ℕ
+  pub room : ℕ
+  pub plan : PlanState
+  pub noted : List (DiskState × ℕ)
+
+-- a link: where it takes from, and where it puts to
+pub record LinkState : Type 0 where
+  pub source : SourceState
+  pub sink : SinkState
+
+-- an acceptor: the links that are still to come, in order, and the plan of its calls
+pub record AcceptorState : Type 0 where
+  pub links : List LinkState
+  pub plan : PlanState
+
 -- a sink before the first call
 abbrev pub fresh_sink : List ℕ → SinkState
-fresh_sink numbers = record { held = []; room = 0; plan = fresh_plan numbers }
+fresh_sink numbers = record { held = []; room = 0; plan = fresh_plan numbers; noted = [] }
+
+-- what is noted of a disk beside a length
+abbrev pub note_of : DiskState × ℕ → Note
+note_of noted = record { place = noted.0.start; moment = length noted.0.calls; length = noted.1 }
+
+-- the notes of a sink, in order
+abbrev pub notes_of : SinkState → List Note
+notes_of s = map note_of s.noted
 
 -- how many bytes a source gives into a buffer of this length
 abbrev pub taken_count : SourceState → ℕ → ℕ

@@ -1,12 +1,15 @@
 //! A sink in memory.
-ghost use Rattle.std.specs.Prelude.{◌≡◌, ◌+◌, ◌<◌, ◌≤◌, ◌++◌, ◌⊎◌, length, take, true, IsTrue, IsErr, IsOk, IfOk, OnOk, OnErr, if◌then◌else◌};
+ghost use Rattle.std.specs.Prelude.{◌≡◌, ◌+◌, ◌<◌, ◌≤◌, ◌++◌, ◌∷◌, ◌⊎◌, [], length, take, true, IsTrue, IsErr, IsOk, IfOk, OnOk, OnErr, if◌then◌else◌};
 ghost use Rattle.std.specs.Bool.{OnTrue};
 ghost use Rattle.outside.specs.Causes.{Rose};
 ghost use Rattle.outside_memory.specs.FaultPlan.{fails_now, after_call, after_fault};
-ghost use Rattle.outside_memory.specs.Memory.{fresh_sink};
+ghost use Rattle.outside_memory.specs.Memory.{fresh_sink, note_of, notes_of};
 
+use super::disk::MemDisk;
 use super::plan::FaultPlan;
+use ghost_list::GhostList;
 use outside::streams::{Failed, Sink};
+use outside::witness::Witness;
 use std::marker::Model;
 
 /// A sink that holds in memory what is put.
@@ -14,6 +17,8 @@ use std::marker::Model;
 pub struct MemSink {
     bytes: Vec<u8>,
     plan: FaultPlan,
+    // The disks that were noted, as they were, each with the length of what the sink held.
+    noted: GhostList<MemDisk, usize>,
 }
 
 impl Model for MemSink {
@@ -22,7 +27,7 @@ impl Model for MemSink {
 
     ghost Value = { SinkState };
 
-    ghost view = { λ s. record { held = s.bytes.items; room = vec_capacity s.bytes; plan = s.plan } };
+    ghost view = { λ s. record { held = s.bytes.items; room = vec_capacity s.bytes; plan = s.plan; noted = s.noted.items } };
 }
 
 impl MemSink {
@@ -34,6 +39,7 @@ impl MemSink {
         MemSink {
             bytes: Vec::new(alloc),
             plan: FaultPlan::new(failing),
+            noted: GhostList::new(),
         }
     }
 
@@ -49,6 +55,8 @@ impl Sink for MemSink {
     ghost tells = { true };
 
     ghost held = { λ s. s.held };
+
+    ghost noted = { notes_of };
 
     ghost fault_count = { λ s. s.plan.faults };
 
@@ -67,6 +75,7 @@ impl Sink for MemSink {
         ensures plan { OnOk result (self.new.plan ≡ after_call self.old.plan) }
         ensures fault { OnErr result (self.new.plan ≡ after_fault self.old.plan) }
         ensures room { self.old.room ≤ self.new.room }
+        ensures noted { self.new.noted ≡ self.old.noted }
     {
         if self.plan.fails() {
             return Err(Failed);
@@ -76,5 +85,20 @@ impl Sink for MemSink {
             return Err(Failed);
         }
         Ok(piece.len())
+    }
+}
+
+impl Witness<MemDisk> for MemSink {
+    /// It keeps the note in a list that only proofs read.
+    fn note(&mut self, disk: &MemDisk)
+        ensures noted { notes_of self.new ≡ notes_of self.old ++ note_of (disk.now, length self.old.held) ∷ [] }
+        ensures held { self.new.held ≡ self.old.held }
+        ensures faults { self.new.plan.faults ≡ self.old.plan.faults }
+
+        // Nothing else changes.
+        ensures room { self.new.room ≡ self.old.room }
+        ensures plan { self.new.plan ≡ self.old.plan }
+    {
+        self.noted = self.noted.with(disk, &self.bytes.len());
     }
 }

@@ -59,25 +59,25 @@ pub fn pipe<R: Threads + Sync, N: Node<Request = Request>, L: Log, S: Source, K:
     limit: u64,
 ) -> Ending
     requires at { first_router < vec_len seats.old }
-    requires open { AreOpen L.is_open seats.old.items }
+    requires open { AreOpen L.facts.is_open seats.old.items }
     requires limit { limit ≤ most_taken }
     ensures piped { AreAskedAsRead N.asks → (routers : ℕ) → 0 < routers →
-        AreHeld (seat_view N.state L.tells L.records L.holds) seats.old.items (start routers).nodes →
+        AreHeld (seat_view N.state L.facts) seats.old.items (start routers).nodes →
         IsPiped (source_call S.tells S.left S.fault_count input.old input.new) (sink_call K.tells K.held K.fault_count out.old out.new)
-        (C.gives clock.now) (AreKept (seat_view N.state L.tells L.records L.holds) seats.new.items)
-        (LeaveKept (seat_since N.state L.tells L.records L.holds L.finds L.moment L.left_since (since_then seats.old.items (start routers))) seats.new.items)
+        (C.gives clock.now) (AreKept (seat_view N.state L.facts) seats.new.items)
+        (LeaveKept (seat_since N.state L.facts (since_then seats.old.items (start routers))) seats.new.items)
         routers limit result.status result.rest }
 
     // But where a disk failed or memory ended, records can be appended to each log.
-    ensures open { result.status ≢ statuses.DiskFailed → result.status ≢ statuses.OutOfMemory → AreOpen L.is_open seats.new.items }
+    ensures open { result.status ≢ statuses.DiskFailed → result.status ≢ statuses.OutOfMemory → AreOpen L.facts.is_open seats.new.items }
     ensures len { vec_len seats.new ≡ vec_len seats.old }
 
     // Each fault of a device has its own status.
     ensures read_fault { RoseWhere (result.status ≡ statuses.ReadFailed) (S.fault_count input.old) (S.fault_count input.new) }
     ensures write_fault { RoseWhere (result.status ≡ statuses.WriteFailed) (K.fault_count out.old) (K.fault_count out.new) }
-    ensures disk_fault { HaveRisenWhere (result.status ≡ statuses.DiskFailed) (faults_of L.fault_count seats.old.items)
-        (faults_of L.fault_count seats.new.items) }
-    ensures places { places_of L.place seats.new.items ≡ places_of L.place seats.old.items }
+    ensures disk_fault { HaveRisenWhere (result.status ≡ statuses.DiskFailed) (faults_of L.facts.fault_count seats.old.items)
+        (faults_of L.facts.fault_count seats.new.items) }
+    ensures places { places_of L.facts.place seats.new.items ≡ places_of L.facts.place seats.old.items }
 {
     let mut network = Network::new(alloc);
     match open_all(seats, &mut network) {
@@ -98,22 +98,22 @@ fn serve<R: Threads + Sync, N: Node<Request = Request>, L: Log, S: Source, K: Si
     limit: u64,
 ) -> Ending
     requires at { first_router < vec_len seats.old }
-    requires open { AreOpen L.is_open seats.old.items }
+    requires open { AreOpen L.facts.is_open seats.old.items }
     requires limit { limit ≤ most_taken }
     ensures piped { AreAskedAsRead N.asks → (since : Since L) (routers : ℕ) → 0 < routers →
-        Serving (seat_since N.state L.tells L.records L.holds L.finds L.moment L.left_since since) seats.old.items (network_view (λ m. N.Mail.letter m) network)
+        Serving (seat_since N.state L.facts since) seats.old.items (network_view (λ m. N.Mail.letter m) network)
         (C.gives clock.now) routers K.tells (K.held out.old) (K.held out.old) [] 0 →
         IsPiped (source_call S.tells S.left S.fault_count input.old input.new) (sink_call K.tells K.held K.fault_count out.old out.new)
-        (C.gives clock.now) (AreKept (seat_since N.state L.tells L.records L.holds L.finds L.moment L.left_since since) seats.new.items)
-        (LeaveKept (seat_since N.state L.tells L.records L.holds L.finds L.moment L.left_since since) seats.new.items) routers limit
+        (C.gives clock.now) (AreKept (seat_since N.state L.facts since) seats.new.items)
+        (LeaveKept (seat_since N.state L.facts since) seats.new.items) routers limit
         result.status result.rest }
-    ensures open { result.status ≢ statuses.DiskFailed → result.status ≢ statuses.OutOfMemory → AreOpen L.is_open seats.new.items }
+    ensures open { result.status ≢ statuses.DiskFailed → result.status ≢ statuses.OutOfMemory → AreOpen L.facts.is_open seats.new.items }
     ensures len { vec_len seats.new ≡ vec_len seats.old }
     ensures read_fault { RoseWhere (result.status ≡ statuses.ReadFailed) (S.fault_count input.old) (S.fault_count input.new) }
     ensures write_fault { RoseWhere (result.status ≡ statuses.WriteFailed) (K.fault_count out.old) (K.fault_count out.new) }
-    ensures disk_fault { HaveRisenWhere (result.status ≡ statuses.DiskFailed) (faults_of L.fault_count seats.old.items)
-        (faults_of L.fault_count seats.new.items) }
-    ensures places { places_of L.place seats.new.items ≡ places_of L.place seats.old.items }
+    ensures disk_fault { HaveRisenWhere (result.status ≡ statuses.DiskFailed) (faults_of L.facts.fault_count seats.old.items)
+        (faults_of L.facts.fault_count seats.new.items) }
+    ensures places { places_of L.facts.place seats.new.items ≡ places_of L.facts.place seats.old.items }
 {
     let mut network = network;
     let mut framer = Framer::new(alloc);

@@ -46,25 +46,25 @@ pub fn answer_one<R: Threads + Sync, N: Node<Request = Request>, L: Log, K: Sink
     clock: &C,
 ) -> Result<u64, Status>
     requires at { first_router < vec_len seats.old }
-    requires open { AreOpen L.is_open seats.old.items }
+    requires open { AreOpen L.facts.is_open seats.old.items }
     requires count { replied < 2 ^ 63 }
     ensures served { AreAskedAsRead N.asks → (meant : wire.Request) → IsMeant request meant → wire.IsRequest meant →
         (since : Since L) (routers : ℕ) → 0 < routers → (held_before consumed : List ℕ) →
-        Serving (seat_since N.state L.tells L.records L.holds L.finds L.moment L.left_since since) seats.old.items (network_view (λ m. N.Mail.letter m) network.old)
+        Serving (seat_since N.state L.facts since) seats.old.items (network_view (λ m. N.Mail.letter m) network.old)
         (C.gives clock.now) routers K.tells held_before (K.held out.old) consumed replied →
-        AfterOne result (seat_since N.state L.tells L.records L.holds L.finds L.moment L.left_since since) seats.new.items
+        AfterOne result (seat_since N.state L.facts since) seats.new.items
         (network_view (λ m. N.Mail.letter m) network.new)
         (C.gives clock.now) routers K.tells held_before (K.held out.new) (consumed ++ meant.bytes) }
     ensures replied { IfOk result (λ after. after ≤ replied + 1) }
     ensures len { vec_len seats.new ≡ vec_len seats.old }
-    ensures open { OnOk result (AreOpen L.is_open seats.new.items) }
-    ensures open_err { IfErr result (λ status. status ≢ statuses.DiskFailed → status ≢ statuses.OutOfMemory → AreOpen L.is_open seats.new.items) }
+    ensures open { OnOk result (AreOpen L.facts.is_open seats.new.items) }
+    ensures open_err { IfErr result (λ status. status ≢ statuses.DiskFailed → status ≢ statuses.OutOfMemory → AreOpen L.facts.is_open seats.new.items) }
     ensures other { IfErr result IsOfServing }
 
     // Of the devices.
     ensures write_fault { RoseWhere (result ≡ Err statuses.WriteFailed) (K.fault_count out.old) (K.fault_count out.new) }
-    ensures disk_fault { HaveRisenWhere (result ≡ Err statuses.DiskFailed) (faults_of L.fault_count seats.old.items) (faults_of L.fault_count seats.new.items) }
-    ensures places { places_of L.place seats.new.items ≡ places_of L.place seats.old.items }
+    ensures disk_fault { HaveRisenWhere (result ≡ Err statuses.DiskFailed) (faults_of L.facts.fault_count seats.old.items) (faults_of L.facts.fault_count seats.new.items) }
+    ensures places { places_of L.facts.place seats.new.items ≡ places_of L.facts.place seats.old.items }
 {
     let more = request.more;
     let moment = clock.now();
@@ -97,14 +97,14 @@ pub fn answer_all<R: Threads + Sync, N: Node<Request = Request>, L: Log, K: Sink
     clock: &C,
 ) -> Result<u64, Status>
     requires at { first_router < vec_len seats.old }
-    requires open { AreOpen L.is_open seats.old.items }
+    requires open { AreOpen L.facts.is_open seats.old.items }
     requires fed { framer.old.offset + length framer.old.bytes ≤ most_taken }
     requires fault { framer.old.fault ≡ None }
     requires count { replied ≤ framer.old.offset }
     ensures served { AreAskedAsRead N.asks → (since : Since L) (routers : ℕ) → 0 < routers → (held_before consumed : List ℕ) →
-        Serving (seat_since N.state L.tells L.records L.holds L.finds L.moment L.left_since since) seats.old.items (network_view (λ m. N.Mail.letter m) network.old)
+        Serving (seat_since N.state L.facts since) seats.old.items (network_view (λ m. N.Mail.letter m) network.old)
         (C.gives clock.now) routers K.tells held_before (K.held out.old) consumed replied →
-        AfterRequests result (seat_since N.state L.tells L.records L.holds L.finds L.moment L.left_since since) seats.new.items
+        AfterRequests result (seat_since N.state L.facts since) seats.new.items
         (network_view (λ m. N.Mail.letter m) network.new)
         (C.gives clock.now) routers K.tells held_before (K.held out.new) (consumed ++ framer.old.bytes) framer.new.bytes }
     ensures partial { OnOk result (outline framer.new.bytes ≡ partial_outline) }
@@ -112,14 +112,14 @@ pub fn answer_all<R: Threads + Sync, N: Node<Request = Request>, L: Log, K: Sink
     ensures fault { OnOk result (framer.new.fault ≡ None) }
     ensures replied { IfOk result (λ after. after ≤ framer.new.offset) }
     ensures len { vec_len seats.new ≡ vec_len seats.old }
-    ensures open { OnOk result (AreOpen L.is_open seats.new.items) }
-    ensures open_err { IfErr result (λ status. status ≢ statuses.DiskFailed → status ≢ statuses.OutOfMemory → AreOpen L.is_open seats.new.items) }
+    ensures open { OnOk result (AreOpen L.facts.is_open seats.new.items) }
+    ensures open_err { IfErr result (λ status. status ≢ statuses.DiskFailed → status ≢ statuses.OutOfMemory → AreOpen L.facts.is_open seats.new.items) }
     ensures other { IfErr result IsOfServing }
 
     // Of the devices.
     ensures write_fault { RoseWhere (result ≡ Err statuses.WriteFailed) (K.fault_count out.old) (K.fault_count out.new) }
-    ensures disk_fault { HaveRisenWhere (result ≡ Err statuses.DiskFailed) (faults_of L.fault_count seats.old.items) (faults_of L.fault_count seats.new.items) }
-    ensures places { places_of L.place seats.new.items ≡ places_of L.place seats.old.items }
+    ensures disk_fault { HaveRisenWhere (result ≡ Err statuses.DiskFailed) (faults_of L.facts.fault_count seats.old.items) (faults_of L.facts.fault_count seats.new.items) }
+    ensures places { places_of L.facts.place seats.new.items ≡ places_of L.facts.place seats.old.items }
 {
     let mut replied = replied;
     'requests: loop {

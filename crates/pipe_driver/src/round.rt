@@ -39,26 +39,26 @@ pub fn serve_round<R: Threads + Sync, N: Node, L: Log>(
     request: N::Request,
 ) -> Result<(), StepFault>
     requires at { first_router < vec_len seats.old }
-    requires open { AreOpen L.is_open seats.old.items }
+    requires open { AreOpen L.facts.is_open seats.old.items }
     ensures served { (since : Since L) (routers : ℕ) (rounds : List Round) (events : List Event) (w : World) (next : ℕ) (handed : List ToLink) →
         0 < routers → Pipes routers rounds events w next →
-        StandsFor (seat_since N.state L.tells L.records L.holds L.finds L.moment L.left_since since) seats.old.items
+        StandsFor (seat_since N.state L.facts since) seats.old.items
         (network_view (λ m. N.Mail.letter m) network.old) handed w next →
-        OnOk result (HasServed (seat_since N.state L.tells L.records L.holds L.finds L.moment L.left_since since) seats.new.items
+        OnOk result (HasServed (seat_since N.state L.facts since) seats.new.items
         (network_view (λ m. N.Mail.letter m) network.new) handed w next
         (round_of moment number (N.asks request))) }
     ensures stopped { (since : Since L) (routers : ℕ) (rounds : List Round) (events : List Event) (w : World) (next : ℕ) (handed : List ToLink) →
         0 < routers → Pipes routers rounds events w next →
-        StandsFor (seat_since N.state L.tells L.records L.holds L.finds L.moment L.left_since since) seats.old.items
+        StandsFor (seat_since N.state L.facts since) seats.old.items
         (network_view (λ m. N.Mail.letter m) network.old) handed w next →
-        IfErr result (λ e. HasStopped (seat_since N.state L.tells L.records L.holds L.finds L.moment L.left_since since) seats.new.items
+        IfErr result (λ e. HasStopped (seat_since N.state L.facts since) seats.new.items
         network.new.replies.items handed w (IsPart (vec_len seats.old) (round_of moment number (N.asks request))) e) }
     ensures len { vec_len seats.new ≡ vec_len seats.old }
-    ensures open { OnOk result (AreOpen L.is_open seats.new.items) }
+    ensures open { OnOk result (AreOpen L.facts.is_open seats.new.items) }
 
     // Of the logs' disks.
-    ensures faults { TellsFaults result (faults_of L.fault_count seats.old.items) (faults_of L.fault_count seats.new.items) }
-    ensures places { places_of L.place seats.new.items ≡ places_of L.place seats.old.items }
+    ensures faults { TellsFaults result (faults_of L.facts.fault_count seats.old.items) (faults_of L.facts.fault_count seats.new.items) }
+    ensures places { places_of L.facts.place seats.new.items ≡ places_of L.facts.place seats.old.items }
 {
     match give_moments(seats, network, moment) {
         Ok(()) => {}

@@ -44,27 +44,27 @@ pub fn ask_all<N: Node<Request = Request>, L: Log>(
     replied: u64,
 ) -> Result<Asked, Status>
     requires at { first_router < vec_len seats.old }
-    requires open { AreOpen L.is_open seats.old.items }
+    requires open { AreOpen L.facts.is_open seats.old.items }
     requires fault { framer.old.fault ≡ None }
     ensures asked { AreAskedAsRead N.asks → (since : Since L) (w : World) (handed : List ToLink) → IsRouter w.nodes first_router →
-        StandsFor (seat_since N.state L.tells L.records L.holds L.finds L.moment L.left_since since) seats.old.items (network_view
+        StandsFor (seat_since N.state L.facts since) seats.old.items (network_view
         (λ m. N.Mail.letter m) network.old) handed w 0 →
-        IfOk result (λ asked. HasAsked (seat_since N.state L.tells L.records L.holds L.finds L.moment L.left_since since) seats.new.items (network_view
+        IfOk result (λ asked. HasAsked (seat_since N.state L.facts since) seats.new.items (network_view
         (λ m. N.Mail.letter m) network.new) handed w
         link replied framer.old.bytes framer.new.bytes asked.replied asked.malformed) }
     ensures cut { AreAskedAsRead N.asks → (since : Since L) (w : World) (handed : List ToLink) → IsRouter w.nodes first_router →
-        StandsFor (seat_since N.state L.tells L.records L.holds L.finds L.moment L.left_since since) seats.old.items (network_view
+        StandsFor (seat_since N.state L.facts since) seats.old.items (network_view
         (λ m. N.Mail.letter m) network.old) handed w 0 →
-        IfErr result (λ status. IsCut (seat_since N.state L.tells L.records L.holds L.finds L.moment L.left_since since) seats.new.items w
+        IfErr result (λ status. IsCut (seat_since N.state L.facts since) seats.new.items w
         (IsFirstAsked link replied framer.old.bytes) status) }
     ensures fault { IfOk result (λ asked. asked.malformed ≡ false → framer.new.fault ≡ None) }
     ensures len { vec_len seats.new ≡ vec_len seats.old }
-    ensures open { OnOk result (AreOpen L.is_open seats.new.items) }
+    ensures open { OnOk result (AreOpen L.facts.is_open seats.new.items) }
 
     // Of the logs' disks.
     ensures other { IfErr result (λ status. (status ≡ statuses.DiskFailed) ⊎ (status ≡ statuses.OutOfMemory)) }
-    ensures disk_fault { HaveRisenWhere (result ≡ Err statuses.DiskFailed) (faults_of L.fault_count seats.old.items) (faults_of L.fault_count seats.new.items) }
-    ensures places { places_of L.place seats.new.items ≡ places_of L.place seats.old.items }
+    ensures disk_fault { HaveRisenWhere (result ≡ Err statuses.DiskFailed) (faults_of L.facts.fault_count seats.old.items) (faults_of L.facts.fault_count seats.new.items) }
+    ensures places { places_of L.facts.place seats.new.items ≡ places_of L.facts.place seats.old.items }
 {
     let mut replied = replied;
     'requests: loop {

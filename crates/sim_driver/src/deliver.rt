@@ -80,26 +80,26 @@ pub fn deliver_at<R: Threads + Sync, N: Node, L: Log>(
     at: usize,
 ) -> Result<(), Status>
     requires at { at < deque_len network.old.waiting }
-    requires open { AreOpen L.is_open seats.old.items }
+    requires open { AreOpen L.facts.is_open seats.old.items }
     ensures delivered { (since : Since L) (w : World) (handed : List ToLink) →
-        StandsFor (seat_since N.state L.tells L.records L.holds L.finds L.moment L.left_since since) seats.old.items (network_view
+        StandsFor (seat_since N.state L.facts since) seats.old.items (network_view
         (λ m. N.Mail.letter m) network.old) handed w 0 →
-        OnOk result (HasDeliveredOne (seat_since N.state L.tells L.records L.holds L.finds L.moment L.left_since since) seats.new.items
+        OnOk result (HasDeliveredOne (seat_since N.state L.facts since) seats.new.items
         (network_view (λ m. N.Mail.letter m) network.new) handed w at) }
     ensures cut { (since : Since L) (w : World) (handed : List ToLink) →
-        StandsFor (seat_since N.state L.tells L.records L.holds L.finds L.moment L.left_since since) seats.old.items (network_view
+        StandsFor (seat_since N.state L.facts since) seats.old.items (network_view
         (λ m. N.Mail.letter m) network.old) handed w 0 →
-        IfErr result (λ status. IsCut (seat_since N.state L.tells L.records L.holds L.finds L.moment L.left_since since) seats.new.items w
+        IfErr result (λ status. IsCut (seat_since N.state L.facts since) seats.new.items w
         (IsPartOfDelivery w at) status) }
     ensures len { vec_len seats.new ≡ vec_len seats.old }
-    ensures open { OnOk result (AreOpen L.is_open seats.new.items) }
+    ensures open { OnOk result (AreOpen L.facts.is_open seats.new.items) }
     ensures falls { OnOk result ((left_of N.steps seats.new.items + 1 ≡ left_of N.steps seats.old.items) ⊎
         ((left_of N.steps seats.new.items ≡ left_of N.steps seats.old.items) × (network.new.waiting.items ≡ network.old.waiting.items))) }
 
     // Of the logs' disks.
     ensures other { IfErr result (λ status. (status ≡ statuses.DiskFailed) ⊎ (status ≡ statuses.OutOfMemory)) }
-    ensures disk_fault { HaveRisenWhere (result ≡ Err statuses.DiskFailed) (faults_of L.fault_count seats.old.items) (faults_of L.fault_count seats.new.items) }
-    ensures places { places_of L.place seats.new.items ≡ places_of L.place seats.old.items }
+    ensures disk_fault { HaveRisenWhere (result ≡ Err statuses.DiskFailed) (faults_of L.facts.fault_count seats.old.items) (faults_of L.facts.fault_count seats.new.items) }
+    ensures places { places_of L.facts.place seats.new.items ≡ places_of L.facts.place seats.old.items }
 {
     let message = match copy_at(alloc, &network.waiting, at) {
         Ok(message) => message,
@@ -124,26 +124,26 @@ fn deliver_unless<R: Threads + Sync, N: Node, L: Log>(
     early: &[usize],
 ) -> Result<(), Status>
     requires at { at < deque_len network.old.waiting }
-    requires open { AreOpen L.is_open seats.old.items }
+    requires open { AreOpen L.facts.is_open seats.old.items }
     ensures delivered { (since : Since L) (w : World) (handed : List ToLink) →
-        StandsFor (seat_since N.state L.tells L.records L.holds L.finds L.moment L.left_since since) seats.old.items (network_view
+        StandsFor (seat_since N.state L.facts since) seats.old.items (network_view
         (λ m. N.Mail.letter m) network.old) handed w 0 →
-        OnOk result (PassesOrDelivers (seat_since N.state L.tells L.records L.holds L.finds L.moment L.left_since since) seats.new.items
+        OnOk result (PassesOrDelivers (seat_since N.state L.facts since) seats.new.items
         (network_view (λ m. N.Mail.letter m) network.new) handed w early.now at) }
     ensures cut { (since : Since L) (w : World) (handed : List ToLink) →
-        StandsFor (seat_since N.state L.tells L.records L.holds L.finds L.moment L.left_since since) seats.old.items (network_view
+        StandsFor (seat_since N.state L.facts since) seats.old.items (network_view
         (λ m. N.Mail.letter m) network.old) handed w 0 →
-        IfErr result (λ status. IsCut (seat_since N.state L.tells L.records L.holds L.finds L.moment L.left_since since) seats.new.items w
+        IfErr result (λ status. IsCut (seat_since N.state L.facts since) seats.new.items w
         (IsPartOfDelivery w at) status) }
     ensures len { vec_len seats.new ≡ vec_len seats.old }
-    ensures open { OnOk result (AreOpen L.is_open seats.new.items) }
+    ensures open { OnOk result (AreOpen L.facts.is_open seats.new.items) }
     ensures falls { OnOk result ((left_of N.steps seats.new.items + 1 ≡ left_of N.steps seats.old.items) ⊎
         ((left_of N.steps seats.new.items ≡ left_of N.steps seats.old.items) × (network.new.waiting.items ≡ network.old.waiting.items))) }
 
     // Of the logs' disks.
     ensures other { IfErr result (λ status. (status ≡ statuses.DiskFailed) ⊎ (status ≡ statuses.OutOfMemory)) }
-    ensures disk_fault { HaveRisenWhere (result ≡ Err statuses.DiskFailed) (faults_of L.fault_count seats.old.items) (faults_of L.fault_count seats.new.items) }
-    ensures places { places_of L.place seats.new.items ≡ places_of L.place seats.old.items }
+    ensures disk_fault { HaveRisenWhere (result ≡ Err statuses.DiskFailed) (faults_of L.facts.fault_count seats.old.items) (faults_of L.facts.fault_count seats.new.items) }
+    ensures places { places_of L.facts.place seats.new.items ≡ places_of L.facts.place seats.old.items }
 {
     if early.contains(&at) {
         return Ok(());
@@ -167,24 +167,24 @@ pub fn settle_but<R: Threads + Sync, N: Node, L: Log>(
     next: usize,
     early: &[usize],
 ) -> Result<(), Status>
-    requires open { AreOpen L.is_open seats.old.items }
+    requires open { AreOpen L.facts.is_open seats.old.items }
     ensures settled { (since : Since L) (w : World) (handed : List ToLink) → next ≤ length w.sent →
-        StandsFor (seat_since N.state L.tells L.records L.holds L.finds L.moment L.left_since since) seats.old.items (network_view
+        StandsFor (seat_since N.state L.facts since) seats.old.items (network_view
         (λ m. N.Mail.letter m) network.old) handed w 0 →
-        OnOk result (HasSettledBut (seat_since N.state L.tells L.records L.holds L.finds L.moment L.left_since since) seats.new.items
+        OnOk result (HasSettledBut (seat_since N.state L.facts since) seats.new.items
         (network_view (λ m. N.Mail.letter m) network.new) handed w early.now next) }
     ensures cut { (since : Since L) (w : World) (handed : List ToLink) → next ≤ length w.sent →
-        StandsFor (seat_since N.state L.tells L.records L.holds L.finds L.moment L.left_since since) seats.old.items (network_view
+        StandsFor (seat_since N.state L.facts since) seats.old.items (network_view
         (λ m. N.Mail.letter m) network.old) handed w 0 →
-        IfErr result (λ status. IsCut (seat_since N.state L.tells L.records L.holds L.finds L.moment L.left_since since) seats.new.items w
+        IfErr result (λ status. IsCut (seat_since N.state L.facts since) seats.new.items w
         (IsPartOfSettling early.now w next) status) }
     ensures len { vec_len seats.new ≡ vec_len seats.old }
-    ensures open { OnOk result (AreOpen L.is_open seats.new.items) }
+    ensures open { OnOk result (AreOpen L.facts.is_open seats.new.items) }
 
     // Of the logs' disks.
     ensures other { IfErr result (λ status. (status ≡ statuses.DiskFailed) ⊎ (status ≡ statuses.OutOfMemory)) }
-    ensures disk_fault { HaveRisenWhere (result ≡ Err statuses.DiskFailed) (faults_of L.fault_count seats.old.items) (faults_of L.fault_count seats.new.items) }
-    ensures places { places_of L.place seats.new.items ≡ places_of L.place seats.old.items }
+    ensures disk_fault { HaveRisenWhere (result ≡ Err statuses.DiskFailed) (faults_of L.facts.fault_count seats.old.items) (faults_of L.facts.fault_count seats.new.items) }
+    ensures places { places_of L.facts.place seats.new.items ≡ places_of L.facts.place seats.old.items }
 {
     let mut at = next;
     'messages: while at < network.waiting.len() {

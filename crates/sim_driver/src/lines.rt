@@ -44,31 +44,31 @@ pub fn answer_line<R: Threads + Sync, N: Node<Request = Request>, L: Log, K: Sin
     out: &mut K,
 ) -> Result<(), Status>
     requires at { first_router < vec_len seats.old }
-    requires open { AreOpen L.is_open seats.old.items }
+    requires open { AreOpen L.facts.is_open seats.old.items }
     requires fault { script.old.framer.fault ≡ None }
     requires line { HasNone newline line.now }
     ensures answered { AreAskedAsRead N.asks → (since : Since L) (routers : ℕ) → 0 < routers → (held_before consumed : List ℕ) →
-        Playing (seat_since N.state L.tells L.records L.holds L.finds L.moment L.left_since since) seats.old.items (network_view (λ m. N.Mail.letter m) network.old)
+        Playing (seat_since N.state L.facts since) seats.old.items (network_view (λ m. N.Mail.letter m) network.old)
         routers K.tells held_before (K.held out.old) (script_view script.old) consumed →
-        OnOk result (Playing (seat_since N.state L.tells L.records L.holds L.finds L.moment L.left_since since) seats.new.items (network_view
+        OnOk result (Playing (seat_since N.state L.facts since) seats.new.items (network_view
         (λ m. N.Mail.letter m) network.new)
         routers K.tells held_before (K.held out.new) (script_view script.new) (consumed ++ (line.now ++ newline ∷ []))) }
     ensures stopped { AreAskedAsRead N.asks → (since : Since L) (routers : ℕ) → 0 < routers → (held_before consumed others : List ℕ) →
-        Playing (seat_since N.state L.tells L.records L.holds L.finds L.moment L.left_since since) seats.old.items (network_view (λ m. N.Mail.letter m) network.old)
+        Playing (seat_since N.state L.facts since) seats.old.items (network_view (λ m. N.Mail.letter m) network.old)
         routers K.tells held_before (K.held out.old) (script_view script.old) consumed →
-        IfErr result (Stopped (seat_since N.state L.tells L.records L.holds L.finds L.moment L.left_since since) seats.new.items routers K.tells held_before
+        IfErr result (Stopped (seat_since N.state L.facts since) seats.new.items routers K.tells held_before
         (K.held out.new) consumed
         (line.now ++ newline ∷ others)) }
     ensures fault { OnOk result (script.new.framer.fault ≡ None) }
     ensures len { vec_len seats.new ≡ vec_len seats.old }
-    ensures open { OnOk result (AreOpen L.is_open seats.new.items) }
-    ensures open_err { IfErr result (λ status. status ≢ statuses.DiskFailed → status ≢ statuses.OutOfMemory → AreOpen L.is_open seats.new.items) }
+    ensures open { OnOk result (AreOpen L.facts.is_open seats.new.items) }
+    ensures open_err { IfErr result (λ status. status ≢ statuses.DiskFailed → status ≢ statuses.OutOfMemory → AreOpen L.facts.is_open seats.new.items) }
     ensures other { IfErr result IsOfPlaying }
 
     // Of the devices.
     ensures write_fault { RoseWhere (result ≡ Err statuses.WriteFailed) (K.fault_count out.old) (K.fault_count out.new) }
-    ensures disk_fault { HaveRisenWhere (result ≡ Err statuses.DiskFailed) (faults_of L.fault_count seats.old.items) (faults_of L.fault_count seats.new.items) }
-    ensures places { places_of L.place seats.new.items ≡ places_of L.place seats.old.items }
+    ensures disk_fault { HaveRisenWhere (result ≡ Err statuses.DiskFailed) (faults_of L.facts.fault_count seats.old.items) (faults_of L.facts.fault_count seats.new.items) }
+    ensures places { places_of L.facts.place seats.new.items ≡ places_of L.facts.place seats.old.items }
 {
     let link = script.link;
     let closed = match play_line(rt, alloc, line, seats, network, script) {
@@ -101,32 +101,32 @@ pub fn play_piece<R: Threads + Sync, N: Node<Request = Request>, L: Log, K: Sink
     out: &mut K,
 ) -> Result<(), Status>
     requires at { first_router < vec_len seats.old }
-    requires open { AreOpen L.is_open seats.old.items }
+    requires open { AreOpen L.facts.is_open seats.old.items }
     requires fault { script.old.framer.fault ≡ None }
     requires begun { HasNone newline begun.old.items }
     ensures played { AreAskedAsRead N.asks → (since : Since L) (routers : ℕ) → 0 < routers → (held_before consumed : List ℕ) →
-        Playing (seat_since N.state L.tells L.records L.holds L.finds L.moment L.left_since since) seats.old.items (network_view (λ m. N.Mail.letter m) network.old)
+        Playing (seat_since N.state L.facts since) seats.old.items (network_view (λ m. N.Mail.letter m) network.old)
         routers K.tells held_before (K.held out.old) (script_view script.old) consumed →
-        OnOk result (HasPlayedLines (seat_since N.state L.tells L.records L.holds L.finds L.moment L.left_since since) seats.new.items (network_view
+        OnOk result (HasPlayedLines (seat_since N.state L.facts since) seats.new.items (network_view
         (λ m. N.Mail.letter m) network.new)
         routers K.tells held_before (K.held out.new) (script_view script.new) (consumed ++ (begun.old.items ++ piece.now)) begun.new.items) }
     ensures stopped { AreAskedAsRead N.asks → (since : Since L) (routers : ℕ) → 0 < routers → (held_before consumed : List ℕ) →
-        Playing (seat_since N.state L.tells L.records L.holds L.finds L.moment L.left_since since) seats.old.items (network_view (λ m. N.Mail.letter m) network.old)
+        Playing (seat_since N.state L.facts since) seats.old.items (network_view (λ m. N.Mail.letter m) network.old)
         routers K.tells held_before (K.held out.old) (script_view script.old) consumed →
-        IfErr result (HasStoppedIn (seat_since N.state L.tells L.records L.holds L.finds L.moment L.left_since since) seats.new.items routers K.tells
+        IfErr result (HasStoppedIn (seat_since N.state L.facts since) seats.new.items routers K.tells
         held_before (K.held out.new)
         (consumed ++ (begun.old.items ++ piece.now))) }
     ensures begun { OnOk result (HasNone newline begun.new.items) }
     ensures fault { OnOk result (script.new.framer.fault ≡ None) }
     ensures len { vec_len seats.new ≡ vec_len seats.old }
-    ensures open { OnOk result (AreOpen L.is_open seats.new.items) }
-    ensures open_err { IfErr result (λ status. status ≢ statuses.DiskFailed → status ≢ statuses.OutOfMemory → AreOpen L.is_open seats.new.items) }
+    ensures open { OnOk result (AreOpen L.facts.is_open seats.new.items) }
+    ensures open_err { IfErr result (λ status. status ≢ statuses.DiskFailed → status ≢ statuses.OutOfMemory → AreOpen L.facts.is_open seats.new.items) }
     ensures other { IfErr result IsOfPlaying }
 
     // Of the devices.
     ensures write_fault { RoseWhere (result ≡ Err statuses.WriteFailed) (K.fault_count out.old) (K.fault_count out.new) }
-    ensures disk_fault { HaveRisenWhere (result ≡ Err statuses.DiskFailed) (faults_of L.fault_count seats.old.items) (faults_of L.fault_count seats.new.items) }
-    ensures places { places_of L.place seats.new.items ≡ places_of L.place seats.old.items }
+    ensures disk_fault { HaveRisenWhere (result ≡ Err statuses.DiskFailed) (faults_of L.facts.fault_count seats.old.items) (faults_of L.facts.fault_count seats.new.items) }
+    ensures places { places_of L.facts.place seats.new.items ≡ places_of L.facts.place seats.old.items }
 {
     let mut rest = piece;
     'lines: while let Some((first, behind)) = cut_at(b'\n', rest) {

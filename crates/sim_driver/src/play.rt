@@ -43,28 +43,28 @@ pub fn play_client<N: Node<Request = Request>, L: Log>(
     script: &mut Script,
 ) -> Result<bool, Status>
     requires at { first_router < vec_len seats.old }
-    requires open { AreOpen L.is_open seats.old.items }
+    requires open { AreOpen L.facts.is_open seats.old.items }
     requires fault { script.old.framer.fault ≡ None }
     ensures played { AreAskedAsRead N.asks → (since : Since L) (w : World) (handed : List ToLink) → IsRouter w.nodes first_router →
-        StandsFor (seat_since N.state L.tells L.records L.holds L.finds L.moment L.left_since since) seats.old.items (network_view
+        StandsFor (seat_since N.state L.facts since) seats.old.items (network_view
         (λ m. N.Mail.letter m) network.old) handed w 0 →
-        IfOk result (λ closed. HasPlayed (seat_since N.state L.tells L.records L.holds L.finds L.moment L.left_since since) seats.new.items (network_view
+        IfOk result (λ closed. HasPlayed (seat_since N.state L.facts since) seats.new.items (network_view
         (λ m. N.Mail.letter m) network.new) handed w
         (client_line router bytes.now) (script_view script.old) (script_view script.new) closed) }
     ensures stops { AreAskedAsRead N.asks → (since : Since L) (w : World) (handed : List ToLink) → IsRouter w.nodes first_router →
-        StandsFor (seat_since N.state L.tells L.records L.holds L.finds L.moment L.left_since since) seats.old.items (network_view
+        StandsFor (seat_since N.state L.facts since) seats.old.items (network_view
         (λ m. N.Mail.letter m) network.old) handed w 0 →
-        IfErr result (StopsLine (seat_since N.state L.tells L.records L.holds L.finds L.moment L.left_since since) seats.new.items w
+        IfErr result (StopsLine (seat_since N.state L.facts since) seats.new.items w
         (client_line router bytes.now) (script_view script.old)) }
     ensures fault { OnOk result (script.new.framer.fault ≡ None) }
     ensures len { vec_len seats.new ≡ vec_len seats.old }
-    ensures open { OnOk result (AreOpen L.is_open seats.new.items) }
+    ensures open { OnOk result (AreOpen L.facts.is_open seats.new.items) }
     ensures other { IfErr result IsOfLine }
-    ensures open_err { result ≡ Err statuses.BadInput → AreOpen L.is_open seats.new.items }
+    ensures open_err { result ≡ Err statuses.BadInput → AreOpen L.facts.is_open seats.new.items }
 
     // Of the logs' disks.
-    ensures disk_fault { HaveRisenWhere (result ≡ Err statuses.DiskFailed) (faults_of L.fault_count seats.old.items) (faults_of L.fault_count seats.new.items) }
-    ensures places { places_of L.place seats.new.items ≡ places_of L.place seats.old.items }
+    ensures disk_fault { HaveRisenWhere (result ≡ Err statuses.DiskFailed) (faults_of L.facts.fault_count seats.old.items) (faults_of L.facts.fault_count seats.new.items) }
+    ensures places { places_of L.facts.place seats.new.items ≡ places_of L.facts.place seats.old.items }
 {
     if router != 0 {
         return Err(Status::BadInput);
@@ -111,27 +111,27 @@ pub fn play_deliver<R: Threads + Sync, N: Node, L: Log>(
     network: &mut Network<N::Mail>,
     script: &mut Script,
 ) -> Result<(), Status>
-    requires open { AreOpen L.is_open seats.old.items }
+    requires open { AreOpen L.facts.is_open seats.old.items }
     ensures played { (since : Since L) (w : World) (handed : List ToLink) →
-        StandsFor (seat_since N.state L.tells L.records L.holds L.finds L.moment L.left_since since) seats.old.items (network_view
+        StandsFor (seat_since N.state L.facts since) seats.old.items (network_view
         (λ m. N.Mail.letter m) network.old) handed w 0 →
-        OnOk result (HasPlayed (seat_since N.state L.tells L.records L.holds L.finds L.moment L.left_since since) seats.new.items (network_view
+        OnOk result (HasPlayed (seat_since N.state L.facts since) seats.new.items (network_view
         (λ m. N.Mail.letter m) network.new) handed w
         (deliver_line node k) (script_view script.old) (script_view script.new) false) }
     ensures stops { (since : Since L) (w : World) (handed : List ToLink) →
-        StandsFor (seat_since N.state L.tells L.records L.holds L.finds L.moment L.left_since since) seats.old.items (network_view
+        StandsFor (seat_since N.state L.facts since) seats.old.items (network_view
         (λ m. N.Mail.letter m) network.old) handed w 0 →
-        IfErr result (StopsLine (seat_since N.state L.tells L.records L.holds L.finds L.moment L.left_since since) seats.new.items w (deliver_line node k)
+        IfErr result (StopsLine (seat_since N.state L.facts since) seats.new.items w (deliver_line node k)
         (script_view script.old)) }
     ensures framer { script.new.framer ≡ script.old.framer }
     ensures len { vec_len seats.new ≡ vec_len seats.old }
-    ensures open { OnOk result (AreOpen L.is_open seats.new.items) }
+    ensures open { OnOk result (AreOpen L.facts.is_open seats.new.items) }
     ensures other { IfErr result IsOfLine }
-    ensures open_err { result ≡ Err statuses.BadInput → AreOpen L.is_open seats.new.items }
+    ensures open_err { result ≡ Err statuses.BadInput → AreOpen L.facts.is_open seats.new.items }
 
     // Of the logs' disks.
-    ensures disk_fault { HaveRisenWhere (result ≡ Err statuses.DiskFailed) (faults_of L.fault_count seats.old.items) (faults_of L.fault_count seats.new.items) }
-    ensures places { places_of L.place seats.new.items ≡ places_of L.place seats.old.items }
+    ensures disk_fault { HaveRisenWhere (result ≡ Err statuses.DiskFailed) (faults_of L.facts.fault_count seats.old.items) (faults_of L.facts.fault_count seats.new.items) }
+    ensures places { places_of L.facts.place seats.new.items ≡ places_of L.facts.place seats.old.items }
 {
     if node >= seats.len() as u64 {
         return Err(Status::BadInput);
@@ -162,26 +162,26 @@ pub fn play_settle<R: Threads + Sync, N: Node, L: Log>(
     network: &mut Network<N::Mail>,
     script: &mut Script,
 ) -> Result<(), Status>
-    requires open { AreOpen L.is_open seats.old.items }
+    requires open { AreOpen L.facts.is_open seats.old.items }
     ensures played { (since : Since L) (w : World) (handed : List ToLink) → script.old.next ≤ length w.sent →
-        StandsFor (seat_since N.state L.tells L.records L.holds L.finds L.moment L.left_since since) seats.old.items (network_view
+        StandsFor (seat_since N.state L.facts since) seats.old.items (network_view
         (λ m. N.Mail.letter m) network.old) handed w 0 →
-        OnOk result (HasPlayed (seat_since N.state L.tells L.records L.holds L.finds L.moment L.left_since since) seats.new.items (network_view
+        OnOk result (HasPlayed (seat_since N.state L.facts since) seats.new.items (network_view
         (λ m. N.Mail.letter m) network.new) handed w
         settle_line (script_view script.old) (script_view script.new) false) }
     ensures stops { (since : Since L) (w : World) (handed : List ToLink) → script.old.next ≤ length w.sent →
-        StandsFor (seat_since N.state L.tells L.records L.holds L.finds L.moment L.left_since since) seats.old.items (network_view
+        StandsFor (seat_since N.state L.facts since) seats.old.items (network_view
         (λ m. N.Mail.letter m) network.old) handed w 0 →
-        IfErr result (StopsLine (seat_since N.state L.tells L.records L.holds L.finds L.moment L.left_since since) seats.new.items w settle_line
+        IfErr result (StopsLine (seat_since N.state L.facts since) seats.new.items w settle_line
         (script_view script.old)) }
     ensures framer { script.new.framer ≡ script.old.framer }
     ensures len { vec_len seats.new ≡ vec_len seats.old }
-    ensures open { OnOk result (AreOpen L.is_open seats.new.items) }
+    ensures open { OnOk result (AreOpen L.facts.is_open seats.new.items) }
     ensures other { IfErr result (λ status. (status ≡ statuses.DiskFailed) ⊎ (status ≡ statuses.OutOfMemory)) }
 
     // Of the logs' disks.
-    ensures disk_fault { HaveRisenWhere (result ≡ Err statuses.DiskFailed) (faults_of L.fault_count seats.old.items) (faults_of L.fault_count seats.new.items) }
-    ensures places { places_of L.place seats.new.items ≡ places_of L.place seats.old.items }
+    ensures disk_fault { HaveRisenWhere (result ≡ Err statuses.DiskFailed) (faults_of L.facts.fault_count seats.old.items) (faults_of L.facts.fault_count seats.new.items) }
+    ensures places { places_of L.facts.place seats.new.items ≡ places_of L.facts.place seats.old.items }
 {
     match settle_but(rt, alloc, seats, network, script.next, &script.early) {
         Ok(()) => {}
@@ -205,30 +205,30 @@ pub fn play_said<R: Threads + Sync, N: Node<Request = Request>, L: Log>(
     script: &mut Script,
 ) -> Result<bool, Status>
     requires at { first_router < vec_len seats.old }
-    requires open { AreOpen L.is_open seats.old.items }
+    requires open { AreOpen L.facts.is_open seats.old.items }
     requires fault { script.old.framer.fault ≡ None }
     ensures played { AreAskedAsRead N.asks → (since : Since L) (w : World) (handed : List ToLink) → IsRouter w.nodes first_router
         → script.old.next ≤ length w.sent →
-        StandsFor (seat_since N.state L.tells L.records L.holds L.finds L.moment L.left_since since) seats.old.items (network_view
+        StandsFor (seat_since N.state L.facts since) seats.old.items (network_view
         (λ m. N.Mail.letter m) network.old) handed w 0 →
-        IfOk result (λ closed. HasPlayed (seat_since N.state L.tells L.records L.holds L.finds L.moment L.left_since since) seats.new.items (network_view
+        IfOk result (λ closed. HasPlayed (seat_since N.state L.facts since) seats.new.items (network_view
         (λ m. N.Mail.letter m) network.new) handed w
         (meaning_of line) (script_view script.old) (script_view script.new) closed) }
     ensures stops { AreAskedAsRead N.asks → (since : Since L) (w : World) (handed : List ToLink) → IsRouter w.nodes first_router
         → script.old.next ≤ length w.sent →
-        StandsFor (seat_since N.state L.tells L.records L.holds L.finds L.moment L.left_since since) seats.old.items (network_view
+        StandsFor (seat_since N.state L.facts since) seats.old.items (network_view
         (λ m. N.Mail.letter m) network.old) handed w 0 →
-        IfErr result (StopsLine (seat_since N.state L.tells L.records L.holds L.finds L.moment L.left_since since) seats.new.items w (meaning_of line)
+        IfErr result (StopsLine (seat_since N.state L.facts since) seats.new.items w (meaning_of line)
         (script_view script.old)) }
     ensures fault { OnOk result (script.new.framer.fault ≡ None) }
     ensures len { vec_len seats.new ≡ vec_len seats.old }
-    ensures open { OnOk result (AreOpen L.is_open seats.new.items) }
+    ensures open { OnOk result (AreOpen L.facts.is_open seats.new.items) }
     ensures other { IfErr result IsOfLine }
-    ensures open_err { result ≡ Err statuses.BadInput → AreOpen L.is_open seats.new.items }
+    ensures open_err { result ≡ Err statuses.BadInput → AreOpen L.facts.is_open seats.new.items }
 
     // Of the logs' disks.
-    ensures disk_fault { HaveRisenWhere (result ≡ Err statuses.DiskFailed) (faults_of L.fault_count seats.old.items) (faults_of L.fault_count seats.new.items) }
-    ensures places { places_of L.place seats.new.items ≡ places_of L.place seats.old.items }
+    ensures disk_fault { HaveRisenWhere (result ≡ Err statuses.DiskFailed) (faults_of L.facts.fault_count seats.old.items) (faults_of L.facts.fault_count seats.new.items) }
+    ensures places { places_of L.facts.place seats.new.items ≡ places_of L.facts.place seats.old.items }
 {
     match line {
         Line::Client { router, bytes } => {
@@ -265,30 +265,30 @@ pub fn play_line<R: Threads + Sync, N: Node<Request = Request>, L: Log>(
     script: &mut Script,
 ) -> Result<bool, Status>
     requires at { first_router < vec_len seats.old }
-    requires open { AreOpen L.is_open seats.old.items }
+    requires open { AreOpen L.facts.is_open seats.old.items }
     requires fault { script.old.framer.fault ≡ None }
     ensures played { AreAskedAsRead N.asks → (since : Since L) (w : World) (handed : List ToLink) → IsRouter w.nodes first_router
         → script.old.next ≤ length w.sent →
-        StandsFor (seat_since N.state L.tells L.records L.holds L.finds L.moment L.left_since since) seats.old.items (network_view
+        StandsFor (seat_since N.state L.facts since) seats.old.items (network_view
         (λ m. N.Mail.letter m) network.old) handed w 0 →
-        IfOk result (λ closed. HasPlayedBytes (seat_since N.state L.tells L.records L.holds L.finds L.moment L.left_since since) seats.new.items (network_view
+        IfOk result (λ closed. HasPlayedBytes (seat_since N.state L.facts since) seats.new.items (network_view
         (λ m. N.Mail.letter m) network.new)
         handed w line.now (script_view script.old) (script_view script.new) closed) }
     ensures stops { AreAskedAsRead N.asks → (since : Since L) (w : World) (handed : List ToLink) → IsRouter w.nodes first_router
         → script.old.next ≤ length w.sent →
-        StandsFor (seat_since N.state L.tells L.records L.holds L.finds L.moment L.left_since since) seats.old.items (network_view
+        StandsFor (seat_since N.state L.facts since) seats.old.items (network_view
         (λ m. N.Mail.letter m) network.old) handed w 0 →
-        IfErr result (StopsBytes (seat_since N.state L.tells L.records L.holds L.finds L.moment L.left_since since) seats.new.items w line.now
+        IfErr result (StopsBytes (seat_since N.state L.facts since) seats.new.items w line.now
         (script_view script.old)) }
     ensures fault { OnOk result (script.new.framer.fault ≡ None) }
     ensures len { vec_len seats.new ≡ vec_len seats.old }
-    ensures open { OnOk result (AreOpen L.is_open seats.new.items) }
+    ensures open { OnOk result (AreOpen L.facts.is_open seats.new.items) }
     ensures other { IfErr result IsOfLine }
-    ensures open_err { result ≡ Err statuses.BadInput → AreOpen L.is_open seats.new.items }
+    ensures open_err { result ≡ Err statuses.BadInput → AreOpen L.facts.is_open seats.new.items }
 
     // Of the logs' disks.
-    ensures disk_fault { HaveRisenWhere (result ≡ Err statuses.DiskFailed) (faults_of L.fault_count seats.old.items) (faults_of L.fault_count seats.new.items) }
-    ensures places { places_of L.place seats.new.items ≡ places_of L.place seats.old.items }
+    ensures disk_fault { HaveRisenWhere (result ≡ Err statuses.DiskFailed) (faults_of L.facts.fault_count seats.old.items) (faults_of L.facts.fault_count seats.new.items) }
+    ensures places { places_of L.facts.place seats.new.items ≡ places_of L.facts.place seats.old.items }
 {
     match read_line(alloc, line) {
         Ok(said) => match play_said(rt, alloc, said, seats, network, script) {

@@ -53,23 +53,23 @@ pub fn simulate<R: Threads + Sync, N: Node<Request = Request>, L: Log, S: Source
     limit: u64,
 ) -> Status
     requires at { first_router < vec_len seats.old }
-    requires open { AreOpen L.is_open seats.old.items }
+    requires open { AreOpen L.facts.is_open seats.old.items }
     ensures simulated { AreAskedAsRead N.asks → (routers : ℕ) → 0 < routers →
-        AreHeld (seat_view N.state L.tells L.records L.holds) seats.old.items (start routers).nodes →
+        AreHeld (seat_view N.state L.facts) seats.old.items (start routers).nodes →
         IsSimulated (source_call S.tells S.left S.fault_count input.old input.new) (sink_call K.tells K.held K.fault_count out.old out.new)
-        (AreKept (seat_view N.state L.tells L.records L.holds) seats.new.items)
-        (LeaveKept (seat_since N.state L.tells L.records L.holds L.finds L.moment L.left_since (since_then seats.old.items (start routers))) seats.new.items)
+        (AreKept (seat_view N.state L.facts) seats.new.items)
+        (LeaveKept (seat_since N.state L.facts (since_then seats.old.items (start routers))) seats.new.items)
         routers limit result }
 
     // But where a disk failed or memory ended, records can be appended to each log.
-    ensures open { result ≢ statuses.DiskFailed → result ≢ statuses.OutOfMemory → AreOpen L.is_open seats.new.items }
+    ensures open { result ≢ statuses.DiskFailed → result ≢ statuses.OutOfMemory → AreOpen L.facts.is_open seats.new.items }
     ensures len { vec_len seats.new ≡ vec_len seats.old }
 
     // Each fault of a device has its own status.
     ensures read_fault { RoseWhere (result ≡ statuses.ReadFailed) (S.fault_count input.old) (S.fault_count input.new) }
     ensures write_fault { RoseWhere (result ≡ statuses.WriteFailed) (K.fault_count out.old) (K.fault_count out.new) }
-    ensures disk_fault { HaveRisenWhere (result ≡ statuses.DiskFailed) (faults_of L.fault_count seats.old.items) (faults_of L.fault_count seats.new.items) }
-    ensures places { places_of L.place seats.new.items ≡ places_of L.place seats.old.items }
+    ensures disk_fault { HaveRisenWhere (result ≡ statuses.DiskFailed) (faults_of L.facts.fault_count seats.old.items) (faults_of L.facts.fault_count seats.new.items) }
+    ensures places { places_of L.facts.place seats.new.items ≡ places_of L.facts.place seats.old.items }
 {
     let mut network = Network::new(alloc);
     match open_all(seats, &mut network) {
@@ -89,19 +89,19 @@ fn play_all<R: Threads + Sync, N: Node<Request = Request>, L: Log, S: Source, K:
     limit: u64,
 ) -> Status
     requires at { first_router < vec_len seats.old }
-    requires open { AreOpen L.is_open seats.old.items }
+    requires open { AreOpen L.facts.is_open seats.old.items }
     ensures simulated { AreAskedAsRead N.asks → (since : Since L) (routers : ℕ) → 0 < routers →
-        Playing (seat_since N.state L.tells L.records L.holds L.finds L.moment L.left_since since) seats.old.items (network_view (λ m. N.Mail.letter m) network)
+        Playing (seat_since N.state L.facts since) seats.old.items (network_view (λ m. N.Mail.letter m) network)
         routers K.tells (K.held out.old) (K.held out.old) new_script [] →
         IsSimulated (source_call S.tells S.left S.fault_count input.old input.new) (sink_call K.tells K.held K.fault_count out.old out.new)
-        (AreKept (seat_since N.state L.tells L.records L.holds L.finds L.moment L.left_since since) seats.new.items)
-        (LeaveKept (seat_since N.state L.tells L.records L.holds L.finds L.moment L.left_since since) seats.new.items) routers limit result }
-    ensures open { result ≢ statuses.DiskFailed → result ≢ statuses.OutOfMemory → AreOpen L.is_open seats.new.items }
+        (AreKept (seat_since N.state L.facts since) seats.new.items)
+        (LeaveKept (seat_since N.state L.facts since) seats.new.items) routers limit result }
+    ensures open { result ≢ statuses.DiskFailed → result ≢ statuses.OutOfMemory → AreOpen L.facts.is_open seats.new.items }
     ensures len { vec_len seats.new ≡ vec_len seats.old }
     ensures read_fault { RoseWhere (result ≡ statuses.ReadFailed) (S.fault_count input.old) (S.fault_count input.new) }
     ensures write_fault { RoseWhere (result ≡ statuses.WriteFailed) (K.fault_count out.old) (K.fault_count out.new) }
-    ensures disk_fault { HaveRisenWhere (result ≡ statuses.DiskFailed) (faults_of L.fault_count seats.old.items) (faults_of L.fault_count seats.new.items) }
-    ensures places { places_of L.place seats.new.items ≡ places_of L.place seats.old.items }
+    ensures disk_fault { HaveRisenWhere (result ≡ statuses.DiskFailed) (faults_of L.facts.fault_count seats.old.items) (faults_of L.facts.fault_count seats.new.items) }
+    ensures places { places_of L.facts.place seats.new.items ≡ places_of L.facts.place seats.old.items }
 {
     let mut network = network;
     let mut script = Script::new(alloc);

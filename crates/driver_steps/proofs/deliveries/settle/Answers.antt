@@ -11,7 +11,7 @@ messages-init g c = record {
   faults = refl;
   places = refl;
   run = λ since w next handed s. settling_none
-      (seat_since g.N.Node.state g.L.Log.tells g.L.Log.records g.L.Log.holds g.L.Log.finds g.L.Log.moment g.L.Log.left_since since) _ _ handed w next s;
+      (seat_since g.N.Node.state g.L.Log.facts since) _ _ handed w next s;
 }
 
 pub messages-preserved : goal.messages-preserved
@@ -21,7 +21,7 @@ messages-preserved g c = record {
   faults = c.in-Ok.ensures.faults ∙ c.messages.invariant.faults;
   places = c.in-Ok.ensures.places ∙ c.messages.invariant.places;
   run = λ since w next handed s.
-      settling_step (seat_since g.N.Node.state g.L.Log.tells g.L.Log.records g.L.Log.holds g.L.Log.finds g.L.Log.moment g.L.Log.left_since since)
+      settling_step (seat_since g.N.Node.state g.L.Log.facts since)
       (λ m. g.N.Mail.Mail.letter m) c.messages.seats.items c.deliver.new.seats.items _ handed w next c.in-Some.message c.messages.network
       (record { waiting = c.pop_front.new.self; replies = c.messages.network.replies })
       (c.messages.invariant.run since w next handed s) c.in-Some.ensures.items refl
@@ -36,7 +36,7 @@ messages-smaller g c =
 
 pub returns-in-Err-clause-stopped : goal.returns-in-Err-clause-stopped
 returns-in-Err-clause-stopped g c since w next handed s =
-    settling_stopped (seat_since g.N.Node.state g.L.Log.tells g.L.Log.records g.L.Log.holds g.L.Log.finds g.L.Log.moment g.L.Log.left_since since)
+    settling_stopped (seat_since g.N.Node.state g.L.Log.facts since)
     (λ m. g.N.Mail.Mail.letter m) c.messages.seats.items c.deliver.new.seats.items _ handed w next c.in-Some.message c.messages.network
     (record { waiting = c.pop_front.new.self; replies = c.messages.network.replies }) c.in-Err.e
     (c.messages.invariant.run since w next handed s) c.in-Some.ensures.items refl
@@ -45,7 +45,7 @@ returns-in-Err-clause-stopped g c since w next handed s =
 pub returns-clause-settled : goal.returns-clause-settled
 returns-clause-settled g c since w next handed s =
     let none : c.pop_front.result ≡ None = search (rules, c.in_default.is) in
-    settled_at_end (seat_since g.N.Node.state g.L.Log.tells g.L.Log.records g.L.Log.holds g.L.Log.finds g.L.Log.moment g.L.Log.left_since since)
+    settled_at_end (seat_since g.N.Node.state g.L.Log.facts since)
     (λ m. g.N.Mail.Mail.letter m) c.messages.seats.items handed w next
     c.messages.network (record { waiting = c.pop_front.new.self; replies = c.messages.network.replies }) c.pop_front.result
     (c.messages.invariant.run since w next handed s) none c.pop_front.ensures.items c.pop_front.ensures.cases c.pop_front.new.self.ok.0 refl

@@ -12,13 +12,13 @@ use Rattle.driver_steps.proofs.deliveries.settle.Given as goal
 abbrev pub invariant-messages : goal.invariant-messages
 invariant-messages g l = record {
   len : vec_len l.seats ≡ vec_len l.fn.seats;
-  are_open : AreOpen g.L.Log.is_open l.seats.items;
-  faults : faults_of g.L.Log.fault_count l.seats.items ≡ faults_of g.L.Log.fault_count l.fn.seats.items;
-  places : places_of g.L.Log.place l.seats.items ≡ places_of g.L.Log.place l.fn.seats.items;
+  are_open : AreOpen g.L.Log.facts.is_open l.seats.items;
+  faults : faults_of g.L.Log.facts.fault_count l.seats.items ≡ faults_of g.L.Log.facts.fault_count l.fn.seats.items;
+  places : places_of g.L.Log.facts.place l.seats.items ≡ places_of g.L.Log.facts.place l.fn.seats.items;
   run : (since : Since g.row.L.Denot) (w : World) (next : ℕ) (handed : List ToLink) → StandsFor
-      (seat_since g.N.Node.state g.L.Log.tells g.L.Log.records g.L.Log.holds g.L.Log.finds g.L.Log.moment g.L.Log.left_since since)
+      (seat_since g.N.Node.state g.L.Log.facts since)
       l.fn.seats.items (network_view (λ m. g.N.Mail.Mail.letter m) l.fn.network) handed w next
-      → IsSettling (seat_since g.N.Node.state g.L.Log.tells g.L.Log.records g.L.Log.holds g.L.Log.finds g.L.Log.moment g.L.Log.left_since since) l.seats.items
+      → IsSettling (seat_since g.N.Node.state g.L.Log.facts since) l.seats.items
       (network_view (λ m. g.N.Mail.Mail.letter m) l.network) handed w next;
 }
 

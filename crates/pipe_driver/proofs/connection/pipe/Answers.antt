@@ -15,9 +15,9 @@ use Rattle.pipe_driver.proofs.connection.pipe.Goals as goal
 pub returns-in-Ok-clause-piped : goal.returns-in-Ok-clause-piped
 returns-in-Ok-clause-piped g c = λ asks routers some are.
     let since = since_then c.args.seats.now.items (start routers) in
-    let seated = held_since g.N.Node.state g.L.Log.tells g.L.Log.records g.L.Log.holds g.L.Log.finds g.L.Log.moment g.L.Log.left_since since
+    let seated = held_since g.N.Node.state g.L.Log.facts since
     c.args.seats.now.items (start routers).nodes are in
-    let leave = start_leaves g.N.Node.state g.L.Log.tells g.L.Log.records g.L.Log.holds g.L.Log.finds g.L.Log.moment g.L.Log.left_since
+    let leave = start_leaves g.N.Node.state g.L.Log.facts
     c.args.seats.now.items (start routers) in
     let as_many = c.args.seats.now.ok.0 ∙ held_len _ c.args.seats.now.items (start routers).nodes seated in
     let s = starts _ (λ m. g.N.Mail.Mail.letter m) c.args.seats.now.items routers
@@ -25,14 +25,14 @@ returns-in-Ok-clause-piped g c = λ asks routers some are.
     piped_with _ _ _ _ _ _ routers _ _ _
     (c.serve.ensures.piped asks since routers some
     (opened_serving _ _ _ routers _ _ (vec_len c.args.seats.now) as_many _ (c.in-Ok.ensures.opened since (start routers) 0 [] s)))
-    (λ nodes kept. kept_plain g.N.Node.state g.L.Log.tells g.L.Log.records g.L.Log.holds g.L.Log.finds g.L.Log.moment g.L.Log.left_since since _ nodes kept)
+    (λ nodes kept. kept_plain g.N.Node.state g.L.Log.facts since _ nodes kept)
 
 pub returns-in-Err-clause-piped : goal.returns-in-Err-clause-piped
 returns-in-Err-clause-piped g c = λ asks routers some are.
     let since = since_then c.args.seats.now.items (start routers) in
-    let seated = held_since g.N.Node.state g.L.Log.tells g.L.Log.records g.L.Log.holds g.L.Log.finds g.L.Log.moment g.L.Log.left_since since
+    let seated = held_since g.N.Node.state g.L.Log.facts since
     c.args.seats.now.items (start routers).nodes are in
-    let leave = start_leaves g.N.Node.state g.L.Log.tells g.L.Log.records g.L.Log.holds g.L.Log.finds g.L.Log.moment g.L.Log.left_since
+    let leave = start_leaves g.N.Node.state g.L.Log.facts
     c.args.seats.now.items (start routers) in
     let as_many = c.args.seats.now.ok.0 ∙ held_len _ c.args.seats.now.items (start routers).nodes seated in
     let s = starts _ (λ m. g.N.Mail.Mail.letter m) c.args.seats.now.items routers
@@ -49,4 +49,4 @@ returns-in-Err-clause-piped g c = λ asks routers some are.
     c.ended.result.rest c.ended.result.status [] [] (network_view (λ m. g.N.Mail.Mail.letter m) c.open_all.new.network) c.of.result c.ended.ensures.status
     (inr (stops_by _ _ _ routers _ _ _ _ c.in-Err.e _ c.of.ensures cut))
     (λ told. refl) few (λ place. ([], [], None, ends place [] refl, none)))
-    (λ nodes kept. kept_plain g.N.Node.state g.L.Log.tells g.L.Log.records g.L.Log.holds g.L.Log.finds g.L.Log.moment g.L.Log.left_since since _ nodes kept)
+    (λ nodes kept. kept_plain g.N.Node.state g.L.Log.facts since _ nodes kept)

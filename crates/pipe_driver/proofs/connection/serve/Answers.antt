@@ -30,7 +30,7 @@ pieces-init g c = record {
 
 pub returns-in_default-clause-piped : goal.returns-in_default-clause-piped
 returns-in_default-clause-piped g c = λ asks since routers some s.
-    ended_full (seat_since g.N.Node.state g.L.Log.tells g.L.Log.records g.L.Log.holds g.L.Log.finds g.L.Log.moment g.L.Log.left_since since)
+    ended_full (seat_since g.N.Node.state g.L.Log.facts since)
     c.args.seats.now.items
     (source_call g.S.Source.tells g.S.Source.left g.S.Source.fault_count c.args.input.now c.args.input.now)
     (sink_call g.K.Sink.tells g.K.Sink.held g.K.Sink.fault_count c.args.out.now c.args.out.now) (g.C.Clock.gives c.args.clock.now) routers c.args.limit
@@ -41,7 +41,7 @@ returns-then-is_err-clause-piped g c = λ asks since routers some s.
     let went = c.pieces.invariant.went asks since routers some s in
     let counted : c.ended-then-is_err.result.rest ≡ length c.pieces.framer.bytes =
     omega (arith, c.ended-then-is_err.ensures.rest, ap length c.rest.ensures, ap length c.reserve.ensures.bytes) in
-    ended_full (seat_since g.N.Node.state g.L.Log.tells g.L.Log.records g.L.Log.holds g.L.Log.finds g.L.Log.moment g.L.Log.left_since since)
+    ended_full (seat_since g.N.Node.state g.L.Log.facts since)
     c.pieces.seats.items
     (source_call g.S.Source.tells g.S.Source.left g.S.Source.fault_count c.args.input.now c.pieces.input)
     (sink_call g.K.Sink.tells g.K.Sink.held g.K.Sink.fault_count c.args.out.now c.pieces.out) (g.C.Clock.gives c.args.clock.now) routers c.args.limit
@@ -55,7 +55,7 @@ returns-in-Err-clause-piped g c = λ asks since routers some s.
     let below : length (went.0 ++ c.pieces.framer.bytes) < c.args.limit = omega (arith, size, c.pieces-test.true) in
     let counted : c.ended-in-Err.result.rest ≡ length c.pieces.framer.bytes =
     omega (arith, c.ended-in-Err.ensures.rest, ap length c.rest-in-Err.ensures, ap length c.reserve.ensures.bytes) in
-    ended_taking (seat_since g.N.Node.state g.L.Log.tells g.L.Log.records g.L.Log.holds g.L.Log.finds g.L.Log.moment g.L.Log.left_since since)
+    ended_taking (seat_since g.N.Node.state g.L.Log.facts since)
     c.pieces.seats.items
     (source_call g.S.Source.tells g.S.Source.left g.S.Source.fault_count c.args.input.now c.take_more.new.input)
     (sink_call g.K.Sink.tells g.K.Sink.held g.K.Sink.fault_count c.args.out.now c.pieces.out) (g.C.Clock.gives c.args.clock.now) routers c.args.limit
@@ -228,7 +228,7 @@ returns-in-Err-answer_all-clause-piped g c = λ asks since routers some s.
     let most : c.pieces.taken + c.in-Ok-take_more.count ≤ c.args.limit = omega (arith, c.in-Ok-take_more.ensures.most, c.min-room.ensures, c.pieces-test.true) in
     let counted : Unframed rest c.ended-in-Err-answer_all.result.rest =
     rw (c.ended-in-Err-answer_all.ensures.rest, sym c.rest-in-Err-answer_all.ensures) c.unframed.ensures in
-    ended_serving (seat_since g.N.Node.state g.L.Log.tells g.L.Log.records g.L.Log.holds g.L.Log.finds g.L.Log.moment g.L.Log.left_since since)
+    ended_serving (seat_since g.N.Node.state g.L.Log.facts since)
     c.answer_all.new.seats.items
     (source_call g.S.Source.tells g.S.Source.left g.S.Source.fault_count c.args.input.now c.take_more.new.input)
     (sink_call g.K.Sink.tells g.K.Sink.held g.K.Sink.fault_count c.args.out.now c.answer_all.new.out) (g.C.Clock.gives c.args.clock.now) routers c.args.limit
@@ -254,7 +254,7 @@ pub returns-clause-piped : goal.returns-clause-piped
 returns-clause-piped g c = λ asks since routers some s.
     let went = c.pieces.invariant.went asks since routers some s in
     let counted : c.ended-2.result.rest ≡ length c.pieces.framer.bytes = omega (arith, c.ended-2.ensures.rest, ap length c.rest-2.ensures) in
-    ended_at_limit (seat_since g.N.Node.state g.L.Log.tells g.L.Log.records g.L.Log.holds g.L.Log.finds g.L.Log.moment g.L.Log.left_since since)
+    ended_at_limit (seat_since g.N.Node.state g.L.Log.facts since)
     c.pieces.seats.items
     (source_call g.S.Source.tells g.S.Source.left g.S.Source.fault_count c.args.input.now c.pieces.input)
     (sink_call g.K.Sink.tells g.K.Sink.held g.K.Sink.fault_count c.args.out.now c.pieces.out) (g.C.Clock.gives c.args.clock.now) routers c.args.limit

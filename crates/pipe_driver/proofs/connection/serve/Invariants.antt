@@ -22,18 +22,18 @@ invariant-pieces g l = record {
   count : l.puts ≤ l.framer.offset;
   room : vec_len l.piece ≡ piece_room;
   len : vec_len l.seats ≡ vec_len l.fn.seats;
-  are_open : AreOpen g.L.Log.is_open l.seats.items;
+  are_open : AreOpen g.L.Log.facts.is_open l.seats.items;
   source_calm : g.S.Source.fault_count l.input ≡ g.S.Source.fault_count l.fn.input;
   sink_calm : g.K.Sink.fault_count l.out ≡ g.K.Sink.fault_count l.fn.out;
-  disks_calm : faults_of g.L.Log.fault_count l.seats.items ≡ faults_of g.L.Log.fault_count l.fn.seats.items;
-  places : places_of g.L.Log.place l.seats.items ≡ places_of g.L.Log.place l.fn.seats.items;
+  disks_calm : faults_of g.L.Log.facts.fault_count l.seats.items ≡ faults_of g.L.Log.facts.fault_count l.fn.seats.items;
+  places : places_of g.L.Log.facts.place l.seats.items ≡ places_of g.L.Log.facts.place l.fn.seats.items;
   went : AreAskedAsRead g.N.Node.asks → (since : Since g.row.L.Denot) (routers : ℕ) → 0 < routers
-      → Serving (seat_since g.N.Node.state g.L.Log.tells g.L.Log.records g.L.Log.holds g.L.Log.finds g.L.Log.moment g.L.Log.left_since since)
+      → Serving (seat_since g.N.Node.state g.L.Log.facts since)
       l.fn.seats.items (network_view (λ m. g.N.Mail.Mail.letter m) l.fn.network)
       (g.C.Clock.gives l.clock) routers g.K.Sink.tells (g.K.Sink.held l.fn.out) (g.K.Sink.held l.fn.out) [] 0
       → (consumed : List ℕ) × (length consumed + length l.framer.bytes ≡ l.taken)
       × Took g.S.Source.tells (g.S.Source.left l.fn.input) (consumed ++ l.framer.bytes) (g.S.Source.left l.input)
-      × Serving (seat_since g.N.Node.state g.L.Log.tells g.L.Log.records g.L.Log.holds g.L.Log.finds g.L.Log.moment g.L.Log.left_since since)
+      × Serving (seat_since g.N.Node.state g.L.Log.facts since)
       l.seats.items (network_view (λ m. g.N.Mail.Mail.letter m) l.network)
       (g.C.Clock.gives l.clock) routers g.K.Sink.tells (g.K.Sink.held l.fn.out) (g.K.Sink.held l.out) consumed l.puts;
 }

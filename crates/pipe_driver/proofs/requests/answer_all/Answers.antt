@@ -41,7 +41,7 @@ returns-in-Err-Memory-clause-served g c = λ asks since routers some held_before
       was.0,
       none_given (consumed ++ c.args.framer.now.bytes) was.0 c.requests.framer c.next.new.self was.1 (same_bytes c.requests.framer c.next.new.self told),
       inr (at_no_memory (cut_between
-          (seat_since g.N.Node.state g.L.Log.tells g.L.Log.records g.L.Log.holds g.L.Log.finds g.L.Log.moment g.L.Log.left_since since) c.requests.seats.items
+          (seat_since g.N.Node.state g.L.Log.facts since) c.requests.seats.items
           (g.C.Clock.gives c.args.clock.now) routers _ held_before _ was.0 _ c.requests.replied was.2)),
     )
 

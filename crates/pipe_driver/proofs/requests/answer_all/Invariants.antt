@@ -13,19 +13,19 @@ decreases-requests g l = length l.framer.bytes
 abbrev pub invariant-requests : goal.invariant-requests
 invariant-requests g l = record {
   len : vec_len l.seats ≡ vec_len l.fn.seats;
-  are_open : AreOpen g.L.Log.is_open l.seats.items;
+  are_open : AreOpen g.L.Log.facts.is_open l.seats.items;
   fed : l.framer.offset + length l.framer.bytes ≡ l.fn.framer.offset + length l.fn.framer.bytes;
   fault : l.framer.fault ≡ None;
   count : l.replied ≤ l.framer.offset;
   sink_calm : g.K.Sink.fault_count l.out ≡ g.K.Sink.fault_count l.fn.out;
-  disks_calm : faults_of g.L.Log.fault_count l.seats.items ≡ faults_of g.L.Log.fault_count l.fn.seats.items;
-  places : places_of g.L.Log.place l.seats.items ≡ places_of g.L.Log.place l.fn.seats.items;
+  disks_calm : faults_of g.L.Log.facts.fault_count l.seats.items ≡ faults_of g.L.Log.facts.fault_count l.fn.seats.items;
+  places : places_of g.L.Log.facts.place l.seats.items ≡ places_of g.L.Log.facts.place l.fn.seats.items;
   served : AreAskedAsRead g.N.Node.asks → (since : Since g.row.L.Denot) (routers : ℕ) → 0 < routers → (held_before consumed : List ℕ) →
-      Serving (seat_since g.N.Node.state g.L.Log.tells g.L.Log.records g.L.Log.holds g.L.Log.finds g.L.Log.moment g.L.Log.left_since since)
+      Serving (seat_since g.N.Node.state g.L.Log.facts since)
       l.fn.seats.items (network_view (λ m. g.N.Mail.Mail.letter m) l.fn.network)
       (g.C.Clock.gives l.clock) routers g.K.Sink.tells held_before (g.K.Sink.held l.fn.out) consumed l.fn.replied
       → (more : List ℕ) × (consumed ++ l.fn.framer.bytes ≡ more ++ l.framer.bytes)
-      × Serving (seat_since g.N.Node.state g.L.Log.tells g.L.Log.records g.L.Log.holds g.L.Log.finds g.L.Log.moment g.L.Log.left_since since)
+      × Serving (seat_since g.N.Node.state g.L.Log.facts since)
       l.seats.items (network_view (λ m. g.N.Mail.Mail.letter m) l.network)
       (g.C.Clock.gives l.clock) routers g.K.Sink.tells held_before (g.K.Sink.held l.out) more l.replied;
 }

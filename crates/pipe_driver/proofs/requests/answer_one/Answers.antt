@@ -12,11 +12,11 @@ use Rattle.pipe_driver.proofs.requests.answer_one.Goals as goal
 pub returns-in-Err-clause-served : goal.returns-in-Err-clause-served
 returns-in-Err-clause-served g c asks q is reads since routers some held_before consumed s =
     let as_many = c.args.seats.now.ok.0
-    ∙ held_len (seat_since g.N.Node.state g.L.Log.tells g.L.Log.records g.L.Log.holds g.L.Log.finds g.L.Log.moment g.L.Log.left_since since)
+    ∙ held_len (seat_since g.N.Node.state g.L.Log.facts since)
     c.args.seats.now.items s.world.nodes s.stands.nodes in
-    stops_by (seat_since g.N.Node.state g.L.Log.tells g.L.Log.records g.L.Log.holds g.L.Log.finds g.L.Log.moment g.L.Log.left_since since)
+    stops_by (seat_since g.N.Node.state g.L.Log.facts since)
     _ _ routers _ held_before _ _ c.in-Err.e _ c.of.ensures
-    (cut_in_round (seat_since g.N.Node.state g.L.Log.tells g.L.Log.records g.L.Log.holds g.L.Log.finds g.L.Log.moment g.L.Log.left_since since)
+    (cut_in_round (seat_since g.N.Node.state g.L.Log.facts since)
     _ _ _ (g.C.Clock.gives c.args.clock.now) routers _ held_before _
     consumed
     c.args.replied s c.now-moment.result (to_z w32 (of_z w32 c.next_number-number.result)) (g.N.Node.asks c.args.request) q c.now-moment.ensures
@@ -26,7 +26,7 @@ returns-in-Err-clause-served g c asks q is reads since routers some held_before 
 pub returns-in-Ok-put_replies-clause-served : goal.returns-in-Ok-put_replies-clause-served
 returns-in-Ok-put_replies-clause-served g c asks q is reads since routers some held_before consumed s =
     let h = c.in-Ok.ensures.served since routers s.rounds s.events s.world s.next (puts_given s.world.answered) some s.pipes s.stands in
-    served_one (seat_since g.N.Node.state g.L.Log.tells g.L.Log.records g.L.Log.holds g.L.Log.finds g.L.Log.moment g.L.Log.left_since since)
+    served_one (seat_since g.N.Node.state g.L.Log.facts since)
     _ _ _ (g.C.Clock.gives c.args.clock.now) routers _ held_before _ consumed
     c.args.replied s c.now-moment.result (to_z w32 (of_z w32 c.next_number-number.result)) (g.N.Node.asks c.args.request) q c.now-moment.ensures
     (number_is c.next_number-number.result c.args.replied c.next_number-number.ensures) (asks c.args.request q is) reads
@@ -37,7 +37,7 @@ returns-in-Ok-put_replies-clause-served g c asks q is reads since routers some h
 pub returns-clause-served : goal.returns-clause-served
 returns-clause-served g c asks q is reads since routers some held_before consumed s =
     let h = c.in-Ok.ensures.served since routers s.rounds s.events s.world s.next (puts_given s.world.answered) some s.pipes s.stands in
-    at_write_fault (put_short (seat_since g.N.Node.state g.L.Log.tells g.L.Log.records g.L.Log.holds g.L.Log.finds g.L.Log.moment g.L.Log.left_since since)
+    at_write_fault (put_short (seat_since g.N.Node.state g.L.Log.facts since)
     _ _ _ (g.C.Clock.gives c.args.clock.now) routers _
     held_before _
     consumed c.args.replied s c.now-moment.result (to_z w32 (of_z w32 c.next_number-number.result)) (g.N.Node.asks c.args.request) q c.now-moment.ensures

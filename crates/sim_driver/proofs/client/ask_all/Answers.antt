@@ -16,7 +16,7 @@ requests-init g c = record {
   disks_calm = refl;
   places = refl;
   went = λ asks since w handed router s.
-      asking_none (seat_since g.N.Node.state g.L.Log.tells g.L.Log.records g.L.Log.holds g.L.Log.finds g.L.Log.moment g.L.Log.left_since since) handed w
+      asking_none (seat_since g.N.Node.state g.L.Log.facts since) handed w
       c.args.link c.args.replied c.args.framer.now.bytes
       _ _ router s;
 }
@@ -25,7 +25,7 @@ pub returns-in-Ok-None-clause-asked : goal.returns-in-Ok-None-clause-asked
 returns-in-Ok-None-clause-asked g c asks since w handed router s =
     let was = c.requests.invariant.went asks since w handed router s in
     let told = next_none c.requests.framer c.next.new.self c.in-Ok-None.field-0 c.in-Ok-None.field-0-is c.in-Ok-None.ensures in
-    asking_ends (seat_since g.N.Node.state g.L.Log.tells g.L.Log.records g.L.Log.holds g.L.Log.finds g.L.Log.moment g.L.Log.left_since since) handed w
+    asking_ends (seat_since g.N.Node.state g.L.Log.facts since) handed w
     c.args.link c.args.replied c.args.framer.now.bytes
     _ _ _ c.requests.replied was c.next.new.self.bytes (same_bytes c.requests.framer c.next.new.self told.1)
     (still_partial c.requests.framer c.next.new.self told.1 told.0)
@@ -35,7 +35,7 @@ returns-in-Err-Malformed-clause-asked g c asks since w handed router s =
     let was = c.requests.invariant.went asks since w handed router s in
     let told = next_malformed c.requests.framer c.next.new.self c.in-Err-Malformed.field-0 c.in-Err-Malformed.field-0-0 c.in-Err-Malformed.field-0-1
     c.in-Err-Malformed.field-0-is c.in-Err-Malformed.ensures in
-    asking_fails (seat_since g.N.Node.state g.L.Log.tells g.L.Log.records g.L.Log.holds g.L.Log.finds g.L.Log.moment g.L.Log.left_since since) handed w
+    asking_fails (seat_since g.N.Node.state g.L.Log.facts since) handed w
     c.args.link c.args.replied c.args.framer.now.bytes
     _ _ _ c.requests.replied was c.next.new.self.bytes told.bytes
     (told_malformed c.requests.framer c.next.new.self (fault_view c.in-Err-Malformed.field-0-0) c.in-Err-Malformed.field-0-1
@@ -43,13 +43,13 @@ returns-in-Err-Malformed-clause-asked g c asks since w handed router s =
 
 pub returns-in-Err-Memory-clause-cut : goal.returns-in-Err-Memory-clause-cut
 returns-in-Err-Memory-clause-cut g c asks since w handed router s =
-    asking_cut (seat_since g.N.Node.state g.L.Log.tells g.L.Log.records g.L.Log.holds g.L.Log.finds g.L.Log.moment g.L.Log.left_since since) handed w
+    asking_cut (seat_since g.N.Node.state g.L.Log.facts since) handed w
     c.args.link c.args.replied c.args.framer.now.bytes
     _ _ _ c.requests.replied (c.requests.invariant.went asks since w handed router s) _
 
 pub returns-then-replied-ge-MOST_REPLIES-clause-cut : goal.returns-then-replied-ge-MOST_REPLIES-clause-cut
 returns-then-replied-ge-MOST_REPLIES-clause-cut g c asks since w handed router s =
-    asking_cut (seat_since g.N.Node.state g.L.Log.tells g.L.Log.records g.L.Log.holds g.L.Log.finds g.L.Log.moment g.L.Log.left_since since) handed w
+    asking_cut (seat_since g.N.Node.state g.L.Log.facts since) handed w
     c.args.link c.args.replied c.args.framer.now.bytes
     _ _ _ c.requests.replied (c.requests.invariant.went asks since w handed router s) _
 
@@ -73,7 +73,7 @@ requests-preserved g c =
       places = c.ask.ensures.places ∙ c.requests.invariant.places;
       went = λ asks since w handed router s.
           let was = c.requests.invariant.went asks since w handed router s in
-          asking_more (seat_since g.N.Node.state g.L.Log.tells g.L.Log.records g.L.Log.holds g.L.Log.finds g.L.Log.moment g.L.Log.left_since since) handed w
+          asking_more (seat_since g.N.Node.state g.L.Log.facts since) handed w
           c.args.link c.args.replied
           c.args.framer.now.bytes _ _ _ c.requests.replied was given.0 (g.N.Node.asks c.in-Ok-Some.request) c.next.new.self.bytes
           (to_z w32 (of_z w32 c.next_number-number.result)) given.1.first.split given.1.first.reads
@@ -87,7 +87,7 @@ pub returns-in-Err-clause-cut : goal.returns-in-Err-clause-cut
 returns-in-Err-clause-cut g c asks since w handed router s =
     let given = next_given c.requests.framer c.next.new.self c.in-Ok-Some.field-0 c.in-Ok-Some.request c.in-Ok-Some.field-0-is c.in-Ok-Some.ensures in
     let was = c.requests.invariant.went asks since w handed router s in
-    asking_stopped (seat_since g.N.Node.state g.L.Log.tells g.L.Log.records g.L.Log.holds g.L.Log.finds g.L.Log.moment g.L.Log.left_since since) handed w
+    asking_stopped (seat_since g.N.Node.state g.L.Log.facts since) handed w
     c.args.link c.args.replied
     c.args.framer.now.bytes _ _ _ c.requests.replied was given.0 (g.N.Node.asks c.in-Ok-Some.request) c.next.new.self.bytes
     (to_z w32 (of_z w32 c.next_number-number.result)) given.1.first.split given.1.first.reads

@@ -16,14 +16,14 @@ decreases-requests g l = length l.framer.bytes
 abbrev pub invariant-requests : goal.invariant-requests
 invariant-requests g l = record {
   len : vec_len l.seats ≡ vec_len l.fn.seats;
-  are_open : AreOpen g.L.Log.is_open l.seats.items;
+  are_open : AreOpen g.L.Log.facts.is_open l.seats.items;
   fault : l.framer.fault ≡ None;
-  disks_calm : faults_of g.L.Log.fault_count l.seats.items ≡ faults_of g.L.Log.fault_count l.fn.seats.items;
-  places : places_of g.L.Log.place l.seats.items ≡ places_of g.L.Log.place l.fn.seats.items;
+  disks_calm : faults_of g.L.Log.facts.fault_count l.seats.items ≡ faults_of g.L.Log.facts.fault_count l.fn.seats.items;
+  places : places_of g.L.Log.facts.place l.seats.items ≡ places_of g.L.Log.facts.place l.fn.seats.items;
   went : AreAskedAsRead g.N.Node.asks → (since : Since g.row.L.Denot) (w : World) (handed : List ToLink) → IsRouter w.nodes first_router
-      → StandsFor (seat_since g.N.Node.state g.L.Log.tells g.L.Log.records g.L.Log.holds g.L.Log.finds g.L.Log.moment g.L.Log.left_since since)
+      → StandsFor (seat_since g.N.Node.state g.L.Log.facts since)
       l.fn.seats.items
       (network_view (λ m. g.N.Mail.Mail.letter m) l.fn.network) handed w 0
-      → AreAsking (seat_since g.N.Node.state g.L.Log.tells g.L.Log.records g.L.Log.holds g.L.Log.finds g.L.Log.moment g.L.Log.left_since since) l.seats.items
+      → AreAsking (seat_since g.N.Node.state g.L.Log.facts since) l.seats.items
       (network_view (λ m. g.N.Mail.Mail.letter m) l.network) handed w l.link l.fn.replied l.fn.framer.bytes l.framer.bytes l.replied;
 }

@@ -12,7 +12,7 @@ messages-init g c = record {
   faults = refl;
   places = refl;
   run = λ since w handed known s.
-      settling_none (seat_since g.N.Node.state g.L.Log.tells g.L.Log.records g.L.Log.holds g.L.Log.finds g.L.Log.moment g.L.Log.left_since since) _
+      settling_none (seat_since g.N.Node.state g.L.Log.facts since) _
       (network_view (λ m. g.N.Mail.Mail.letter m) c.args.network.now) handed w c.args.early.now c.args.next
       known s;
 }
@@ -25,7 +25,7 @@ messages-preserved g c = record {
   places = c.deliver_unless.ensures.places ∙ c.messages.invariant.places;
   run = λ since w handed known s.
       let so_far = c.messages.invariant.run since w handed known s in
-      settling_step (seat_since g.N.Node.state g.L.Log.tells g.L.Log.records g.L.Log.holds g.L.Log.finds g.L.Log.moment g.L.Log.left_since since) _ _
+      settling_step (seat_since g.N.Node.state g.L.Log.facts since) _ _
       (network_view (λ m. g.N.Mail.Mail.letter m) c.messages.network) _ handed w c.args.early.now c.args.next c.messages.at so_far
       (omega (
         arith,
@@ -47,14 +47,14 @@ messages-smaller g c =
 pub returns-in-Err-clause-cut : goal.returns-in-Err-clause-cut
 returns-in-Err-clause-cut g c since w handed known s =
     let so_far = c.messages.invariant.run since w handed known s in
-    settling_cut (seat_since g.N.Node.state g.L.Log.tells g.L.Log.records g.L.Log.holds g.L.Log.finds g.L.Log.moment g.L.Log.left_since since)
+    settling_cut (seat_since g.N.Node.state g.L.Log.facts since)
     c.messages.seats.items _
     (network_view (λ m. g.N.Mail.Mail.letter m) c.messages.network) handed w c.args.early.now c.args.next c.messages.at c.in-Err.status so_far
     (c.in-Err.ensures.cut since so_far.end handed so_far.stands)
 
 pub returns-clause-settled : goal.returns-clause-settled
 returns-clause-settled g c since w handed known s =
-    settling_end (seat_since g.N.Node.state g.L.Log.tells g.L.Log.records g.L.Log.holds g.L.Log.finds g.L.Log.moment g.L.Log.left_since since)
+    settling_end (seat_since g.N.Node.state g.L.Log.facts since)
     c.messages.seats.items
     (network_view (λ m. g.N.Mail.Mail.letter m) c.messages.network) handed w c.args.early.now c.args.next c.messages.at
     (c.messages.invariant.run since w handed known s)

@@ -15,12 +15,12 @@ decreases-messages g l = left_of g.N.Node.steps l.seats.items * 2 ^ 66 + (deque_
 abbrev pub invariant-messages : goal.invariant-messages
 invariant-messages g l = record {
   len : vec_len l.seats ≡ vec_len l.fn.seats;
-  are_open : AreOpen g.L.Log.is_open l.seats.items;
-  faults : faults_of g.L.Log.fault_count l.seats.items ≡ faults_of g.L.Log.fault_count l.fn.seats.items;
-  places : places_of g.L.Log.place l.seats.items ≡ places_of g.L.Log.place l.fn.seats.items;
+  are_open : AreOpen g.L.Log.facts.is_open l.seats.items;
+  faults : faults_of g.L.Log.facts.fault_count l.seats.items ≡ faults_of g.L.Log.facts.fault_count l.fn.seats.items;
+  places : places_of g.L.Log.facts.place l.seats.items ≡ places_of g.L.Log.facts.place l.fn.seats.items;
   run : (since : Since g.row.L.Denot) (w : World) (handed : List ToLink) → l.fn.next ≤ length w.sent
-      → StandsFor (seat_since g.N.Node.state g.L.Log.tells g.L.Log.records g.L.Log.holds g.L.Log.finds g.L.Log.moment g.L.Log.left_since since)
+      → StandsFor (seat_since g.N.Node.state g.L.Log.facts since)
       l.fn.seats.items (network_view (λ m. g.N.Mail.Mail.letter m) l.fn.network) handed w 0
-      → IsSettling (seat_since g.N.Node.state g.L.Log.tells g.L.Log.records g.L.Log.holds g.L.Log.finds g.L.Log.moment g.L.Log.left_since since) l.seats.items
+      → IsSettling (seat_since g.N.Node.state g.L.Log.facts since) l.seats.items
       (network_view (λ m. g.N.Mail.Mail.letter m) l.network) handed w l.early l.fn.next l.at;
 }

@@ -26,7 +26,7 @@ returns-in-Err-clause-stopped g c asks since routers some held_before consumed p
       consumed = was.0;
       left = c.lines.begun.items ++ c.lines.rest.now;
       whole = was.1;
-      stopped = playing_full (seat_since g.N.Node.state g.L.Log.tells g.L.Log.records g.L.Log.holds g.L.Log.finds g.L.Log.moment g.L.Log.left_since since) _
+      stopped = playing_full (seat_since g.N.Node.state g.L.Log.facts since) _
           _ routers _ held_before _ was.0
           (c.lines.begun.items ++ c.lines.rest.now) (script_view c.lines.script) was.2;
     }
@@ -86,7 +86,7 @@ returns-in-Err-extend_from_slice-clause-stopped g c asks since routers some held
       consumed = was.0;
       left = c.lines.begun.items ++ c.lines.rest.now;
       whole = was.1;
-      stopped = playing_full (seat_since g.N.Node.state g.L.Log.tells g.L.Log.records g.L.Log.holds g.L.Log.finds g.L.Log.moment g.L.Log.left_since since) _
+      stopped = playing_full (seat_since g.N.Node.state g.L.Log.facts since) _
           _ routers _ held_before _ was.0
           (c.lines.begun.items ++ c.lines.rest.now) (script_view c.lines.script) was.2;
     }

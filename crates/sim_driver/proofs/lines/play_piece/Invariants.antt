@@ -18,17 +18,17 @@ abbrev pub invariant-lines : goal.invariant-lines
 invariant-lines g l = record {
   begun : HasNone newline l.begun.items;
   len : vec_len l.seats ≡ vec_len l.fn.seats;
-  are_open : AreOpen g.L.Log.is_open l.seats.items;
+  are_open : AreOpen g.L.Log.facts.is_open l.seats.items;
   fault : l.script.framer.fault ≡ None;
   sink_calm : g.K.Sink.fault_count l.out ≡ g.K.Sink.fault_count l.fn.out;
-  disks_calm : faults_of g.L.Log.fault_count l.seats.items ≡ faults_of g.L.Log.fault_count l.fn.seats.items;
-  places : places_of g.L.Log.place l.seats.items ≡ places_of g.L.Log.place l.fn.seats.items;
+  disks_calm : faults_of g.L.Log.facts.fault_count l.seats.items ≡ faults_of g.L.Log.facts.fault_count l.fn.seats.items;
+  places : places_of g.L.Log.facts.place l.seats.items ≡ places_of g.L.Log.facts.place l.fn.seats.items;
   went : AreAskedAsRead g.N.Node.asks → (since : Since g.row.L.Denot) (routers : ℕ) → 0 < routers → (held_before consumed : List ℕ) →
-      Playing (seat_since g.N.Node.state g.L.Log.tells g.L.Log.records g.L.Log.holds g.L.Log.finds g.L.Log.moment g.L.Log.left_since since)
+      Playing (seat_since g.N.Node.state g.L.Log.facts since)
       l.fn.seats.items (network_view (λ m. g.N.Mail.Mail.letter m) l.fn.network) routers g.K.Sink.tells held_before (g.K.Sink.held l.fn.out)
       (script_view l.fn.script) consumed
       → (more : List ℕ) × (consumed ++ (l.fn.begun.items ++ l.piece) ≡ more ++ (l.begun.items ++ l.rest))
-      × Playing (seat_since g.N.Node.state g.L.Log.tells g.L.Log.records g.L.Log.holds g.L.Log.finds g.L.Log.moment g.L.Log.left_since since)
+      × Playing (seat_since g.N.Node.state g.L.Log.facts since)
       l.seats.items (network_view (λ m. g.N.Mail.Mail.letter m) l.network) routers g.K.Sink.tells held_before (g.K.Sink.held l.out)
       (script_view l.script) more;
 }

@@ -14,57 +14,57 @@ use Rattle.sim_driver.proofs.play.play_deliver.Goals as goal
 
 pub returns-then-node-len-clause-stops : goal.returns-then-node-len-clause-stops
 returns-then-node-len-clause-stops g c since w handed s =
-    let count = held_len (seat_since g.N.Node.state g.L.Log.tells g.L.Log.records g.L.Log.holds g.L.Log.finds g.L.Log.moment g.L.Log.left_since since)
+    let count = held_len (seat_since g.N.Node.state g.L.Log.facts since)
     c.args.seats.now.items w.nodes s.nodes in
     stops_unplayed (no_node c.args.node c.args.k (omega (arith, count, c.args.seats.now.ok.0, c.len.ensures, c.if-node-len.true)))
-    (still (seat_since g.N.Node.state g.L.Log.tells g.L.Log.records g.L.Log.holds g.L.Log.finds g.L.Log.moment g.L.Log.left_since since) _ _ handed w s)
+    (still (seat_since g.N.Node.state g.L.Log.facts since) _ _ handed w s)
 
 pub returns-in-None-clause-stops : goal.returns-in-None-clause-stops
 returns-in-None-clause-stops g c since w handed s =
-    let all = all_sent (seat_since g.N.Node.state g.L.Log.tells g.L.Log.records g.L.Log.holds g.L.Log.finds g.L.Log.moment g.L.Log.left_since since) _ _
+    let all = all_sent (seat_since g.N.Node.state g.L.Log.facts since) _ _
     handed w s in
     stops_unplayed (no_message c.args.node c.args.k
     (ap (λ l. place_from 0 c.args.node c.args.k l) all ∙ sym c.in-None.ensures.place))
-    (still (seat_since g.N.Node.state g.L.Log.tells g.L.Log.records g.L.Log.holds g.L.Log.finds g.L.Log.moment g.L.Log.left_since since) _ _ handed w s)
+    (still (seat_since g.N.Node.state g.L.Log.facts since) _ _ handed w s)
 
 pub returns-in-Err-clause-stops : goal.returns-in-Err-clause-stops
 returns-in-Err-clause-stops g c since w handed s =
-    let all = all_sent (seat_since g.N.Node.state g.L.Log.tells g.L.Log.records g.L.Log.holds g.L.Log.finds g.L.Log.moment g.L.Log.left_since since) _ _
+    let all = all_sent (seat_since g.N.Node.state g.L.Log.facts since) _ _
     handed w s in
     let place = ap (λ l. place_from 0 c.args.node c.args.k l) all ∙ sym c.in-Some.ensures.place in
-    stops_either (seat_since g.N.Node.state g.L.Log.tells g.L.Log.records g.L.Log.holds g.L.Log.finds g.L.Log.moment g.L.Log.left_since since) _ w
+    stops_either (seat_since g.N.Node.state g.L.Log.facts since) _ w
     (deliver_line c.args.node c.args.k) (script_view c.args.script.now)
     c.in-Err.status c.in-Err.ensures.other
-    (cut_as (seat_since g.N.Node.state g.L.Log.tells g.L.Log.records g.L.Log.holds g.L.Log.finds g.L.Log.moment g.L.Log.left_since since) _ w
+    (cut_as (seat_since g.N.Node.state g.L.Log.facts since) _ w
     (IsPartOfDelivery w c.in-Some.at)
     (IsPartOfLine w (script_view c.args.script.now) (deliver_line c.args.node c.args.k)) c.in-Err.status
-    (λ events p. deliver_part (seat_since g.N.Node.state g.L.Log.tells g.L.Log.records g.L.Log.holds g.L.Log.finds g.L.Log.moment g.L.Log.left_since since)
+    (λ events p. deliver_part (seat_since g.N.Node.state g.L.Log.facts since)
     c.args.seats.now.items (network_view (λ m. g.N.Mail.Mail.letter m) c.args.network.now) handed w
     (script_view c.args.script.now) c.args.node c.args.k c.in-Some.at events place p)
     (c.in-Err.ensures.cut since w handed s))
 
 pub returns-in-Ok-push-clause-played : goal.returns-in-Ok-push-clause-played
 returns-in-Ok-push-clause-played g c since w handed s =
-    let count = held_len (seat_since g.N.Node.state g.L.Log.tells g.L.Log.records g.L.Log.holds g.L.Log.finds g.L.Log.moment g.L.Log.left_since since)
+    let count = held_len (seat_since g.N.Node.state g.L.Log.facts since)
     c.args.seats.now.items w.nodes s.nodes in
-    let all = all_sent (seat_since g.N.Node.state g.L.Log.tells g.L.Log.records g.L.Log.holds g.L.Log.finds g.L.Log.moment g.L.Log.left_since since) _ _
+    let all = all_sent (seat_since g.N.Node.state g.L.Log.facts since) _ _
     handed w s in
     let place = ap (λ l. place_from 0 c.args.node c.args.k l) all ∙ sym c.in-Some.ensures.place in
     let inside : c.args.node < length w.nodes = omega (arith, count, c.args.seats.now.ok.0, c.len.ensures, c.if-node-len.false) in
-    deliver_noted (seat_since g.N.Node.state g.L.Log.tells g.L.Log.records g.L.Log.holds g.L.Log.finds g.L.Log.moment g.L.Log.left_since since)
+    deliver_noted (seat_since g.N.Node.state g.L.Log.facts since)
     c.deliver_at.new.seats.items
     (network_view (λ m. g.N.Mail.Mail.letter m) c.deliver_at.new.network) handed w (script_view c.args.script.now) c.args.node c.args.k c.in-Some.at
     c.push.new.self.items c.in-Ok-push.ensures.items place inside (c.in-Ok.ensures.delivered since w handed s)
 
 pub returns-in-Err-push-clause-stops : goal.returns-in-Err-push-clause-stops
 returns-in-Err-push-clause-stops g c since w handed s =
-    let count = held_len (seat_since g.N.Node.state g.L.Log.tells g.L.Log.records g.L.Log.holds g.L.Log.finds g.L.Log.moment g.L.Log.left_since since)
+    let count = held_len (seat_since g.N.Node.state g.L.Log.facts since)
     c.args.seats.now.items w.nodes s.nodes in
-    let all = all_sent (seat_since g.N.Node.state g.L.Log.tells g.L.Log.records g.L.Log.holds g.L.Log.finds g.L.Log.moment g.L.Log.left_since since) _ _
+    let all = all_sent (seat_since g.N.Node.state g.L.Log.facts since) _ _
     handed w s in
     let place = ap (λ l. place_from 0 c.args.node c.args.k l) all ∙ sym c.in-Some.ensures.place in
     let inside : c.args.node < length w.nodes = omega (arith, count, c.args.seats.now.ok.0, c.len.ensures, c.if-node-len.false) in
-    stops_at_memory (deliver_full (seat_since g.N.Node.state g.L.Log.tells g.L.Log.records g.L.Log.holds g.L.Log.finds g.L.Log.moment g.L.Log.left_since
+    stops_at_memory (deliver_full (seat_since g.N.Node.state g.L.Log.facts
     since) c.deliver_at.new.seats.items
     (network_view (λ m. g.N.Mail.Mail.letter m) c.deliver_at.new.network) handed w (script_view c.args.script.now) c.args.node c.args.k c.in-Some.at
     place inside (c.in-Ok.ensures.delivered since w handed s))

@@ -7,38 +7,38 @@ use Rattle.sim_driver.proofs.play.play_said.Goals as goal
 
 pub returns-in-Ok-clause-played : goal.returns-in-Ok-clause-played
 returns-in-Ok-clause-played g c asks since w handed router known s =
-    played_as (seat_since g.N.Node.state g.L.Log.tells g.L.Log.records g.L.Log.holds g.L.Log.finds g.L.Log.moment g.L.Log.left_since since) _ _ handed w
+    played_as (seat_since g.N.Node.state g.L.Log.facts since) _ _ handed w
     (client_line c.in-Client.router c.deref.result.now) (meaning_of c.args.line)
     _ _ _ (ap (λ (b : List ℕ). client_line c.in-Client.router b) c.deref.ensures.value ∙ ap meaning_of (sym c.in-Client.is))
     (c.in-Ok.ensures.played asks since w handed router s)
 
 pub returns-in-Client-clause-stops : goal.returns-in-Client-clause-stops
 returns-in-Client-clause-stops g c asks since w handed router known s =
-    stops_as (seat_since g.N.Node.state g.L.Log.tells g.L.Log.records g.L.Log.holds g.L.Log.finds g.L.Log.moment g.L.Log.left_since since) _ w
+    stops_as (seat_since g.N.Node.state g.L.Log.facts since) _ w
     (client_line c.in-Client.router c.deref.result.now) (meaning_of c.args.line)
     _ _ (ap (λ (b : List ℕ). client_line c.in-Client.router b) c.deref.ensures.value ∙ ap meaning_of (sym c.in-Client.is))
     (c.in-Err.ensures.stops asks since w handed router s)
 
 pub returns-in-Ok-play_deliver-clause-played : goal.returns-in-Ok-play_deliver-clause-played
 returns-in-Ok-play_deliver-clause-played g c asks since w handed router known s =
-    played_as (seat_since g.N.Node.state g.L.Log.tells g.L.Log.records g.L.Log.holds g.L.Log.finds g.L.Log.moment g.L.Log.left_since since) _ _ handed w
+    played_as (seat_since g.N.Node.state g.L.Log.facts since) _ _ handed w
     (deliver_line c.in-Deliver.node c.in-Deliver.k) (meaning_of c.args.line)
     _ _ _ (ap meaning_of (sym c.in-Deliver.is)) (c.in-Ok-play_deliver.ensures.played since w handed s)
 
 pub returns-in-Deliver-clause-stops : goal.returns-in-Deliver-clause-stops
 returns-in-Deliver-clause-stops g c asks since w handed router known s =
-    stops_as (seat_since g.N.Node.state g.L.Log.tells g.L.Log.records g.L.Log.holds g.L.Log.finds g.L.Log.moment g.L.Log.left_since since) _ w
+    stops_as (seat_since g.N.Node.state g.L.Log.facts since) _ w
     (deliver_line c.in-Deliver.node c.in-Deliver.k) (meaning_of c.args.line)
     _ _ (ap meaning_of (sym c.in-Deliver.is)) (c.in-Err-play_deliver.ensures.stops since w handed s)
 
 pub returns-in-Ok-play_settle-clause-played : goal.returns-in-Ok-play_settle-clause-played
 returns-in-Ok-play_settle-clause-played g c asks since w handed router known s =
-    played_as (seat_since g.N.Node.state g.L.Log.tells g.L.Log.records g.L.Log.holds g.L.Log.finds g.L.Log.moment g.L.Log.left_since since) _ _ handed w
+    played_as (seat_since g.N.Node.state g.L.Log.facts since) _ _ handed w
     settle_line (meaning_of c.args.line)
     _ _ _ (ap meaning_of (sym c.in-Settle.is)) (c.in-Ok-play_settle.ensures.played since w handed known s)
 
 pub returns-clause-stops : goal.returns-clause-stops
 returns-clause-stops g c asks since w handed router known s =
-    stops_as (seat_since g.N.Node.state g.L.Log.tells g.L.Log.records g.L.Log.holds g.L.Log.finds g.L.Log.moment g.L.Log.left_since since) _ w settle_line
+    stops_as (seat_since g.N.Node.state g.L.Log.facts since) _ w settle_line
     (meaning_of c.args.line)
     _ _ (ap meaning_of (sym c.in-Settle.is)) (c.in-Err-play_settle.ensures.stops since w handed known s)

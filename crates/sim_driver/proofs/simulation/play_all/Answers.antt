@@ -28,7 +28,7 @@ pieces-init g c = record {
     [],
     rw c.new-begun.ensures.items refl,
     (λ told. rw c.new-begun.ensures.items refl),
-    playing_from (seat_since g.N.Node.state g.L.Log.tells g.L.Log.records g.L.Log.holds g.L.Log.finds g.L.Log.moment g.L.Log.left_since since) _ _ routers _
+    playing_from (seat_since g.N.Node.state g.L.Log.facts since) _ _ routers _
         _ _ [] new_script (script_view c.new-script.result)
         (sym c.new-script.ensures.view) p,
   );
@@ -36,7 +36,7 @@ pieces-init g c = record {
 
 pub returns-in_default-clause-simulated : goal.returns-in_default-clause-simulated
 returns-in_default-clause-simulated g c asks since routers some p =
-    let view = seat_since g.N.Node.state g.L.Log.tells g.L.Log.records g.L.Log.holds g.L.Log.finds g.L.Log.moment g.L.Log.left_since since in
+    let view = seat_since g.N.Node.state g.L.Log.facts since in
     ended_stopped view c.args.seats.now.items
     (source_call g.S.Source.tells g.S.Source.left g.S.Source.fault_count c.args.input.now c.args.input.now)
     (sink_call g.K.Sink.tells g.K.Sink.held g.K.Sink.fault_count c.args.out.now c.args.out.now) routers c.args.limit
@@ -47,7 +47,7 @@ returns-in_default-clause-simulated g c asks since routers some p =
 pub returns-in-Err-clause-simulated : goal.returns-in-Err-clause-simulated
 returns-in-Err-clause-simulated g c asks since routers some p =
     let went = c.pieces.invariant.went asks since routers some p in
-    ended_taking (seat_since g.N.Node.state g.L.Log.tells g.L.Log.records g.L.Log.holds g.L.Log.finds g.L.Log.moment g.L.Log.left_since since)
+    ended_taking (seat_since g.N.Node.state g.L.Log.facts since)
     c.pieces.seats.items
     (source_call g.S.Source.tells g.S.Source.left g.S.Source.fault_count c.args.input.now c.take_more.new.input)
     (sink_call g.K.Sink.tells g.K.Sink.held g.K.Sink.fault_count c.args.out.now c.pieces.out) routers c.args.limit c.unended.result
@@ -134,7 +134,7 @@ returns-in-Err-play_piece-clause-simulated g c asks since routers some p =
     let t = piece_taken _ _ _ _ went.0 c.pieces.begun.items bytes _
     c.pieces.taken c.in-Ok-take_more.count went.2 more.took
     (ap (λ (b : List ℕ). take c.in-Ok-take_more.count b) c.deref.ensures.value) went.1 size in
-    ended_within (seat_since g.N.Node.state g.L.Log.tells g.L.Log.records g.L.Log.holds g.L.Log.finds g.L.Log.moment g.L.Log.left_since since)
+    ended_within (seat_since g.N.Node.state g.L.Log.facts since)
     c.play_piece.new.seats.items
     (source_call g.S.Source.tells g.S.Source.left g.S.Source.fault_count c.args.input.now c.take_more.new.input)
     (sink_call g.K.Sink.tells g.K.Sink.held g.K.Sink.fault_count c.args.out.now c.play_piece.new.out) routers c.args.limit
@@ -159,7 +159,7 @@ returns-in-Err-play_piece-clause-disk_fault g c =
 pub returns-clause-simulated : goal.returns-clause-simulated
 returns-clause-simulated g c asks since routers some p =
     let went = c.pieces.invariant.went asks since routers some p in
-    ended_at_limit (seat_since g.N.Node.state g.L.Log.tells g.L.Log.records g.L.Log.holds g.L.Log.finds g.L.Log.moment g.L.Log.left_since since)
+    ended_at_limit (seat_since g.N.Node.state g.L.Log.facts since)
     c.pieces.seats.items
     (source_call g.S.Source.tells g.S.Source.left g.S.Source.fault_count c.args.input.now c.pieces.input)
     (sink_call g.K.Sink.tells g.K.Sink.held g.K.Sink.fault_count c.args.out.now c.pieces.out) routers c.args.limit

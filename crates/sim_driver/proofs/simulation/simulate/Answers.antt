@@ -13,30 +13,30 @@ use Rattle.sim_driver.proofs.simulation.simulate.Goals as goal
 pub returns-in-Ok-clause-simulated : goal.returns-in-Ok-clause-simulated
 returns-in-Ok-clause-simulated g c = λ asks routers some are.
     let since = since_then c.args.seats.now.items (start routers) in
-    let seated = held_since g.N.Node.state g.L.Log.tells g.L.Log.records g.L.Log.holds g.L.Log.finds g.L.Log.moment g.L.Log.left_since since
+    let seated = held_since g.N.Node.state g.L.Log.facts since
     c.args.seats.now.items (start routers).nodes are in
-    let leave = start_leaves g.N.Node.state g.L.Log.tells g.L.Log.records g.L.Log.holds g.L.Log.finds g.L.Log.moment g.L.Log.left_since
+    let leave = start_leaves g.N.Node.state g.L.Log.facts
     c.args.seats.now.items (start routers) in
     let as_many = c.args.seats.now.ok.0 ∙ held_len _ c.args.seats.now.items (start routers).nodes seated in
     let s = starts _ (λ m. g.N.Mail.Mail.letter m) c.args.seats.now.items routers
     c.new-network.result seated leave c.new-network.ensures.waiting c.new-network.ensures.replies in
     simulated_as _ _ _ _ _ routers _ _
-    (λ nodes kept. kept_plain g.N.Node.state g.L.Log.tells g.L.Log.records g.L.Log.holds g.L.Log.finds g.L.Log.moment g.L.Log.left_since since _ nodes kept)
+    (λ nodes kept. kept_plain g.N.Node.state g.L.Log.facts since _ nodes kept)
     (c.play_all.ensures.simulated asks since routers some
     (opened_playing _ _ routers _ _ (vec_len c.args.seats.now) as_many _ (c.in-Ok.ensures.opened since (start routers) 0 [] s)))
 
 pub returns-in-Err-clause-simulated : goal.returns-in-Err-clause-simulated
 returns-in-Err-clause-simulated g c = λ asks routers some are.
     let since = since_then c.args.seats.now.items (start routers) in
-    let seated = held_since g.N.Node.state g.L.Log.tells g.L.Log.records g.L.Log.holds g.L.Log.finds g.L.Log.moment g.L.Log.left_since since
+    let seated = held_since g.N.Node.state g.L.Log.facts since
     c.args.seats.now.items (start routers).nodes are in
-    let leave = start_leaves g.N.Node.state g.L.Log.tells g.L.Log.records g.L.Log.holds g.L.Log.finds g.L.Log.moment g.L.Log.left_since
+    let leave = start_leaves g.N.Node.state g.L.Log.facts
     c.args.seats.now.items (start routers) in
     let as_many = c.args.seats.now.ok.0 ∙ held_len _ c.args.seats.now.items (start routers).nodes seated in
     let s = starts _ (λ m. g.N.Mail.Mail.letter m) c.args.seats.now.items routers
     c.new-network.result seated leave c.new-network.ensures.waiting c.new-network.ensures.replies in
     simulated_as _ _ _ _ _ routers _ _
-    (λ nodes kept. kept_plain g.N.Node.state g.L.Log.tells g.L.Log.records g.L.Log.holds g.L.Log.finds g.L.Log.moment g.L.Log.left_since since _ nodes kept)
+    (λ nodes kept. kept_plain g.N.Node.state g.L.Log.facts since _ nodes kept)
     (ended_stopped _ c.open_all.new.seats.items
     (source_call g.S.Source.tells g.S.Source.left g.S.Source.fault_count c.args.input.now c.args.input.now)
     (sink_call g.K.Sink.tells g.K.Sink.held g.K.Sink.fault_count c.args.out.now c.args.out.now) routers c.args.limit

@@ -10,13 +10,12 @@ use Rattle.node_tests.proofs.idle.IdleNode.step.Goals as goal
 
 pub returns-in-Opened-clause-done : goal.returns-in-Opened-clause-done
 returns-in-Opened-clause-done g c =
-    subst (λ i. StepDone (idle_state c.args.self.now) i (map silent_letter c.new.result) c.new-in-Opened.result (log_call g.L.Log.tells g.L.Log.records
-    g.L.Log.holds g.L.Log.finds g.L.Log.moment g.L.Log.left_since c.args._log.now c.args._log.now) (idle_state c.args.self.now)) (sym (ap
+    subst (λ i. StepDone (idle_state c.args.self.now) i (map silent_letter c.new.result) c.new-in-Opened.result (log_call g.L.Log.facts c.args._log.now c.args._log.now) (idle_state c.args.self.now)) (sym (ap
     idle_input c.in-Opened.is)) (record {
       effect = nothing;
       step = catalogue_step _ _ _ nothing tt (catalogue_opened _);
       sent = sym (ap (λ mail. map silent_letter mail) c.new.ensures);
       told = c.new-in-Opened.ensures;
       sound = tt;
-      kept = left_alone g.L.Log.tells g.L.Log.records g.L.Log.holds g.L.Log.finds g.L.Log.moment g.L.Log.left_since c.args._log.now;
+      kept = left_alone g.L.Log.facts c.args._log.now;
     })
