@@ -7,16 +7,18 @@ use Rattle.outside.proofs.Relations.{took_then}
 use Rattle.opmsg_frames.specs.Requests.{Request}
 use Rattle.opmsg_frames.specs.Outline.{FrameFault, outline, partial_outline, message_outline, faulty_outline}
 use Rattle.opmsg_frames.specs.Frames.{FramesFrom, ends, fails, goes_on}
-use Rattle.node_model.specs.World.{Held, World}
+use Rattle.node_model.specs.World.{Held, World, start}
 use Rattle.node_model.specs.Schedule.{Round}
 use Rattle.node_progress.proofs.Rounds.{piped_requests_are_answered}
+use Rattle.driver_steps.specs.Crashes.{Noted}
 use Rattle.driver_steps.specs.Seats.{SeatView, AreKept, LeaveKept}
 use Rattle.driver_steps.specs.Worlds.{NetworkView, puts_given}
 use Rattle.driver_steps.proofs.Seats.{held_kept}
 use Rattle.pipe_driver.specs.Buffers.{EndsTaking, at_source_end, at_read_fault}
 use Rattle.pipe_driver.specs.Endings.{AllServed, SomeServed, LastCutShort, Cause, input_ended, read_failed, write_failed, disk_failed, no_memory, no_request}
 use Rattle.pipe_driver.specs.Endings.{too_long, IsPiped}
-use Rattle.pipe_driver.specs.Progress.{AreAsked, Serving, CutShort, PutShort}
+use Rattle.pipe_driver.specs.Acknowledgements.{AreCovered}
+use Rattle.pipe_driver.specs.Progress.{AreAsked, Serving, CutShort, PutShort, all_replies}
 use Rattle.pipe_driver.specs.Rest.{Unframed}
 use Rattle.pipe_driver.specs.Rounds.{requests_of, bytes_of}
 use Rattle.pipe_driver.specs.Schedules.{Came, IsLast}
@@ -70,19 +72,23 @@ framed limit count source consumed rest left more fault asked are took most fram
   counted = counted;
 }
 
-module _ {S : Type 0} (view : S → SeatView) (seats : List S) (source : SourceCall) (sink : SinkCall) (gives : ℕ → Type 0) (routers limit count : ℕ)
+module _ {S : Type 0} (view : S → SeatView) (seats : List S) (source : SourceCall) (sink : SinkCall) (gives : ℕ → Type 0) (noted : List Noted) (routers limit count : ℕ)
     (status : Status) (consumed rest : List ℕ) where
+  -- what the journals owed before bytes were put
+  abbrev pub Owed : World → List ℕ → Type 0
+  Owed last put = IsTrue sink.tells → AreCovered all_replies (start routers) noted sink.held_before put last
+
   -- ALL WAS SERVED
 
   -- all requests had their rounds
   ended : (network : NetworkView) (replied : ℕ) (known : Status) (fault : Option (FrameFault × ℕ)) → status ≡ known
-      → (s : Serving view seats network gives routers sink.tells sink.held_before sink.held_after consumed replied)
+      → (s : Serving view seats network gives routers sink.tells noted sink.held_before sink.held_after consumed replied)
       → Took source.tells source.left_before (consumed ++ rest) source.left_after → length consumed + length rest ≤ limit
       → FramesFrom (0 + length (bytes_asked (requests_of s.rounds))) rest [] rest fault → count ≡ length rest
       → ((put : List ℕ) (requests : List Request) → AllServed routers put requests s.rounds s.world
       → Cause limit (IsTrue source.tells → source.left_after ≡ []) (consumed ++ rest) fault (AllServed routers put requests s.rounds s.world)
       (SomeServed routers gives put requests s.rounds s.world) (LastCutShort routers put requests s.rounds s.world) known)
-      → IsPiped source sink gives (AreKept view seats) (LeaveKept view seats) routers limit status count
+      → IsPiped source sink gives (AreKept view seats) (LeaveKept view seats) Owed routers limit status count
   ended network replied known fault is s took most frames counted cause =
       let f = framed limit count source consumed rest rest [] fault (requests_of s.rounds) s.asked took most frames counted in
       record {
@@ -116,14 +122,15 @@ module _ {S : Type 0} (view : S → SeatView) (seats : List S) (source : SourceC
         last = s.world;
         is_last = inl refl;
         crashes = s.stands.crashes;
+        acknowledged = s.covered;
       }
 
   -- the input is at its limit, and the rest is less than a whole message
   pub ended_at_limit : (network : NetworkView) (replied : ℕ) → status ≡ statuses.InputTooLong
-      → Serving view seats network gives routers sink.tells sink.held_before sink.held_after consumed replied
+      → Serving view seats network gives routers sink.tells noted sink.held_before sink.held_after consumed replied
       → Took source.tells source.left_before (consumed ++ rest) source.left_after → length consumed + length rest ≡ limit
       → outline rest ≡ partial_outline → count ≡ length rest
-      → IsPiped source sink gives (AreKept view seats) (LeaveKept view seats) routers limit status count
+      → IsPiped source sink gives (AreKept view seats) (LeaveKept view seats) Owed routers limit status count
   ended_at_limit network replied is s took most partial counted =
       let full : length (consumed ++ rest) ≡ limit = omega (arith, most, length-append consumed rest) in
       ended network replied statuses.InputTooLong None is s took (omega (arith, most)) (ends _ rest partial) counted
@@ -131,10 +138,10 @@ module _ {S : Type 0} (view : S → SeatView) (seats : List S) (source : SourceC
 
   -- the rest begins no message
   ended_malformed : (network : NetworkView) (replied : ℕ) → status ≡ statuses.BadInput
-      → Serving view seats network gives routers sink.tells sink.held_before sink.held_after consumed replied
+      → Serving view seats network gives routers sink.tells noted sink.held_before sink.held_after consumed replied
       → Took source.tells source.left_before (consumed ++ rest) source.left_after → length consumed + length rest ≤ limit
       → IsMalformed rest → count ≡ length rest
-      → IsPiped source sink gives (AreKept view seats) (LeaveKept view seats) routers limit status count
+      → IsPiped source sink gives (AreKept view seats) (LeaveKept view seats) Owed routers limit status count
   ended_malformed network replied is s took most malformed counted =
       let place : ℕ = 0 + length (bytes_asked (requests_of s.rounds)) in
       ended network replied statuses.BadInput (Some (malformed.0, place)) is s took most (fails place rest malformed.0 malformed.1) counted
@@ -148,13 +155,13 @@ module _ {S : Type 0} (view : S → SeatView) (seats : List S) (source : SourceC
   last_with known is P Q end last (inr (disk, further, e, more)) on = inr (is ∙ disk, on further, e, more)
 
   -- some requests had their rounds, and one more may be under way
-  ended_cut : (known : Status) → status ≡ known → (s : CutShort view seats gives routers sink.tells sink.held_before sink.held_after consumed known)
+  ended_cut : (known : Status) → status ≡ known → (s : CutShort view seats gives routers sink.tells noted sink.held_before sink.held_after consumed known)
       → Took source.tells source.left_before (consumed ++ rest) source.left_after → length consumed + length rest ≤ limit
       → Unframed rest count
       → ((put : List ℕ) (requests : List Request) (fault : Option (FrameFault × ℕ)) → SomeServed routers gives put requests s.rounds s.end
       → Cause limit (IsTrue source.tells → source.left_after ≡ []) (consumed ++ rest) fault (AllServed routers put requests s.rounds s.end)
       (SomeServed routers gives put requests s.rounds s.end) (LastCutShort routers put requests s.rounds s.end) known)
-      → IsPiped source sink gives (AreKept view seats) (LeaveKept view seats) routers limit status count
+      → IsPiped source sink gives (AreKept view seats) (LeaveKept view seats) Owed routers limit status count
   ended_cut known is s took most unframed cause =
       let asked : List Request = requests_of s.rounds ++ s.under_way in
       let found = unframed (0 + length (bytes_asked asked)) in
@@ -185,13 +192,14 @@ module _ {S : Type 0} (view : S → SeatView) (seats : List S) (source : SourceC
             (λ w. SomeServed routers gives (bytes_of (puts_given s.whole.answered)) (asked ++ found.0) s.rounds w) s.end s.last s.is_last
             (λ came. record { under_way = s.under_way; others = found.0; whole = s.whole; asked = refl; came = came; replied = refl });
         crashes = s.crashes;
+        acknowledged = s.covered;
       }
 
   -- the replies of the last round were put in part
-  ended_short : status ≡ statuses.WriteFailed → (s : PutShort view seats gives routers sink.tells sink.held_before sink.held_after consumed)
+  ended_short : status ≡ statuses.WriteFailed → (s : PutShort view seats gives routers sink.tells noted sink.held_before sink.held_after consumed)
       → Took source.tells source.left_before (consumed ++ rest) source.left_after → length consumed + length rest ≤ limit
       → Unframed rest count
-      → IsPiped source sink gives (AreKept view seats) (LeaveKept view seats) routers limit status count
+      → IsPiped source sink gives (AreKept view seats) (LeaveKept view seats) Owed routers limit status count
   ended_short is s took most unframed =
       let rounds : List Round = s.earlier ++ s.last ∷ [] in
       let asked : List Request = requests_of rounds in
@@ -233,25 +241,26 @@ module _ {S : Type 0} (view : S → SeatView) (seats : List S) (source : SourceC
         last = s.end;
         is_last = inl refl;
         crashes = s.crashes;
+        acknowledged = s.covered;
       }
 
   -- there was no memory, between two rounds
   pub ended_full : (network : NetworkView) (replied : ℕ) → status ≡ statuses.OutOfMemory
-      → Serving view seats network gives routers sink.tells sink.held_before sink.held_after consumed replied
+      → Serving view seats network gives routers sink.tells noted sink.held_before sink.held_after consumed replied
       → Took source.tells source.left_before (consumed ++ rest) source.left_after → length consumed + length rest ≤ limit
       → outline rest ≡ partial_outline → count ≡ length rest
-      → IsPiped source sink gives (AreKept view seats) (LeaveKept view seats) routers limit status count
+      → IsPiped source sink gives (AreKept view seats) (LeaveKept view seats) Owed routers limit status count
   ended_full network replied is s took most partial counted =
       ended_cut statuses.OutOfMemory is
-      (cut_between view seats gives routers sink.tells sink.held_before sink.held_after consumed network replied s) took most
+      (cut_between view seats gives routers sink.tells noted sink.held_before sink.held_after consumed network replied s) took most
       (λ place. ([], rest, None, ends place rest partial, counted)) (λ put requests fault some. no_memory some)
 
   -- no more is taken, and the rest is less than a whole message
   pub ended_taking : (network : NetworkView) (replied : ℕ) (told : Status) → status ≡ told → EndsTaking source.tells source.left_after told
-      → Serving view seats network gives routers sink.tells sink.held_before sink.held_after consumed replied
+      → Serving view seats network gives routers sink.tells noted sink.held_before sink.held_after consumed replied
       → Took source.tells source.left_before (consumed ++ rest) source.left_after → length (consumed ++ rest) < limit
       → outline rest ≡ partial_outline → count ≡ length rest
-      → IsPiped source sink gives (AreKept view seats) (LeaveKept view seats) routers limit status count
+      → IsPiped source sink gives (AreKept view seats) (LeaveKept view seats) Owed routers limit status count
   ended_taking network replied told is (at_source_end at_end) s took below partial counted =
       ended network replied statuses.InputEnded None is s took (omega (arith, below, length-append consumed rest)) (ends _ rest partial) counted
       (λ put requests all. input_ended at_end below refl all)
@@ -275,9 +284,9 @@ module _ {S : Type 0} (view : S → SeatView) (seats : List S) (source : SourceC
 
   -- no further request is served
   pub ended_serving : (network : NetworkView) (told : Status) → status ≡ told
-      → StopsServing told view seats network gives routers sink.tells sink.held_before sink.held_after consumed rest
+      → StopsServing told view seats network gives routers sink.tells noted sink.held_before sink.held_after consumed rest
       → Took source.tells source.left_before (consumed ++ rest) source.left_after → length consumed + length rest ≤ limit → Unframed rest count
-      → IsPiped source sink gives (AreKept view seats) (LeaveKept view seats) routers limit status count
+      → IsPiped source sink gives (AreKept view seats) (LeaveKept view seats) Owed routers limit status count
   ended_serving network told is (inl (bad, malformed, (replied, s))) took most unframed =
       ended_malformed network replied (is ∙ bad) s took most malformed (malformed_left malformed unframed)
   ended_serving network told is (inr (at_write_fault s)) took most unframed = ended_short is s took most unframed
@@ -293,10 +302,12 @@ taking_stops tells left status (at_source_end at_end) = (λ e. cc, λ e. cc)
 taking_stops tells left status at_read_fault = (λ e. cc, λ e. cc)
 
 -- told otherwise of what the journals keep
-pub piped_with : (source : SourceCall) (sink : SinkCall) (gives : ℕ → Type 0) (kept plain : List Held → Type 0) (leaves : World → Type 0)
-    (routers limit : ℕ) (status : Status) (rest : ℕ) → IsPiped source sink gives kept leaves routers limit status rest
-    → ((nodes : List Held) → kept nodes → plain nodes) → IsPiped source sink gives plain leaves routers limit status rest
-piped_with source sink gives kept plain leaves routers limit status rest p told = record {
+pub piped_with : (source : SourceCall) (sink : SinkCall) (gives : ℕ → Type 0) (kept plain : List Held → Type 0) (leaves leaves' : World → Type 0)
+    (owed owed' : World → List ℕ → Type 0) (routers limit : ℕ) (status : Status) (rest : ℕ)
+    → IsPiped source sink gives kept leaves owed routers limit status rest
+    → ((nodes : List Held) → kept nodes → plain nodes) → ((w : World) → leaves w → leaves' w) → ((w : World) (put : List ℕ) → leaves w → owed w put → owed' w put)
+    → IsPiped source sink gives plain leaves' owed' routers limit status rest
+piped_with source sink gives kept plain leaves leaves' owed owed' routers limit status rest p told weaker pays = record {
   taken = p.taken;
   put = p.put;
   requests = p.requests;
@@ -314,5 +325,6 @@ piped_with source sink gives kept plain leaves routers limit status rest p told 
   files = told p.end.nodes p.files;
   last = p.last;
   is_last = p.is_last;
-  crashes = p.crashes;
+  crashes = weaker p.last p.crashes;
+  acknowledged = pays p.last p.put p.crashes p.acknowledged;
 }

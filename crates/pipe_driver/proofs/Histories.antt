@@ -51,12 +51,12 @@ module _ (routers limit : ℕ) (gives : ℕ → Type 0) (put : List ℕ) (reques
   cause_run at_end taken fault status (too_long long none all) = all_run all
 
 -- whatever was asked, and however the connection ended
-module _ (source : SourceCall) (sink : SinkCall) (gives : ℕ → Type 0) (kept : List Held → Type 0) (leaves : World → Type 0) (routers limit : ℕ)
-    (status : Status) (rest : ℕ) where
-  pub piped_run : (piped : IsPiped source sink gives kept leaves routers limit status rest) → (events : List Event) × Run (start routers) events piped.end
+module _ (source : SourceCall) (sink : SinkCall) (gives : ℕ → Type 0) (kept : List Held → Type 0) (leaves : World → Type 0)
+    (owed : World → List ℕ → Type 0) (routers limit : ℕ) (status : Status) (rest : ℕ) where
+  pub piped_run : (piped : IsPiped source sink gives kept leaves owed routers limit status rest) → (events : List Event) × Run (start routers) events piped.end
   piped_run piped = cause_run routers limit gives piped.put piped.requests piped.rounds piped.end _ piped.taken piped.fault status piped.cause
 
-  pub piped_history : (piped : IsPiped source sink gives kept leaves routers limit status rest)
+  pub piped_history : (piped : IsPiped source sink gives kept leaves owed routers limit status rest)
       → OneHistory piped.end.given (creations_kept (journal_at piped.end.nodes 0)) (entries_kept (journal_at piped.end.nodes first_shard))
       piped.end.asked piped.end.answered
   piped_history piped = let run = piped_run piped in run_makes_one_history routers run.0 piped.end run.1

@@ -1,5 +1,6 @@
 pub mod Buffers
 pub mod Counts
+pub mod Covers
 pub mod Endings
 pub mod Frames
 pub mod Histories

@@ -1,29 +1,34 @@
 -- A connection goes on by one request, or stops at it.
-use Rattle.std.proofs.Common.{◌≡◌, ◌≢◌, ◌⊎◌, inl, inr, ℕ, ℤ, ◌+◌, Bool, List, [], ◌∷◌, ◌++◌, length, refl, sym, ap, subst, ◌∙◌, append_assoc, append-nil}
+use Rattle.std.proofs.Common.{◌≡◌, ◌≢◌, ◌⊎◌, inl, inr, ℕ, ℤ, ◌+◌, ◌≤◌, Bool, IsTrue, List, [], ◌∷◌, ◌++◌, length, refl, sym, ap, subst, ◌∙◌, arith, append_assoc, append-nil, length-append}
 use Rattle.std.specs.List.{flat_map}
 use Rattle.outside.specs.Streams.{Put}
 use Rattle.outside.proofs.Relations.{put_then}
 use Rattle.opmsg_frames.specs.Requests.{Request, IsRequest}
 use Rattle.node_model.specs.Letters.{Letter}
-use Rattle.node_model.specs.World.{World, Event, Happens, Run, stands, goes, start}
-use Rattle.node_model.proofs.Schedules.{run_then}
-use Rattle.node_model.specs.Schedule.{openings, Round, Pipes, opens, serves}
+use Rattle.node_model.specs.World.{World, Event, client_event, Happens, Run, stands, goes, start}
+use Rattle.node_model.proofs.Schedules.{delivers_run, pipes_run, run_then}
+use Rattle.node_model.specs.Schedule.{openings, moments_given, Round, IsRound, Pipes, opens, serves}
+use Rattle.node_traits.specs.Effects.{ByStepFault}
 use Rattle.node_traits.specs.declared.outputs.StepFault.{StepFault}
 use Rattle.node_traits.specs.declared.outputs.StepFault.TheVariants.{Disk, Steps, Memory}
 use Rattle.node_traits.specs.declared.outputs.ToLink.{ToLink}
 use Rattle.driver_steps.specs.declared.network.Network.{Network}
+use Rattle.driver_steps.specs.Crashes.{LeadsTo, Noted}
 use Rattle.driver_steps.specs.Seats.{SeatView, AreHeld, AreKept, AreHeldOrKept}
 use Rattle.driver_steps.specs.Worlds.{NetworkView, StandsFor, network_view, puts_given}
 use Rattle.driver_steps.specs.Moves.{IsUpTo, BeginWith, HasRun, HasStopped}
+use Rattle.driver_steps.proofs.Crashes.{leads_by, leads_nowhere, leads_on}
 use Rattle.driver_steps.proofs.Seats.{held_kept}
 use Rattle.driver_steps.proofs.Runs.{handed_on}
 use Rattle.pipe_driver.specs.Pieces.{PutInPart}
-use Rattle.pipe_driver.specs.Progress.{AreAsked, Serving, CutShort, PutShort}
+use Rattle.pipe_driver.specs.Acknowledgements.{AreCovered}
+use Rattle.pipe_driver.specs.Progress.{AreAsked, Serving, CutShort, PutShort, all_replies}
 use Rattle.pipe_driver.specs.Rounds.{first_router, first_link, requests_of, replies_after, replies_behind, number_behind, AreOfOne, bytes_of}
 use Rattle.pipe_driver.specs.Schedules.{round_of, IsLast, IsPart, HasServed, Came, came_whole, came_opening, came_part}
 use Rattle.pipe_driver.specs.Stops.{status_for, StopsAtRequest, at_write_fault, at_disk_fault, at_no_memory}
 use Rattle.pipe_driver.specs.declared.status.Status.{Status}
 use Rattle.pipe_driver.specs.declared.status.Status.TheVariants as statuses
+use Rattle.pipe_driver.proofs.Covers.{covered_more, covered_none, covered_on, covered_part}
 use Rattle.pipe_driver.proofs.Openings.{nothing_told}
 use Rattle.pipe_driver.proofs.Puts.{bytes_then}
 use Rattle.pipe_driver.proofs.Rounds.{asked_more, behind_more, one_more, requests_more}
@@ -46,22 +51,28 @@ last_by (Disk faults) end last P goes_on (inr (e, is, more)) on = inr (refl, on 
 last_by Steps end last P goes_on same on = inl same
 last_by Memory end last P goes_on same on = inl same
 
+last_leads : (fault : StepFault) (end last : World) (P : Event → Type 0) → IsUpTo fault end last ((e : Event) × P e × Happens end e last) → LeadsTo end last
+last_leads (Disk faults) end last P (inl same) = subst (λ (w : World). LeadsTo end w) (sym same) (leads_nowhere end)
+last_leads (Disk faults) end last P (inr (e, is, more)) = leads_by e end last more
+last_leads Steps end last P same = subst (λ (w : World). LeadsTo end w) (sym same) (leads_nowhere end)
+last_leads Memory end last P same = subst (λ (w : World). LeadsTo end w) (sym same) (leads_nowhere end)
+
 -- one event more
 run_one_more : (u : World) (events : List Event) (v : World) (e : Event) (w : World) → Run u events v → Happens v e w → Run u (events ++ e ∷ []) w
 run_one_more u events v e w run more = run_then u events v (e ∷ []) w run (goes v w w e [] more (stands w))
 
-module _ {S : Type 0} (view : S → SeatView) (seats : List S) (gives : ℕ → Type 0) (routers : ℕ) (tells : Bool) (held_before held consumed : List ℕ) where
+module _ {S : Type 0} (view : S → SeatView) (seats : List S) (gives : ℕ → Type 0) (routers : ℕ) (tells : Bool) (noted : List Noted) (held_before held consumed : List ℕ) where
   pub stops_by : (fault : StepFault) (status : Status) → status ≡ status_for fault
-      → CutShort view seats gives routers tells held_before held consumed (status_for fault)
-      → StopsAtRequest view seats gives routers tells held_before held consumed status
-  stops_by (Disk faults) status is cut = subst (λ (s : Status). StopsAtRequest view seats gives routers tells held_before held consumed s) (sym is)
+      → CutShort view seats gives routers tells noted held_before held consumed (status_for fault)
+      → StopsAtRequest view seats gives routers tells noted held_before held consumed status
+  stops_by (Disk faults) status is cut = subst (λ (s : Status). StopsAtRequest view seats gives routers tells noted held_before held consumed s) (sym is)
       (at_disk_fault cut)
-  stops_by Steps status is cut = subst (λ (s : Status). StopsAtRequest view seats gives routers tells held_before held consumed s) (sym is) (at_no_memory cut)
-  stops_by Memory status is cut = subst (λ (s : Status). StopsAtRequest view seats gives routers tells held_before held consumed s) (sym is) (at_no_memory cut)
+  stops_by Steps status is cut = subst (λ (s : Status). StopsAtRequest view seats gives routers tells noted held_before held consumed s) (sym is) (at_no_memory cut)
+  stops_by Memory status is cut = subst (λ (s : Status). StopsAtRequest view seats gives routers tells noted held_before held consumed s) (sym is) (at_no_memory cut)
 
   -- between two rounds
-  pub cut_between : (network : NetworkView) (replied : ℕ) → Serving view seats network gives routers tells held_before held consumed replied
-      → CutShort view seats gives routers tells held_before held consumed statuses.OutOfMemory
+  pub cut_between : (network : NetworkView) (replied : ℕ) → Serving view seats network gives routers tells noted held_before held consumed replied
+      → CutShort view seats gives routers tells noted held_before held consumed statuses.OutOfMemory
   cut_between network replied s = record {
     rounds = s.rounds;
     under_way = [];
@@ -75,20 +86,22 @@ module _ {S : Type 0} (view : S → SeatView) (seats : List S) (gives : ℕ → 
     last = s.world;
     is_last = inl refl;
     crashes = s.stands.crashes;
+    covered = s.covered;
   }
 
--- that is a fault of a disk, or want of memory
-pub no_other : (fault : StepFault) (status : Status) → status ≡ status_for fault → status ≢ statuses.DiskFailed → status ≢ statuses.OutOfMemory → ⊥
-no_other (Disk faults) status is disk memory = disk is
-no_other Steps status is disk memory = memory is
-no_other Memory status is disk memory = memory is
+-- what holds but where a disk failed
+pub but_for_disks : (fault : StepFault) (status : Status) (holds : Type 0) → status ≡ status_for fault → status ≢ statuses.DiskFailed
+    → ByStepFault fault (λ faults. Unit {0}) holds → holds
+but_for_disks (Disk faults) status holds is other given = absurd (other is)
+but_for_disks Steps status holds is other given = given
+but_for_disks Memory status holds is other given = given
 
 -- THE START
 
 module _ {S : Type 0} (view : S → SeatView) (seats : List S) (gives : ℕ → Type 0) (routers : ℕ) (tells : Bool) (held : List ℕ) (count : ℕ)
     (as_many : count ≡ length (start routers).nodes) where
   pub opened_serving : (network : NetworkView) → HasRun view seats network [] (start routers) 0 (openings 0 count)
-      → Serving view seats network gives routers tells held held [] 0
+      → Serving view seats network gives routers tells [] held held [] 0
   opened_serving network r =
       let none : r.end.answered ≡ [] = nothing_told routers count r.end r.run in
       let silent : puts_given r.end.answered ≡ [] = ap puts_given none in
@@ -105,11 +118,12 @@ module _ {S : Type 0} (view : S → SeatView) (seats : List S) (gives : ℕ → 
         put = λ told. sym (ap (λ (l : List ToLink). held ++ bytes_of l) silent ∙ append-nil held);
         asked = record { all = refl; each = tt };
         count = refl;
+        covered = λ told. covered_none all_replies (start routers) held [] _ r.end (ap bytes_of silent);
       }
 
   pub opening_cut : (replies : List ToLink) (fault : StepFault)
       → HasStopped view seats replies [] (start routers) (λ events. BeginWith events (openings 0 count)) fault
-      → CutShort view seats gives routers tells held held [] (status_for fault)
+      → CutShort view seats gives routers tells [] held held [] (status_for fault)
   opening_cut replies fault s = record {
     rounds = [];
     under_way = [];
@@ -127,12 +141,20 @@ module _ {S : Type 0} (view : S → SeatView) (seats : List S) (gives : ℕ → 
         (subst (λ (n : ℕ). BeginWith (s.events ++ e ∷ []) (openings 0 n)) as_many first)
         (run_one_more (start routers) s.events s.end e s.last s.run more));
     crashes = s.crashes;
+    covered = λ told. covered_none all_replies (start routers) held [] _ s.last refl;
   }
+
+round_run : (u : World) (next : ℕ) (r : Round) (events : List Event) (w : World) → IsRound u next r events w → Run u events w
+round_run u next r events w round =
+    subst (λ (l : List Event). Run u l w) (sym round.all)
+    (run_then u (moments_given 0 (length u.nodes) r.moment) round.given (client_event r.at r.link r.number r.request ∷ round.deliveries) w round.moments
+    (goes round.given round.asked w (client_event r.at r.link r.number r.request) round.deliveries round.comes
+    (delivers_run round.asked next round.deliveries w (length w.sent) round.settles)))
 
 -- ONE REQUEST
 
-module _ {S : Type 0} (view : S → SeatView) (seats seats_after : List S) (before : NetworkView) (gives : ℕ → Type 0) (routers : ℕ) (tells : Bool)
-    (held_before held consumed : List ℕ) (replied : ℕ) (s : Serving view seats before gives routers tells held_before held consumed replied)
+module _ {S : Type 0} (view : S → SeatView) (seats seats_after : List S) (before : NetworkView) (gives : ℕ → Type 0) (routers : ℕ) (tells : Bool) (noted : List Noted)
+    (held_before held consumed : List ℕ) (replied : ℕ) (s : Serving view seats before gives routers tells noted held_before held consumed replied)
     (moment : ℕ) (number : ℤ) (asked q : Request) (given : gives moment) (numbered : number ≡ number_behind replied) (same : asked ≡ q) (is : IsRequest q) where
   numbered_behind : number ≡ number_behind (replies_behind 0 (requests_of s.rounds))
   numbered_behind = numbered ∙ ap (λ (n : ℕ). number_behind n) s.count
@@ -162,7 +184,7 @@ module _ {S : Type 0} (view : S → SeatView) (seats seats_after : List S) (befo
   -- a step failed
   pub cut_in_round : (count : ℕ) (replies : List ToLink) (fault : StepFault) → count ≡ length s.world.nodes
       → HasStopped view seats_after replies (puts_given s.world.answered) s.world (IsPart count (round_of moment number asked)) fault
-      → CutShort view seats_after gives routers tells held_before held (consumed ++ q.bytes) (status_for fault)
+      → CutShort view seats_after gives routers tells noted held_before held (consumed ++ q.bytes) (status_for fault)
   cut_in_round count replies fault as_many h = record {
     rounds = s.rounds;
     under_way = q ∷ [];
@@ -180,11 +202,35 @@ module _ {S : Type 0} (view : S → SeatView) (seats seats_after : List S) (befo
         (λ e part more. came_part s.rounds s.events (h.events ++ e ∷ []) s.world h.last s.next moment q s.pipes given
         (part_in_round count (h.events ++ e ∷ []) as_many part) (run_one_more s.world h.events h.end e h.last h.run more));
     crashes = h.crashes;
+    covered = λ told. covered_on all_replies (start routers) held_before noted _ s.world h.last (s.covered told)
+        (leads_on s.world h.end h.last (h.events, h.run) (last_leads fault h.end h.last _ h.up_to));
   }
 
-  module _ {M : Type 0} (letter : M → Letter) (old new : Network M)
-      (h : HasServed view seats_after (network_view letter old) (puts_given s.world.answered) s.world s.next (round_of moment number asked))
-      (waits : new.waiting.items ≡ old.waiting.items) (none : new.replies.items ≡ []) where
+  -- the replies of a round are written after one note more of all disks
+  module _ (network : NetworkView) (h : HasServed view seats_after network (puts_given s.world.answered) s.world s.next (round_of moment number asked))
+      (moments : List ℕ) (told : IsTrue tells) where
+    round_on : LeadsTo s.world h.end
+    round_on = (h.events, round_run s.world s.next (round_of moment number asked) h.events h.end h.round)
+
+    round_few : length held ≤ length held_before + length (bytes_of (puts_given s.world.answered))
+    round_few = omega (
+      arith,
+      ap (λ (l : List ℕ). length l) (s.put told),
+      length-append held_before (bytes_of (puts_given s.world.answered)),
+    )
+
+    pub covers_round : AreCovered all_replies (start routers) (record { world = h.end; moments = moments; length = length held } ∷ noted) held_before
+        (bytes_of (puts_given s.world.answered) ++ bytes_of network.replies) h.end
+    covers_round =
+        covered_more all_replies (start routers) held_before s.world h.end noted moments (length held) (bytes_of (puts_given s.world.answered))
+        (bytes_of network.replies) (s.covered told) (sym (ap bytes_of h.stands.given ∙ bytes_then (puts_given s.world.answered) network.replies))
+        (leads_on (start routers) s.world h.end (s.events, pipes_run routers s.rounds s.events s.world s.next s.pipes) round_on) round_on round_few
+
+  module _ {M : Type 0} (letter : M → Letter) (old new : Network M) (after_view : S → SeatView) (noted_after : List Noted)
+      (h : HasServed after_view seats_after (network_view letter old) (puts_given s.world.answered) s.world s.next (round_of moment number asked))
+      (waits : new.waiting.items ≡ old.waiting.items) (none : new.replies.items ≡ [])
+      (covers : IsTrue tells → AreCovered all_replies (start routers) noted_after held_before (bytes_of (puts_given s.world.answered)
+      ++ bytes_of old.replies.items) h.end) where
     puts_are : puts_given h.end.answered ≡ puts_given s.world.answered ++ old.replies.items
     puts_are = h.stands.given
 
@@ -193,7 +239,7 @@ module _ {S : Type 0} (view : S → SeatView) (seats seats_after : List S) (befo
 
     -- all replies of the round were put
     pub served_one : (held' : List ℕ) (after : ℕ) → Put tells held (bytes_of old.replies.items) held' → after ≡ replies_after q.more replied
-        → Serving view seats_after (network_view letter new) gives routers tells held_before held' (consumed ++ q.bytes) after
+        → Serving after_view seats_after (network_view letter new) gives routers tells noted_after held_before held' (consumed ++ q.bytes) after
     served_one held' after put counted = record {
       rounds = s.rounds ++ round_of moment number asked ∷ [];
       events = s.events ++ h.events;
@@ -201,8 +247,8 @@ module _ {S : Type 0} (view : S → SeatView) (seats seats_after : List S) (befo
       next = length h.end.sent;
       pipes = serves s.rounds (round_of moment number asked) s.events h.events s.world h.end s.next s.pipes h.round;
       one = rounds_one;
-      stands = subst (λ (l : List ToLink). StandsFor view seats_after (network_view letter new) l h.end (length h.end.sent)) (sym puts_are)
-          (handed_on view letter seats_after (puts_given s.world.answered) h.end (length h.end.sent) old new h.stands waits none);
+      stands = subst (λ (l : List ToLink). StandsFor after_view seats_after (network_view letter new) l h.end (length h.end.sent)) (sym puts_are)
+          (handed_on after_view letter seats_after (puts_given s.world.answered) h.end (length h.end.sent) old new h.stands waits none);
       put = subst (λ (b : List ℕ). Put tells held_before b held') (sym bytes_are)
           (put_then tells held_before (bytes_of (puts_given s.world.answered)) held (bytes_of old.replies.items) held' s.put put);
       asked = asked_rounds;
@@ -210,11 +256,12 @@ module _ {S : Type 0} (view : S → SeatView) (seats seats_after : List S) (befo
           ∙ (sym (behind_more 0 (requests_of s.rounds) q)
           ∙ ap (λ (l : List Request). replies_behind 0 l)
           (ap (λ (x : Request). requests_of s.rounds ++ x ∷ []) (sym same) ∙ sym (requests_more s.rounds (round_of moment number asked)))));
+      covered = λ told. subst (λ (b : List ℕ). AreCovered all_replies (start routers) noted_after held_before b h.end) (sym bytes_are) (covers told);
     }
 
     -- a prefix of them was put
     pub put_short : (held' : List ℕ) → PutInPart tells held (bytes_of old.replies.items) held'
-        → PutShort view seats_after gives routers tells held_before held' (consumed ++ q.bytes)
+        → PutShort after_view seats_after gives routers tells noted_after held_before held' (consumed ++ q.bytes)
     put_short held' (part, (others, prefix), put) = record {
       earlier = s.rounds;
       last = round_of moment number asked;
@@ -235,6 +282,11 @@ module _ {S : Type 0} (view : S → SeatView) (seats seats_after : List S) (befo
       );
       put = put_then tells held_before (bytes_of (puts_given s.world.answered)) held part held' s.put put;
       asked = asked_rounds;
-      kept = held_kept view seats_after h.end.nodes h.stands.nodes;
+      kept = held_kept after_view seats_after h.end.nodes h.stands.nodes;
       crashes = h.stands.crashes;
+      covered = λ told. covered_part all_replies (start routers) held_before noted_after (bytes_of (puts_given s.world.answered) ++ part)
+          (bytes_of (puts_given s.world.answered) ++ bytes_of old.replies.items) h.end (
+            others,
+            ap (λ (b : List ℕ). bytes_of (puts_given s.world.answered) ++ b) prefix ∙ sym (append_assoc (bytes_of (puts_given s.world.answered)) part others),
+          ) (covers told);
     }

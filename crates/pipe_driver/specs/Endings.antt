@@ -74,9 +74,10 @@ pub data Cause (limit : ℕ) (at_end : Type 0) (taken : List ℕ) (fault : Optio
 
 -- One connection was served by the schedule, from empty journals: these bytes were taken and put, and these rounds led to this world. `kept`
 -- says of the nodes of that world that the journals keep what they keep; and `leaves` of a world that a crash at any moment since the start
--- left, of each log, what it might have left before, or a file in which an opening finds what that node kept in a world on the way.
-pub record IsPiped (source : SourceCall) (sink : SinkCall) (gives : ℕ → Type 0) (kept : List Held → Type 0) (leaves : World → Type 0) (routers limit : ℕ)
-    (status : Status) (rest : ℕ) : Type 0 where
+-- left, of each log, what it might have left before, or a file in which an opening finds what that node kept in a world on the way; and `owed` of that
+-- world and the bytes that were put what the journals owed before each of these was put.
+pub record IsPiped (source : SourceCall) (sink : SinkCall) (gives : ℕ → Type 0) (kept : List Held → Type 0) (leaves : World → Type 0)
+    (owed : World → (put : List ℕ) → Type 0) (routers limit : ℕ) (status : Status) (rest : ℕ) : Type 0 where
   pub taken : List ℕ
   pub put : List ℕ
   pub requests : List Request
@@ -96,3 +97,4 @@ pub record IsPiped (source : SourceCall) (sink : SinkCall) (gives : ℕ → Type
   pub last : World
   pub is_last : IsLast status (λ w. SomeServed routers gives put requests rounds w) end last
   pub crashes : leaves last
+  pub acknowledged : owed last put

@@ -3,6 +3,7 @@ pub mod Counts
 pub mod Rest
 pub mod Rounds
 pub mod Pieces
+pub mod Acknowledgements
 pub mod Schedules
 pub mod Endings
 pub mod Progress

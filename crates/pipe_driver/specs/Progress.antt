@@ -1,14 +1,16 @@
 -- How far a connection has come.
-use Rattle.std.specs.Prelude.{◌≡◌, ℕ, ◌+◌, Bool, List, [], ◌∷◌, ◌++◌, length}
+use Rattle.std.specs.Prelude.{◌≡◌, ℕ, ◌+◌, Bool, IsTrue, List, [], ◌∷◌, ◌++◌, length}
 use Rattle.std.specs.List.{flat_map, AllByRecursion}
 use Rattle.outside.specs.Streams.{Put}
 use Rattle.opmsg_frames.specs.Requests.{Request, IsRequest}
 use Rattle.opmsg_frames.specs.RequestMeanings.{IsMeant}
 use Rattle.opmsg_frames.specs.declared.request.Request as frames
-use Rattle.node_model.specs.World.{World, Event}
+use Rattle.node_model.specs.World.{World, Event, start}
 use Rattle.node_model.specs.Schedule.{Round, IsRound, Pipes}
+use Rattle.driver_steps.specs.Crashes.{Noted}
 use Rattle.driver_steps.specs.Seats.{SeatView, AreKept, LeaveKept}
 use Rattle.driver_steps.specs.Worlds.{NetworkView, StandsFor, puts_given}
+use Rattle.pipe_driver.specs.Acknowledgements.{AreCovered}
 use Rattle.pipe_driver.specs.Pieces.{IsPrefix}
 use Rattle.pipe_driver.specs.Rounds.{requests_of, replies_behind, AreOfOne, bytes_of}
 use Rattle.pipe_driver.specs.Schedules.{Came, IsLast}
@@ -23,8 +25,12 @@ pub record AreAsked (bytes : List ℕ) (requests : List Request) : Type 0 where
   pub all : bytes ≡ flat_map (λ (r : Request). r.bytes) requests
   pub each : AllByRecursion IsRequest requests
 
+-- the output of one connection: the bytes of all replies that were given
+abbrev pub all_replies : World → List ℕ → Type 0
+all_replies w out = out ≡ bytes_of (puts_given w.answered)
+
 -- These bytes were served, in whole rounds: nodes, logs and messages are those of the world behind them, and all replies were put.
-pub record Serving {S : Type 0} (view : S → SeatView) (seats : List S) (network : NetworkView) (gives : ℕ → Type 0) (routers : ℕ) (tells : Bool)
+pub record Serving {S : Type 0} (view : S → SeatView) (seats : List S) (network : NetworkView) (gives : ℕ → Type 0) (routers : ℕ) (tells : Bool) (noted : List Noted)
     (held_before held consumed : List ℕ) (replied : ℕ) : Type 0 where
   pub rounds : List Round
   pub events : List Event
@@ -36,9 +42,10 @@ pub record Serving {S : Type 0} (view : S → SeatView) (seats : List S) (networ
   pub put : Put tells held_before (bytes_of (puts_given world.answered)) held
   pub asked : AreAsked consumed (requests_of rounds)
   pub count : replied ≡ replies_behind 0 (requests_of rounds)
+  pub covered : IsTrue tells → AreCovered all_replies (start routers) noted held_before (bytes_of (puts_given world.answered)) world
 
 -- These bytes were served, the last request of them maybe in part: all replies of whole rounds were put.
-pub record CutShort {S : Type 0} (view : S → SeatView) (seats : List S) (gives : ℕ → Type 0) (routers : ℕ) (tells : Bool)
+pub record CutShort {S : Type 0} (view : S → SeatView) (seats : List S) (gives : ℕ → Type 0) (routers : ℕ) (tells : Bool) (noted : List Noted)
     (held_before held consumed : List ℕ) (status : Status) : Type 0 where
   pub rounds : List Round
   pub under_way : List Request
@@ -52,9 +59,10 @@ pub record CutShort {S : Type 0} (view : S → SeatView) (seats : List S) (gives
   pub last : World
   pub is_last : IsLast status (λ w. Came routers gives rounds under_way whole w) end last
   pub crashes : LeaveKept view seats last
+  pub covered : IsTrue tells → AreCovered all_replies (start routers) noted held_before (bytes_of (puts_given whole.answered)) last
 
 -- These bytes were served, in whole rounds: of the replies of the last one a prefix was put, and all others.
-pub record PutShort {S : Type 0} (view : S → SeatView) (seats : List S) (gives : ℕ → Type 0) (routers : ℕ) (tells : Bool)
+pub record PutShort {S : Type 0} (view : S → SeatView) (seats : List S) (gives : ℕ → Type 0) (routers : ℕ) (tells : Bool) (noted : List Noted)
     (held_before held consumed : List ℕ) : Type 0 where
   pub earlier : List Round
   pub last : Round
@@ -73,3 +81,4 @@ pub record PutShort {S : Type 0} (view : S → SeatView) (seats : List S) (gives
   pub asked : AreAsked consumed (requests_of (earlier ++ last ∷ []))
   pub kept : AreKept view seats end.nodes
   pub crashes : LeaveKept view seats end
+  pub covered : IsTrue tells → AreCovered all_replies (start routers) noted held_before part end

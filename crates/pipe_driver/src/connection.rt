@@ -1,14 +1,15 @@
 //! One connection, from its first byte to its last.
 
-ghost use Rattle.std.specs.Prelude.{◌≡◌, ◌≢◌, ℕ, ◌<◌, ◌≤◌, [], vec_len};
+ghost use Rattle.std.specs.Prelude.{◌≡◌, ◌≢◌, ℕ, ◌<◌, ◌≤◌, [], IsTrue, vec_len};
 ghost use Rattle.outside.specs.Devices.{sink_call, source_call};
 ghost use Rattle.node_model.specs.World.{start};
-ghost use Rattle.driver_steps.specs.Crashes.{Since};
+ghost use Rattle.driver_steps.specs.Crashes.{Since, with_notes};
 ghost use Rattle.driver_steps.specs.Seats.{AreHeld, AreKept, AreOpen, LeaveKept, faults_of, places_of, seat_since, seat_view, since_then};
 ghost use Rattle.driver_steps.specs.Worlds.{network_view};
+ghost use Rattle.pipe_driver.specs.Acknowledgements.{AreAcknowledgedBy, AreCovered, AreNoted, WithNotes};
 ghost use Rattle.pipe_driver.specs.Counts.{HaveRisenWhere, RoseWhere};
 ghost use Rattle.pipe_driver.specs.Endings.{IsPiped, most_taken};
-ghost use Rattle.pipe_driver.specs.Progress.{AreAskedAsRead, Serving};
+ghost use Rattle.pipe_driver.specs.Progress.{AreAskedAsRead, Serving, all_replies};
 ghost use Rattle.pipe_driver.specs.Rounds.{first_router};
 ghost use Rattle.pipe_driver.specs.declared.status.Status.TheVariants as statuses;
 
@@ -21,7 +22,8 @@ use node_traits::Node;
 use opmsg_frames::{Framer, Request};
 use outside::clock::Clock;
 use outside::log::Log;
-use outside::streams::{Sink, Source};
+use outside::streams::Source;
+use outside::witness::Witness;
 use std::alloc::Global;
 use std::marker::Sync;
 use std::thread::Threads;
@@ -49,7 +51,14 @@ fn ended(status: Status, rest: usize) -> Ending
 ///
 /// The status is `DiskFailed` where the disk of a log failed: the logs must be opened again. It is `OutOfMemory` also where a node is at its
 /// last step.
-pub fn pipe<R: Threads + Sync, N: Node<Request = Request>, L: Log, S: Source, K: Sink, C: Clock>(
+pub fn pipe<
+    R: Threads + Sync,
+    N: Node<Request = Request>,
+    L: Log,
+    S: Source,
+    K: Witness<L::Of>,
+    C: Clock,
+>(
     rt: &R,
     alloc: Global,
     input: &mut S,
@@ -66,10 +75,11 @@ pub fn pipe<R: Threads + Sync, N: Node<Request = Request>, L: Log, S: Source, K:
         IsPiped (source_call S.tells S.left S.fault_count input.old input.new) (sink_call K.tells K.held K.fault_count out.old out.new)
         (C.gives clock.now) (AreKept (seat_view N.state L.facts) seats.new.items)
         (LeaveKept (seat_since N.state L.facts (since_then seats.old.items (start routers))) seats.new.items)
+        (AreAcknowledgedBy L.facts K.tells all_replies (start routers) (K.noted out.new) (K.held out.old) seats.new.items)
         routers limit result.status result.rest }
 
-    // But where a disk failed or memory ended, records can be appended to each log.
-    ensures open { result.status ≢ statuses.DiskFailed → result.status ≢ statuses.OutOfMemory → AreOpen L.facts.is_open seats.new.items }
+    // But where a disk failed, records can be appended to each log.
+    ensures open { result.status ≢ statuses.DiskFailed → AreOpen L.facts.is_open seats.new.items }
     ensures len { vec_len seats.new ≡ vec_len seats.old }
 
     // Each fault of a device has its own status.
@@ -87,7 +97,14 @@ pub fn pipe<R: Threads + Sync, N: Node<Request = Request>, L: Log, S: Source, K:
 }
 
 /// Serves one connection by nodes that were opened.
-fn serve<R: Threads + Sync, N: Node<Request = Request>, L: Log, S: Source, K: Sink, C: Clock>(
+fn serve<
+    R: Threads + Sync,
+    N: Node<Request = Request>,
+    L: Log,
+    S: Source,
+    K: Witness<L::Of>,
+    C: Clock,
+>(
     rt: &R,
     alloc: Global,
     input: &mut S,
@@ -102,12 +119,15 @@ fn serve<R: Threads + Sync, N: Node<Request = Request>, L: Log, S: Source, K: Si
     requires limit { limit ≤ most_taken }
     ensures piped { AreAskedAsRead N.asks → (since : Since L) (routers : ℕ) → 0 < routers →
         Serving (seat_since N.state L.facts since) seats.old.items (network_view (λ m. N.Mail.letter m) network)
-        (C.gives clock.now) routers K.tells (K.held out.old) (K.held out.old) [] 0 →
-        IsPiped (source_call S.tells S.left S.fault_count input.old input.new) (sink_call K.tells K.held K.fault_count out.old out.new)
-        (C.gives clock.now) (AreKept (seat_since N.state L.facts since) seats.new.items)
-        (LeaveKept (seat_since N.state L.facts since) seats.new.items) routers limit
-        result.status result.rest }
-    ensures open { result.status ≢ statuses.DiskFailed → result.status ≢ statuses.OutOfMemory → AreOpen L.facts.is_open seats.new.items }
+        (C.gives clock.now) routers K.tells since.noted (K.held out.old) (K.held out.old) [] 0 →
+        AreNoted K.tells (K.noted out.old) (places_of L.facts.place seats.old.items) since.noted →
+        WithNotes K.tells (K.noted out.new) (places_of L.facts.place seats.new.items)
+        (λ noted. IsPiped (source_call S.tells S.left S.fault_count input.old input.new) (sink_call K.tells K.held K.fault_count out.old out.new)
+        (C.gives clock.now) (AreKept (seat_since N.state L.facts (with_notes since noted)) seats.new.items)
+        (LeaveKept (seat_since N.state L.facts (with_notes since noted)) seats.new.items)
+        (λ last put. IsTrue K.tells → AreCovered all_replies (start routers) noted (K.held out.old) put last) routers limit
+        result.status result.rest) }
+    ensures open { result.status ≢ statuses.DiskFailed → AreOpen L.facts.is_open seats.new.items }
     ensures len { vec_len seats.new ≡ vec_len seats.old }
     ensures read_fault { RoseWhere (result.status ≡ statuses.ReadFailed) (S.fault_count input.old) (S.fault_count input.new) }
     ensures write_fault { RoseWhere (result.status ≡ statuses.WriteFailed) (K.fault_count out.old) (K.fault_count out.new) }

@@ -5,9 +5,10 @@ ghost use Rattle.std.specs.Prelude.{None, Err, OnOk, IfErr, IfOk};
 ghost use Rattle.opmsg_frames.specs.Outline.{outline, partial_outline};
 ghost use Rattle.opmsg_frames.specs.Requests as wire;
 ghost use Rattle.opmsg_frames.specs.RequestMeanings.{IsMeant};
-ghost use Rattle.driver_steps.specs.Crashes.{Since};
+ghost use Rattle.driver_steps.specs.Crashes.{Since, with_notes};
 ghost use Rattle.driver_steps.specs.Seats.{AreOpen, faults_of, places_of, seat_since};
 ghost use Rattle.driver_steps.specs.Worlds.{network_view};
+ghost use Rattle.pipe_driver.specs.Acknowledgements.{AreNoted, WithNotes};
 ghost use Rattle.pipe_driver.specs.Counts.{HaveRisenWhere, RoseWhere};
 ghost use Rattle.pipe_driver.specs.Endings.{most_taken};
 ghost use Rattle.pipe_driver.specs.Progress.{AreAskedAsRead, Serving};
@@ -23,7 +24,7 @@ use node_traits::Node;
 use opmsg_frames::{FrameFault, Framer, Request};
 use outside::clock::Clock;
 use outside::log::Log;
-use outside::streams::Sink;
+use outside::witness::Witness;
 use std::alloc::Global;
 use std::marker::Sync;
 use std::thread::Threads;
@@ -35,7 +36,13 @@ use std::thread::Threads;
 /// - `Status::WriteFailed` if a write of a reply failed.
 /// - `Status::DiskFailed` if a disk failed: no reply of the round was put.
 /// - `Status::OutOfMemory` if there was no memory, or a node was at its last step: no reply of the round was put.
-pub fn answer_one<R: Threads + Sync, N: Node<Request = Request>, L: Log, K: Sink, C: Clock>(
+pub fn answer_one<
+    R: Threads + Sync,
+    N: Node<Request = Request>,
+    L: Log,
+    K: Witness<L::Of>,
+    C: Clock,
+>(
     rt: &R,
     alloc: Global,
     request: Request,
@@ -51,14 +58,16 @@ pub fn answer_one<R: Threads + Sync, N: Node<Request = Request>, L: Log, K: Sink
     ensures served { AreAskedAsRead N.asks → (meant : wire.Request) → IsMeant request meant → wire.IsRequest meant →
         (since : Since L) (routers : ℕ) → 0 < routers → (held_before consumed : List ℕ) →
         Serving (seat_since N.state L.facts since) seats.old.items (network_view (λ m. N.Mail.letter m) network.old)
-        (C.gives clock.now) routers K.tells held_before (K.held out.old) consumed replied →
-        AfterOne result (seat_since N.state L.facts since) seats.new.items
+        (C.gives clock.now) routers K.tells since.noted held_before (K.held out.old) consumed replied →
+        AreNoted K.tells (K.noted out.old) (places_of L.facts.place seats.old.items) since.noted →
+        WithNotes K.tells (K.noted out.new) (places_of L.facts.place seats.new.items)
+        (λ noted. AfterOne result (seat_since N.state L.facts (with_notes since noted)) seats.new.items
         (network_view (λ m. N.Mail.letter m) network.new)
-        (C.gives clock.now) routers K.tells held_before (K.held out.new) (consumed ++ meant.bytes) }
+        (C.gives clock.now) routers K.tells noted held_before (K.held out.new) (consumed ++ meant.bytes)) }
     ensures replied { IfOk result (λ after. after ≤ replied + 1) }
     ensures len { vec_len seats.new ≡ vec_len seats.old }
     ensures open { OnOk result (AreOpen L.facts.is_open seats.new.items) }
-    ensures open_err { IfErr result (λ status. status ≢ statuses.DiskFailed → status ≢ statuses.OutOfMemory → AreOpen L.facts.is_open seats.new.items) }
+    ensures open_err { IfErr result (λ status. status ≢ statuses.DiskFailed → AreOpen L.facts.is_open seats.new.items) }
     ensures other { IfErr result IsOfServing }
 
     // Of the devices.
@@ -74,7 +83,7 @@ pub fn answer_one<R: Threads + Sync, N: Node<Request = Request>, L: Log, K: Sink
         Err(e) => return Err(Status::of(e)),
     }
     let replies = network.hand_on(alloc);
-    match put_replies(out, &replies) {
+    match put_replies(out, seats, &replies) {
         Ok(()) => Ok(replied_after(more, replied)),
         Err(_) => Err(Status::WriteFailed),
     }
@@ -86,7 +95,13 @@ pub fn answer_one<R: Threads + Sync, N: Node<Request = Request>, L: Log, K: Sink
 /// # Errors
 /// - `Status::BadInput` if what is left begins with no request; those before it were served.
 /// - `Status::WriteFailed`, `Status::DiskFailed` and `Status::OutOfMemory` as `answer_one`; the last also where the framer has no memory.
-pub fn answer_all<R: Threads + Sync, N: Node<Request = Request>, L: Log, K: Sink, C: Clock>(
+pub fn answer_all<
+    R: Threads + Sync,
+    N: Node<Request = Request>,
+    L: Log,
+    K: Witness<L::Of>,
+    C: Clock,
+>(
     rt: &R,
     alloc: Global,
     framer: &mut Framer,
@@ -103,17 +118,19 @@ pub fn answer_all<R: Threads + Sync, N: Node<Request = Request>, L: Log, K: Sink
     requires count { replied ≤ framer.old.offset }
     ensures served { AreAskedAsRead N.asks → (since : Since L) (routers : ℕ) → 0 < routers → (held_before consumed : List ℕ) →
         Serving (seat_since N.state L.facts since) seats.old.items (network_view (λ m. N.Mail.letter m) network.old)
-        (C.gives clock.now) routers K.tells held_before (K.held out.old) consumed replied →
-        AfterRequests result (seat_since N.state L.facts since) seats.new.items
+        (C.gives clock.now) routers K.tells since.noted held_before (K.held out.old) consumed replied →
+        AreNoted K.tells (K.noted out.old) (places_of L.facts.place seats.old.items) since.noted →
+        WithNotes K.tells (K.noted out.new) (places_of L.facts.place seats.new.items)
+        (λ noted. AfterRequests result (seat_since N.state L.facts (with_notes since noted)) seats.new.items
         (network_view (λ m. N.Mail.letter m) network.new)
-        (C.gives clock.now) routers K.tells held_before (K.held out.new) (consumed ++ framer.old.bytes) framer.new.bytes }
+        (C.gives clock.now) routers K.tells noted held_before (K.held out.new) (consumed ++ framer.old.bytes) framer.new.bytes) }
     ensures partial { OnOk result (outline framer.new.bytes ≡ partial_outline) }
     ensures fed { framer.new.offset + length framer.new.bytes ≡ framer.old.offset + length framer.old.bytes }
     ensures fault { OnOk result (framer.new.fault ≡ None) }
     ensures replied { IfOk result (λ after. after ≤ framer.new.offset) }
     ensures len { vec_len seats.new ≡ vec_len seats.old }
     ensures open { OnOk result (AreOpen L.facts.is_open seats.new.items) }
-    ensures open_err { IfErr result (λ status. status ≢ statuses.DiskFailed → status ≢ statuses.OutOfMemory → AreOpen L.facts.is_open seats.new.items) }
+    ensures open_err { IfErr result (λ status. status ≢ statuses.DiskFailed → AreOpen L.facts.is_open seats.new.items) }
     ensures other { IfErr result IsOfServing }
 
     // Of the devices.

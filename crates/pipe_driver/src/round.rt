@@ -5,7 +5,7 @@ ghost use Rattle.node_model.specs.Schedule.{Pipes, Round};
 ghost use Rattle.node_model.specs.World.{Event, World};
 ghost use Rattle.node_traits.specs.declared.outputs.ToLink.{ToLink};
 ghost use Rattle.driver_steps.specs.Crashes.{Since};
-ghost use Rattle.driver_steps.specs.Seats.{AreOpen, TellsFaults, faults_of, places_of, seat_since};
+ghost use Rattle.driver_steps.specs.Seats.{AreOpen, TellsFaults, UnlessDiskFailed, faults_of, places_of, seat_since};
 ghost use Rattle.driver_steps.specs.Moves.{HasStopped};
 ghost use Rattle.driver_steps.specs.Worlds.{StandsFor, network_view};
 ghost use Rattle.pipe_driver.specs.Rounds.{first_router};
@@ -54,7 +54,7 @@ pub fn serve_round<R: Threads + Sync, N: Node, L: Log>(
         IfErr result (λ e. HasStopped (seat_since N.state L.facts since) seats.new.items
         network.new.replies.items handed w (IsPart (vec_len seats.old) (round_of moment number (N.asks request))) e) }
     ensures len { vec_len seats.new ≡ vec_len seats.old }
-    ensures open { OnOk result (AreOpen L.facts.is_open seats.new.items) }
+    ensures open { UnlessDiskFailed result (AreOpen L.facts.is_open seats.new.items) }
 
     // Of the logs' disks.
     ensures faults { TellsFaults result (faults_of L.facts.fault_count seats.old.items) (faults_of L.facts.fault_count seats.new.items) }

@@ -44,11 +44,12 @@ module _ (routers : ℕ) where
   cause_run limit at_end taken lines left put end _ (too_long long none all) = all_run lines put end all
 
 -- whatever the script says, and however it ended
-module _ (source : SourceCall) (sink : SinkCall) (kept : List Held → Type 0) (leaves : World → Type 0) (routers limit : ℕ) (status : Status) where
-  pub simulated_run : (s : IsSimulated source sink kept leaves routers limit status) → (events : List Event) × Run (start routers) events s.end
+module _ (source : SourceCall) (sink : SinkCall) (kept : List Held → Type 0) (leaves : World → Type 0)
+    (owed : World → List ℕ → Type 0) (routers limit : ℕ) (status : Status) where
+  pub simulated_run : (s : IsSimulated source sink kept leaves owed routers limit status) → (events : List Event) × Run (start routers) events s.end
   simulated_run s =
       cause_run routers limit _ s.taken s.lines s.left s.put s.end status s.cause
 
-  pub simulated_history : (s : IsSimulated source sink kept leaves routers limit status)
+  pub simulated_history : (s : IsSimulated source sink kept leaves owed routers limit status)
       → OneHistory s.end.given (creations_kept (journal_at s.end.nodes 0)) (entries_kept (journal_at s.end.nodes first_shard)) s.end.asked s.end.answered
   simulated_history s = let run = simulated_run s in run_makes_one_history routers run.0 s.end run.1

@@ -1,5 +1,5 @@
 -- A script goes on by one line, or stops at it.
-use Rattle.std.proofs.Common.{◌≡◌, inl, inr, ℕ, List, [], ◌∷◌, ◌++◌, length, refl, sym, ap, subst, ◌∙◌, append_assoc, append-nil}
+use Rattle.std.proofs.Common.{◌≡◌, inl, inr, ℕ, ◌+◌, ◌≤◌, IsTrue, List, [], ◌∷◌, ◌++◌, length, refl, arith, length-append, sym, ap, subst, ◌∙◌, append_assoc, append-nil}
 use Rattle.std.specs.Prelude.{Bool}
 use Rattle.std.proofs.lemmas.Grind.{flat_map-append}
 use Rattle.outside.specs.Streams.{Put}
@@ -11,16 +11,20 @@ use Rattle.node_traits.specs.declared.outputs.StepFault.{StepFault}
 use Rattle.node_traits.specs.declared.outputs.StepFault.TheVariants.{Disk, Steps, Memory}
 use Rattle.node_traits.specs.declared.outputs.ToLink.{ToLink}
 use Rattle.driver_steps.specs.declared.network.Network.{Network}
+use Rattle.driver_steps.specs.Crashes.{LeadsTo, Noted}
 use Rattle.driver_steps.specs.Seats.{SeatView}
 use Rattle.driver_steps.specs.Worlds.{NetworkView, StandsFor, network_view, puts_given}
 use Rattle.driver_steps.specs.Moves.{BeginWith, HasRun, HasStopped, IsUpTo}
+use Rattle.driver_steps.proofs.Crashes.{leads_by, leads_nowhere, leads_on}
 use Rattle.driver_steps.proofs.Seats.{held_kept}
 use Rattle.driver_steps.proofs.Runs.{handed_on}
+use Rattle.pipe_driver.specs.Acknowledgements.{AreCovered}
 use Rattle.pipe_driver.specs.Pieces.{PutInPart}
 use Rattle.pipe_driver.specs.Schedules.{IsLast}
 use Rattle.pipe_driver.specs.Stops.{status_for}
 use Rattle.pipe_driver.specs.declared.status.Status.{Status}
 use Rattle.pipe_driver.specs.declared.status.Status.TheVariants as statuses
+use Rattle.pipe_driver.proofs.Covers.{covered_more, covered_none, covered_on, covered_part}
 use Rattle.pipe_driver.proofs.Frames.{all_more}
 use Rattle.pipe_driver.proofs.Openings.{nothing_told}
 use Rattle.script_lines.specs.Words.{HasNone, IsCutAt}
@@ -28,10 +32,10 @@ use Rattle.pipe_driver.proofs.Serving.{kept_at}
 use Rattle.sim_driver.specs.Scripts.{ScriptView, new_script, printed}
 use Rattle.sim_driver.specs.Moves.{AreStill, IsCut, IsLastOf}
 use Rattle.sim_driver.specs.LineOutcomes.{HasPlayedBytes, IsPartOfBytes, part_read, StopsBytes, bytes_refused, bytes_at_disk, bytes_at_memory}
-use Rattle.sim_driver.specs.Simulations.{newline, bytes_of_lines, plays_none, plays_more, CameTo, came_opening, came_lines, came_part}
+use Rattle.sim_driver.specs.Simulations.{newline, bytes_of_lines, plays_none, plays_more, CameTo, came_opening, came_lines, came_part, all_printed}
 use Rattle.sim_driver.specs.Progress.{Playing, StopsAt, at_refused_line, at_write_fault, at_disk_fault, at_no_memory, Stopped}
 use Rattle.sim_driver.proofs.Faults.{run_more, still}
-use Rattle.sim_driver.proofs.Plays.{whole_is_part}
+use Rattle.sim_driver.proofs.Plays.{plays_run, whole_is_part}
 
 lines_more : (lines : List (List ℕ)) (bytes : List ℕ) → bytes_of_lines (lines ++ bytes ∷ []) ≡ bytes_of_lines lines ++ (bytes ++ newline ∷ [])
 lines_more lines bytes =
@@ -50,6 +54,10 @@ last_by (Disk faults) status is end last events P goes_on on (inr (e, has, h)) =
 last_by Steps status is end last events P goes_on on same = inl same
 last_by Memory status is end last events P goes_on on same = inl same
 
+last_leads : (status : Status) (end last : World) (events : List Event) (P : List Event → Type 0) → IsLastOf status events P end last → LeadsTo end last
+last_leads status end last events P (inl same) = subst (λ (w : World). LeadsTo end w) (sym same) (leads_nowhere end)
+last_leads status end last events P (inr (is, e, has, h)) = leads_by e end last h
+
 last_in_line : (status : Status) (end last : World) (events : List Event) (P : List Event → Type 0) (goes_on : World → Type 0)
     → ((e : Event) → P (events ++ e ∷ []) → Happens end e last → goes_on last) → IsLastOf status events P end last → IsLast status goes_on end last
 last_in_line status end last events P goes_on on (inl same) = inl same
@@ -60,7 +68,7 @@ last_in_line status end last events P goes_on on (inr (is, e, has, h)) = inr (is
 module _ {S : Type 0} (view : S → SeatView) (seats : List S) (routers : ℕ) (tells : Bool) (held : List ℕ) (count : ℕ)
     (as_many : count ≡ length (start routers).nodes) where
   pub opened_playing : (network : NetworkView) → HasRun view seats network [] (start routers) 0 (openings 0 count)
-      → Playing view seats network routers tells held held new_script []
+      → Playing view seats network routers tells [] held held new_script []
   opened_playing network r =
       let none : r.end.answered ≡ [] = nothing_told routers count r.end r.run in
       let silent : puts_given r.end.answered ≡ [] = ap puts_given none in
@@ -76,6 +84,7 @@ module _ {S : Type 0} (view : S → SeatView) (seats : List S) (routers : ℕ) (
         put = λ told. sym (append-nil held);
         all = refl;
         each = tt;
+        covered = λ told. covered_none (all_printed routers) (start routers) held [] [] r.end refl;
       }
 
   opening_came : (left : List ℕ) (replies : List ToLink) (fault : StepFault)
@@ -92,7 +101,7 @@ module _ {S : Type 0} (view : S → SeatView) (seats : List S) (routers : ℕ) (
 
   pub opening_stopped : (left : List ℕ) (replies : List ToLink) (fault : StepFault) (status : Status) → status ≡ status_for fault
       → HasStopped view seats replies [] (start routers) (λ events. BeginWith events (openings 0 count)) fault
-      → Stopped view seats routers tells held held [] left status
+      → Stopped view seats routers tells [] held held [] left status
   opening_stopped left replies fault status is s = record {
     lines = [];
     end = s.end;
@@ -108,12 +117,13 @@ module _ {S : Type 0} (view : S → SeatView) (seats : List S) (routers : ℕ) (
         came_opening left (s.events ++ e ∷ []) s.last (subst (λ (n : ℕ). BeginWith (s.events ++ e ∷ []) (openings 0 n)) as_many first)
         (run_more (start routers) s.events s.end e s.last s.run h)) s.up_to;
     crashes = s.crashes;
+    covered = λ told. covered_none (all_printed routers) (start routers) held [] [] s.last refl;
   }
 
 -- ONE LINE
 
-module _ {S : Type 0} (view : S → SeatView) (seats seats_after : List S) (before : NetworkView) (routers : ℕ) (tells : Bool)
-    (held_before held consumed : List ℕ) (s : ScriptView) (p : Playing view seats before routers tells held_before held s consumed)
+module _ {S : Type 0} (view : S → SeatView) (seats seats_after : List S) (before : NetworkView) (routers : ℕ) (tells : Bool) (noted : List Noted)
+    (held_before held consumed : List ℕ) (s : ScriptView) (p : Playing view seats before routers tells noted held_before held s consumed)
     (bytes : List ℕ) (none : HasNone newline bytes) where
   came_in : (others : List ℕ) (events : List Event) (end : World) → IsPartOfBytes p.world s bytes events → Run p.world events end
       → CameTo routers p.lines (bytes ++ newline ∷ others) p.out end
@@ -123,7 +133,7 @@ module _ {S : Type 0} (view : S → SeatView) (seats seats_after : List S) (befo
   -- the script stops within the line, of which nothing was put
   stops_within : (others : List ℕ) (status : Status) → (c : IsCut view seats_after p.world (IsPartOfBytes p.world s bytes) status)
       → StopsAt routers p.lines (bytes ++ newline ∷ others) p.out c.end status
-      → Stopped view seats_after routers tells held_before held consumed (bytes ++ newline ∷ others) status
+      → Stopped view seats_after routers tells noted held_before held consumed (bytes ++ newline ∷ others) status
   stops_within others status c cause = record {
     lines = p.lines;
     end = c.end;
@@ -137,12 +147,14 @@ module _ {S : Type 0} (view : S → SeatView) (seats seats_after : List S) (befo
     is_last = last_in_line status c.end c.last c.events (IsPartOfBytes p.world s bytes) (λ w. CameTo routers p.lines (bytes ++ newline ∷ others) p.out w)
         (λ e part h. came_in others (c.events ++ e ∷ []) c.last part (run_more p.world c.events c.end e c.last c.run h)) c.is_last;
     crashes = c.crashes;
+    covered = λ told. covered_on (all_printed routers) (start routers) held_before noted p.out p.world c.last (p.covered told)
+        (leads_on p.world c.end c.last (c.events, c.run) (last_leads status c.end c.last c.events _ c.is_last));
   }
 
   -- the script stops where nothing is cut short, and of the line nothing was put
   stops_here : (others : List ℕ) (status : Status) (end : World) → StopsAt routers p.lines (bytes ++ newline ∷ others) p.out end status
-      → AreStill view seats_after end → Stopped view seats_after routers tells held_before held consumed (bytes ++ newline ∷ others) status
-  stops_here others status end cause are = record {
+      → AreStill view seats_after end → LeadsTo p.world end → Stopped view seats_after routers tells noted held_before held consumed (bytes ++ newline ∷ others) status
+  stops_here others status end cause are on = record {
     lines = p.lines;
     end = end;
     out = p.out;
@@ -154,13 +166,14 @@ module _ {S : Type 0} (view : S → SeatView) (seats seats_after : List S) (befo
     last = end;
     is_last = inl refl;
     crashes = are.crashes;
+    covered = λ told. covered_on (all_printed routers) (start routers) held_before noted p.out p.world end (p.covered told) on;
   }
 
   pub line_stopped : (others : List ℕ) (status : Status) → StopsBytes view seats_after p.world bytes s status
-      → Stopped view seats_after routers tells held_before held consumed (bytes ++ newline ∷ others) status
+      → Stopped view seats_after routers tells noted held_before held consumed (bytes ++ newline ∷ others) status
   line_stopped others _ (bytes_refused refused are) =
       stops_here others statuses.BadInput p.world
-      (at_refused_line bytes others (next_line bytes others none) refused (record { events = p.events; script = s; played = p.plays })) are
+      (at_refused_line bytes others (next_line bytes others none) refused (record { events = p.events; script = s; played = p.plays })) are (leads_nowhere p.world)
   line_stopped others _ (bytes_at_disk c) = stops_within others statuses.DiskFailed c (at_disk_fault (came_in others c.events c.end c.which c.run))
   line_stopped others _ (bytes_at_memory c) = stops_within others statuses.OutOfMemory c (at_no_memory (came_in others c.events c.end c.which c.run))
 
@@ -169,27 +182,66 @@ module _ {S : Type 0} (view : S → SeatView) (seats seats_after : List S) (befo
     puts_are : puts_given h.played.end.answered ≡ puts_given p.world.answered ++ old.replies.items
     puts_are = h.played.stands.given
 
+    -- there was no memory for what it prints
+    pub line_unprinted : (others : List ℕ) → Stopped view seats_after routers tells noted held_before held consumed (bytes ++ newline ∷ others) statuses.OutOfMemory
+    line_unprinted others =
+        stops_here others statuses.OutOfMemory h.played.end
+        (at_no_memory (came_in others h.played.events h.played.end
+        (part_read h.line h.played.events h.says (whole_is_part p.world s h.line h.played.events h.played.end t closed h.played.played)) h.played.run))
+        (still view seats_after (network_view letter old) (puts_given p.world.answered) h.played.end h.played.stands) (h.played.events, h.played.run)
+
+    -- it is written after one note more of all disks
+    line_few : IsTrue tells → length held ≤ length held_before + length p.out
+    line_few told = omega (arith, ap (λ (l : List ℕ). length l) (p.put told), length-append held_before p.out)
+
+    line_on : LeadsTo p.world h.played.end
+    line_on = (h.played.events, h.played.run)
+
+    pub covers_line : (moments : List ℕ) → IsTrue tells
+        → AreCovered (all_printed routers) (start routers) (record { world = h.played.end; moments = moments; length = length held } ∷ noted) held_before
+        (p.out ++ printed s.link old.replies.items closed) h.played.end
+    covers_line moments told =
+        covered_more (all_printed routers) (start routers) held_before p.world h.played.end noted moments (length held) p.out
+        (printed s.link old.replies.items closed) (p.covered told) (
+          p.lines ++ bytes ∷ [],
+          record {
+            events = p.events ++ h.played.events;
+            script = t;
+            played = plays_more p.lines p.events h.played.events p.world h.played.end s t p.out bytes h.line closed old.replies.items p.plays h.says
+                h.played.played puts_are;
+          },
+        )
+        (leads_on (start routers) p.world h.played.end (p.events, plays_run routers p.lines p.events p.world s p.out p.plays) line_on) line_on (line_few told)
+
+  module _ {M : Type 0} (letter : M → Letter) (old new : Network M) (t : ScriptView) (closed : Bool) (after_view : S → SeatView) (noted_after : List Noted)
+      (h : HasPlayedBytes after_view seats_after (network_view letter old) (puts_given p.world.answered) p.world bytes s t closed)
+      (covers : IsTrue tells → AreCovered (all_printed routers) (start routers) noted_after held_before (p.out ++ printed s.link old.replies.items closed)
+      h.played.end) where
+    gave : puts_given h.played.end.answered ≡ puts_given p.world.answered ++ old.replies.items
+    gave = h.played.stands.given
+
     -- what it prints was put
     pub line_answered : (held' : List ℕ) → new.waiting.items ≡ old.waiting.items → new.replies.items ≡ []
         → Put tells held (printed s.link old.replies.items closed) held'
-        → Playing view seats_after (network_view letter new) routers tells held_before held' t (consumed ++ (bytes ++ newline ∷ []))
+        → Playing after_view seats_after (network_view letter new) routers tells noted_after held_before held' t (consumed ++ (bytes ++ newline ∷ []))
     line_answered held' waits silent put = record {
       lines = p.lines ++ bytes ∷ [];
       events = p.events ++ h.played.events;
       world = h.played.end;
       out = p.out ++ printed s.link old.replies.items closed;
       plays = plays_more p.lines p.events h.played.events p.world h.played.end s t p.out bytes h.line closed old.replies.items p.plays h.says
-          h.played.played puts_are;
-      stands = subst (λ (l : List ToLink). StandsFor view seats_after (network_view letter new) l h.played.end 0) (sym puts_are)
-          (handed_on view letter seats_after (puts_given p.world.answered) h.played.end 0 old new h.played.stands waits silent);
+          h.played.played gave;
+      stands = subst (λ (l : List ToLink). StandsFor after_view seats_after (network_view letter new) l h.played.end 0) (sym gave)
+          (handed_on after_view letter seats_after (puts_given p.world.answered) h.played.end 0 old new h.played.stands waits silent);
       put = put_then tells held_before p.out held (printed s.link old.replies.items closed) held' p.put put;
       all = ap (λ (b : List ℕ). b ++ (bytes ++ newline ∷ [])) p.all ∙ sym (lines_more p.lines bytes);
       each = all_more (HasNone newline) p.lines bytes p.each none;
+      covered = covers;
     }
 
     -- a prefix of what it prints was put
     pub line_put_short : (others held' : List ℕ) → PutInPart tells held (printed s.link old.replies.items closed) held'
-        → Stopped view seats_after routers tells held_before held' consumed (bytes ++ newline ∷ others) statuses.WriteFailed
+        → Stopped after_view seats_after routers tells noted_after held_before held' consumed (bytes ++ newline ∷ others) statuses.WriteFailed
     line_put_short others held' (part, prefix, put) = record {
       lines = p.lines;
       end = h.played.end;
@@ -211,35 +263,32 @@ module _ {S : Type 0} (view : S → SeatView) (seats seats_after : List S) (befo
         next = next_line bytes others none;
         says = h.says;
         last = h.played.played;
-        gave = puts_are;
+        gave = gave;
         in_part = prefix;
         all = refl;
       });
       put = put_then tells held_before p.out held part held' p.put put;
       all = p.all;
       each = p.each;
-      kept = held_kept view seats_after h.played.end.nodes h.played.stands.nodes;
+      kept = held_kept after_view seats_after h.played.end.nodes h.played.stands.nodes;
       last = h.played.end;
       is_last = inl refl;
       crashes = h.played.stands.crashes;
+      covered = λ told. covered_part (all_printed routers) (start routers) held_before noted_after (p.out ++ part)
+          (p.out ++ printed s.link old.replies.items closed) h.played.end (
+        prefix.0,
+        ap (λ (b : List ℕ). p.out ++ b) prefix.1 ∙ sym (append_assoc p.out part prefix.0),
+      ) (covers told);
     }
-
-    -- there was no memory for what it prints
-    pub line_unprinted : (others : List ℕ) → Stopped view seats_after routers tells held_before held consumed (bytes ++ newline ∷ others) statuses.OutOfMemory
-    line_unprinted others =
-        stops_here others statuses.OutOfMemory h.played.end
-        (at_no_memory (came_in others h.played.events h.played.end
-        (part_read h.line h.played.events h.says (whole_is_part p.world s h.line h.played.events h.played.end t closed h.played.played)) h.played.run))
-        (still view seats_after (network_view letter old) (puts_given p.world.answered) h.played.end h.played.stands)
 
 -- BETWEEN LINES
 
 -- there was no memory for the next line
-pub playing_full : {S : Type 0} (view : S → SeatView) (seats : List S) (network : NetworkView) (routers : ℕ) (tells : Bool)
+pub playing_full : {S : Type 0} (view : S → SeatView) (seats : List S) (network : NetworkView) (routers : ℕ) (tells : Bool) (noted : List Noted)
     (held_before held consumed left : List ℕ)
-    (s : ScriptView) → Playing view seats network routers tells held_before held s consumed
-    → Stopped view seats routers tells held_before held consumed left statuses.OutOfMemory
-playing_full view seats network routers tells held_before held consumed left s p = record {
+    (s : ScriptView) → Playing view seats network routers tells noted held_before held s consumed
+    → Stopped view seats routers tells noted held_before held consumed left statuses.OutOfMemory
+playing_full view seats network routers tells noted held_before held consumed left s p = record {
   lines = p.lines;
   end = p.world;
   out = p.out;
@@ -251,6 +300,7 @@ playing_full view seats network routers tells held_before held consumed left s p
   last = p.world;
   is_last = inl refl;
   crashes = p.stands.crashes;
+  covered = p.covered;
 }
 
 -- BYTES
@@ -274,8 +324,8 @@ bytes_next all more begun rest first behind grown whole cut grows =
     ∙ ap (λ (b : List ℕ). more ++ (b ++ newline ∷ behind)) (sym grows)))
 
 -- what the script has, said otherwise
-pub playing_from : {S : Type 0} (view : S → SeatView) (seats : List S) (network : NetworkView) (routers : ℕ) (tells : Bool) (held_before held consumed : List ℕ)
-    (s t : ScriptView) → s ≡ t → Playing view seats network routers tells held_before held s consumed
-    → Playing view seats network routers tells held_before held t consumed
-playing_from view seats network routers tells held_before held consumed s t same p =
-    subst (λ (x : ScriptView). Playing view seats network routers tells held_before held x consumed) same p
+pub playing_from : {S : Type 0} (view : S → SeatView) (seats : List S) (network : NetworkView) (routers : ℕ) (tells : Bool) (noted : List Noted) (held_before held consumed : List ℕ)
+    (s t : ScriptView) → s ≡ t → Playing view seats network routers tells noted held_before held s consumed
+    → Playing view seats network routers tells noted held_before held t consumed
+playing_from view seats network routers tells noted held_before held consumed s t same p =
+    subst (λ (x : ScriptView). Playing view seats network routers tells noted held_before held x consumed) same p

@@ -1,20 +1,22 @@
 -- How far a script has come, while it is played (own).
-use Rattle.std.specs.Prelude.{◌≡◌, ◌≢◌, ℕ, Bool, List, ◌++◌}
+use Rattle.std.specs.Prelude.{◌≡◌, ◌≢◌, ℕ, Bool, IsTrue, List, ◌++◌}
 use Rattle.std.specs.List.{AllByRecursion}
 use Rattle.outside.specs.Streams.{Put}
-use Rattle.node_model.specs.World.{World, Event}
+use Rattle.node_model.specs.World.{World, Event, start}
+use Rattle.driver_steps.specs.Crashes.{Noted}
 use Rattle.driver_steps.specs.Seats.{SeatView, AreKept, LeaveKept}
 use Rattle.driver_steps.specs.Worlds.{NetworkView, StandsFor, puts_given}
+use Rattle.pipe_driver.specs.Acknowledgements.{AreCovered}
 use Rattle.pipe_driver.specs.Schedules.{IsLast}
 use Rattle.pipe_driver.specs.declared.status.Status.{Status}
 use Rattle.pipe_driver.specs.declared.status.Status.TheVariants as statuses
 use Rattle.script_lines.specs.Words.{HasNone, IsCutAt}
 use Rattle.sim_driver.specs.Scripts.{ScriptView}
 use Rattle.sim_driver.specs.LineOutcomes.{IsRefused}
-use Rattle.sim_driver.specs.Simulations.{newline, bytes_of_lines, Plays, AllPlayed, CameTo, LastPutShort}
+use Rattle.sim_driver.specs.Simulations.{newline, bytes_of_lines, Plays, AllPlayed, CameTo, LastPutShort, all_printed}
 
 -- These bytes were played, in whole lines: nodes, logs and messages are those of the world behind them, and what they print was put.
-pub record Playing {S : Type 0} (view : S → SeatView) (seats : List S) (network : NetworkView) (routers : ℕ) (tells : Bool) (held_before held : List ℕ)
+pub record Playing {S : Type 0} (view : S → SeatView) (seats : List S) (network : NetworkView) (routers : ℕ) (tells : Bool) (noted : List Noted) (held_before held : List ℕ)
     (script : ScriptView) (consumed : List ℕ) : Type 0 where
   pub lines : List (List ℕ)
   pub events : List Event
@@ -25,6 +27,7 @@ pub record Playing {S : Type 0} (view : S → SeatView) (seats : List S) (networ
   pub put : Put tells held_before out held
   pub all : consumed ≡ bytes_of_lines lines
   pub each : AllByRecursion (HasNone newline) lines
+  pub covered : IsTrue tells → AreCovered (all_printed routers) (start routers) noted held_before out world
 
 -- why no further line is played
 pub data StopsAt (routers : ℕ) (lines : List (List ℕ)) (left put : List ℕ) (end : World) : Status → Type 0 where
@@ -35,7 +38,7 @@ pub data StopsAt (routers : ℕ) (lines : List (List ℕ)) (left put : List ℕ)
   at_no_memory : CameTo routers lines left put end → StopsAt routers lines left put end statuses.OutOfMemory
 
 -- These bytes were played, in whole lines, and with what is left the script stops.
-pub record Stopped {S : Type 0} (view : S → SeatView) (seats : List S) (routers : ℕ) (tells : Bool) (held_before held consumed left : List ℕ)
+pub record Stopped {S : Type 0} (view : S → SeatView) (seats : List S) (routers : ℕ) (tells : Bool) (noted : List Noted) (held_before held consumed left : List ℕ)
     (status : Status)
     : Type 0 where
   pub lines : List (List ℕ)
@@ -49,21 +52,22 @@ pub record Stopped {S : Type 0} (view : S → SeatView) (seats : List S) (router
   pub last : World
   pub is_last : IsLast status (λ w. CameTo routers lines left out w) end last
   pub crashes : LeaveKept view seats last
+  pub covered : IsTrue tells → AreCovered (all_printed routers) (start routers) noted held_before out last
 
 -- The lines that end in these bytes were played; behind them stands the beginning of one.
-pub record HasPlayedLines {S : Type 0} (view : S → SeatView) (seats : List S) (network : NetworkView) (routers : ℕ) (tells : Bool) (held_before held : List ℕ)
+pub record HasPlayedLines {S : Type 0} (view : S → SeatView) (seats : List S) (network : NetworkView) (routers : ℕ) (tells : Bool) (noted : List Noted) (held_before held : List ℕ)
     (script : ScriptView) (bytes begun : List ℕ) : Type 0 where
   pub consumed : List ℕ
   pub whole : bytes ≡ consumed ++ begun
-  pub playing : Playing view seats network routers tells held_before held script consumed
+  pub playing : Playing view seats network routers tells noted held_before held script consumed
 
 -- Some lines that end in these bytes were played, and with what is left the script stops.
-pub record HasStoppedIn {S : Type 0} (view : S → SeatView) (seats : List S) (routers : ℕ) (tells : Bool) (held_before held bytes : List ℕ) (status : Status)
+pub record HasStoppedIn {S : Type 0} (view : S → SeatView) (seats : List S) (routers : ℕ) (tells : Bool) (noted : List Noted) (held_before held bytes : List ℕ) (status : Status)
     : Type 0 where
   pub consumed : List ℕ
   pub left : List ℕ
   pub whole : bytes ≡ consumed ++ left
-  pub stopped : Stopped view seats routers tells held_before held consumed left status
+  pub stopped : Stopped view seats routers tells noted held_before held consumed left status
 
 -- a status that playing may stop with: not that of a read, nor one of an input at its end
 abbrev pub IsOfPlaying : Status → Type 0

@@ -42,6 +42,10 @@ pub record AllPlayed (routers : ℕ) (lines : List (List ℕ)) (put : List ℕ) 
   pub script : ScriptView
   pub played : Plays routers lines events end script put
 
+-- all output of a script: what the lines print that were played
+abbrev pub all_printed : (routers : ℕ) → World → List ℕ → Type 0
+all_printed routers w out = (lines : List (List ℕ)) × AllPlayed routers lines out w
+
 -- How far the script came; what is put is what the lines print that were played whole.
 pub data CameTo (routers : ℕ) : (lines : List (List ℕ)) → (left put : List ℕ) → (end : World) → Type 0 where
   -- within the openings
@@ -102,9 +106,10 @@ pub data Cause (routers limit : ℕ) (at_end : Type 0) (taken : List ℕ) (lines
 
 -- A script was played, from empty journals: these bytes were taken and put, and the lines in them led to this world. `kept` says of the nodes
 -- of that world that the journals keep what they keep; and `leaves` of a world that a crash at any moment since the start left, of each log,
--- what it might have left before, or a file in which an opening finds what that node kept in a world on the way.
-pub record IsSimulated (source : SourceCall) (sink : SinkCall) (kept : List Held → Type 0) (leaves : World → Type 0) (routers limit : ℕ) (status : Status)
-    : Type 0 where
+-- what it might have left before, or a file in which an opening finds what that node kept in a world on the way; and `owed` of that world and the
+-- bytes that were put what the journals owed before each of these was put.
+pub record IsSimulated (source : SourceCall) (sink : SinkCall) (kept : List Held → Type 0) (leaves : World → Type 0)
+    (owed : World → (put : List ℕ) → Type 0) (routers limit : ℕ) (status : Status) : Type 0 where
   pub taken : List ℕ
   pub put : List ℕ
   pub lines : List (List ℕ)
@@ -120,3 +125,4 @@ pub record IsSimulated (source : SourceCall) (sink : SinkCall) (kept : List Held
   pub last : World
   pub is_last : IsLast status (λ w. CameTo routers lines left put w) end last
   pub crashes : leaves last
+  pub acknowledged : owed last put

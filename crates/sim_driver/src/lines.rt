@@ -1,9 +1,10 @@
 //! The lines of a script, one after another.
 
 ghost use Rattle.std.specs.Prelude.{◌≡◌, ◌≢◌, ℕ, ◌<◌, List, [], ◌∷◌, ◌++◌, None, vec_len, IfErr, OnOk, Err};
-ghost use Rattle.driver_steps.specs.Crashes.{Since};
+ghost use Rattle.driver_steps.specs.Crashes.{Since, with_notes};
 ghost use Rattle.driver_steps.specs.Seats.{AreOpen, faults_of, places_of, seat_since};
 ghost use Rattle.driver_steps.specs.Worlds.{network_view};
+ghost use Rattle.pipe_driver.specs.Acknowledgements.{AreNoted, WithNotes};
 ghost use Rattle.pipe_driver.specs.Counts.{HaveRisenWhere, RoseWhere};
 ghost use Rattle.pipe_driver.specs.Progress.{AreAskedAsRead};
 ghost use Rattle.pipe_driver.specs.Rounds.{first_router};
@@ -14,14 +15,14 @@ ghost use Rattle.sim_driver.specs.Scripts.{script_view};
 ghost use Rattle.sim_driver.specs.Simulations.{newline};
 
 use crate::play::play_line;
-use crate::report::text_of;
+use crate::report::{put_text, text_of};
 use crate::script::Script;
 use driver_steps::{Network, Seat};
 use node_traits::Node;
 use opmsg_frames::Request;
 use outside::log::Log;
-use outside::streams::Sink;
-use pipe_driver::{Status, put_all};
+use outside::witness::Witness;
+use pipe_driver::Status;
 use script_lines::cut_at;
 use std::alloc::Global;
 use std::marker::Sync;
@@ -34,7 +35,7 @@ use std::thread::Threads;
 /// - `Status::WriteFailed` if a write failed; the line was played.
 /// - `Status::DiskFailed` if a disk failed: of the line nothing was put.
 /// - `Status::OutOfMemory` for want of memory, or where a node is at its last step: of the line nothing was put.
-pub fn answer_line<R: Threads + Sync, N: Node<Request = Request>, L: Log, K: Sink>(
+pub fn answer_line<R: Threads + Sync, N: Node<Request = Request>, L: Log, K: Witness<L::Of>>(
     rt: &R,
     alloc: Global,
     line: &[u8],
@@ -49,16 +50,20 @@ pub fn answer_line<R: Threads + Sync, N: Node<Request = Request>, L: Log, K: Sin
     requires line { HasNone newline line.now }
     ensures answered { AreAskedAsRead N.asks → (since : Since L) (routers : ℕ) → 0 < routers → (held_before consumed : List ℕ) →
         Playing (seat_since N.state L.facts since) seats.old.items (network_view (λ m. N.Mail.letter m) network.old)
-        routers K.tells held_before (K.held out.old) (script_view script.old) consumed →
-        OnOk result (Playing (seat_since N.state L.facts since) seats.new.items (network_view
+        routers K.tells since.noted held_before (K.held out.old) (script_view script.old) consumed →
+        AreNoted K.tells (K.noted out.old) (places_of L.facts.place seats.old.items) since.noted →
+        OnOk result (WithNotes K.tells (K.noted out.new) (places_of L.facts.place seats.new.items)
+        (λ noted. Playing (seat_since N.state L.facts (with_notes since noted)) seats.new.items (network_view
         (λ m. N.Mail.letter m) network.new)
-        routers K.tells held_before (K.held out.new) (script_view script.new) (consumed ++ (line.now ++ newline ∷ []))) }
+        routers K.tells noted held_before (K.held out.new) (script_view script.new) (consumed ++ (line.now ++ newline ∷ [])))) }
     ensures stopped { AreAskedAsRead N.asks → (since : Since L) (routers : ℕ) → 0 < routers → (held_before consumed others : List ℕ) →
         Playing (seat_since N.state L.facts since) seats.old.items (network_view (λ m. N.Mail.letter m) network.old)
-        routers K.tells held_before (K.held out.old) (script_view script.old) consumed →
-        IfErr result (Stopped (seat_since N.state L.facts since) seats.new.items routers K.tells held_before
+        routers K.tells since.noted held_before (K.held out.old) (script_view script.old) consumed →
+        AreNoted K.tells (K.noted out.old) (places_of L.facts.place seats.old.items) since.noted →
+        IfErr result (λ status. WithNotes K.tells (K.noted out.new) (places_of L.facts.place seats.new.items)
+        (λ noted. Stopped (seat_since N.state L.facts (with_notes since noted)) seats.new.items routers K.tells noted held_before
         (K.held out.new) consumed
-        (line.now ++ newline ∷ others)) }
+        (line.now ++ newline ∷ others) status)) }
     ensures fault { OnOk result (script.new.framer.fault ≡ None) }
     ensures len { vec_len seats.new ≡ vec_len seats.old }
     ensures open { OnOk result (AreOpen L.facts.is_open seats.new.items) }
@@ -80,7 +85,7 @@ pub fn answer_line<R: Threads + Sync, N: Node<Request = Request>, L: Log, K: Sin
         Ok(text) => text,
         Err(_) => return Err(Status::OutOfMemory),
     };
-    match put_all(out, text.as_slice()) {
+    match put_text(out, seats, text.as_slice()) {
         Ok(()) => Ok(()),
         Err(_) => Err(Status::WriteFailed),
     }
@@ -90,7 +95,7 @@ pub fn answer_line<R: Threads + Sync, N: Node<Request = Request>, L: Log, K: Sin
 ///
 /// # Errors
 /// As `answer_line` has them; `Status::OutOfMemory` also where a line finds no room.
-pub fn play_piece<R: Threads + Sync, N: Node<Request = Request>, L: Log, K: Sink>(
+pub fn play_piece<R: Threads + Sync, N: Node<Request = Request>, L: Log, K: Witness<L::Of>>(
     rt: &R,
     alloc: Global,
     piece: &[u8],
@@ -106,16 +111,20 @@ pub fn play_piece<R: Threads + Sync, N: Node<Request = Request>, L: Log, K: Sink
     requires begun { HasNone newline begun.old.items }
     ensures played { AreAskedAsRead N.asks → (since : Since L) (routers : ℕ) → 0 < routers → (held_before consumed : List ℕ) →
         Playing (seat_since N.state L.facts since) seats.old.items (network_view (λ m. N.Mail.letter m) network.old)
-        routers K.tells held_before (K.held out.old) (script_view script.old) consumed →
-        OnOk result (HasPlayedLines (seat_since N.state L.facts since) seats.new.items (network_view
+        routers K.tells since.noted held_before (K.held out.old) (script_view script.old) consumed →
+        AreNoted K.tells (K.noted out.old) (places_of L.facts.place seats.old.items) since.noted →
+        OnOk result (WithNotes K.tells (K.noted out.new) (places_of L.facts.place seats.new.items)
+        (λ noted. HasPlayedLines (seat_since N.state L.facts (with_notes since noted)) seats.new.items (network_view
         (λ m. N.Mail.letter m) network.new)
-        routers K.tells held_before (K.held out.new) (script_view script.new) (consumed ++ (begun.old.items ++ piece.now)) begun.new.items) }
+        routers K.tells noted held_before (K.held out.new) (script_view script.new) (consumed ++ (begun.old.items ++ piece.now)) begun.new.items)) }
     ensures stopped { AreAskedAsRead N.asks → (since : Since L) (routers : ℕ) → 0 < routers → (held_before consumed : List ℕ) →
         Playing (seat_since N.state L.facts since) seats.old.items (network_view (λ m. N.Mail.letter m) network.old)
-        routers K.tells held_before (K.held out.old) (script_view script.old) consumed →
-        IfErr result (HasStoppedIn (seat_since N.state L.facts since) seats.new.items routers K.tells
+        routers K.tells since.noted held_before (K.held out.old) (script_view script.old) consumed →
+        AreNoted K.tells (K.noted out.old) (places_of L.facts.place seats.old.items) since.noted →
+        IfErr result (λ status. WithNotes K.tells (K.noted out.new) (places_of L.facts.place seats.new.items)
+        (λ noted. HasStoppedIn (seat_since N.state L.facts (with_notes since noted)) seats.new.items routers K.tells noted
         held_before (K.held out.new)
-        (consumed ++ (begun.old.items ++ piece.now))) }
+        (consumed ++ (begun.old.items ++ piece.now)) status)) }
     ensures begun { OnOk result (HasNone newline begun.new.items) }
     ensures fault { OnOk result (script.new.framer.fault ≡ None) }
     ensures len { vec_len seats.new ≡ vec_len seats.old }

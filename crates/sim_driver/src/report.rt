@@ -1,11 +1,20 @@
 //! What is printed for a line.
 
-ghost use Rattle.std.specs.Prelude.{◌≡◌, ◌==◌, ◌++◌, [], IfOk, OnOk, if◌then◌else◌};
+ghost use Rattle.std.specs.Prelude.{◌≡◌, ◌==◌, ◌≤◌, ◌++◌, [], length, IsTrue, IfOk, OnOk, OnErr, if◌then◌else◌};
+ghost use Rattle.outside.specs.Causes.{Rose};
+ghost use Rattle.outside.specs.Streams.{Put};
+ghost use Rattle.driver_steps.specs.Seats.{AreDurable, AreOpen, notes_of};
+ghost use Rattle.pipe_driver.specs.Pieces.{PutInPart};
 ghost use Rattle.script_lines.specs.Output.{reply_line};
 ghost use Rattle.sim_driver.specs.Scripts.{printed, reply_lines};
 
 use bson_values::Memory;
-use node_traits::ToLink;
+use driver_steps::{Seat, note_disks};
+use node_traits::{Node, ToLink};
+use outside::log::Log;
+use outside::streams::Failed;
+use outside::witness::Witness;
+use pipe_driver::put_all;
 use script_lines::{put_closed, put_reply};
 use std::alloc::Global;
 
@@ -54,6 +63,29 @@ pub fn text_of(
     }
     match put_closed(&mut text) {
         Ok(()) => Ok(text),
+        Err(e) => Err(e),
+    }
+}
+
+/// Writes a text after all disks were noted. All logs must be open: what the text says is durable before its first byte is written. Fails where
+/// the sink does, after a prefix of the text.
+pub fn put_text<N: Node, L: Log, K: Witness<L::Of>>(
+    out: &mut K,
+    seats: &Vec<Seat<N, L>>,
+    text: &[u8],
+) -> Result<(), Failed>
+    requires open { AreOpen L.facts.is_open seats.now.items }
+    ensures durable { AreDurable L.facts seats.now.items }
+    ensures noted { IsTrue K.tells → K.noted out.new ≡ K.noted out.old ++ notes_of L.facts (length (K.held out.old)) seats.now.items }
+    ensures put { OnOk result (Put K.tells (K.held out.old) text.now (K.held out.new)) }
+    ensures prefix { OnErr result (PutInPart K.tells (K.held out.old) text.now (K.held out.new)) }
+    ensures cause { OnErr result (Rose (K.fault_count out.old) (K.fault_count out.new)) }
+    ensures calm { OnOk result (K.fault_count out.new ≡ K.fault_count out.old) }
+    ensures later { K.fault_count out.old ≤ K.fault_count out.new }
+{
+    note_disks(out, seats);
+    match put_all(out, text) {
+        Ok(()) => Ok(()),
         Err(e) => Err(e),
     }
 }

@@ -1,18 +1,19 @@
 //! A script, from its first byte to its last.
 
-ghost use Rattle.std.specs.Prelude.{◌≡◌, ◌≢◌, ◌⊎◌, ℕ, ◌<◌, [], None, vec_len};
+ghost use Rattle.std.specs.Prelude.{◌≡◌, ◌≢◌, ◌⊎◌, ℕ, ◌<◌, [], None, IsTrue, vec_len};
 ghost use Rattle.outside.specs.Devices.{sink_call, source_call};
 ghost use Rattle.node_model.specs.World.{start};
-ghost use Rattle.driver_steps.specs.Crashes.{Since};
+ghost use Rattle.driver_steps.specs.Crashes.{Since, with_notes};
 ghost use Rattle.driver_steps.specs.Seats.{AreHeld, AreKept, AreOpen, LeaveKept, faults_of, places_of, seat_since, seat_view, since_then};
 ghost use Rattle.driver_steps.specs.Worlds.{network_view};
+ghost use Rattle.pipe_driver.specs.Acknowledgements.{AreAcknowledgedBy, AreCovered, AreNoted, WithNotes};
 ghost use Rattle.pipe_driver.specs.Counts.{HaveRisenWhere, RoseWhere};
 ghost use Rattle.pipe_driver.specs.Progress.{AreAskedAsRead};
 ghost use Rattle.pipe_driver.specs.Rounds.{first_router};
 ghost use Rattle.pipe_driver.specs.declared.status.Status.TheVariants as statuses;
 ghost use Rattle.sim_driver.specs.Progress.{Playing};
 ghost use Rattle.sim_driver.specs.Scripts.{new_script};
-ghost use Rattle.sim_driver.specs.Simulations.{IsSimulated};
+ghost use Rattle.sim_driver.specs.Simulations.{IsSimulated, all_printed};
 
 use crate::lines::play_piece;
 use crate::script::Script;
@@ -20,7 +21,8 @@ use driver_steps::{Network, Seat, open_all};
 use node_traits::Node;
 use opmsg_frames::Request;
 use outside::log::Log;
-use outside::streams::{Sink, Source};
+use outside::streams::Source;
+use outside::witness::Witness;
 use pipe_driver::{PIECE, Status, new_piece, take_more};
 use std::alloc::Global;
 use std::marker::Sync;
@@ -44,7 +46,7 @@ fn unended(cause: Status, begun: &[u8]) -> Status
 ///
 /// The status is `BadInput` where the next line is refused, and `DiskFailed` where the disk of a log failed: the logs must be opened again. It
 /// is `OutOfMemory` also where a node is at its last step.
-pub fn simulate<R: Threads + Sync, N: Node<Request = Request>, L: Log, S: Source, K: Sink>(
+pub fn simulate<R: Threads + Sync, N: Node<Request = Request>, L: Log, S: Source, K: Witness<L::Of>>(
     rt: &R,
     alloc: Global,
     input: &mut S,
@@ -59,6 +61,7 @@ pub fn simulate<R: Threads + Sync, N: Node<Request = Request>, L: Log, S: Source
         IsSimulated (source_call S.tells S.left S.fault_count input.old input.new) (sink_call K.tells K.held K.fault_count out.old out.new)
         (AreKept (seat_view N.state L.facts) seats.new.items)
         (LeaveKept (seat_since N.state L.facts (since_then seats.old.items (start routers))) seats.new.items)
+        (AreAcknowledgedBy L.facts K.tells (all_printed routers) (start routers) (K.noted out.new) (K.held out.old) seats.new.items)
         routers limit result }
 
     // But where a disk failed or memory ended, records can be appended to each log.
@@ -79,7 +82,7 @@ pub fn simulate<R: Threads + Sync, N: Node<Request = Request>, L: Log, S: Source
 }
 
 /// Plays the script for nodes that were opened.
-fn play_all<R: Threads + Sync, N: Node<Request = Request>, L: Log, S: Source, K: Sink>(
+fn play_all<R: Threads + Sync, N: Node<Request = Request>, L: Log, S: Source, K: Witness<L::Of>>(
     rt: &R,
     alloc: Global,
     input: &mut S,
@@ -92,10 +95,13 @@ fn play_all<R: Threads + Sync, N: Node<Request = Request>, L: Log, S: Source, K:
     requires open { AreOpen L.facts.is_open seats.old.items }
     ensures simulated { AreAskedAsRead N.asks → (since : Since L) (routers : ℕ) → 0 < routers →
         Playing (seat_since N.state L.facts since) seats.old.items (network_view (λ m. N.Mail.letter m) network)
-        routers K.tells (K.held out.old) (K.held out.old) new_script [] →
-        IsSimulated (source_call S.tells S.left S.fault_count input.old input.new) (sink_call K.tells K.held K.fault_count out.old out.new)
-        (AreKept (seat_since N.state L.facts since) seats.new.items)
-        (LeaveKept (seat_since N.state L.facts since) seats.new.items) routers limit result }
+        routers K.tells since.noted (K.held out.old) (K.held out.old) new_script [] →
+        AreNoted K.tells (K.noted out.old) (places_of L.facts.place seats.old.items) since.noted →
+        WithNotes K.tells (K.noted out.new) (places_of L.facts.place seats.new.items)
+        (λ noted. IsSimulated (source_call S.tells S.left S.fault_count input.old input.new) (sink_call K.tells K.held K.fault_count out.old out.new)
+        (AreKept (seat_since N.state L.facts (with_notes since noted)) seats.new.items)
+        (LeaveKept (seat_since N.state L.facts (with_notes since noted)) seats.new.items)
+        (λ last put. IsTrue K.tells → AreCovered (all_printed routers) (start routers) noted (K.held out.old) put last) routers limit result) }
     ensures open { result ≢ statuses.DiskFailed → result ≢ statuses.OutOfMemory → AreOpen L.facts.is_open seats.new.items }
     ensures len { vec_len seats.new ≡ vec_len seats.old }
     ensures read_fault { RoseWhere (result ≡ statuses.ReadFailed) (S.fault_count input.old) (S.fault_count input.new) }

@@ -3,13 +3,16 @@ use Rattle.std.specs.Prelude.{None, vec_len}
 use Rattle.outside.specs.Devices.{sink_call, source_call}
 use Rattle.opmsg_frames.specs.Frames.{ends}
 use Rattle.node_model.specs.World.{start}
+use Rattle.driver_steps.specs.Crashes.{with_notes}
 use Rattle.driver_steps.specs.Seats.{seat_since, since_then}
 use Rattle.driver_steps.specs.Worlds.{network_view}
 use Rattle.driver_steps.proofs.Crashes.{held_since, kept_plain, start_leaves}
 use Rattle.driver_steps.proofs.Seats.{held_len}
+use Rattle.pipe_driver.specs.Progress.{all_replies}
+use Rattle.pipe_driver.proofs.Covers.{acknowledged, none_noted, without_notes}
 use Rattle.pipe_driver.proofs.Endings.{ended_serving, piped_with}
 use Rattle.pipe_driver.proofs.Openings.{starts}
-use Rattle.pipe_driver.proofs.Serving.{opened_serving, opening_cut, stops_by}
+use Rattle.pipe_driver.proofs.Serving.{but_for_disks, opened_serving, opening_cut, stops_by}
 use Rattle.pipe_driver.proofs.connection.pipe.Goals as goal
 
 pub returns-in-Ok-clause-piped : goal.returns-in-Ok-clause-piped
@@ -22,10 +25,13 @@ returns-in-Ok-clause-piped g c = λ asks routers some are.
     let as_many = c.args.seats.now.ok.0 ∙ held_len _ c.args.seats.now.items (start routers).nodes seated in
     let s = starts _ (λ m. g.N.Mail.Mail.letter m) c.args.seats.now.items routers
     c.new-network.result seated leave c.new-network.ensures.waiting c.new-network.ensures.replies in
-    piped_with _ _ _ _ _ _ routers _ _ _
-    (c.serve.ensures.piped asks since routers some
-    (opened_serving _ _ _ routers _ _ (vec_len c.args.seats.now) as_many _ (c.in-Ok.ensures.opened since (start routers) 0 [] s)))
-    (λ nodes kept. kept_plain g.N.Node.state g.L.Log.facts since _ nodes kept)
+    let served = c.serve.ensures.piped asks since routers some
+    (opened_serving _ _ _ routers _ _ (vec_len c.args.seats.now) as_many _ (c.in-Ok.ensures.opened since (start routers) 0 [] s))
+    (none_noted _ _ _) in
+    piped_with _ _ _ _ _ _ _ _ _ routers _ _ _ served.2
+    (λ nodes kept. kept_plain g.N.Node.state g.L.Log.facts (with_notes since served.0) _ nodes kept)
+    (λ w leave. without_notes g.N.Node.state g.L.Log.facts since served.0 c.serve.new.seats.items w refl leave)
+    (λ w put leave owed. acknowledged g.N.Node.state g.L.Log.facts since served.0 all_replies (start routers) _ _ _ _ w put leave served.1 owed)
 
 pub returns-in-Err-clause-piped : goal.returns-in-Err-clause-piped
 returns-in-Err-clause-piped g c = λ asks routers some are.
@@ -42,11 +48,16 @@ returns-in-Err-clause-piped g c = λ asks routers some are.
     (c.in-Err.ensures.stopped since (start routers) 0 [] s) in
     let none : c.ended.result.rest ≡ 0 = c.ended.ensures.rest in
     let few : 0 + 0 ≤ c.args.limit = omega arith in
-    piped_with _ _ _ _ _ _ routers _ _ _
+    piped_with _ _ _ _ _ _ _ _ _ routers _ _ _
     (ended_serving _ c.open_all.new.seats.items
     (source_call g.S.Source.tells g.S.Source.left g.S.Source.fault_count c.args.input.now c.args.input.now)
-    (sink_call g.K.Sink.tells g.K.Sink.held g.K.Sink.fault_count c.args.out.now c.args.out.now) (g.C.Clock.gives c.args.clock.now) routers c.args.limit
+    (sink_call g.K.Sink.tells g.K.Sink.held g.K.Sink.fault_count c.args.out.now c.args.out.now) (g.C.Clock.gives c.args.clock.now) [] routers c.args.limit
     c.ended.result.rest c.ended.result.status [] [] (network_view (λ m. g.N.Mail.Mail.letter m) c.open_all.new.network) c.of.result c.ended.ensures.status
-    (inr (stops_by _ _ _ routers _ _ _ _ c.in-Err.e _ c.of.ensures cut))
+    (inr (stops_by _ _ _ routers _ _ _ _ _ c.in-Err.e _ c.of.ensures cut))
     (λ told. refl) few (λ place. ([], [], None, ends place [] refl, none)))
     (λ nodes kept. kept_plain g.N.Node.state g.L.Log.facts since _ nodes kept)
+    (λ w leave. leave)
+    (λ w put leave owed. acknowledged g.N.Node.state g.L.Log.facts since [] all_replies (start routers) _ _ _ _ w put leave (none_noted _ _ _) owed)
+
+pub returns-in-Err-clause-open : goal.returns-in-Err-clause-open
+returns-in-Err-clause-open g c = λ disk. but_for_disks c.in-Err.e _ _ (c.ended.ensures.status ∙ c.of.ensures) disk c.in-Err.ensures.«open»

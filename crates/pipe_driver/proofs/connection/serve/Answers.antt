@@ -2,6 +2,7 @@ use Rattle.std.proofs.lemmas.List.{length-take-le}
 use Rattle.std.specs.Result.{is_ok}
 use Rattle.std.proofs.Common.{true, take, ◌≡◌, ◌≤◌, ◌<◌, ℕ, ◌+◌, ◌++◌, List, [], length, refl, arith, sym, ap, ◌∙◌, length-append}
 use Rattle.outside.specs.Devices.{sink_call, source_call}
+use Rattle.driver_steps.specs.Crashes.{with_notes}
 use Rattle.driver_steps.specs.Seats.{seat_since}
 use Rattle.pipe_driver.specs.Rest.{Unframed}
 use Rattle.pipe_driver.specs.declared.status.Status.TheVariants as statuses
@@ -25,43 +26,52 @@ pieces-init g c = record {
   sink_calm = refl;
   disks_calm = refl;
   places = refl;
-  went = λ asks since routers some s. ([], rw c.new-framer.ensures refl, (λ told. rw c.new-framer.ensures refl), s);
+  went = λ asks since routers some s n. (since.noted, n, ([], rw c.new-framer.ensures refl, (λ told. rw c.new-framer.ensures refl), s));
 }
 
 pub returns-in_default-clause-piped : goal.returns-in_default-clause-piped
-returns-in_default-clause-piped g c = λ asks since routers some s.
-    ended_full (seat_since g.N.Node.state g.L.Log.facts since)
-    c.args.seats.now.items
-    (source_call g.S.Source.tells g.S.Source.left g.S.Source.fault_count c.args.input.now c.args.input.now)
-    (sink_call g.K.Sink.tells g.K.Sink.held g.K.Sink.fault_count c.args.out.now c.args.out.now) (g.C.Clock.gives c.args.clock.now) routers c.args.limit
-    c.ended.result.rest c.ended.result.status [] [] _ 0 c.ended.ensures.status s (λ told. refl) (omega arith) refl c.ended.ensures.rest
+returns-in_default-clause-piped g c = λ asks since routers some s n. (
+  since.noted,
+  n,
+  ended_full (seat_since g.N.Node.state g.L.Log.facts (with_notes since since.noted))
+      c.args.seats.now.items
+      (source_call g.S.Source.tells g.S.Source.left g.S.Source.fault_count c.args.input.now c.args.input.now)
+      (sink_call g.K.Sink.tells g.K.Sink.held g.K.Sink.fault_count c.args.out.now c.args.out.now) (g.C.Clock.gives c.args.clock.now) since.noted routers c.args.limit
+      c.ended.result.rest c.ended.result.status [] [] _ 0 c.ended.ensures.status s (λ told. refl) (omega arith) refl c.ended.ensures.rest,
+)
 
 pub returns-then-is_err-clause-piped : goal.returns-then-is_err-clause-piped
-returns-then-is_err-clause-piped g c = λ asks since routers some s.
-    let went = c.pieces.invariant.went asks since routers some s in
+returns-then-is_err-clause-piped g c = λ asks since routers some s n.
+    let went = c.pieces.invariant.went asks since routers some s n in
     let counted : c.ended-then-is_err.result.rest ≡ length c.pieces.framer.bytes =
-    omega (arith, c.ended-then-is_err.ensures.rest, ap length c.rest.ensures, ap length c.reserve.ensures.bytes) in
-    ended_full (seat_since g.N.Node.state g.L.Log.facts since)
-    c.pieces.seats.items
-    (source_call g.S.Source.tells g.S.Source.left g.S.Source.fault_count c.args.input.now c.pieces.input)
-    (sink_call g.K.Sink.tells g.K.Sink.held g.K.Sink.fault_count c.args.out.now c.pieces.out) (g.C.Clock.gives c.args.clock.now) routers c.args.limit
-    c.ended-then-is_err.result.rest c.ended-then-is_err.result.status went.0 c.pieces.framer.bytes _ c.pieces.puts c.ended-then-is_err.ensures.status went.3
-    went.2 (omega (arith, went.1, c.pieces.invariant.most)) c.pieces.invariant.partial counted
+    omega (arith, c.ended-then-is_err.ensures.rest, ap length c.rest.ensures, ap length c.reserve.ensures.bytes) in (
+      went.0,
+      went.1,
+      ended_full (seat_since g.N.Node.state g.L.Log.facts (with_notes since went.0))
+          c.pieces.seats.items
+          (source_call g.S.Source.tells g.S.Source.left g.S.Source.fault_count c.args.input.now c.pieces.input)
+          (sink_call g.K.Sink.tells g.K.Sink.held g.K.Sink.fault_count c.args.out.now c.pieces.out) (g.C.Clock.gives c.args.clock.now) went.0 routers c.args.limit
+          c.ended-then-is_err.result.rest c.ended-then-is_err.result.status went.2.0 c.pieces.framer.bytes _ c.pieces.puts c.ended-then-is_err.ensures.status went.2.3
+          went.2.2 (omega (arith, went.2.1, c.pieces.invariant.most)) c.pieces.invariant.partial counted,
+    )
 
 pub returns-in-Err-clause-piped : goal.returns-in-Err-clause-piped
-returns-in-Err-clause-piped g c = λ asks since routers some s.
-    let went = c.pieces.invariant.went asks since routers some s in
-    let size : length (went.0 ++ c.pieces.framer.bytes) ≡ c.pieces.taken = length-append went.0 c.pieces.framer.bytes ∙ went.1 in
-    let below : length (went.0 ++ c.pieces.framer.bytes) < c.args.limit = omega (arith, size, c.pieces-test.true) in
+returns-in-Err-clause-piped g c = λ asks since routers some s n.
+    let went = c.pieces.invariant.went asks since routers some s n in
+    let size : length (went.2.0 ++ c.pieces.framer.bytes) ≡ c.pieces.taken = length-append went.2.0 c.pieces.framer.bytes ∙ went.2.1 in
+    let below : length (went.2.0 ++ c.pieces.framer.bytes) < c.args.limit = omega (arith, size, c.pieces-test.true) in
     let counted : c.ended-in-Err.result.rest ≡ length c.pieces.framer.bytes =
-    omega (arith, c.ended-in-Err.ensures.rest, ap length c.rest-in-Err.ensures, ap length c.reserve.ensures.bytes) in
-    ended_taking (seat_since g.N.Node.state g.L.Log.facts since)
-    c.pieces.seats.items
-    (source_call g.S.Source.tells g.S.Source.left g.S.Source.fault_count c.args.input.now c.take_more.new.input)
-    (sink_call g.K.Sink.tells g.K.Sink.held g.K.Sink.fault_count c.args.out.now c.pieces.out) (g.C.Clock.gives c.args.clock.now) routers c.args.limit
-    c.ended-in-Err.result.rest c.ended-in-Err.result.status went.0 c.pieces.framer.bytes _ c.pieces.puts c.in-Err.status
-    c.ended-in-Err.ensures.status c.in-Err.ensures.taken.1 went.3
-    (took_no_more _ _ _ _ _ went.2 c.in-Err.ensures.taken.0) below c.pieces.invariant.partial counted
+    omega (arith, c.ended-in-Err.ensures.rest, ap length c.rest-in-Err.ensures, ap length c.reserve.ensures.bytes) in (
+      went.0,
+      went.1,
+      ended_taking (seat_since g.N.Node.state g.L.Log.facts (with_notes since went.0))
+          c.pieces.seats.items
+          (source_call g.S.Source.tells g.S.Source.left g.S.Source.fault_count c.args.input.now c.take_more.new.input)
+          (sink_call g.K.Sink.tells g.K.Sink.held g.K.Sink.fault_count c.args.out.now c.pieces.out) (g.C.Clock.gives c.args.clock.now) went.0 routers c.args.limit
+          c.ended-in-Err.result.rest c.ended-in-Err.result.status went.2.0 c.pieces.framer.bytes _ c.pieces.puts c.in-Err.status
+          c.ended-in-Err.ensures.status c.in-Err.ensures.taken.1 went.2.3
+          (took_no_more _ _ _ _ _ went.2.2 c.in-Err.ensures.taken.0) below c.pieces.invariant.partial counted,
+    )
 
 pub returns-in-Err-clause-read_fault : goal.returns-in-Err-clause-read_fault
 returns-in-Err-clause-read_fault g c =
@@ -78,7 +88,7 @@ returns-in-Err-clause-disk_fault g c =
 
 -- room was made for what is fed
 pub returns-in_default-feed-clause-piped : goal.returns-in_default-feed-clause-piped
-returns-in_default-feed-clause-piped g c = λ asks since routers some s.
+returns-in_default-feed-clause-piped g c = λ asks since routers some s n.
     let size : length (take c.in-Ok-take_more.count c.take_more.new.piece.items) ≡ c.in-Ok-take_more.count =
     length-take-le c.in-Ok-take_more.count c.take_more.new.piece.items (omega (
       arith,
@@ -176,8 +186,8 @@ pieces-preserved g c =
       sink_calm = c.answer_all.ensures.write_fault.1 (λ e. cc) ∙ c.pieces.invariant.sink_calm;
       disks_calm = c.answer_all.ensures.disk_fault.1 (λ e. cc) ∙ c.pieces.invariant.disks_calm;
       places = c.answer_all.ensures.places ∙ c.pieces.invariant.places;
-      went = λ asks since routers some s.
-          let went = c.pieces.invariant.went asks since routers some s in
+      went = λ asks since routers some s n.
+          let went = c.pieces.invariant.went asks since routers some s n in
           let more = c.in-Ok-take_more.ensures.taken in
           let bytes : List ℕ = take c.in-Ok-take_more.count c.take_more.new.piece.items in
           let size : length bytes ≡ c.in-Ok-take_more.count =
@@ -194,17 +204,17 @@ pieces-preserved g c =
           let fed : c.feed.new.self.bytes ≡ c.pieces.framer.bytes ++ bytes =
           all_fed c.pieces.framer.bytes c.reserve.new.self.bytes c.feed.new.self.bytes _ bytes c.reserve.ensures.bytes step.0
           (ap (λ (b : List ℕ). take c.in-Ok-take_more.count b) c.deref.ensures.value) in
-          let round = c.in-Ok-answer_all.ensures.served asks since routers some (g.K.Sink.held c.args.out.now) went.0 went.3 in
-          let sum : length round.0 + length rest ≡ c.pieces.taken + c.in-Ok-take_more.count =
-          round_length went.0 c.pieces.framer.bytes bytes c.feed.new.self.bytes round.0 rest c.pieces.taken c.in-Ok-take_more.count went.1 size fed
-          round.1 in
-          let took = took_round _ _ _ _ went.0 c.pieces.framer.bytes bytes c.feed.new.self.bytes round.0 rest went.2 more.took fed round.1 in
-          (round.0, sum, took, round.2.1);
+          let round = c.in-Ok-answer_all.ensures.served asks (with_notes since went.0) routers some (g.K.Sink.held c.args.out.now) went.2.0 went.2.3 went.1 in
+          let sum : length round.2.0 + length rest ≡ c.pieces.taken + c.in-Ok-take_more.count =
+          round_length went.2.0 c.pieces.framer.bytes bytes c.feed.new.self.bytes round.2.0 rest c.pieces.taken c.in-Ok-take_more.count went.2.1 size fed
+          round.2.1 in
+          let took = took_round _ _ _ _ went.2.0 c.pieces.framer.bytes bytes c.feed.new.self.bytes round.2.0 rest went.2.2 more.took fed round.2.1 in
+          (round.0, round.1, (round.2.0, sum, took, round.2.2.1));
     }
 
 pub returns-in-Err-answer_all-clause-piped : goal.returns-in-Err-answer_all-clause-piped
-returns-in-Err-answer_all-clause-piped g c = λ asks since routers some s.
-    let went = c.pieces.invariant.went asks since routers some s in
+returns-in-Err-answer_all-clause-piped g c = λ asks since routers some s n.
+    let went = c.pieces.invariant.went asks since routers some s n in
     let more = c.in-Ok-take_more.ensures.taken in
     let bytes : List ℕ = take c.in-Ok-take_more.count c.take_more.new.piece.items in
     let size : length bytes ≡ c.in-Ok-take_more.count =
@@ -221,19 +231,22 @@ returns-in-Err-answer_all-clause-piped g c = λ asks since routers some s.
     let fed : c.feed.new.self.bytes ≡ c.pieces.framer.bytes ++ bytes =
     all_fed c.pieces.framer.bytes c.reserve.new.self.bytes c.feed.new.self.bytes _ bytes c.reserve.ensures.bytes step.0
     (ap (λ (b : List ℕ). take c.in-Ok-take_more.count b) c.deref.ensures.value) in
-    let round = c.in-Err-answer_all.ensures.served asks since routers some (g.K.Sink.held c.args.out.now) went.0 went.3 in
-    let sum : length round.0 + length rest ≡ c.pieces.taken + c.in-Ok-take_more.count =
-    round_length went.0 c.pieces.framer.bytes bytes c.feed.new.self.bytes round.0 rest c.pieces.taken c.in-Ok-take_more.count went.1 size fed round.1 in
-    let took = took_round _ _ _ _ went.0 c.pieces.framer.bytes bytes c.feed.new.self.bytes round.0 rest went.2 more.took fed round.1 in
+    let round = c.in-Err-answer_all.ensures.served asks (with_notes since went.0) routers some (g.K.Sink.held c.args.out.now) went.2.0 went.2.3 went.1 in
+    let sum : length round.2.0 + length rest ≡ c.pieces.taken + c.in-Ok-take_more.count =
+    round_length went.2.0 c.pieces.framer.bytes bytes c.feed.new.self.bytes round.2.0 rest c.pieces.taken c.in-Ok-take_more.count went.2.1 size fed round.2.1 in
+    let took = took_round _ _ _ _ went.2.0 c.pieces.framer.bytes bytes c.feed.new.self.bytes round.2.0 rest went.2.2 more.took fed round.2.1 in
     let most : c.pieces.taken + c.in-Ok-take_more.count ≤ c.args.limit = omega (arith, c.in-Ok-take_more.ensures.most, c.min-room.ensures, c.pieces-test.true) in
     let counted : Unframed rest c.ended-in-Err-answer_all.result.rest =
-    rw (c.ended-in-Err-answer_all.ensures.rest, sym c.rest-in-Err-answer_all.ensures) c.unframed.ensures in
-    ended_serving (seat_since g.N.Node.state g.L.Log.facts since)
-    c.answer_all.new.seats.items
-    (source_call g.S.Source.tells g.S.Source.left g.S.Source.fault_count c.args.input.now c.take_more.new.input)
-    (sink_call g.K.Sink.tells g.K.Sink.held g.K.Sink.fault_count c.args.out.now c.answer_all.new.out) (g.C.Clock.gives c.args.clock.now) routers c.args.limit
-    c.ended-in-Err-answer_all.result.rest c.ended-in-Err-answer_all.result.status round.0 rest _ c.in-Err-answer_all.status
-    c.ended-in-Err-answer_all.ensures.status round.2 took (omega (arith, sum, most)) counted
+    rw (c.ended-in-Err-answer_all.ensures.rest, sym c.rest-in-Err-answer_all.ensures) c.unframed.ensures in (
+      round.0,
+      round.1,
+      ended_serving (seat_since g.N.Node.state g.L.Log.facts (with_notes since round.0))
+          c.answer_all.new.seats.items
+          (source_call g.S.Source.tells g.S.Source.left g.S.Source.fault_count c.args.input.now c.take_more.new.input)
+          (sink_call g.K.Sink.tells g.K.Sink.held g.K.Sink.fault_count c.args.out.now c.answer_all.new.out) (g.C.Clock.gives c.args.clock.now) round.0 routers c.args.limit
+          c.ended-in-Err-answer_all.result.rest c.ended-in-Err-answer_all.result.status round.2.0 rest _ c.in-Err-answer_all.status
+          c.ended-in-Err-answer_all.ensures.status round.2.2 took (omega (arith, sum, most)) counted,
+    )
 
 pub returns-in-Err-answer_all-clause-read_fault : goal.returns-in-Err-answer_all-clause-read_fault
 returns-in-Err-answer_all-clause-read_fault g c =
@@ -251,17 +264,18 @@ returns-in-Err-answer_all-clause-disk_fault g c =
     c.ended-in-Err-answer_all.ensures.status c.pieces.invariant.disks_calm c.answer_all.ensures.disk_fault
 
 pub returns-clause-piped : goal.returns-clause-piped
-returns-clause-piped g c = λ asks since routers some s.
-    let went = c.pieces.invariant.went asks since routers some s in
-    let counted : c.ended-2.result.rest ≡ length c.pieces.framer.bytes = omega (arith, c.ended-2.ensures.rest, ap length c.rest-2.ensures) in
-    ended_at_limit (seat_since g.N.Node.state g.L.Log.facts since)
-    c.pieces.seats.items
-    (source_call g.S.Source.tells g.S.Source.left g.S.Source.fault_count c.args.input.now c.pieces.input)
-    (sink_call g.K.Sink.tells g.K.Sink.held g.K.Sink.fault_count c.args.out.now c.pieces.out) (g.C.Clock.gives c.args.clock.now) routers c.args.limit
-    c.ended-2.result.rest c.ended-2.result.status went.0 c.pieces.framer.bytes _ c.pieces.puts c.ended-2.ensures.status went.3 went.2
-    (omega (arith, went.1, c.pieces.invariant.most, c.pieces-test.false)) c.pieces.invariant.partial counted
+returns-clause-piped g c = λ asks since routers some s n.
+    let went = c.pieces.invariant.went asks since routers some s n in
+    let counted : c.ended-2.result.rest ≡ length c.pieces.framer.bytes = omega (arith, c.ended-2.ensures.rest, ap length c.rest-2.ensures) in (
+      went.0,
+      went.1,
+      ended_at_limit (seat_since g.N.Node.state g.L.Log.facts (with_notes since went.0))
+          c.pieces.seats.items
+          (source_call g.S.Source.tells g.S.Source.left g.S.Source.fault_count c.args.input.now c.pieces.input)
+          (sink_call g.K.Sink.tells g.K.Sink.held g.K.Sink.fault_count c.args.out.now c.pieces.out) (g.C.Clock.gives c.args.clock.now) went.0 routers c.args.limit
+          c.ended-2.result.rest c.ended-2.result.status went.2.0 c.pieces.framer.bytes _ c.pieces.puts c.ended-2.ensures.status went.2.3 went.2.2
+          (omega (arith, went.2.1, c.pieces.invariant.most, c.pieces-test.false)) c.pieces.invariant.partial counted,
+    )
 
 pub returns-in-Err-answer_all-clause-open : goal.returns-in-Err-answer_all-clause-open
-returns-in-Err-answer_all-clause-open g c = λ disk memory.
-    c.in-Err-answer_all.ensures.open_err (λ is. disk (c.ended-in-Err-answer_all.ensures.status
-    ∙ is)) (λ is. memory (c.ended-in-Err-answer_all.ensures.status ∙ is))
+returns-in-Err-answer_all-clause-open g c = λ disk. c.in-Err-answer_all.ensures.open_err (λ is. disk (c.ended-in-Err-answer_all.ensures.status ∙ is))

@@ -18,6 +18,7 @@ loop-at-preserved g c = record {
   within = omega (arith, c.in_ok-at.ensures.count, c.loop-at.invariant.within);
   put = put_more g.K.Sink.tells _ _ _ c.args.piece.now c.loop-at.at c.in_ok-at.field-0 c.loop-at.invariant.put c.in_ok-at.ensures.put;
   calm = c.in_ok-at.ensures.calm ∙ c.loop-at.invariant.calm;
+  noted = c.put.ensures.noted ∙ c.loop-at.invariant.noted;
 }
 
 pub returns-in_err-at-clause-prefix : goal.returns-in_err-at-clause-prefix

@@ -11,4 +11,5 @@ invariant-loop-at g l = record {
   within : l.at ≤ length l.piece;
   put : Put g.K.Sink.tells (g.K.Sink.held l.fn.out) (take l.at l.piece) (g.K.Sink.held l.out);
   calm : g.K.Sink.fault_count l.out ≡ g.K.Sink.fault_count l.fn.out;
+  noted : g.K.Sink.noted l.out ≡ g.K.Sink.noted l.fn.out;
 }
