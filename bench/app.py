@@ -5,7 +5,7 @@ Through examples/tcp.py: app.py, with all of its output; app.py once more while 
 connection, so that the driver retries; eight clients that increment one document; requests without a reply; and connections that send what
 is no message or end in the middle of one, which must cost no other connection anything. Then shell.py, and the connections of the hex files.
 
-    bench/app.py [PROGRAM]     without an argument the program that `cluster` built
+    bench/app.py [PROGRAM]     without an argument the program that `cluster` builds
 
 It needs pymongo, for the python3 on the path or for /usr/bin/python3. It exits with 1 where anything differs.
 """
@@ -24,9 +24,10 @@ TOP = pathlib.Path(__file__).resolve().parent.parent
 sys.path.insert(0, str(TOP / "bench" / "rows"))
 
 from bson import DOCUMENT, fields_of, read_fields, shown  # noqa: E402
+from inserts import built  # noqa: E402
 from wire import message, split_messages  # noqa: E402
 
-PROGRAM = os.path.abspath(sys.argv[1]) if len(sys.argv) > 1 else str(TOP / "crates" / "cluster_main" / "out" / "cluster_main")
+PROGRAM = os.path.abspath(sys.argv[1]) if len(sys.argv) > 1 else built()
 EXAMPLES = TOP / "examples"
 PAGE = (EXAMPLES / "README.md").read_text()
 CLIENTS, EACH = 8, 50
@@ -228,8 +229,6 @@ def try_hex(name):
 
 
 def main():
-    if not os.access(PROGRAM, os.X_OK):
-        sys.exit(f"app: there is no program {PROGRAM}: a first start of `cluster` builds it")
     try_app()
     try_clients()
     try_bad_connections()
