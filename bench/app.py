@@ -3,7 +3,7 @@
 
 Through examples/tcp.py: app.py, with all of its output; app.py once more while each numbered write's first reply is lost with its
 connection, so that the driver retries; eight clients that increment one document; requests without a reply; and connections that send what
-is no message or end in the middle of one, which must cost no other connection anything. Then shell.py, and the connections of the hex files.
+is no message or end in the middle of one, which must cost no other connection anything. Then shell.py, the script, and the connections of the hex files.
 
     bench/app.py [PROGRAM]     without an argument the program that `cluster` builds
 
@@ -228,11 +228,31 @@ def try_hex(name):
     compare(f"{name}.hex: lengths", [str(len(it)) for it in replies], lengths)
 
 
+def try_script():
+    script = (EXAMPLES / "twice.script").read_bytes()
+    with tempfile.TemporaryDirectory() as folder:
+        ran = subprocess.run([PROGRAM, "sim"], cwd=folder, input=script, capture_output=True, timeout=60)
+    compare("twice.script", ran.stdout.decode().splitlines(), block("reply 0"))
+
+
+def try_insert():
+    """The insert of the page twice: the first reply but its time, and the lengths of both."""
+    sent = bytes.fromhex((EXAMPLES / "insert.hex").read_text())
+    with tempfile.TemporaryDirectory() as folder:
+        ran = subprocess.run([PROGRAM, "pipe"], cwd=folder, input=2 * sent, capture_output=True, timeout=60)
+    replies = split_messages(ran.stdout)
+    lines = "".join(block("4000000001")).replace(" ", "").partition("<seconds>")
+    compare("insert.hex", (replies[0][:59].hex(), replies[0][63:].hex()), lines[::2])
+    compare("insert.hex: lengths", [len(it) for it in replies], [64, 136])
+
+
 def main():
     try_app()
     try_clients()
     try_bad_connections()
     try_shell()
+    try_insert()
+    try_script()
     for name in ("query", "aggregate", "retry"):
         try_hex(name)
     print(f"app: {len(wrong)} wrong")
