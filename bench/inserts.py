@@ -3,9 +3,20 @@ sequence, under keys of several kinds. Other files of this folder take it in.
 """
 import pathlib
 import struct
+import subprocess
+import sys
+import tempfile
 
-# The program at the top of the repository, which builds itself where it isn't built.
-CLUSTER = pathlib.Path(__file__).resolve().parent.parent / "cluster"
+TOP = pathlib.Path(__file__).resolve().parent.parent
+
+
+def built():
+    """The program itself, which `cluster` builds where it is not built: a run of the empty script does so."""
+    with tempfile.TemporaryDirectory() as folder:
+        if subprocess.run([TOP / "cluster", "sim"], cwd=folder, stdin=subprocess.DEVNULL).returncode != 0:
+            sys.exit("the program is not built")
+    return str(TOP / "crates" / "cluster_main" / "out" / "cluster_main")
+
 
 # The documents of a request.
 EACH = 3

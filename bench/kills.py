@@ -1,7 +1,7 @@
 #!/usr/bin/env -S python3 -B
 """Kills the built program while it serves inserts, and looks whether its journals hold every entry that was acknowledged.
 
-The program is `cluster` at the top of the repository, run in a temporary folder; it is killed by its process id. Each round
+The program is the one that `cluster` builds, run in a temporary folder; it is killed by its process id. Each round
 sends ordered inserts of three documents by document sequence, one after another, under keys of several kinds. It reads each
 reply, and kills the program behind a number of replies, in the middle of a request or while one is served. The shard's
 journal must then hold the documents that were acknowledged, in order, with at most the first ones of one request more, and
@@ -17,13 +17,13 @@ import sys
 import tempfile
 import time
 
-from inserts import CLUSTER, EACH, entries, insert, is_acknowledged, kept, records
+from inserts import EACH, built, entries, insert, is_acknowledged, kept, records
 
 
-def one_round(folder, replies, cut):
+def one_round(path, folder, replies, cut):
     """Kills the program behind so many replies, and after so many bytes of the next request. Gives the entries that the
     shard's journal holds."""
-    program = subprocess.Popen([CLUSTER, "pipe"], cwd=folder, stdin=subprocess.PIPE, stdout=subprocess.PIPE)
+    program = subprocess.Popen([path, "pipe"], cwd=folder, stdin=subprocess.PIPE, stdout=subprocess.PIPE)
     for request in range(replies):
         program.stdin.write(insert(request))
         program.stdin.flush()
@@ -43,14 +43,13 @@ def one_round(folder, replies, cut):
 
 def main():
     rounds = int(sys.argv[1]) if len(sys.argv) > 1 else 20
-    if subprocess.run([CLUSTER, "none"], stderr=subprocess.DEVNULL).returncode != 2:
-        sys.exit("kills: the program is not built")
+    path = built()
     total = 0
     more = [0] * (EACH + 1)
     for number in range(rounds):
         with tempfile.TemporaryDirectory() as folder:
             replies = random.randint(1, 100)
-            held = one_round(folder, replies, random.choice([0, 20, 150, 10_000, 10_000]))
+            held = one_round(path, folder, replies, random.choice([0, 20, 150, 10_000, 10_000]))
         over = len(held) - replies * EACH
         if not 0 <= over <= EACH:
             sys.exit(f"kills: round {number}: {replies * EACH} acknowledged, {len(held)} held")

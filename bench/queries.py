@@ -10,7 +10,7 @@ that are sent again, when all were answered: at most 0.2 times as long as at fir
 are 1,000 messages of one statement, each of a session of its own; the same in one session, each sent again at once, as a driver does; and
 one message of 1,000 statements. With $SPEED_SYNC_MS each sync takes so many milliseconds more, as in `speed.py`; then these alone are measured.
 
-The program is $CLUSTER, or `cluster` at the top of the repository, run as `cluster pipe` in a new folder (in $SPEED_FOLDER, where that is
+The program is $CLUSTER, or the one that `cluster` builds, run with `pipe` in a new folder (in $SPEED_FOLDER, where that is
 given). Without PostgreSQL (`initdb`, `pg_ctl`, `psql`) its rows are left out, which is said. Clients, program and server share one
 processor. Every reply is looked at, behind its time, but the batches between. Each figure is the best of some rounds; in these it is the mean
 of a row of requests but the first, for which nothing is warm yet, and of reads the best of ten rows, of lists the best of ten. Few and many

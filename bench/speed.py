@@ -5,7 +5,7 @@ Wanted: one link's acknowledged inserts a second are 0.45 times the disk's syncs
 at most 1 / 0.8 times as long as one append of as many bytes; an insert among 20,000 costs at most 1.3 times one among 2,000; and the
 program takes 1.5 GB at most for a message of up to 48,000,000 bytes, also of many small fields. Where PostgreSQL is found
 (`initdb`, `pg_ctl`, `psql`; as another user where this is root) it also tells how long one statement of 1,000 rows takes there, with
-synchronous commit. The program is $CLUSTER, or `cluster` at the top of the repository. Client and program share one processor, so that no
+synchronous commit. The program is $CLUSTER, or the one that `cluster` builds. Client and program share one processor, so that no
 figure is of how long a sleeping one takes to wake. With $SPEED_SYNC_MS each sync takes so many milliseconds more, here and in the program
 (a library that is loaded before libc; wants `cc`): so a disk is measured that syncs as slowly as one that turns; then fewer inserts are
 made, and neither their growth nor PostgreSQL is measured. Each figure is the best of some rounds. Ends with status 1 where a wanted
@@ -21,9 +21,9 @@ import sys
 import tempfile
 import time
 
-from inserts import CLUSTER, document, element, text
+from inserts import built, document, element, text
 
-PROGRAM = os.environ.get("CLUSTER", str(CLUSTER))
+PROGRAM = os.environ.get("CLUSTER") or built()
 
 SYNC_MS = int(os.environ.get("SPEED_SYNC_MS", "0"))
 

@@ -1,7 +1,8 @@
 #!/bin/sh
-# Tries the built program on streams and disks that fail and on input that is no request: status and line to standard error.
-# Each try has a working folder of its own, where its journals stand.
+# Tries the built program on streams and disks that fail and on input that is no request: status and line on standard error. Then the
+# same of `cluster`, where it adds something. Each try has a working folder of its own for its journals.
 top=$(cd "$(dirname "$0")/.." && pwd) || exit 1
+program=$top/crates/cluster_main/out/cluster_main
 work=$(mktemp -d) || exit 1
 trap 'rm -rf "$work"' EXIT
 xxd -r -p "$top/examples/insert.hex" > "$work/request" || exit 1
@@ -18,6 +19,9 @@ printf '\024\0\0\0\001\0\0\0\0\0\0\0\335\007\0\0\001\0\0\0' > "$work/flags"
 : > "$work/nothing"
 printf '\001\154\334\002\0\0\0\0\0\0\0\0\335\007\0\0' > "$work/long"
 failed=0
+mkdir "$work/first" && (cd "$work/first" && "$top/cluster" sim < /dev/null) && rm -r "$work/first" || { echo "statuses: the program is not built"; exit 1; }
+advice_5='cluster: is another run using this folder? then use a new one; else look at the disk: full, read-only or faulty'
+advice_6='cluster: use a new folder, or remove node*.journal with all that they hold: no run reads the journals of an earlier one yet'
 
 # fresh: goes to a new working folder
 fresh() {
@@ -66,46 +70,75 @@ touches_none() {
     fi
 }
 
-fresh; "$top/cluster" pipe < "$work/nothing" > "$work/reply" 2> "$work/errors"; check "empty input" 0 "" $?
-fresh; "$top/cluster" pipe < "$work/request" > "$work/reply" 2> "$work/errors"; check "one insert" 0 "" $?
-fresh; "$top/cluster" pipe < "$work/three" > "$work/reply" 2> "$work/errors"; check "an insert of three documents" 0 "" $?
+fresh; "$program" pipe < "$work/nothing" > "$work/reply" 2> "$work/errors"; check "empty input" 0 "" $?
+fresh; "$program" pipe < "$work/request" > "$work/reply" 2> "$work/errors"; check "one insert" 0 "" $?
+fresh; "$program" pipe < "$work/three" > "$work/reply" 2> "$work/errors"; check "an insert of three documents" 0 "" $?
 tells "the reply to three documents" "$work/reply" 106e000300000010
-fresh; "$top/cluster" pipe < "$work/silent" > "$work/reply" 2> "$work/errors"; check "an insert without a reply" 0 "" $?
+fresh; "$program" pipe < "$work/silent" > "$work/reply" 2> "$work/errors"; check "an insert without a reply" 0 "" $?
 [ ! -s "$work/reply" ] && [ -s node00.journal ] || { echo "wrong: a reply that is not wanted, or no record"; failed=1; }
 tells "the shard's journal of an insert without a reply" node01.journal 025f69640002000000610000
-fresh; "$top/cluster" pipe < "$work/silent" > /dev/full 2> "$work/errors"; check "no reply to a full device" 0 "" $?
-fresh; "$top/cluster" pipe < "$work/greeting" > "$work/reply" 2> "$work/errors"; check "a greeting" 0 "" $?
+fresh; "$program" pipe < "$work/silent" > /dev/full 2> "$work/errors"; check "no reply to a full device" 0 "" $?
+fresh; "$program" pipe < "$work/greeting" > "$work/reply" 2> "$work/errors"; check "a greeting" 0 "" $?
 tells "the reply to a greeting" "$work/reply" 0869736d617374657200
-fresh; cat "$work/request" "$work/flags" | "$top/cluster" pipe > "$work/reply" 2> "$work/errors"; check "an insert and flags that are refused" 9 "cluster: bad input" $?
+fresh; cat "$work/request" "$work/flags" | "$program" pipe > "$work/reply" 2> "$work/errors"; check "an insert and flags that are refused" 9 "cluster: bad input" $?
 tells "the reply before flags that are refused" "$work/reply" 106e0001000000
-fresh; "$top/cluster" pope < "$work/nothing" > "$work/reply" 2> "$work/errors"; check "bad words" 2 "cluster: bad words" $?
+fresh; "$program" pope < "$work/nothing" > "$work/reply" 2> "$work/errors"; check "bad words" 2 "cluster: bad words" $?
 leaves_none "bad words"
-fresh; "$top/cluster" < "$work/nothing" > "$work/reply" 2> "$work/errors"; check "no words" 2 "cluster: bad words" $?
+fresh; "$program" < "$work/nothing" > "$work/reply" 2> "$work/errors"; check "no words" 2 "cluster: bad words" $?
 leaves_none "no words"
-fresh; "$top/cluster" "$(printf 'pipe\377')" < "$work/nothing" > "$work/reply" 2> "$work/errors"; check "a word that is not UTF-8" 2 "cluster: bad words" $?
+fresh; "$program" "$(printf 'pipe\377')" < "$work/nothing" > "$work/reply" 2> "$work/errors"; check "a word that is not UTF-8" 2 "cluster: bad words" $?
 leaves_none "a word that is not UTF-8"
-fresh; "$top/cluster" pipe < "$work" > "$work/reply" 2> "$work/errors"; check "a source that can't be read" 3 "cluster: read failed" $?
-fresh; "$top/cluster" pipe < "$work/request" > /dev/full 2> "$work/errors"; check "a full device" 4 "cluster: write failed" $?
-fresh; "$top/cluster" pipe < "$work/request" 2> "$work/errors" >&-; check "a closed output" 4 "cluster: write failed" $?
-fresh; "$top/cluster" pipe <&- > "$work/reply" 2> "$work/errors"; check "a closed input" 3 "cluster: read failed" $?
+fresh; "$program" pipe < "$work" > "$work/reply" 2> "$work/errors"; check "a source that can't be read" 3 "cluster: read failed" $?
+fresh; "$program" pipe < "$work/request" > /dev/full 2> "$work/errors"; check "a full device" 4 "cluster: write failed" $?
+fresh; "$program" pipe < "$work/request" 2> "$work/errors" >&-; check "a closed output" 4 "cluster: write failed" $?
+fresh; "$program" pipe <&- > "$work/reply" 2> "$work/errors"; check "a closed input" 3 "cluster: read failed" $?
 : > "$work/errors"
-fresh; "$top/cluster" pipe < "$work/long" > "$work/reply" 2>&-; check "a closed error stream" 9 "" $?
+fresh; "$program" pipe < "$work/long" > "$work/reply" 2>&-; check "a closed error stream" 9 "" $?
 [ "$(cat node00.journal node01.journal node02.journal | xxd -p)" = 0000010a000000000000000130010000000000000000 ] || { echo "wrong: bytes of a closed stream in a journal"; failed=1; }
-fresh; { sh -c '"$1" pipe < "$2" 2> "$3"; echo $? > "$4"' - "$top/cluster" "$work/request" "$work/errors" "$work/status"; } | :
+fresh; { sh -c '"$1" pipe < "$2" 2> "$3"; echo $? > "$4"' - "$program" "$work/request" "$work/errors" "$work/status"; } | :
 check "a pipe without a reader" 4 "cluster: write failed" "$(cat "$work/status")"
-fresh; "$top/cluster" pipe < "$work/long" > "$work/reply" 2> "$work/errors"; check "a length of 48,000,001" 9 "cluster: bad input" $?
+fresh; "$program" pipe < "$work/long" > "$work/reply" 2> "$work/errors"; check "a length of 48,000,001" 9 "cluster: bad input" $?
 fresh; printf '\0' > node02.journal
-"$top/cluster" pipe < "$work/request" > "$work/reply" 2> "$work/errors"; check "a journal with a byte" 6 "cluster: damaged journal" $?
+"$program" pipe < "$work/request" > "$work/reply" 2> "$work/errors"; check "a journal with a byte" 6 "cluster: damaged journal" $?
 fresh; mkdir node01.journal
-"$top/cluster" pipe < "$work/request" > "$work/reply" 2> "$work/errors"; check "a journal that is a folder" 5 "cluster: disk failed" $?
-fresh; "$top/cluster" pipe < "$work/request" > "$work/reply" 2> "$work/errors"
-"$top/cluster" pipe < "$work/request" > "$work/reply" 2> "$work/errors"; check "a second start in one folder" 6 "cluster: damaged journal" $?
+"$program" pipe < "$work/request" > "$work/reply" 2> "$work/errors"; check "a journal that is a folder" 5 "cluster: disk failed" $?
+fresh; "$program" pipe < "$work/request" > "$work/reply" 2> "$work/errors"
+"$program" pipe < "$work/request" > "$work/reply" 2> "$work/errors"; check "a second start in one folder" 6 "cluster: damaged journal" $?
 for journal in node00.journal node01.journal node02.journal; do
     fresh; : > $journal
-    flock $journal "$top/cluster" pipe < "$work/request" > "$work/reply" 2> "$work/errors"; check "a lock on $journal" 5 "cluster: disk failed" $?
+    flock $journal "$program" pipe < "$work/request" > "$work/reply" 2> "$work/errors"; check "a lock on $journal" 5 "cluster: disk failed" $?
     touches_none "a lock on $journal"
 done
 fresh; : > node00.journal; ln node00.journal node02.journal
-"$top/cluster" pipe < "$work/request" > "$work/reply" 2> "$work/errors"; check "two journals that are one file" 5 "cluster: disk failed" $?
+"$program" pipe < "$work/request" > "$work/reply" 2> "$work/errors"; check "two journals that are one file" 5 "cluster: disk failed" $?
 touches_none "two journals that are one file"
+
+# The same of `cluster`: arguments that it does not know, and what it adds.
+# first_line: keeps the first line on standard error alone
+first_line() { head -n 1 "$work/errors" > "$work/first" && mv "$work/first" "$work/errors"; }
+usage='usage: cluster pipe      serves one MongoDB connection on standard input and output'
+fresh; "$top/cluster" pope < "$work/nothing" > "$work/reply" 2> "$work/errors"; got=$?; first_line; (exit $got); check "usage of bad words" 2 "$usage" $?
+fresh; "$top/cluster" < "$work/nothing" > "$work/reply" 2> "$work/errors"; got=$?; first_line; (exit $got); check "usage of no words" 2 "$usage" $?
+fresh; "$top/cluster" pipe sim < "$work/nothing" > "$work/reply" 2> "$work/errors"; got=$?; first_line; (exit $got); check "usage of two words" 2 "$usage" $?
+leaves_none "usage"
+fresh; "$top/cluster" pipe < "$work/request" > "$work/reply" 2> "$work/errors"; check "one insert by cluster" 0 "" $?
+tells "the reply by cluster" "$work/reply" 106e0001000000
+"$top/cluster" pipe < "$work/request" > "$work/reply" 2> "$work/errors"
+check "advice after a second start" 6 "cluster: damaged journal
+$advice_6" $?
+fresh; mkdir node01.journal; "$top/cluster" pipe < "$work/request" > "$work/reply" 2> "$work/errors"
+check "advice after a journal that is a folder" 5 "cluster: disk failed
+$advice_5" $?
+fresh; "$top/cluster" pipe < "$work/long" > "$work/reply" 2> "$work/errors"; check "no advice after bad input" 9 "cluster: bad input" $?
+fresh; "$top/cluster" pipe <&- > "$work/reply" 2> "$work/errors"; check "a closed input of cluster" 3 "cluster: read failed" $?
+# Signals are passed on.
+for signal in TERM:143 INT:130 HUP:129; do
+    fresh; mkfifo "$work/input"; env --default-signal=INT "$top/cluster" pipe < "$work/input" > "$work/reply" 2> "$work/errors" & launcher=$!
+    exec 8> "$work/input"; sleep 1; kill -${signal%:*} $launcher; wait $launcher; got=$?
+    exec 8>&-; rm "$work/input"
+    (exit $got); check "a signal ${signal%:*} to cluster" ${signal#*:} "" $?
+    for journal in node00.journal node01.journal node02.journal; do
+        flock -n $journal true || { echo "wrong: $journal is locked after a signal ${signal%:*}"; failed=1; }
+    done
+done
 exit $failed

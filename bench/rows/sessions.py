@@ -1,4 +1,4 @@
-"""Sessions for a new user: files of requests, and what the README tells of them."""
+"""Sessions for a new user: files of requests, and the parts of examples/README.md about them."""
 import re
 import textwrap
 
@@ -13,17 +13,17 @@ SALES = ", ".join(f'{{_id: {key}, item: "{item}", count: {count}, paid: {paid}}}
 
 
 class Session:
-    """What the README tells in front of a session and behind it, and its requests; `=n` stands for the bytes of the n-th once more."""
+    """The README's text before a session and after it, and its requests; `=n` stands for a copy of the n-th."""
 
-    def __init__(self, title, words, sources, behind):
-        self.title, self.words, self.sources, self.behind = title, words, sources, behind
+    def __init__(self, title, words, sources, after):
+        self.title, self.words, self.sources, self.after = title, words, sources, after
 
 
 QUERY = Session(
     "Queries",
-    "Four documents, and what a driver's application asks of them: a filter with a sort; a filter of two fields, one of them an array; a sort of which "
-    "some are skipped, with a projection; a count; a list in two batches, of which the second is asked for by the number that the first tells; a number "
-    "that is not open any more; and a filter that is none.",
+    "Four documents, and queries as an application sends them: a filter with a sort; a filter of two fields, one of them an array; a sort with skip, "
+    "limit and a projection; a count; a result in two batches, the second requested by the cursor's number; a cursor that is closed; and a filter that "
+    "is not valid.",
     [
         f'{{insert: "plants", documents: [{PLANTS}], $db: "garden"}}',
         '{find: "plants", filter: {height: {$lt: 100}}, sort: {height: 1}, $db: "garden"}',
@@ -35,13 +35,13 @@ QUERY = Session(
         '{getMore: 1L, collection: "plants", $db: "garden"}',
         '{find: "plants", filter: {height: {$like: 3}}, $db: "garden"}',
     ],
-    "The first batch without `batchSize` has 101 documents at most. Without `sort` any order is right.",
+    "A first batch without `batchSize` has 101 documents at most. Without `sort` the documents may come in any order.",
 )
 GROUP = "{$group: {_id: \"$item\", sales: {$count: {}}, count: {$sum: \"$count\"}, paid: {$sum: \"$paid\"}}}"
 AGGREGATE = Session(
     "Aggregation",
-    "Five sales: totals of each item, the greatest first; how many sales were of more than one piece; the two that were paid most, with a field made of "
-    "another; a group of nothing, which has no row; and the least and the greatest of all.",
+    "Five sales: totals of each item, the greatest first; the number of sales of more than one piece; the two best paid, with a computed field; a group "
+    "over no documents, which has no row; and the least and the greatest of all.",
     [
         f'{{insert: "sales", documents: [{SALES}], $db: "shop"}}',
         f'{{aggregate: "sales", pipeline: [{GROUP}, {{$sort: {{paid: -1}}}}], cursor: {{}}, $db: "shop"}}',
@@ -54,8 +54,9 @@ AGGREGATE = Session(
 )
 RETRY = Session(
     "Retries",
-    "A driver that heard no reply sends its write again. `lsid` and `txnNumber` number the statements: two inserts, the same bytes again, an increment, "
-    "the same bytes again, and what stands there then; then the first once more, whose number is too old, and an insert without number, twice.",
+    "A driver that receives no reply sends its write again. `lsid` and `txnNumber` number the statements: two inserts, the same bytes again, an "
+    "increment, the same bytes again, and the documents after that; then the first once more, whose number is too old by now, and an insert without a "
+    "number, twice.",
     [
         f'{{insert: "c", documents: [{{_id: 1, x: 1}}, {{_id: 2, x: 1}}], {SESSION}, txnNumber: 1L, $db: "d"}}',
         "=1",
@@ -66,8 +67,8 @@ RETRY = Session(
         '{insert: "c", documents: [{_id: 3}], $db: "d"}',
         "=7",
     ],
-    "The second reply and the fourth have the times of the first and the third: nothing was done again. `node01.journal` has five entries then: of the "
-    "three numbered statements, of the last insert, and of that insert sent again, which is told that its key is there.",
+    "The second reply and the fourth have the times of the first and the third: nothing was applied again. After that `node01.journal` has five "
+    "entries: those of the three numbered statements, of the last insert, and of its second copy, which is refused because its key exists.",
 )
 SESSIONS = {"query": QUERY, "aggregate": AGGREGATE, "retry": RETRY}
 
@@ -97,14 +98,14 @@ def wrapped(note, first, width=150):
 def section(name):
     session = SESSIONS[name]
     connection = Connection()
-    lines = [f"## {session.title}", ""] + textwrap.wrap(session.words, 150, break_on_hyphens=False) + ["",
+    lines = [f"### {session.title}", ""] + textwrap.wrap(session.words, 150, break_on_hyphens=False) + ["",
         f"    xxd -r -p ../examples/{name}.hex | ../cluster pipe | xxd", ""]
     lengths = []
     for number, (source, bytes_) in enumerate(requests_of(session.sources)):
         _, fields, reply = connection.ask(bytes_)
         lengths.append(len(reply))
         lines += wrapped(source, f"{number + 1}. ") + wrapped(without_times(shown((DOCUMENT, fields))), "-> ")
-    lines += [""] + textwrap.wrap(f"The replies have {', '.join(map(str, lengths[:-1]))} and {lengths[-1]} bytes. {session.behind}", 150,
+    lines += [""] + textwrap.wrap(f"The replies have {', '.join(map(str, lengths[:-1]))} and {lengths[-1]} bytes. {session.after}", 150,
         break_on_hyphens=False)
     return lines + [""], len(connection.cluster.journals[1])
 
@@ -122,7 +123,7 @@ def put(folder, parts):
 
 
 HEAD = [
-    "Each of these files holds several requests, one behind another, as one connection sends them. Each is for a new folder, as above. In the replies",
-    "`<time>` stands for a timestamp of the clock's second. `bench/rows/show.py` prints replies as text:", "",
+    "`query.hex`, `aggregate.hex` and `retry.hex` each hold several requests of one connection, one after another; each needs a new folder. Below,",
+    "`<time>` is a timestamp of the clock's second, and a number with L has 64 bits. `bench/rows/show.py` prints replies as text:", "",
     "    xxd -r -p ../examples/query.hex | ../cluster pipe | python3 -B ../bench/rows/show.py", "",
 ]
