@@ -3,9 +3,9 @@
 
 Each message is sent to a program of its own (`cluster pipe`, in a new folder), its reply is read, and the program's greatest resident
 size, less that of a program that answers one small message, is printed as a multiple of the message's bytes. Wanted: at most 40 times,
-and at most 2 GB in all. The program is the first argument, $CLUSTER, or `cluster` at the top of the repository. A size in megabytes
-below 16 is asked of each message; one of more is split into as many documents as needed where the message has several documents.
-Ends with status 1 where a message takes more than is wanted, or the program ends before its reply.
+and at most 2 GB in all. The program is the first argument, $CLUSTER, or `cluster` at the top of the repository. Messages have about as many
+megabytes as the second argument says, 4 if there is none, and 47 at most; inserted documents share them where one can't have them all. Names
+of messages choose some of them. Ends with status 1 where a message takes more than is wanted, or the program ends before its reply.
 Usage: memory.py [PROGRAM] [MEGABYTES] [NAME..]
 """
 import os
