@@ -28,7 +28,7 @@ impl Array {
     pub fn copy(&self) -> Result<Array, Memory>
         ensures { IfOk result (λ a. a ≡ self.now) }
     {
-        let mut copy = Array::new(*self.values.allocator());
+        let mut copy = Array::with_room(*self.values.allocator(), self.values.len())?;
         for value in &self.values {
             let value = value.copy()?;
             copy.push(value)?;

@@ -8,6 +8,7 @@ mod fault;
 mod levels;
 mod limits;
 mod reader;
+mod rooms;
 mod scan;
 mod sizes;
 mod text;

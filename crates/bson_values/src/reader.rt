@@ -17,6 +17,7 @@ ghost use Rattle.bson_values.specs.View.{datum_of};
 use crate::element_type::ElementType;
 use crate::fault::BsonFault;
 use crate::limits::{LENGTH_LIMIT, MOST_DEPTH_KEPT};
+use crate::rooms::{count_elements, usual_room};
 use crate::scan::{read_fixed, read_length, read_name, read_text, read_type, skip_name};
 use crate::text::{Blob, Name, Text};
 use crate::value::{Aligned, Array, Document, Field, Value};
@@ -26,8 +27,8 @@ use std::alloc::Global;
 // How many levels there may be inside the outermost document.
 const DEPTH: u32 = MOST_DEPTH_KEPT - 1;
 
-// How many bytes a document without fields has.
-const LEAST_DOCUMENT: usize = 5;
+// How many levels there are where room is reserved before what is in them is counted.
+const FIRST_LEVELS: u32 = 3;
 
 /// The fault of a document or an array where no level is left: its length is judged first.
 #[tactic(auto, unfolding(crate::specs::Readers::deep_at, crate::specs::Readers::deep_unless))]
@@ -362,13 +363,13 @@ fn read_item(
     Ok((Some(value), rest))
 }
 
-// For how many fields a document of so many bytes has room at first: most fields have some 16 bytes, and one that is long takes no
-// more room than others.
-fn first_room(count: usize) -> usize {
-    if count <= LEAST_DOCUMENT {
-        0
+// For how many elements a document or an array of so many bytes has room at first. Its bytes count those of all levels in it, so they
+// say little of how many elements it has itself where there are many levels.
+fn first_room(level: u32, count: usize, bytes: &[u8]) -> usize {
+    if DEPTH - FIRST_LEVELS < level {
+        usual_room(count)
     } else {
-        (count / 16).max(4).min(16)
+        count_elements(count, bytes)
     }
 }
 
@@ -389,10 +390,11 @@ fn read_document(
 {
     let (count, mut left) = read_length(total, 5, 0, room, bytes)?;
     let mut space = count - 4;
-    let mut document = Document::with_room(alloc, first_room(count))?;
+    let mut document = Document::with_room(alloc, first_room(level, count, left))?;
     'fields: loop {
         let (type_byte, rest) = read_type(total, space, left)?;
         let Some(type_byte) = type_byte else {
+            document.give_back_room(count);
             return Ok((document, rest));
         };
         let front = rest;
@@ -426,10 +428,11 @@ fn read_array(
 {
     let (count, mut left) = read_length(total, 5, 0, room, bytes)?;
     let mut space = count - 4;
-    let mut array = Array::new(alloc);
+    let mut array = Array::with_room(alloc, first_room(level, count, left))?;
     'items: loop {
         let (value, rest) = read_item(alloc, total, level, space, left)?;
         let Some(value) = value else {
+            array.give_back_room(count);
             return Ok((array, rest));
         };
         array.push(value)?;

@@ -272,6 +272,15 @@ impl Array {
         }
     }
 
+    // The array without values, with room for so many. Fails for want of memory.
+    #[inline(always)]
+    pub(crate) fn with_room(alloc: Global, room: usize) -> Result<Array, Memory>
+        ensures { IfOk result (λ a. a ≡ no_items) }
+    {
+        let values = Vec::with_capacity(alloc, room)?;
+        Ok(Array { values })
+    }
+
     /// How many values there are.
     #[tactic(auto, using(crate::proofs::Views::count_items))]
     pub fn len(&self) -> usize

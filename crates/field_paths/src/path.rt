@@ -4,6 +4,7 @@ ghost use Rattle.std.specs.Prelude.{◌≡◌, ◌<◌, ◌↔◌, Err, IfOk, No
 ghost use Rattle.std.specs.Result.{result_err, result_map_both};
 ghost use Rattle.std.specs.Str.{all_ascii_digits};
 ghost use Rattle.field_paths.specs.Faults.{shown_as};
+ghost use Rattle.field_paths.specs.Parts.{parts_in};
 ghost use Rattle.field_paths.specs.ReadFaults.{Gives};
 ghost use Rattle.query_model.specs.Queries.{path_fault};
 ghost use Rattle.field_paths.specs.declared.path.PathFault.TheVariants.{Digits, Dollar, Empty, Long, Memory};
@@ -12,6 +13,7 @@ ghost use Rattle.query_model.specs.Paths.{IsPath, digits_part, dollar_part, empt
 use bson_values::{Memory, Text};
 use std::alloc::{AllocFailed, Global};
 use std::marker::Model;
+use std::slice;
 
 /// The most parts that a path has.
 pub const MOST_PARTS: usize = 100;
@@ -74,10 +76,17 @@ impl<T: Drop> From<AllocFailed<T>> for ParseFault {
     }
 }
 
+/// The parts of a path. Most paths have one, which takes no memory beside the path.
+#[derive(Drop)]
+enum Parts {
+    One(Text),
+    Several(Vec<Text>),
+}
+
 /// A path: the names of the fields to go through, outermost first.
 #[derive(Drop)]
 pub struct Path {
-    parts: Vec<Text>,
+    parts: Parts,
 }
 
 impl Model for Path {
@@ -85,11 +94,13 @@ impl Model for Path {
 
     ghost Value = { List (List ℕ) };
 
-    ghost view = { λ p. p.parts.items };
+    ghost use Rattle.field_paths.specs.Parts.{parts_in};
+
+    ghost view = { λ p. parts_in p.parts };
 
     ghost use Rattle.query_model.specs.Paths.{IsPath};
 
-    ghost invariant = { λ p. IsPath p.parts.items };
+    ghost invariant = { λ p. IsPath (parts_in p.parts) };
 }
 
 impl Path {
@@ -105,7 +116,7 @@ impl Path {
         if let Some(fault) = fault_of(name) {
             return Err(fault);
         }
-        let parts = split(alloc, name)?;
+        let parts = parts_in(alloc, name)?;
         Ok(Path { parts })
     }
 
@@ -116,7 +127,10 @@ impl Path {
         ensures read { IsPath self.now }
         ensures some { 0 < length self.now }
     {
-        self.parts.as_slice()
+        match &self.parts {
+            Parts::One(part) => slice::from_ref(part),
+            Parts::Several(parts) => parts.as_slice(),
+        }
     }
 }
 
@@ -194,6 +208,16 @@ fn length_fault(dots: usize) -> Option<PathFault>
 }
 
 // The parts of a name.
+fn parts_in(alloc: Global, name: &str) -> Result<Parts, Memory>
+    ensures { IfOk result (λ parts. parts_in parts ≡ parts_of name.now) }
+{
+    match name.split_once('.') {
+        None => Ok(Parts::One(Text::of(alloc, name)?)),
+        Some(_) => Ok(Parts::Several(split(alloc, name)?)),
+    }
+}
+
+// The parts of a name, as a list without room for more.
 fn split(alloc: Global, name: &str) -> Result<Vec<Text>, Memory>
     ensures { IfOk result (λ parts. parts.items ≡ parts_of name.now) }
 {
@@ -204,5 +228,6 @@ fn split(alloc: Global, name: &str) -> Result<Vec<Text>, Memory>
         rest = others;
     }
     parts.push(Text::of(alloc, rest)?)?;
+    parts.shrink_to_fit();
     Ok(parts)
 }

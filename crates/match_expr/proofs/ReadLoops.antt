@@ -12,7 +12,7 @@ use Rattle.query_model.specs.Queries.{Query, clause, query, test, no_clauses, no
 use Rattle.query_model.specs.Reading.{◌>>=◌, read_clauses, read_connective, read_path_clause, read_queries, read_tests, read_test, read_asked, some_documents}
 use Rattle.match_expr.specs.declared.tree.Clause.{Clause}
 use Rattle.match_expr.specs.declared.tree.Test.{Test}
-use Rattle.match_expr.specs.FieldTests.{read_field_test}
+use Rattle.match_expr.specs.FieldTests.{read_clause_at, read_field_test}
 use Rattle.match_expr.specs.View.{clause_of, test_of, query_before, queries_before, tests_before}
 use Rattle.field_paths.proofs.FieldLists.{next_field}
 use Rattle.match_expr.proofs.Views.{pushed_clause, pushed_query, pushed_test}
@@ -80,9 +80,9 @@ next_document vs i v ms less is d =
 by_path : (b : Bool) (x y z : Result queries.Clause QueryFault) → b ≡ false → y ≡ z → (if b then x else y) ≡ z
 by_path b x y z h k = rw h k
 
-clause_at : (m : Result Path QueryFault) (a : Result queries.Tests QueryFault) (path : Path) (tests : queries.Tests) → m ≡ Ok path → a ≡ Ok tests →
-    (m >>= λ p. a >>= λ t. Ok (path_clause p t)) ≡ Ok (path_clause path tests)
-clause_at m a path tests h k = rw (h, k) refl
+clause_at : (m : Result Path QueryFault) (a : Result queries.Tests QueryFault) (path : Path) → m ≡ Ok path →
+    (m >>= λ p. a >>= λ t. Ok (path_clause p t)) ≡ (a >>= λ t. Ok (path_clause path t))
+clause_at m a path h = rw h refl
 
 connective_from : (o : Option queries.Connective) (p : Option (List Fields)) (read : List Fields → Result queries.Queries QueryFault)
     (c : queries.Connective) (ds : List Fields) (qs : queries.Queries) → Some c ≡ o → Some ds ≡ p → read ds ≡ Ok qs →
@@ -96,13 +96,12 @@ module _ (inner : Fields → Result Query QueryFault) (inner_tests : Fields → 
   abbrev pub first_clause : List ℕ → Datum → Result queries.Clause QueryFault
   first_clause name d = if begins_with_dollar name then read_connective inner inner_tests name d else read_path_clause inner inner_tests name d
 
-  pub path_clause_read : (name : List ℕ) (d : Datum) (path : Path) (tests : queries.Tests) → false ≡ begins_with_dollar name →
-      result_map_both (λ p. p) path_fault (read_path name) ≡ Ok path → read_asked inner inner_tests d ≡ Ok tests →
-      first_clause name d ≡ Ok (path_clause path tests)
-  path_clause_read name d path tests plain h k =
+  pub path_clause_read : (name : List ℕ) (d : Datum) (path : Path) → false ≡ begins_with_dollar name →
+      result_map_both (λ p. p) path_fault (read_path name) ≡ Ok path → first_clause name d ≡ read_clause_at inner inner_tests path d
+  path_clause_read name d path plain h =
       by_path (begins_with_dollar name) (read_connective inner inner_tests name d) (read_path_clause inner inner_tests name d)
-      (Ok (path_clause path tests)) (sym plain)
-      (clause_at (result_map_both (λ p. p) path_fault (read_path name)) (read_asked inner inner_tests d) path tests h k)
+      (read_clause_at inner inner_tests path d) (sym plain)
+      (clause_at (result_map_both (λ p. p) path_fault (read_path name)) (read_asked inner inner_tests d) path h)
 
   pub connective_read : (name : List ℕ) (d : Datum) (c : queries.Connective) (ds : List Fields) (qs : queries.Queries) →
       Some c ≡ named connectives name → Some ds ≡ some_documents d → read_queries inner inner_tests ds ≡ Ok qs →

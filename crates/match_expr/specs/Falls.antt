@@ -4,7 +4,7 @@ use Rattle.std.proofs.Common.{arith}
 use denote.Param.Weighed.{most}
 use Rattle.query_model.specs.Queries.{Query, no_clauses, no_queries, no_tests}
 use Rattle.match_expr.specs.declared.tree.Clause.{Clause}
-use Rattle.match_expr.specs.declared.tree.Clause.TheVariants.{At, Joined}
+use Rattle.match_expr.specs.declared.tree.Clause.TheVariants.{At, Equal, Joined}
 use Rattle.match_expr.specs.declared.tree.Test.{Test}
 use Rattle.match_expr.specs.declared.tree.Test.TheVariants.{Eq, Ne, Gt, Gte, Lt, Lte, In, Nin, All, Size, Exists, ElementQuery, ElementTests, Not}
 use Rattle.match_expr.specs.declared.tree.Clauses.TheDeep.{deep-Clause, deep-Test}
@@ -17,6 +17,7 @@ queries_fall (q ∷ qs) = omega (arith, queries_fall qs)
 
 clause_falls : (c : Clause) → deep-Clause c ≤ clause_size (clause_of c)
 clause_falls (At path tests) = omega arith
+clause_falls (Equal path operand) = omega arith
 clause_falls (Joined connective qs) = omega arith
 
 test_falls : (t : Test) → deep-Test t ≤ test_size (test_of t)

@@ -2,11 +2,11 @@
 use Rattle.std.specs.Prelude.{List, [], ◌∷◌}
 use Rattle.bson_values.specs.View.{datum_of}
 use Rattle.query_model.specs.Queries as queries
-use Rattle.query_model.specs.Queries.{and_connective, or_connective, nor_connective, clause, path_clause, connective_clause, query, test, eq_test, ne_test, gt_test, gte_test, lt_test, lte_test, in_test, nin_test, all_test, size_test, exists_test, element_query_test, element_tests_test, not_test}
+use Rattle.query_model.specs.Queries.{and_connective, or_connective, nor_connective, clause, path_clause, connective_clause, query, test, no_tests, eq_test, ne_test, gt_test, gte_test, lt_test, lte_test, in_test, nin_test, all_test, size_test, exists_test, element_query_test, element_tests_test, not_test}
 use Rattle.match_expr.specs.declared.tree.Connective.{Connective}
 use Rattle.match_expr.specs.declared.tree.Connective.TheVariants.{And, Or, Nor}
 use Rattle.match_expr.specs.declared.tree.Clause.{Clause}
-use Rattle.match_expr.specs.declared.tree.Clause.TheVariants.{At, Joined}
+use Rattle.match_expr.specs.declared.tree.Clause.TheVariants.{At, Equal, Joined}
 use Rattle.match_expr.specs.declared.tree.Test.{Test}
 use Rattle.match_expr.specs.declared.tree.Test.TheVariants.{Eq, Ne, Gt, Gte, Lt, Lte, In, Nin, All, Size, Exists, ElementQuery, ElementTests, Not}
 
@@ -22,6 +22,7 @@ queries_before (q ∷ qs) others = query q (queries_before qs others)
 
 abbrev pub clause_of : Clause → queries.Clause
 clause_of (At path tests) = path_clause path tests
+clause_of (Equal path operand) = path_clause path (test (eq_test (datum_of operand)) no_tests)
 clause_of (Joined connective qs) = connective_clause (connective_of connective) qs
 
 abbrev pub test_of : Test → queries.Test

@@ -46,6 +46,7 @@ fn asked_by(clause: &Clause) -> Option<&Value>
                 None
             }
         }
+        Clause::Equal { path, operand } => { if is_id(path) { Some(operand) } else { None } }
         Clause::Joined { .. } => None,
     }
 }

@@ -36,6 +36,7 @@ fn clause_holds(clause: &Clause, document: &Document) -> bool
 {
     match clause {
         Clause::At { path, tests } => tests_hold(tests, &Place::At { path, document }),
+        Clause::Equal { path, operand } => tests::is_equal(operand, &Place::At { path, document }),
         Clause::Joined {
             connective,
             queries,

@@ -61,7 +61,7 @@ impl OperandList {
 fn copies(alloc: Global, array: &Array) -> Result<Vec<Value>, Memory>
     ensures { IfOk result (λ s. map (λ v. datum_of v) s.items ≡ elements array.now) }
 {
-    let mut copies = Vec::new(alloc);
+    let mut copies = Vec::with_capacity(alloc, array.len())?;
     for value in array.values() {
         copies.push(value.copy()?)?;
     }

@@ -7,7 +7,7 @@ ghost use Rattle.query_model.specs.Paths.{as_document, begins_with_dollar, eleme
 ghost use Rattle.query_model.specs.Queries as queries;
 ghost use Rattle.query_model.specs.Queries.{Query, QueryFault, connectives, named, operators};
 ghost use Rattle.query_model.specs.Reading.{all_documents, is_operator_document, read_test, some_documents};
-ghost use Rattle.match_expr.specs.OperatorNames.{operator_of, plain_of};
+ghost use Rattle.match_expr.specs.OperatorNames.{operator_document, operator_of, plain_of};
 ghost use Rattle.field_paths.specs.ReadFaults.{Gives};
 ghost use Rattle.match_expr.specs.View.{connective_of, test_of};
 
@@ -123,6 +123,22 @@ pub fn is_operator_document(document: &Document) -> bool
     match document.fields().first() {
         Some(field) => begins_with_dollar(field.name.as_str()),
         None => false,
+    }
+}
+
+/// The operator document that a value is, if it is one.
+pub fn operator_document(value: &Value) -> Option<&Document>
+    ensures { option_map (λ d. d.now) result ≡ operator_document (datum_of value.now) }
+{
+    match value {
+        Value::Doc(document) => {
+            if is_operator_document(document) {
+                Some(document)
+            } else {
+                None
+            }
+        }
+        _ => None,
     }
 }
 

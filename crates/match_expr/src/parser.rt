@@ -5,9 +5,8 @@ ghost use Rattle.std.specs.Prelude.{◌≡◌, Ok, filter_map, if◌then◌else�
 ghost use Rattle.bson_values.specs.Tree.{document_value};
 ghost use Rattle.bson_values.specs.View.{datum_of};
 ghost use Rattle.query_model.specs.Paths.{as_document, begins_with_dollar, elements};
-ghost use Rattle.query_model.specs.Queries.{eq_test, no_tests, test};
-ghost use Rattle.query_model.specs.Reading.{read_asked, read_clauses, read_connective, read_path_clause, read_queries, read_test, read_tests, read_tests_within, read_within};
-ghost use Rattle.match_expr.specs.FieldTests.{read_field_test};
+ghost use Rattle.query_model.specs.Reading.{read_clauses, read_connective, read_path_clause, read_queries, read_test, read_tests, read_tests_within, read_within};
+ghost use Rattle.match_expr.specs.FieldTests.{read_clause_at, read_field_test};
 ghost use Rattle.match_expr.specs.OperatorNames.{nested_of};
 ghost use Rattle.field_paths.specs.ReadFaults.{Gives};
 ghost use Rattle.match_expr.specs.View.{clause_of, test_of};
@@ -16,17 +15,8 @@ use crate::operators;
 use crate::operators::{Nested, Operator};
 use crate::tree::{Clause, Clauses, Queries, Test, Tests};
 use bson_values::{Array, Document, Value};
-use field_paths::{ParseFault, parse_path};
+use field_paths::{ParseFault, Path, parse_path};
 use std::alloc::Global;
-
-// Equality with a value, as the one test.
-fn equality(alloc: Global, value: &Value) -> Result<Tests, ParseFault>
-    ensures gives { Gives (λ t. t) result (Ok (test (eq_test (datum_of value.now)) no_tests)) }
-{
-    let mut tests = Vec::new(alloc);
-    tests.push(Test::Eq(value.copy()?))?;
-    Ok(Tests { tests })
-}
 
 /// The query that a document is, with so many levels left for it and what is in it. Fails with its first fault, with `Deep` where
 /// no level is left, and for want of memory.
@@ -49,7 +39,9 @@ pub fn parse_within(
 fn parse_clauses(alloc: Global, levels: usize, document: &Document) -> Result<Clauses, ParseFault>
     ensures gives { Gives (λ q. q) result (read_clauses (read_within levels) (read_tests_within levels) document.now) }
 {
-    let mut clauses = Vec::new(alloc);
+    let Ok(mut clauses) = Vec::with_capacity(alloc, document.len()) else {
+        return Err(ParseFault::Memory);
+    };
     for field in document.fields() {
         let clause = parse_clause(alloc, levels, field.name.as_str(), &field.value)?;
         clauses.push(clause)?;
@@ -73,8 +65,7 @@ fn parse_clause(
         return parse_connective(alloc, levels, name, value);
     }
     let path = parse_path(alloc, name)?;
-    let tests = parse_asked(alloc, levels, value)?;
-    Ok(Clause::At { path, tests })
+    parse_asked(alloc, levels, path, value)
 }
 
 // A field `$and`, `$or` or `$nor`.
@@ -106,7 +97,9 @@ fn parse_queries(alloc: Global, levels: usize, documents: &Array) -> Result<Quer
     ensures gives { Gives (λ q. q) result
         (read_queries (read_within levels) (read_tests_within levels) (filter_map as_document (elements documents.now))) }
 {
-    let mut queries = Vec::new(alloc);
+    let Ok(mut queries) = Vec::with_capacity(alloc, documents.len()) else {
+        return Err(ParseFault::Memory);
+    };
     for value in documents.values() {
         let Value::Doc(document) = value else {
             continue;
@@ -119,19 +112,20 @@ fn parse_queries(alloc: Global, levels: usize, documents: &Array) -> Result<Quer
 
 // What is asked of a path: the tests of an operator document, or equality with any other value.
 #[cycle(parse)]
-fn parse_asked(alloc: Global, levels: usize, value: &Value) -> Result<Tests, ParseFault>
-    ensures gives { Gives (λ t. t) result (read_asked (read_within levels) (read_tests_within levels) (datum_of value.now)) }
+fn parse_asked(
+    alloc: Global,
+    levels: usize,
+    path: Path,
+    value: &Value,
+) -> Result<Clause, ParseFault>
+    ensures gives { Gives clause_of result (read_clause_at (read_within levels) (read_tests_within levels) path (datum_of value.now)) }
 {
-    match value {
-        Value::Doc(document) => {
-            if operators::is_operator_document(document) {
-                parse_tests(alloc, levels, document)
-            } else {
-                equality(alloc, value)
-            }
-        }
-        _ => equality(alloc, value),
+    if let Some(document) = operators::operator_document(value) {
+        let tests = parse_tests(alloc, levels, document)?;
+        return Ok(Clause::At { path, tests });
     }
+    let operand = value.copy()?;
+    Ok(Clause::Equal { path, operand })
 }
 
 // The tests of an operator document inside another, with so many levels left for it and what is in it.
@@ -154,7 +148,9 @@ fn parse_tests_within(
 fn parse_tests(alloc: Global, levels: usize, document: &Document) -> Result<Tests, ParseFault>
     ensures gives { Gives (λ t. t) result (read_tests (read_within levels) (read_tests_within levels) document.now) }
 {
-    let mut tests = Vec::new(alloc);
+    let Ok(mut tests) = Vec::with_capacity(alloc, document.len()) else {
+        return Err(ParseFault::Memory);
+    };
     for field in document.fields() {
         let test = parse_test(alloc, levels, field.name.as_str(), &field.value)?;
         tests.push(test)?;

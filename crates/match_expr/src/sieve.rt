@@ -3,8 +3,9 @@
 ghost use Rattle.std.specs.Prelude.{◌≡◌, IfSome, true};
 ghost use Rattle.bson_values.specs.Tree.{Fields};
 ghost use Rattle.bson_values.specs.View.{datum_of};
-ghost use Rattle.query_model.specs.Holds.{holds, is_null};
+ghost use Rattle.query_model.specs.Holds.{clause_holds, holds, is_null};
 ghost use Rattle.match_expr.specs.Sieves.{NeedsEqual, lets_pass};
+ghost use Rattle.match_expr.specs.View.{clause_of};
 
 use crate::expr::Expr;
 use crate::tests::Equals;
@@ -54,15 +55,32 @@ fn first_equality(tests: &Tests) -> Option<&Value>
     }
 }
 
+// The sieve of a clause.
+fn clause_sieve(clause: &Clause) -> Option<Sieve<'_>>
+    ensures { IfSome result (λ s. (document : Fields) → clause_holds (clause_of clause.now) document ≡ true → lets_pass s document ≡ true) }
+{
+    match clause {
+        Clause::At { path, tests } => {
+            let operand = first_equality(tests)?;
+            Some(Sieve { path, operand })
+        }
+        Clause::Equal { path, operand } => {
+            if !is_null(operand) {
+                Some(Sieve { path, operand })
+            } else {
+                None
+            }
+        }
+        Clause::Joined { .. } => None,
+    }
+}
+
 /// The equality that the filter begins with, if it begins with one, and not with null.
 pub fn sieve_of(filter: &Expr) -> Option<Sieve<'_>>
     ensures { IfSome result (λ s. (document : Fields) → holds filter.now document ≡ true → lets_pass s document ≡ true) }
 {
     match filter.clauses().split_first() {
-        Some((Clause::At { path, tests }, _rest)) => match first_equality(tests) {
-            Some(operand) => Some(Sieve { path, operand }),
-            None => None,
-        },
-        _ => None,
+        Some((clause, _rest)) => clause_sieve(clause),
+        None => None,
     }
 }

@@ -34,6 +34,11 @@ pub enum Clause {
         path: Path,
         tests: Tests,
     },
+    /// Equality of what stands at a path with a value, as the one test, which most clauses are and which takes no list of tests.
+    Equal {
+        path: Path,
+        operand: Value,
+    },
     /// Queries inside `$and`, `$or` or `$nor`.
     Joined {
         connective: Connective,

@@ -39,8 +39,9 @@ read_array-returns-in_err-value-clause-gives t c =
 pub read_array-returns-in_default-clause-gives : goal.read_array-returns-in_default-clause-gives
 read_array-returns-in_default-clause-gives t c =
     let gives = rw c.in_default.is at c.in_ok-value.ensures.gives in
-    items_behind_length c.args.total _ c.args.room _ _ _ _ c.in_ok-count.ensures.gives
-    (items_ends c.args.total _ _ _ c.items.array c.items.space c.items.left.now _ gives c.items.invariant.read)
+    rw c.give_back_room.ensures
+    (items_behind_length c.args.total _ c.args.room _ _ _ _ c.in_ok-count.ensures.gives
+    (items_ends c.args.total _ _ _ c.items.array c.items.space c.items.left.now _ gives c.items.invariant.read))
 
 pub read_array-items-preserved : goal.read_array-items-preserved
 read_array-items-preserved t c =
@@ -97,8 +98,9 @@ pub read_document-returns-in_default-clause-gives : goal.read_document-returns-i
 unfolding field_behind
 read_document-returns-in_default-clause-gives t c =
     let gives = rw c.in_default.is at c.in_ok-type_byte.ensures.gives in
-    behind_length c.args.total _ c.args.room _ _ _ _ c.in_ok-count.ensures.gives
-    (ends c.args.total _ _ _ c.fields.document c.fields.space c.fields.left.now _ (field_behind_type c.args.total c.fields.space _ _ _ _ gives refl) c.fields.invariant.read)
+    rw c.give_back_room.ensures
+    (behind_length c.args.total _ c.args.room _ _ _ _ c.in_ok-count.ensures.gives
+    (ends c.args.total _ _ _ c.fields.document c.fields.space c.fields.left.now _ (field_behind_type c.args.total c.fields.space _ _ _ _ gives refl) c.fields.invariant.read))
 
 pub read_document-returns-in_err-name-clause-gives : goal.read_document-returns-in_err-name-clause-gives
 read_document-returns-in_err-name-clause-gives t c =

@@ -21,5 +21,6 @@ pub returns : goal.returns
 returns c =
     let l = c.parts in
     let none = rw c.in_default.is at (split_parts 46 l.rest.now c.split_once.result c.split_once.ensures.cases (omega arith)) in
-    grown_last l.parts.items c.push-2.new.self.items (parts_of c.args.name.now) l.rest.now
+    c.shrink_to_fit.ensures.items
+    ∙ grown_last l.parts.items c.push-2.new.self.items (parts_of c.args.name.now) l.rest.now
     (c.in_ok-push-2.ensures.items ∙ ap (λ (t : List ℕ). l.parts.items ++ t ∷ []) c.in_ok-of-2.ensures) (one_part l.rest.now none) l.invariant.whole

@@ -1,9 +1,13 @@
 use Rattle.std.proofs.lemmas.Result.{err_from_is_err_and}
-use Rattle.std.proofs.Common.{◌≡◌, ap}
+use Rattle.std.proofs.Common.{◌≡◌, Result, ap, subst, sym}
 use Rattle.bson_values.specs.declared.value.Value.{Value}
 use Rattle.bson_values.specs.Tree.{document_value}
 use Rattle.bson_values.specs.View.{datum_of}
+use Rattle.field_paths.specs.ReadFaults.{Gives}
+use Rattle.query_model.specs.Queries as queries
+use Rattle.query_model.specs.Queries.{QueryFault}
 use Rattle.query_model.specs.Reading.{read_tests_within, read_within}
+use Rattle.match_expr.specs.View.{clause_of}
 use Rattle.field_paths.proofs.FieldLists.{passes_on}
 use Rattle.match_expr.proofs.ReadLoops.{clauses_go_on, connective_read, path_clause_read, queries_go_on, tests_fail, tests_go_on}
 use Rattle.match_expr.proofs.parser.+parse.Goals as goal
@@ -11,12 +15,10 @@ use Rattle.match_expr.proofs.parser.+parse.Goals as goal
 pub parse_clause-returns : goal.parse_clause-returns
 parse_clause-returns t c =
     let plain = rw c.if-begins_with_dollar.false at c.begins_with_dollar.ensures in
-    record {
-      gives =
-          path_clause_read (read_within c.args.levels) (read_tests_within c.args.levels) c.args.name.now (datum_of c.args.value.now) _ _ plain
-          c.in_ok-path.ensures.gives
-          c.in_ok-tests.ensures.gives;
-    }
+    let same =
+    path_clause_read (read_within c.args.levels) (read_tests_within c.args.levels) c.args.name.now (datum_of c.args.value.now) _ plain
+    c.in_ok-path.ensures.gives in
+    record { gives = subst (λ (read : Result queries.Clause QueryFault). Gives (λ x. clause_of x) c.parse_asked.result read) (sym same) c.parse_asked.ensures.gives }
 
 pub parse_clauses-loop-field-preserved : goal.parse_clauses-loop-field-preserved
 parse_clauses-loop-field-preserved t c =

@@ -1,0 +1,141 @@
+//! Room for the fields of a document and the values of an array that are read. A field takes 64 bytes and can be encoded in 2, so where
+//! there are many levels, fields are counted before room is reserved, and much room that is not used is given back.
+
+ghost use Rattle.std.specs.Prelude.{◌≡◌, ◌<◌, ◌≤◌, length, IfSome};
+
+use crate::element_type::ElementType;
+use crate::value::{Array, Document};
+use byteorder::{ByteOrder, LittleEndian};
+
+// How many bytes a document without fields has.
+const LEAST_DOCUMENT: usize = 5;
+
+// How many bytes most elements have, and how many have those of a short document.
+const USUAL_ELEMENT: usize = 16;
+
+const SHORT_ELEMENT: usize = 7;
+
+// What is after the name that begins the bytes.
+#[inline(always)]
+fn after_name(bytes: &[u8]) -> Option<&[u8]>
+    ensures { IfSome result (λ rest. length rest.now ≤ length bytes.now) }
+{
+    for i in 0..bytes.len() {
+        if bytes[i] == 0 {
+            return Some(&bytes[i + 1..]);
+        }
+    }
+    None
+}
+
+// The length that begins the bytes, and so many bytes more.
+#[inline(always)]
+fn length_and(more: usize, bytes: &[u8]) -> Option<usize> {
+    if bytes.len() < 4 {
+        return None;
+    }
+    let (prefix, _) = bytes.split_at(4);
+    let count = LittleEndian::read_u32(prefix) as usize;
+    Some(count.saturating_add(more))
+}
+
+// How many bytes the value of that type has which begins the bytes.
+#[inline(always)]
+fn value_bytes(type_byte: ElementType, bytes: &[u8]) -> Option<usize> {
+    match type_byte {
+        ElementType::Null | ElementType::MinKey | ElementType::MaxKey => Some(0),
+        ElementType::Bool => Some(1),
+        ElementType::Int32 => Some(4),
+        ElementType::Date | ElementType::Timestamp | ElementType::Int64 => Some(8),
+        ElementType::ObjectId => Some(12),
+        ElementType::Text => length_and(4, bytes),
+        ElementType::Binary => length_and(5, bytes),
+        ElementType::Doc | ElementType::Array => length_and(0, bytes),
+    }
+}
+
+// What is after the element that begins the bytes. There is none at the end of a document.
+#[inline(always)]
+fn after_element(bytes: &[u8]) -> Option<&[u8]>
+    ensures { IfSome result (λ rest. length rest.now < length bytes.now) }
+{
+    let (byte, rest) = bytes.split_first()?;
+    let type_byte = ElementType::from_byte(*byte)?;
+    let rest = after_name(rest)?;
+    let count = value_bytes(type_byte, rest)?;
+    if rest.len() < count {
+        return None;
+    }
+    Some(&rest[count..])
+}
+
+/// How many elements a document or an array of so many bytes has, whose elements begin these. What is nested in an element is passed
+/// by its length.
+#[inline(never)]
+pub fn count_elements(count: usize, bytes: &[u8]) -> usize {
+    let mut elements = 0usize;
+    let mut left = &bytes[..count.min(bytes.len())];
+    'elements: while let Some(rest) = after_element(left) {
+        elements = elements.saturating_add(1);
+        left = rest;
+    }
+    elements
+}
+
+/// For how many elements there is room at first where a document or an array has so many bytes.
+#[inline(always)]
+pub fn usual_room(count: usize) -> usize {
+    if count <= LEAST_DOCUMENT {
+        return 0;
+    }
+    let short = ((count - LEAST_DOCUMENT) / SHORT_ELEMENT).max(1);
+    short.min((count / USUAL_ELEMENT).max(4).min(16))
+}
+
+// Whether so much room is much beside so many bytes.
+#[inline(always)]
+fn is_much(room: usize, count: usize) -> bool {
+    count / SHORT_ELEMENT < room
+}
+
+impl Document {
+    // Gives back the room for more fields, where it is much beside the bytes of the document.
+    #[inline(always)]
+    pub(crate) fn give_back_room(&mut self, count: usize)
+        ensures { self.new ≡ self.old }
+    {
+        let room = self.fields.capacity().saturating_sub(self.fields.len());
+        if is_much(room, count) {
+            self.give_back_all();
+        }
+    }
+
+    #[cold]
+    #[inline(never)]
+    fn give_back_all(&mut self)
+        ensures { self.new ≡ self.old }
+    {
+        self.fields.shrink_to_fit();
+    }
+}
+
+impl Array {
+    // Gives back the room for more values, where it is much beside the bytes of the array.
+    #[inline(always)]
+    pub(crate) fn give_back_room(&mut self, count: usize)
+        ensures { self.new ≡ self.old }
+    {
+        let room = self.values.capacity().saturating_sub(self.values.len());
+        if is_much(room, count) {
+            self.give_back_all();
+        }
+    }
+
+    #[cold]
+    #[inline(never)]
+    fn give_back_all(&mut self)
+        ensures { self.new ≡ self.old }
+    {
+        self.values.shrink_to_fit();
+    }
+}
