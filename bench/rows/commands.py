@@ -9,6 +9,7 @@ GREETINGS = ("hello", "isMaster", "ismaster", "ping", "endSessions")
 STATEMENTS = {"insert": "documents", "update": "updates", "delete": "deletes"}
 LEVELS = ("local", "majority", "available", "snapshot")
 RESERVED = ("admin", "config", "local")
+ONLY_FALSE = ("returnKey", "showRecordId", "tailable", "awaitData")
 
 
 class Refused(Exception):
@@ -46,6 +47,12 @@ def of_kind(kind):
         return value[1]
 
     return take
+
+
+def only_false(value):
+    """Options that a find has no use for: false, as if they were not given, or they are refused like a field that is not listed."""
+    want(value == (BOOLEAN, False), 9)
+    return False
 
 
 def natural(value):
@@ -147,7 +154,7 @@ FIELDS = {
     "find": {
         "filter": FILTER, "sort": checked(DOCUMENT, check_sort), "projection": checked(DOCUMENT, check_projection), "skip": natural, "limit": natural,
         "batchSize": natural, "singleBatch": of_kind(BOOLEAN), "allowDiskUse": of_kind(BOOLEAN), "noCursorTimeout": of_kind(BOOLEAN),
-        "allowPartialResults": of_kind(BOOLEAN), **READ,
+        "allowPartialResults": of_kind(BOOLEAN), **dict.fromkeys(ONLY_FALSE, only_false), **READ,
     },
     "aggregate": {"pipeline": checked(ARRAY, check_pipeline), "cursor": cursor, "allowDiskUse": of_kind(BOOLEAN), **READ},
     "count": {"query": FILTER, "skip": natural, "limit": natural, **READ},

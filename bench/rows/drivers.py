@@ -1,6 +1,6 @@
 """Rows of the drivers' recorded messages over documents: what they find, cursors that they open, and inserts that they send again."""
 from form import Ask, connection_row
-from reads import first, refused
+from reads import first
 from wire import Request
 
 PYTHON, RUBY, NODE = "pymongo 3.11", "ruby-mongo 2.5", "node-mongodb 3.6"
@@ -102,5 +102,5 @@ def rows(path):
     asks += [step(messages, NODE, "around_find_by_command", first("", 10)),
         own(f'{{insert: "c", documents: [{FEW}], $db: "d"}}', inserts(11), "a document"),
         step(messages, NODE, "around_find_by_command", first(document(5, 5, "e"), 11)),
-        step(messages, NODE, "find_one", refused(9, "FailedToParse"))]
+        step(messages, NODE, "find_one", first(document(5, 5, "e"), 11))]
     return lines + connection_row(f"{NODE}, numbered inserts, each sent twice, and finds", asks, keeps=(1,))

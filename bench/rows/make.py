@@ -1,5 +1,5 @@
 #!/usr/bin/env python3
-"""Writes the rows of reads, cursors and retries into the data of wire_examples, and the requests of the examples for a new user.
+"""Writes the rows of reads, cursors and retries into the data of wire_rows, and the requests of the examples for a new user.
 
 What each request gets is told by the modules of this folder alone, which hold a separate account of the formats: bson (documents), order, matching,
 changing and pipelines (the languages), commands (the order of refusals), cluster (what is done, times, journals), wire (messages, and the words by which
@@ -20,7 +20,7 @@ import sizes
 from form import put_file
 
 TOP = pathlib.Path(__file__).resolve().parent.parent.parent
-DATA = TOP / "crates" / "wire_examples" / "data"
+DATA = TOP / "crates" / "wire_rows" / "data"
 
 
 def main():

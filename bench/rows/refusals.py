@@ -1,4 +1,5 @@
 """Rows of each field of reads, and of their refusals: each step of the order, and two steps at once."""
+from commands import ONLY_FALSE
 from form import Ask, connection_row, refused_rows
 from reads import ONE, aggregate, count, counted, find, first, refused
 
@@ -15,6 +16,8 @@ def fields():
             '$readPreference: {mode: "primary"}, comment: [], apiVersion: "1", '
             'apiStrict: true, apiDeprecationErrors: false', first("{_id: 1}", 2)),
         find("singleBatch: false, allowDiskUse: false, noCursorTimeout: false, allowPartialResults: false, batchSize: 7L", first("{_id: 1}", 2)),
+        *[find(f"{option}: false", first("{_id: 1}", 2)) for option in ONLY_FALSE],
+        find(", ".join(f"{option}: false" for option in reversed(ONLY_FALSE)), first("{_id: 1}", 2)),
         find("skip: 1L", first("", 2)), find("limit: 1L", first("{_id: 1}", 2)), find("batchSize: 1", first("{_id: 1}", 2)),
         aggregate("", first("{_id: 1}", 2),
             f'cursor: {{batchSize: 7}}, readConcern: {{level: "local"}}, allowDiskUse: true, {SESSION}, $clusterTime: {{}}, '
@@ -92,8 +95,14 @@ def typed_rows():
         ("singleBatch", "true"), ("readConcern", "{}")]:
         rows.append((f"{field} twice", f'{{find: "c", {field}: {other}, {field}: "x", {DB}', 9))
     rows += [(f"{field} is of another command", f'{{find: "c", {field}: {value}, {DB}', 9) for field, value in
-        [("query", "{}"), ("pipeline", "[]"), ("cursor", "{}"), ("ordered", "true"), ("returnKey", "false"), ("showRecordId", "false"),
-            ("tailable", "false"), ("min", "{}")]]
+        [("query", "{}"), ("pipeline", "[]"), ("cursor", "{}"), ("ordered", "true"), ("min", "{}"), ("returnkey", "false"), ("oplogReplay", "false")]]
+    for option in ONLY_FALSE:
+        rows += [(f"{option} that is not false", f'{{find: "c", {option}: {value}, {DB}', 9) for value in ("true", "0", "null")]
+        rows += [
+            (f"{option} twice", f'{{find: "c", {option}: false, {option}: false, {DB}', 9),
+            (f"{option} is of another command", f'{{aggregate: "c", pipeline: [], cursor: {{}}, {option}: false, {DB}', 9),
+            (f"{option} is of another command", f'{{count: "c", {option}: false, {DB}', 9),
+        ]
     rows += [
         ("a filter, before a type", f'{{find: "c", filter: {{$foo: 1}}, limit: "x", {DB}', 2),
         ("a type, before a filter", f'{{find: "c", limit: "x", filter: {{$foo: 1}}, {DB}', 14),

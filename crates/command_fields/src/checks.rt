@@ -47,6 +47,16 @@ pub fn boolean_needed(value: &Value) -> Option<Code>
     }
 }
 
+/// Takes `false` alone, which is like no field; of another value it gives `FailedToParse`.
+pub fn false_needed(value: &Value) -> Option<Code>
+    ensures { verdict_view result ≡ fields.false_needed (datum_of value.now) }
+{
+    match value {
+        Value::Bool(boolean) => unless_passes(!boolean.content, Code::FailedToParse),
+        _ => Some(Code::FailedToParse),
+    }
+}
+
 /// Takes a string; of another value it gives `TypeMismatch`.
 pub fn string_needed(value: &Value) -> Option<Code>
     ensures { verdict_view result ≡ fields.string_needed (datum_of value.now) }

@@ -14,8 +14,8 @@ mod words;
 mod write_fields;
 
 pub use checks::{
-    boolean_needed, boolean_or, check_required, document_needed, natural_needed, number_given,
-    passed, string_needed, unless_passes, whole_number,
+    boolean_needed, boolean_or, check_required, document_needed, false_needed, natural_needed,
+    number_given, passed, string_needed, unless_passes, whole_number,
 };
 pub use concern::{concern_needed, time_given};
 pub use copies::documents_or_none;

@@ -1,5 +1,5 @@
 -- The name of an error that a check tells is short.
-use Rattle.std.proofs.Common.{ℕ, ◌≤◌, List, [], ◌∷◌, length, Bool, true, false, ◌||◌, not, Option, Some, None, if◌then◌else◌, codes, arith}
+use Rattle.std.proofs.Common.{ℕ, ◌≤◌, List, [], ◌∷◌, ◌++◌, length, Bool, true, false, ◌||◌, not, Option, Some, None, if◌then◌else◌, codes, arith}
 use Rattle.std.specs.List.{AllByRecursion}
 use Rattle.std.specs.Str.{bytes_eq}
 use Rattle.opmsg_model.specs.Tree.{Datum, string_value, document_value, array_value, binary_value, boolean_value, timestamp_value, Fields, no_fields, field, get}
@@ -16,7 +16,7 @@ use Rattle.value_model.specs.Keys.{is_key}
 use Rattle.opmsg_model.specs.Requests.{Form, msg_form, query_form}
 use Rattle.base_model.specs.Errors.{ErrorCode, bad_value, failed_to_parse, invalid_namespace, type_mismatch}
 use Rattle.command_model.specs.Checks.{Verdict, first_of, is_one_of, unless_passes}
-use Rattle.command_model.specs.Fields.{Rule, any_value, boolean_needed, by_rule, check_inner_fields, check_fields, check_required, check_session, common_rules, document_needed, find_rule, names_of, session_id, session_rules, string_needed, timestamp_needed}
+use Rattle.command_model.specs.Fields.{Rule, any_value, boolean_needed, by_rule, check_inner_fields, check_fields, check_required, check_session, common_rules, document_needed, false_needed, find_rule, names_of, rules_by, session_id, session_rules, string_needed, timestamp_needed}
 use Rattle.command_model.specs.Forms.{CommandForm, SequenceRule, Sequences, check_collection, check_command, check_database, check_sequence, check_sequences, database_of}
 use Rattle.command_model.specs.Handshake.{handshake_rules}
 use Rattle.command_model.specs.Statements.{StatementForm, check_key, check_statement, check_statements, check_words, key_asked_by}
@@ -24,7 +24,7 @@ use Rattle.command_model.specs.Update.{update_rules}
 use Rattle.command_model.specs.Delete.{delete_rules, limit_needed}
 use Rattle.command_model.specs.Writes.{WriteKind, insert_kind, update_kind, delete_kind, check_count, check_documents, documents_in, documents_needed, session_needed, some_needed, statement_form, whole_needed, write_rules}
 use Rattle.command_model.specs.Reading.{check_concern, check_level, concern_rules, may_name_time, natural_needed, unless_faulty}
-use Rattle.command_model.specs.Find.{find_rules, read_shown}
+use Rattle.command_model.specs.Find.{find_rules, only_false, read_shown}
 use Rattle.command_model.specs.Aggregate.{aggregate_rules, cursor_rules, pipeline_needed}
 use Rattle.command_model.specs.Count.{count_rules}
 use Rattle.command_model.specs.KillCursors.{are_whole_numbers, cursors_needed, kill_rules}
@@ -81,6 +81,11 @@ text_short value = omega arith
 boolean_short : (value : Datum) → IsShort (boolean_needed value)
 boolean_short (boolean_value b) = tt
 boolean_short value = omega arith
+
+false_short : (value : Datum) → IsShort (false_needed value)
+false_short (boolean_value false) = tt
+false_short (boolean_value true) = omega arith
+false_short value = omega arith
 
 any_short : (value : Datum) → IsShort (any_value value)
 any_short value = tt
@@ -170,6 +175,9 @@ natural_short value = by_number (whole_number value)
     by_number None = omega arith
     by_number (Some n) = words_read_short (as_natural n)
 
+only_false_short : AreShort (rules_by false_needed only_false ++ common_rules)
+only_false_short = (false_short, (false_short, (false_short, (false_short, common_short))))
+
 pub find_short : AreShort find_rules
 find_short = (
   words_needed_short read_query,
@@ -177,7 +185,10 @@ find_short = (
     words_needed_short read_sort,
     (
       words_needed_short read_shown,
-      (natural_short, (natural_short, (natural_short, (boolean_short, (boolean_short, (boolean_short, (boolean_short, (read_concern_short, common_short)))))))),
+      (
+        natural_short,
+        (natural_short, (natural_short, (boolean_short, (boolean_short, (boolean_short, (boolean_short, (read_concern_short, only_false_short))))))),
+      ),
     ),
   ),
 )

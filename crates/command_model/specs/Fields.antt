@@ -1,7 +1,7 @@
 -- The fields of a command, and of the documents inside it (MongoDB manual, "Database Commands"; the order of refusals is
 -- own). A rule is a name with a check of its value. A field is refused where its name was given before, and else where its
 -- value fails the check.
-use Rattle.std.specs.Prelude.{ℕ, List, [], ◌∷◌, length, Bool, ◌&&◌, Option, Some, None, ◌==◌, if◌then◌else◌, codes}
+use Rattle.std.specs.Prelude.{ℕ, List, [], ◌∷◌, length, Bool, false, ◌&&◌, Option, Some, None, ◌==◌, if◌then◌else◌, codes}
 use Rattle.std.specs.Str.{bytes_eq}
 use Rattle.opmsg_model.specs.Tree.{Datum, string_value, document_value, binary_value, boolean_value, timestamp_value, Fields, no_fields, field, get}
 use Rattle.base_model.specs.Errors.{bad_value, failed_to_parse, type_mismatch}
@@ -45,6 +45,16 @@ any_value value = None
 abbrev pub boolean_needed : Datum → Verdict
 boolean_needed (boolean_value b) = None
 boolean_needed value = Some type_mismatch
+
+-- false, which is the same as no field; any other value is refused as a field that is not listed
+abbrev pub false_needed : Datum → Verdict
+false_needed (boolean_value false) = None
+false_needed value = Some failed_to_parse
+
+-- one check for each of these names
+abbrev pub rules_by : (Datum → Verdict) → List (List ℕ) → List Rule
+rules_by check [] = []
+rules_by check (name ∷ names) = record { name = name; check = check } ∷ rules_by check names
 
 abbrev pub boolean_or : Bool → Option Datum → Bool
 boolean_or other (Some (boolean_value b)) = b

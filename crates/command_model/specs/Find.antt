@@ -9,7 +9,7 @@ use Rattle.query_model.specs.Reading.{◌>>=◌, read_query}
 use Rattle.pipeline_model.specs.Projections.{Projection, read_projection}
 use Rattle.pipeline_model.specs.SortKeys.{read_sort}
 use Rattle.pipeline_model.specs.Stages.{Stage, match_stage, sort_stage, skip_stage, limit_stage, project_stage}
-use Rattle.command_model.specs.Fields.{Rule, boolean_needed, boolean_or, common_rules, document_needed}
+use Rattle.command_model.specs.Fields.{Rule, boolean_needed, boolean_or, common_rules, document_needed, false_needed, rules_by}
 use Rattle.command_model.specs.Forms.{CommandForm, check_collection, nothing_judged, string_or}
 use Rattle.command_model.specs.Reading.{Reading, Batches, natural_needed, number_given, unless_zero, unless_faulty, check_concern, time_given}
 
@@ -38,6 +38,10 @@ shown_stages value = []
 abbrev pub stage_counted : (ℕ → Stage) → List ℕ → Fields → List Stage
 stage_counted stage name ms = elim (unless_zero (number_given name ms)) [ None ↦ [] | Some n ↦ stage n ∷ [] ]
 
+-- options that are taken only where they are false, their default (MongoDB manual, "find"): some drivers send them with each find
+abbrev pub only_false : List (List ℕ)
+only_false = codes "returnKey" ∷ codes "showRecordId" ∷ codes "tailable" ∷ codes "awaitData" ∷ []
+
 abbrev pub find_rules : List Rule
 find_rules =
     record { name = codes "filter"; check = document_needed (λ ms. unless_faulty (read_query ms)) }
@@ -51,7 +55,7 @@ find_rules =
     ∷ record { name = codes "noCursorTimeout"; check = boolean_needed }
     ∷ record { name = codes "allowPartialResults"; check = boolean_needed }
     ∷ record { name = codes "readConcern"; check = document_needed check_concern }
-    ∷ common_rules
+    ∷ (rules_by false_needed only_false ++ common_rules)
 
 abbrev pub find_stages : Fields → List Stage
 find_stages ms =

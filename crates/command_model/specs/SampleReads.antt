@@ -50,6 +50,15 @@ five_with name value =
     ∷ kill_with (field (codes "cursors") (array_value no_items) (only name value))
     ∷ []
 
+-- finds with one option of four
+abbrev pub four_with : Datum → List Request
+four_with value =
+    find_with (only (codes "returnKey") value)
+    ∷ find_with (only (codes "showRecordId") value)
+    ∷ find_with (only (codes "tailable") value)
+    ∷ find_with (only (codes "awaitData") value)
+    ∷ []
+
 abbrev pub told_each : List Request → List (Result Command Refusal)
 told_each requests = map command_of requests
 

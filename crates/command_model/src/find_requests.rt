@@ -1,6 +1,6 @@
 //! Worked requests of `find`, `aggregate` and `count`.
 
-ghost use Rattle.std.specs.Prelude.{◌≡◌, ◌∷◌, [], codes, false, pos, negsuc, replicate, None, Some, Ok, Err};
+ghost use Rattle.std.specs.Prelude.{◌≡◌, ◌∷◌, [], codes, true, false, pos, negsuc, replicate, None, Some, Ok, Err};
 ghost use Rattle.opmsg_model.specs.Tree.{array_value, boolean_value, document_value, int32_value, item, field, joined, no_items, no_fields, string_value, timestamp_value};
 ghost use Rattle.base_model.specs.Refusals.{without_evidence};
 ghost use Rattle.base_model.specs.Errors.{bad_value, failed_to_parse, type_mismatch};
@@ -10,7 +10,7 @@ ghost use Rattle.pipeline_model.specs.Stages.{count_stage, limit_stage, match_st
 ghost use Rattle.query_model.specs.Queries.{no_clauses};
 ghost use Rattle.command_model.specs.Command.{command_of, count_command};
 ghost use Rattle.command_model.specs.SampleCommands.{database_d, id_is_one, id_only, number_one, with_sequence, without_id};
-ghost use Rattle.command_model.specs.SampleReads.{aggregate_with, at_seven, concern, count_with, find_with, five_with, found, only, plain_pipeline, read_of, told_each};
+ghost use Rattle.command_model.specs.SampleReads.{aggregate_with, at_seven, concern, count_with, find_with, five_with, found, four_with, only, plain_pipeline, read_of, told_each};
 
 /// What is read: the stages in their own order and not in that of the fields, where 0 is as none; at which time.
 pub fn readings()
@@ -62,6 +62,15 @@ pub fn refused_fields()
     ensures no_hint { told_each (five_with (codes "hint") (document_value without_id)) ≡ replicate 5 (Err (without_evidence failed_to_parse)) }
     ensures no_let { told_each (five_with (codes "let") (document_value without_id)) ≡ replicate 5 (Err (without_evidence failed_to_parse)) }
     ensures no_collation { told_each (five_with (codes "collation") (document_value without_id)) ≡ replicate 5 (Err (without_evidence failed_to_parse)) }
+{}
+
+/// Options that are taken where they are false, each like no option; other values of them are refused, and other commands have none of them.
+pub fn false_options()
+    ensures taken { told_each (four_with (boolean_value false)) ≡ replicate 4 (Ok (found [] None None)) }
+    ensures true_refused { told_each (four_with (boolean_value true)) ≡ replicate 4 (Err (without_evidence failed_to_parse)) }
+    ensures number_refused { told_each (four_with (int32_value (pos 0))) ≡ replicate 4 (Err (without_evidence failed_to_parse)) }
+    ensures aggregates { command_of (aggregate_with (plain_pipeline (only (codes "returnKey") (boolean_value false)))) ≡ Err (without_evidence failed_to_parse) }
+    ensures counts { command_of (count_with (only (codes "tailable") (boolean_value false))) ≡ Err (without_evidence failed_to_parse) }
 {}
 
 /// Aggregates that are refused.

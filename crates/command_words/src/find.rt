@@ -20,8 +20,8 @@ use bson_values::{Document, Memory, Value};
 use cluster_base::{Code, Namespace};
 use command_fields::{
     CheckFault, Rules, Word, WordKind, boolean_needed, boolean_or, check_behind_own, collection_of,
-    common_ruling, concern_needed, natural_needed, number_given, put_numbers, put_word, word_in,
-    word_told,
+    common_ruling, concern_needed, false_needed, natural_needed, number_given, put_numbers,
+    put_word, word_in, word_told,
 };
 use opmsg_frames::Sequence;
 use pipeline_lang::Pipeline;
@@ -79,6 +79,12 @@ fn plain_ruling(name: &str, value: &Value) -> Option<Option<Code>>
         Some(boolean_needed(value))
     } else if "readConcern" == name {
         Some(concern_needed(value))
+    } else if "returnKey" == name
+        || "showRecordId" == name
+        || "tailable" == name
+        || "awaitData" == name
+    {
+        Some(false_needed(value))
     } else {
         common_ruling(name, value)
     }

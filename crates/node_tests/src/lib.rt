@@ -1,7 +1,9 @@
-//! A node that answers nothing, and a step of it.
+//! Tests of nodes and drivers that are no rows of data: a node that answers nothing and a step of it, and lines of scripts.
 #![tactic(auto)]
 
 mod idle;
+#[cfg(test)]
+mod lines;
 mod state;
 #[cfg(test)]
 mod tests;

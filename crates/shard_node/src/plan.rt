@@ -24,7 +24,7 @@ pub(crate) enum Change {
     /// The entries are made in the collection.
     Write {
         namespace: Namespace,
-        entries: shard_store::StepPlan,
+        entries: shard_store::EntryPlan,
     },
 }
 

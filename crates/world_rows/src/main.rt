@@ -9,6 +9,7 @@ mod disks;
 mod files;
 mod journals;
 mod links;
+mod openings;
 mod records;
 mod sinks;
 mod sources;
@@ -19,6 +20,7 @@ use crate::disks::Disks;
 use crate::files::check_files;
 use crate::journals::Journals;
 use crate::links::Links;
+use crate::openings::Openings;
 use crate::sinks::Sinks;
 use crate::sources::Sources;
 use fixtures::check_file;
@@ -40,5 +42,6 @@ fn check_streams(rt: &HostRuntime) -> io::Result<()> {
 fn check_disks(rt: &HostRuntime) -> io::Result<()> {
     check_file(rt, "disks.txt", &mut Disks)?;
     check_file(rt, "journals.txt", &mut Journals)?;
-    check_file(rt, "crashes.txt", &mut Crashes)
+    check_file(rt, "crashes.txt", &mut Crashes)?;
+    check_file(rt, "journal_files.txt", &mut Openings)
 }

@@ -1,0 +1,51 @@
+//! Lines of scripts: with ample memory each is read as what it says.
+use script_lines::{Line, LineFault, put_closed, put_reply, read_line};
+use std::alloc::Global;
+use std::test::Fail;
+
+#[test]
+fn bytes_come_to_a_link(rt: HostRuntime) -> Result<(), Fail> {
+    let Line::Client { router, bytes } = read_line(rt.alloc(), b"client 3 00fFa0")? else {
+        return Err(Fail::new("another line"));
+    };
+    assert!(rt; router == 3);
+    assert!(rt; bytes.as_slice() == b"\x00\xff\xa0".as_slice());
+    Ok(())
+}
+
+#[test]
+fn messages_are_delivered(rt: HostRuntime) -> Result<(), Fail> {
+    let Line::Deliver { node, k } = read_line(rt.alloc(), b"deliver 1 18446744073709551615")? else {
+        return Err(Fail::new("another line"));
+    };
+    assert!(rt; node == 1);
+    assert!(rt; k == u64::MAX);
+    assert!(rt; matches!(read_line(rt.alloc(), b"settle")?, Line::Settle));
+    Ok(())
+}
+
+fn is_refused(alloc: Global, line: &[u8]) -> bool {
+    matches!(read_line(alloc, line), Err(LineFault::Refused))
+}
+
+#[test]
+fn other_lines_are_refused(rt: HostRuntime) -> Result<(), Fail> {
+    assert!(rt; is_refused(rt.alloc(), b""));
+    assert!(rt; is_refused(rt.alloc(), b"settle "));
+    assert!(rt; is_refused(rt.alloc(), b"restart 1"));
+    assert!(rt; is_refused(rt.alloc(), b"deliver 01 7"));
+    assert!(rt; is_refused(rt.alloc(), b"deliver 1 18446744073709551616"));
+    assert!(rt; is_refused(rt.alloc(), b"client 0 "));
+    assert!(rt; is_refused(rt.alloc(), b"client 0 0"));
+    assert!(rt; is_refused(rt.alloc(), b"client 0  00"));
+    Ok(())
+}
+
+#[test]
+fn replies_are_printed(rt: HostRuntime) -> Result<(), Fail> {
+    let mut text = Vec::new(rt.alloc());
+    put_reply(rt.alloc(), b"\x0a\xbc", &mut text)?;
+    put_closed(&mut text)?;
+    assert!(rt; text.as_slice() == b"reply 0 0abc\nclosed 0\n".as_slice());
+    Ok(())
+}

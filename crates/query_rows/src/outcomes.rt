@@ -1,0 +1,49 @@
+//! What a statement leaves and is told, held against a row.
+
+use crate::update_words::document_if_any;
+use bson_values::{Document, Value};
+use fixtures::{RowFault, field, number, spelled_value};
+use std::alloc::Global;
+use update_ops::Applied;
+use value_compare::Key;
+
+/// Whether the outcome is `AFTER | N | MODIFIED | KEY`.
+pub fn is_outcome(alloc: Global, applied: &Applied, wanted: &str) -> Result<bool, RowFault> {
+    let (after, told) = field(wanted);
+    let (n, told) = field(told);
+    let (modified, key) = field(told);
+    let after = document_if_any(alloc, after)?;
+    let n = number::<u32>(n)?;
+    let modified = number::<u32>(modified)?;
+    Ok(
+        applied.reply.n == n
+            && applied.reply.modified == modified
+            && is_left(&applied.after, &after)
+            && is_told(alloc, &applied.reply.upserted, key)?,
+    )
+}
+
+// Whether the same stands afterwards.
+fn is_left(after: &Option<Document>, wanted: &Option<Document>) -> bool {
+    match after {
+        Some(document) => match wanted {
+            Some(other) => document.same_data(other),
+            None => false,
+        },
+        None => wanted.is_none(),
+    }
+}
+
+// Whether this key is told, in this spelling, or none.
+fn is_told(alloc: Global, key: &Option<Key>, wanted: &str) -> Result<bool, RowFault> {
+    match key {
+        Some(key) => is_spelled(alloc, key.value(), wanted),
+        None => Ok(wanted == "none"),
+    }
+}
+
+// Whether a value is spelled so.
+fn is_spelled(alloc: Global, value: &Value, wanted: &str) -> Result<bool, RowFault> {
+    let other = spelled_value(alloc, wanted)?;
+    Ok(value.same_data(&other))
+}
