@@ -4,7 +4,7 @@ use Rattle.std.specs.Prelude.{Option, Some, None, Result, Ok, true, false, map, 
 use Rattle.std.specs.List.{AllByRecursion}
 use Rattle.std.specs.Option.{unwrap_or}
 use Rattle.history_model.proofs.Lists.{all_at, in_prefix, in_append, in_back, in_cons, in_none}
-use Rattle.reply_model.proofs.Statements.{on_first}
+use Rattle.reply_laws.proofs.Statements.{on_first}
 use Rattle.node_model.specs.Writes.{ClientNumber, WriteCommand}
 use Rattle.node_model.specs.Refusals.{Refusal}
 use Rattle.node_model.specs.ReplyParts.{operation_time}

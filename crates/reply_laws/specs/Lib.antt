@@ -1,0 +1,8 @@
+pub mod Earlier
+pub mod CursorReplies
+pub mod SampleExchanges
+pub mod SampleRetries
+pub mod SampleReads
+pub mod SampleTimes
+pub mod SampleLengths
+pub mod SampleSums
