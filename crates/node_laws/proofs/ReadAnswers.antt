@@ -11,13 +11,13 @@ use Rattle.pipeline_model.specs.Lengths.{excess_of_answer, excess_of_half}
 use Rattle.pipeline_model.specs.Runs.{Outcome, listed, overflowed, Runs, count_documents, no_stage_run, match_run, project_run, sort_run, skip_run, limit_run}
 use Rattle.pipeline_model.specs.Runs.{count_run, group_run}
 use Rattle.pipeline_model.specs.SortKeys.{SortSpec, comes_before}
-use Rattle.pipeline_model.proofs.PartRows.{chain_of, one_way_of}
+use Rattle.pipeline_laws.proofs.PartRows.{chain_of, one_way_of}
 use Rattle.pipeline_model.proofs.OrderedLists.{sorted_from_up}
 use Rattle.pipeline_model.specs.Halves.{Half, Rows, IsHalf, may_stand_in, MergesInTurn}
 use Rattle.pipeline_model.specs.Split.{split}
-use Rattle.pipeline_model.proofs.KeptAtHead.{half_of_kept}
-use Rattle.pipeline_model.proofs.MergedHalves.{halves_merge}
-use Rattle.pipeline_model.proofs.OutsideSpan.{split_half_outside, split_run_outside}
+use Rattle.pipeline_laws.proofs.KeptAtHead.{half_of_kept}
+use Rattle.pipeline_laws.proofs.MergedHalves.{halves_merge}
+use Rattle.pipeline_laws.proofs.OutsideSpan.{split_half_outside, split_run_outside}
 use Rattle.command_model.specs.Cursors.{Batch}
 use Rattle.node_model.specs.Tree.{Fields}
 use Rattle.node_model.specs.Errors.{overflow}

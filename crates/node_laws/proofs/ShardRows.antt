@@ -8,7 +8,7 @@ use Rattle.node_model.specs.Times.{time_of_moment}
 use Rattle.pipeline_model.specs.Halves.{Half, Rows, IsHalf}
 use Rattle.pipeline_model.specs.Runs.{Runs, overflowed}
 use Rattle.pipeline_model.specs.Split.{split}
-use Rattle.pipeline_model.proofs.OutsideSpan.{split_half_lists}
+use Rattle.pipeline_laws.proofs.OutsideSpan.{split_half_lists}
 use Rattle.node_model.specs.Tables.{Table, first_shard, with_table}
 use Rattle.node_model.specs.History.{Entry}
 use Rattle.node_model.specs.Verdicts.{Sent}

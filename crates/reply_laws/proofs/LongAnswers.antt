@@ -15,7 +15,7 @@ use Rattle.pipeline_model.specs.Halves.{Rows, document_rows, documents_end, Ends
 use Rattle.pipeline_model.specs.Lengths.{document_length, documents_length, most_bytes_answered, if_more, excess_of_half, excess_of_documents, excess_of_answer}
 use Rattle.pipeline_model.proofs.EachElement.{every_permuted}
 use Rattle.pipeline_model.proofs.Fronts.{Opens, opened}
-use Rattle.pipeline_model.proofs.SampleRuns.{less}
+use Rattle.pipeline_laws.proofs.SampleRuns.{less}
 use Rattle.chunk_model.specs.SampleCollections.{creation}
 use Rattle.history_model.specs.History.{Entry}
 use Rattle.history_model.specs.Documents.{documents_at}

@@ -17,10 +17,10 @@ use Rattle.pipeline_model.specs.Batches.{IsSmall, IsBatch}
 use Rattle.pipeline_model.specs.Lengths.{documents_length}
 use Rattle.bson_model.specs.Limits.{most_bytes_kept}
 use Rattle.pipeline_model.proofs.Fronts.{opened}
-use Rattle.pipeline_model.proofs.OneBatch.{one_batch}
+use Rattle.pipeline_laws.proofs.OneBatch.{one_batch}
 use Rattle.pipeline_model.proofs.OrderedLists.{up_from_sorted, sorted_from_up}
-use Rattle.pipeline_model.proofs.PartRows.{chain_of, one_way_of}
-use Rattle.pipeline_model.proofs.SampleRuns.{at_most}
+use Rattle.pipeline_laws.proofs.PartRows.{chain_of, one_way_of}
+use Rattle.pipeline_laws.proofs.SampleRuns.{at_most}
 use Rattle.chunk_model.specs.SampleCollections.{creation}
 use Rattle.history_model.specs.History.{Entry}
 use Rattle.reply_model.specs.Exchanges.{RequestId, Asked, Answered}

@@ -17,7 +17,7 @@ use Rattle.pipeline_model.specs.Stages.{Stage}
 use Rattle.pipeline_model.specs.Runs.{Outcome, Runs, Allows}
 use Rattle.pipeline_model.specs.Halves.{may_stand_in}
 use Rattle.pipeline_model.specs.Split.{span_of_stages, split}
-use Rattle.pipeline_model.proofs.OutsideSpan.{split_run_outside}
+use Rattle.pipeline_laws.proofs.OutsideSpan.{split_run_outside}
 use Rattle.command_model.specs.Reading.{Reading}
 use Rattle.history_model.specs.History.{key_written, effect, Entry, writes_to, document_left, document_at, Legal}
 use Rattle.history_model.specs.Documents.{AreInOrder, documents_at, ListsDocuments}

@@ -10,7 +10,7 @@ use Rattle.command_model.specs.SampleCommands.{database_d}
 use Rattle.command_model.specs.SampleRequests.{request}
 use Rattle.pipeline_model.specs.Operands.{path_operand, constant_operand}
 use Rattle.pipeline_model.specs.GroupSpecs.{GroupSpec, sum_accumulator}
-use Rattle.pipeline_model.specs.SamplePipelines.{sums}
+use Rattle.pipeline_laws.specs.SamplePipelines.{sums}
 use Rattle.history_model.specs.History.{insert_operation, done, Entry}
 use Rattle.reply_model.specs.Exchanges.{Asked, Answered}
 use Rattle.reply_laws.specs.SampleExchanges.{asks, entry_at, tells}

@@ -10,7 +10,7 @@ use Rattle.pipeline_model.specs.SortKeys.{comes_before}
 use Rattle.pipeline_model.specs.Runs.{sort_run, no_stage_run, listed}
 use Rattle.pipeline_model.proofs.Fronts.{opened}
 use Rattle.pipeline_model.proofs.OrderedLists.{sorted_from_up}
-use Rattle.pipeline_model.proofs.PartRows.{chain_of, one_way_of}
+use Rattle.pipeline_laws.proofs.PartRows.{chain_of, one_way_of}
 use Rattle.chunk_model.specs.SampleCollections.{creation}
 use Rattle.reply_model.specs.Exchanges.{Asked}
 use Rattle.reply_model.specs.Cursors.{Cursor, Opens, opens_none, opens_one, ShowsFirst}

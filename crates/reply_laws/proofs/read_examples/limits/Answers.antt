@@ -12,8 +12,8 @@ use Rattle.pipeline_model.specs.Runs.{no_stage_run, sort_run, limit_run, listed}
 use Rattle.pipeline_model.specs.Lengths.{documents_length}
 use Rattle.pipeline_model.proofs.Fronts.{opened}
 use Rattle.pipeline_model.proofs.OrderedLists.{sorted_from_up}
-use Rattle.pipeline_model.proofs.PartRows.{chain_of, one_way_of}
-use Rattle.pipeline_model.proofs.SampleRuns.{at_most}
+use Rattle.pipeline_laws.proofs.PartRows.{chain_of, one_way_of}
+use Rattle.pipeline_laws.proofs.SampleRuns.{at_most}
 use Rattle.reply_model.specs.Reads.{own_time}
 use Rattle.reply_laws.specs.SampleReads.{all_three, by_id, kept, one, two, three}
 use Rattle.reply_laws.specs.SampleTimes.{at_most_two, by_x, least_one, reads_all, told_at}

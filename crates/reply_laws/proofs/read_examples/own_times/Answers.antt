@@ -9,7 +9,7 @@ use Rattle.bson_model.specs.Limits.{most_bytes_kept}
 use Rattle.pipeline_model.specs.Runs.{no_stage_run, listed}
 use Rattle.pipeline_model.specs.Batches.{IsSmall}
 use Rattle.pipeline_model.specs.Lengths.{documents_length}
-use Rattle.pipeline_model.proofs.SampleRuns.{at_most}
+use Rattle.pipeline_laws.proofs.SampleRuns.{at_most}
 use Rattle.history_model.specs.Documents.{documents_at}
 use Rattle.reply_model.specs.Reads.{own_time, MayGive}
 use Rattle.reply_laws.specs.SampleReads.{all_three, one, two}

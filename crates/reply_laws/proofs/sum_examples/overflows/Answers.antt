@@ -9,7 +9,7 @@ use Rattle.pipeline_model.specs.Groups.{sum_cell, PartialRow, IsGrouped, documen
 use Rattle.pipeline_model.specs.Stages.{Stage, group_stage}
 use Rattle.pipeline_model.specs.Runs.{Runs, overflow_run, listed, overflowed}
 use Rattle.pipeline_model.proofs.Fronts.{opened}
-use Rattle.pipeline_model.proofs.SampleRuns.{less}
+use Rattle.pipeline_laws.proofs.SampleRuns.{less}
 use Rattle.reply_model.specs.Reads.{own_time, MayGive}
 use Rattle.reply_model.specs.Right.{refused_overflow, right_refused_read}
 use Rattle.reply_laws.specs.SampleReads.{one, two}

@@ -10,7 +10,7 @@ use Rattle.pipeline_model.specs.Groups.{sum_cell, PartialRow, IsGrouped, documen
 use Rattle.pipeline_model.specs.Stages.{Stage, group_stage}
 use Rattle.pipeline_model.specs.Runs.{Runs, no_stage_run, group_run, listed, overflowed}
 use Rattle.pipeline_model.proofs.Fronts.{opened}
-use Rattle.pipeline_model.proofs.SampleRuns.{less}
+use Rattle.pipeline_laws.proofs.SampleRuns.{less}
 use Rattle.chunk_model.specs.SampleCollections.{creation}
 use Rattle.reply_model.specs.Cursors.{Cursor}
 use Rattle.reply_model.specs.Reads.{own_time, MayGive}
