@@ -23,10 +23,6 @@ pub mod KillCursors
 pub mod Command
 pub mod Answers
 pub mod CommandSizes
-pub mod SampleCommands
-pub mod SampleRequests
-pub mod SampleNumbers
-pub mod SampleReads
 pub use Rattle.base_model.specs.Errors
 pub use Rattle.opmsg_model.specs.Faults
 pub use Rattle.value_model.specs.Keys
@@ -36,7 +32,6 @@ pub use Rattle.base_model.specs.Refusals
 pub use Rattle.opmsg_model.specs.Replies
 pub use Rattle.base_model.specs.ReplyParts
 pub use Rattle.opmsg_model.specs.Requests
-pub use Rattle.opmsg_model.specs.SampleDocuments
 pub use Rattle.base_model.specs.SampleReplies
 pub use Rattle.opmsg_model.specs.Sections
 pub use Rattle.opmsg_model.specs.Spelling

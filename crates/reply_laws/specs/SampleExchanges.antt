@@ -5,9 +5,9 @@ use Rattle.command_model.specs.Requests.{Request}
 use Rattle.command_model.specs.AnswerParts.{document_items}
 use Rattle.command_model.specs.Times.{timestamp}
 use Rattle.command_model.specs.Errors.{immutable_field, object_too_large, duplicate_key}
-use Rattle.command_model.specs.SampleCommands.{change_one, delete_with, number_one, set_one, taken_out, update_with}
+use Rattle.command_laws.specs.SampleCommands.{change_one, delete_with, number_one, set_one, taken_out, update_with}
 use Rattle.command_model.specs.SampleReplies.{done_reply, duplicate_reply}
-use Rattle.command_model.specs.SampleRequests.{deep, find_body, five, greeting, insert_body, long_five, request, shown, six, three, with_id}
+use Rattle.command_laws.specs.SampleRequests.{deep, find_body, five, greeting, insert_body, long_five, request, shown, six, three, with_id}
 use Rattle.command_model.specs.Find.{Find}
 use Rattle.query_model.specs.Queries.{Query, no_clauses, clause, path_clause, no_tests, test, eq_test}
 use Rattle.pipeline_model.specs.Stages.{match_stage}

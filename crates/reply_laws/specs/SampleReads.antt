@@ -9,8 +9,8 @@ use Rattle.command_model.specs.Find.{Find}
 use Rattle.command_model.specs.Cursors.{Batch}
 use Rattle.command_model.specs.GetMore.{GetMore}
 use Rattle.command_model.specs.Answers.{first_answer, next_answer, killed_answer, refusal_answer, answer_document}
-use Rattle.command_model.specs.SampleCommands.{database_d}
-use Rattle.command_model.specs.SampleRequests.{request, with_id}
+use Rattle.command_laws.specs.SampleCommands.{database_d}
+use Rattle.command_laws.specs.SampleRequests.{request, with_id}
 use Rattle.pipeline_model.specs.SortKeys.{ascending, SortSpec}
 use Rattle.pipeline_model.specs.Stages.{sort_stage}
 use Rattle.chunk_model.specs.SampleCollections.{creation}

@@ -7,10 +7,10 @@ use Rattle.command_model.specs.Errors.{duplicate_key}
 use Rattle.command_model.specs.Refusals.{time_ahead}
 use Rattle.command_model.specs.Times.{timestamp}
 use Rattle.command_model.specs.Writes.{WriteCommand, insert_kind}
-use Rattle.command_model.specs.SampleCommands.{change_one, database_d, number_one, set_one, taken_out}
-use Rattle.command_model.specs.SampleNumbers.{fifteen_sevens, number_of, numbered, sevens}
+use Rattle.command_laws.specs.SampleCommands.{change_one, database_d, number_one, set_one, taken_out}
+use Rattle.command_laws.specs.SampleNumbers.{fifteen_sevens, number_of, numbered, sevens}
 use Rattle.command_model.specs.SampleReplies.{done_reply, duplicate_reply}
-use Rattle.command_model.specs.SampleRequests.{find_body, five, insert_body, long_five, request, six, three, with_id}
+use Rattle.command_laws.specs.SampleRequests.{find_body, five, insert_body, long_five, request, six, three, with_id}
 use Rattle.chunk_model.specs.SampleCollections.{creation}
 use Rattle.history_model.specs.History.{client_session, StatementNumber, insert_operation, update_operation, delete_operation, Operation, Outcome, done, fails_with, Entry}
 use Rattle.reply_model.specs.Exchanges.{Asked, Answered}

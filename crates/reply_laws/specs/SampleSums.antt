@@ -6,8 +6,8 @@ use Rattle.command_model.specs.Errors.{overflow}
 use Rattle.command_model.specs.Refusals.{without_evidence}
 use Rattle.command_model.specs.Cursors.{Batch}
 use Rattle.command_model.specs.Answers.{first_answer, refusal_answer, answer_document}
-use Rattle.command_model.specs.SampleCommands.{database_d}
-use Rattle.command_model.specs.SampleRequests.{request}
+use Rattle.command_laws.specs.SampleCommands.{database_d}
+use Rattle.command_laws.specs.SampleRequests.{request}
 use Rattle.pipeline_model.specs.Operands.{path_operand, constant_operand}
 use Rattle.pipeline_model.specs.GroupSpecs.{GroupSpec, sum_accumulator}
 use Rattle.pipeline_laws.specs.SamplePipelines.{sums}

@@ -6,8 +6,8 @@ use Rattle.command_model.specs.Refusals.{time_ahead}
 use Rattle.command_model.specs.Reading.{Reading}
 use Rattle.command_model.specs.Find.{Find}
 use Rattle.command_model.specs.Answers.{count_answer, refusal_answer, answer_document}
-use Rattle.command_model.specs.SampleCommands.{database_d}
-use Rattle.command_model.specs.SampleRequests.{concern_named, request, shown, with_id}
+use Rattle.command_laws.specs.SampleCommands.{database_d}
+use Rattle.command_laws.specs.SampleRequests.{concern_named, request, shown, with_id}
 use Rattle.pipeline_model.specs.SortKeys.{SortSpec, ascending}
 use Rattle.pipeline_model.specs.Stages.{Stage}
 use Rattle.history_model.specs.History.{done, Entry}

@@ -1,8 +1,8 @@
 //! Worked values of cursors: three documents in order, by a find and what follows it. Each with replies beside it that are wrong.
 
 ghost use Rattle.std.specs.Prelude.{◌≡◌, ◌∷◌, List, [], codes, Some, None, Ok, true, false, pos, negsuc};
-ghost use Rattle.command_model.specs.SampleCommands.{database_d};
-ghost use Rattle.command_model.specs.SampleRequests.{with_id};
+ghost use Rattle.command_laws.specs.SampleCommands.{database_d};
+ghost use Rattle.command_laws.specs.SampleRequests.{with_id};
 ghost use Rattle.command_model.specs.Command.{find_command, more_command, kill_command, command_of};
 ghost use Rattle.command_model.specs.KillCursors.{KillCursors};
 ghost use Rattle.command_model.specs.Tree.{boolean_value, field, no_fields};

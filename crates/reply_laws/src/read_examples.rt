@@ -3,7 +3,7 @@
 ghost use Rattle.std.specs.Prelude.{◌≡◌, ◌∷◌, [], codes, None, Ok, Some, pos};
 ghost use Rattle.command_model.specs.Answers.{answer_document, first_answer};
 ghost use Rattle.command_model.specs.Command.{command_of, count_command, find_command};
-ghost use Rattle.command_model.specs.SampleRequests.{with_id};
+ghost use Rattle.command_laws.specs.SampleRequests.{with_id};
 ghost use Rattle.command_model.specs.Times.{timestamp};
 ghost use Rattle.command_model.specs.Tree.{no_fields};
 ghost use Rattle.pipeline_model.specs.Stages.{count_stage, limit_stage, skip_stage, sort_stage};

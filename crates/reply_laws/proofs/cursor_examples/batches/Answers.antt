@@ -2,7 +2,7 @@
 use Rattle.std.proofs.Common.{◌≡◌, ◌≢◌, pos, inl, inr, List, [], ◌∷◌, refl, arith, codes}
 use Rattle.std.specs.Prelude.{false, negsuc, None}
 use Rattle.command_model.specs.Tree.{Fields, no_fields}
-use Rattle.command_model.specs.SampleRequests.{with_id}
+use Rattle.command_laws.specs.SampleRequests.{with_id}
 use Rattle.chunk_model.specs.SampleCollections.{creation}
 use Rattle.command_model.specs.Times.{timestamp}
 use Rattle.history_model.specs.History.{Entry, done}

@@ -1,7 +1,7 @@
 -- One after another.
 use Rattle.std.proofs.Common.{◌≡◌, pos, [], ◌∷◌, refl, codes}
 use Rattle.std.specs.Prelude.{false, negsuc}
-use Rattle.command_model.specs.SampleRequests.{with_id}
+use Rattle.command_laws.specs.SampleRequests.{with_id}
 use Rattle.reply_model.specs.Cursors.{kills_none, kills, misses}
 use Rattle.reply_model.specs.Right.{right_kill}
 use Rattle.reply_laws.specs.SampleReads.{killing, open_with, told_killed, two}

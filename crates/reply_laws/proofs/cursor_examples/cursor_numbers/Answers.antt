@@ -2,7 +2,7 @@
 use Rattle.std.proofs.Common.{◌≡◌, ◌≢◌, pos, List, [], ◌∷◌, refl, arith}
 use Rattle.std.specs.Prelude.{true, false}
 use Rattle.command_model.specs.Tree.{Fields, no_fields}
-use Rattle.command_model.specs.SampleRequests.{with_id}
+use Rattle.command_laws.specs.SampleRequests.{with_id}
 use Rattle.reply_model.specs.Exchanges.{Asked}
 use Rattle.reply_model.specs.Cursors.{opens_one}
 use Rattle.reply_laws.specs.SampleReads.{another_router, batch, one, open_with, sorting, three, told_first, two}

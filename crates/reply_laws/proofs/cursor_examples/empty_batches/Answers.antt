@@ -2,7 +2,7 @@
 use Rattle.std.proofs.Common.{◌≡◌, pos, [], ◌∷◌, refl, arith, codes}
 use Rattle.std.specs.Prelude.{false, Some, None}
 use Rattle.command_model.specs.Tree.{no_fields}
-use Rattle.command_model.specs.SampleRequests.{with_id}
+use Rattle.command_laws.specs.SampleRequests.{with_id}
 use Rattle.reply_model.specs.Cursors.{opens_one}
 use Rattle.reply_model.specs.Right.{right_more}
 use Rattle.reply_laws.specs.SampleReads.{all_three, asks_more, batch, one, open_with, sorting, told_first}

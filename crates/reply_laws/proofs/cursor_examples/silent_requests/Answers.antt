@@ -2,7 +2,7 @@
 use Rattle.std.proofs.Common.{pos, List, [], ◌∷◌, refl, codes}
 use Rattle.std.specs.Prelude.{false, None}
 use Rattle.command_model.specs.Tree.{Fields, no_fields}
-use Rattle.command_model.specs.SampleRequests.{with_id}
+use Rattle.command_laws.specs.SampleRequests.{with_id}
 use Rattle.reply_model.specs.Cursors.{kills_none, kills}
 use Rattle.reply_model.specs.Right.{right_more, right_kill}
 use Rattle.reply_laws.specs.SampleReads.{asks_more, batch, going_on, kept, open_with, three, told_gone, two}

@@ -2,7 +2,7 @@
 use Rattle.std.proofs.Common.{◌≡◌, pos, inr, [], ◌∷◌, refl, codes}
 use Rattle.std.specs.Prelude.{true, false, None}
 use Rattle.command_model.specs.Tree.{no_fields}
-use Rattle.command_model.specs.SampleRequests.{with_id}
+use Rattle.command_laws.specs.SampleRequests.{with_id}
 use Rattle.reply_model.specs.Cursors.{opens_none}
 use Rattle.reply_model.specs.Right.{right_no_cursor}
 use Rattle.reply_laws.specs.SampleReads.{all_three, asks_more, batch, going_on, kept, one, single_batch, sorting, three, told_first, told_next, two}

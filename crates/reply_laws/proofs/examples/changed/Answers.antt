@@ -1,8 +1,8 @@
 -- The entries are the statements' own, and are told what they did.
 use Rattle.std.proofs.Common.{◌≡◌, inl, List, [], ◌∷◌, refl, sym, ap, codes, arith}
 use Rattle.std.specs.Prelude.{false, true, None}
-use Rattle.command_model.specs.SampleCommands.{change_one}
-use Rattle.command_model.specs.SampleRequests.{five, long_five, with_id}
+use Rattle.command_laws.specs.SampleCommands.{change_one}
+use Rattle.command_laws.specs.SampleRequests.{five, long_five, with_id}
 use Rattle.command_model.specs.Writes.{WriteCommand, delete_kind, update_kind}
 use Rattle.history_model.specs.History.{StatementNumber, delete_operation, router_session, update_operation}
 use Rattle.reply_laws.specs.SampleExchanges.{changed_reply, changing, changing_entry, deleted_reply, deleting, deleting_entry, first_entry, tells, three_writes}

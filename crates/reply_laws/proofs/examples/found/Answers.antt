@@ -1,7 +1,7 @@
 -- The key is there, in other bits, from its time on.
 use Rattle.std.proofs.Common.{◌≡◌, [], ◌∷◌, refl, arith}
 use Rattle.std.specs.Prelude.{None, Some}
-use Rattle.command_model.specs.SampleRequests.{five, long_five, six, with_id}
+use Rattle.command_laws.specs.SampleRequests.{five, long_five, six, with_id}
 use Rattle.command_model.specs.Times.{timestamp}
 use Rattle.history_model.proofs.Lists.{in_none}
 use Rattle.reply_model.specs.Reads.{named_time, own_time}

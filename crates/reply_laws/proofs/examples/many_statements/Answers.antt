@@ -1,7 +1,7 @@
 -- The entries are the statements' own.
 use Rattle.std.proofs.Common.{[], refl, codes, arith}
 use Rattle.std.specs.Prelude.{None, Bool, true, false, map}
-use Rattle.command_model.specs.SampleRequests.{second_fails, three}
+use Rattle.command_laws.specs.SampleRequests.{second_fails, three}
 use Rattle.history_model.specs.History.{insert_operation}
 use Rattle.command_model.specs.Writes.{WriteCommand, insert_kind}
 use Rattle.reply_model.specs.Right.{IsWhole}

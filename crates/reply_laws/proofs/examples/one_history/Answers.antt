@@ -2,7 +2,7 @@
 use Rattle.std.proofs.Common.{◌≡◌, ◌≤◌, ℕ, inl, inr, [], ◌∷◌, refl, sym, ap, subst, codes, arith}
 use Rattle.std.specs.Prelude.{true, Some, None}
 use Rattle.command_model.specs.SampleReplies.{done_reply, duplicate_reply}
-use Rattle.command_model.specs.SampleRequests.{five, long_five, shown, with_id}
+use Rattle.command_laws.specs.SampleRequests.{five, long_five, shown, with_id}
 use Rattle.command_model.specs.Tree.{Fields}
 use Rattle.command_model.specs.Times.{timestamp}
 use Rattle.command_model.specs.Writes.{WriteCommand, insert_kind}

@@ -1,7 +1,7 @@
 -- By their numbers and times.
 use Rattle.std.proofs.Common.{◌<◌, [], ◌∷◌, refl, ap, codes, arith}
 use Rattle.std.specs.Prelude.{true, None}
-use Rattle.command_model.specs.SampleRequests.{five, long_five, with_id}
+use Rattle.command_laws.specs.SampleRequests.{five, long_five, with_id}
 use Rattle.command_model.specs.Times.{timestamp}
 use Rattle.chunk_model.specs.Catalogue.{Creation}
 use Rattle.chunk_model.specs.SampleCollections.{creation}

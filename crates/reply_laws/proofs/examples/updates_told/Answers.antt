@@ -1,7 +1,7 @@
 -- The entries are the statements' own, and are told what they did.
 use Rattle.std.proofs.Common.{◌≡◌, ◌<◌, ℤ, pos, List, [], ◌∷◌, refl, sym, ap, ◌∙◌, codes, arith}
 use Rattle.std.specs.Prelude.{None, Some, false, true, int_lt}
-use Rattle.command_model.specs.SampleRequests.{five, six, with_id}
+use Rattle.command_laws.specs.SampleRequests.{five, six, with_id}
 use Rattle.command_model.specs.Writes.{WriteCommand, delete_kind, update_kind}
 use Rattle.history_model.specs.History.{StatementNumber, Entry, router_session, done, fails_with, delete_operation, update_operation}
 use Rattle.reply_laws.specs.SampleExchanges.{entry_at, first_entry, deleted_reply, set_key, set_nothing, tells, unmet_delete, unmet_entries, upserting, upserting_entries, upserting_reply}

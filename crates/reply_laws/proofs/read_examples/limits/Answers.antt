@@ -4,7 +4,7 @@ use Rattle.std.specs.Prelude.{Bool, ◌&&◌, None, filter, IsPermutation}
 use Rattle.std.proofs.lemmas.List.Sorted.{IsPermutation-refl, length_permutation}
 use Rattle.command_model.specs.Tree.{Fields}
 use Rattle.command_model.specs.Times.{timestamp}
-use Rattle.command_model.specs.SampleRequests.{with_id}
+use Rattle.command_laws.specs.SampleRequests.{with_id}
 use Rattle.bson_model.specs.Limits.{most_bytes_kept}
 use Rattle.pipeline_model.specs.SortKeys.{comes_before}
 use Rattle.pipeline_model.specs.Stages.{sort_stage, limit_stage}

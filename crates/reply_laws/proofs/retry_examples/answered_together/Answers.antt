@@ -1,8 +1,8 @@
 -- The first statement's own entry, and the later one with the greater transaction.
 use Rattle.std.proofs.Common.{pos, [], ◌∷◌, refl, arith}
 use Rattle.std.specs.Prelude.{true, false}
-use Rattle.command_model.specs.SampleNumbers.{sevens}
-use Rattle.command_model.specs.SampleRequests.{five, six, with_id}
+use Rattle.command_laws.specs.SampleNumbers.{sevens}
+use Rattle.command_laws.specs.SampleRequests.{five, six, with_id}
 use Rattle.command_model.specs.Writes.{ClientNumber}
 use Rattle.chunk_model.specs.SampleCollections.{creation}
 use Rattle.history_model.specs.History.{Entry, done, insert_operation}

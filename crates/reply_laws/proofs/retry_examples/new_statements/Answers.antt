@@ -1,6 +1,6 @@
 -- The first statement was done before.
 use Rattle.std.proofs.Common.{◌≡◌, pos, [], ◌∷◌, refl, ap, arith}
-use Rattle.command_model.specs.SampleNumbers.{sevens}
+use Rattle.command_laws.specs.SampleNumbers.{sevens}
 use Rattle.history_model.specs.History.{StatementNumber}
 use Rattle.history_model.proofs.Lists.{in_first}
 use Rattle.reply_laws.specs.SampleRetries.{number_in, put_five, second_done}

@@ -3,9 +3,9 @@ use Rattle.std.proofs.Common.{◌≡◌, ◌<◌, pos, List, [], ◌∷◌, refl
 use Rattle.std.specs.Prelude.{true, false, None, Ok}
 use Rattle.std.specs.List.{AllByRecursion}
 use Rattle.command_model.specs.Command.{command_of, write_command}
-use Rattle.command_model.specs.SampleNumbers.{sevens}
+use Rattle.command_laws.specs.SampleNumbers.{sevens}
 use Rattle.command_model.specs.SampleReplies.{duplicate_reply}
-use Rattle.command_model.specs.SampleRequests.{long_five, six, with_id}
+use Rattle.command_laws.specs.SampleRequests.{long_five, six, with_id}
 use Rattle.command_model.specs.Times.{timestamp}
 use Rattle.command_model.specs.Writes.{ClientNumber, WriteCommand, insert_kind}
 use Rattle.history_model.specs.History.{Entry, IsIn, StatementNumber, insert_operation}

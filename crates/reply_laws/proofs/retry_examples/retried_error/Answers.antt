@@ -1,9 +1,9 @@
 -- The entry that failed tells its error.
 use Rattle.std.proofs.Common.{◌≡◌, pos, [], ◌∷◌, refl, arith}
 use Rattle.std.specs.Prelude.{true}
-use Rattle.command_model.specs.SampleNumbers.{sevens}
+use Rattle.command_laws.specs.SampleNumbers.{sevens}
 use Rattle.command_model.specs.SampleReplies.{duplicate_reply}
-use Rattle.command_model.specs.SampleRequests.{long_five, with_id}
+use Rattle.command_laws.specs.SampleRequests.{long_five, with_id}
 use Rattle.command_model.specs.Writes.{ClientNumber, insert_kind}
 use Rattle.history_model.specs.History.{insert_operation}
 use Rattle.history_model.proofs.Lists.{in_first, in_later}

@@ -2,8 +2,8 @@
 use Rattle.std.proofs.Common.{◌≡◌, ℕ, pos, List, [], ◌∷◌, refl, arith}
 use Rattle.std.specs.Prelude.{false}
 use Rattle.command_model.specs.Errors.{duplicate_key}
-use Rattle.command_model.specs.SampleNumbers.{sevens}
-use Rattle.command_model.specs.SampleRequests.{five, long_five, second_fails, six, with_id}
+use Rattle.command_laws.specs.SampleNumbers.{sevens}
+use Rattle.command_laws.specs.SampleRequests.{five, long_five, second_fails, six, with_id}
 use Rattle.command_model.specs.Writes.{ClientNumber, insert_kind}
 use Rattle.history_model.specs.History.{Entry, done, fails_with, insert_operation}
 use Rattle.history_model.proofs.Lists.{in_first, in_later}

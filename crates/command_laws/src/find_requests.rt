@@ -9,8 +9,8 @@ ghost use Rattle.pipeline_model.specs.SortKeys.{descending};
 ghost use Rattle.pipeline_model.specs.Stages.{count_stage, limit_stage, match_stage, project_stage, skip_stage, sort_stage};
 ghost use Rattle.query_model.specs.Queries.{no_clauses};
 ghost use Rattle.command_model.specs.Command.{command_of, count_command};
-ghost use Rattle.command_model.specs.SampleCommands.{database_d, id_is_one, id_only, number_one, with_sequence, without_id};
-ghost use Rattle.command_model.specs.SampleReads.{aggregate_with, at_seven, concern, count_with, find_with, five_with, found, only, plain_pipeline, read_of, told_each};
+ghost use Rattle.command_laws.specs.SampleCommands.{database_d, id_is_one, id_only, number_one, with_sequence, without_id};
+ghost use Rattle.command_laws.specs.SampleReads.{aggregate_with, at_seven, concern, count_with, find_with, five_with, found, only, plain_pipeline, read_of, told_each};
 
 /// What is read: the stages in their own order and not in that of the fields, where 0 is as none; at which time.
 pub fn readings()

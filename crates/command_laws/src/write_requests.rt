@@ -7,8 +7,8 @@ ghost use Rattle.base_model.specs.Errors.{bad_value, failed_to_parse, transactio
 ghost use Rattle.command_model.specs.Answers.{answer_document, write_answer};
 ghost use Rattle.command_model.specs.Command.{command_of, ping_command, write_command};
 ghost use Rattle.command_model.specs.Writes.{insert_kind, update_kind};
-ghost use Rattle.command_model.specs.SampleCommands.{database_d, id_only, insert_with, message, number_one, with_sequence, without_id};
-ghost use Rattle.command_model.specs.SampleNumbers.{delete_one, fifteen_sevens, in_session, insert_one, insert_so, number_of, numbered, one_deleted, one_inserted, one_updated, session_of, sevens, transaction, update_one};
+ghost use Rattle.command_laws.specs.SampleCommands.{database_d, id_only, insert_with, message, number_one, with_sequence, without_id};
+ghost use Rattle.command_laws.specs.SampleNumbers.{delete_one, fifteen_sevens, in_session, insert_one, insert_so, number_of, numbered, one_deleted, one_inserted, one_updated, session_of, sevens, transaction, update_one};
 
 /// Writes with a client's number: any whole number, in any place. A session alone numbers nothing.
 pub fn client_numbers()

@@ -6,7 +6,7 @@ use Rattle.base_model.specs.Refusals.{Refusal}
 use Rattle.pipeline_model.specs.Stages.{Stage}
 use Rattle.command_model.specs.Reading.{Reading}
 use Rattle.command_model.specs.Command.{Command, find_command, command_of}
-use Rattle.command_model.specs.SampleCommands.{database_d, message, number_one}
+use Rattle.command_laws.specs.SampleCommands.{database_d, message, number_one}
 
 -- {name: value}
 abbrev pub only : List ℕ → Datum → Fields

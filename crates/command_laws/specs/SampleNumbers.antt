@@ -4,7 +4,7 @@ use Rattle.opmsg_model.specs.Tree.{Datum, string_value, document_value, array_va
 use Rattle.opmsg_model.specs.Requests.{Request}
 use Rattle.history_model.specs.History.{insert_operation, update_operation, delete_operation}
 use Rattle.command_model.specs.Writes.{ClientNumber, WriteCommand, insert_kind, update_kind, delete_kind}
-use Rattle.command_model.specs.SampleCommands.{change_one, database_d, id_only, message, number_one, set_one, taken_out}
+use Rattle.command_laws.specs.SampleCommands.{change_one, database_d, id_only, message, number_one, set_one, taken_out}
 
 -- 15 bytes
 abbrev pub fifteen_sevens : List ℕ

@@ -7,8 +7,8 @@ ghost use Rattle.base_model.specs.Errors.{failed_to_parse, invalid_namespace, ty
 ghost use Rattle.base_model.specs.Times.{timestamp};
 ghost use Rattle.command_model.specs.Answers.{answer_document, count_answer, killed_answer, next_answer};
 ghost use Rattle.command_model.specs.Command.{command_of, kill_command, more_command};
-ghost use Rattle.command_model.specs.SampleCommands.{id_only, message, number_one};
-ghost use Rattle.command_model.specs.SampleReads.{concern, kill_with, more_with, only};
+ghost use Rattle.command_laws.specs.SampleCommands.{id_only, message, number_one};
+ghost use Rattle.command_laws.specs.SampleReads.{concern, kill_with, more_with, only};
 
 /// Requests of cursors: any whole number may be named. The cursor comes before the database, and the database before the fields.
 pub fn named_cursors()
