@@ -8,7 +8,7 @@ use Rattle.std.proofs.lemmas.List.Elements.{filter-append}
 use Rattle.command_model.specs.Tree.{Datum, Fields}
 use Rattle.history_model.specs.History.{effect, Entry, writes_to, document_after, document_left, document_at, IsBefore, Legal}
 use Rattle.history_model.proofs.Lists.{all_weaken}
-use Rattle.history_model.proofs.StandingDocuments.{no_later, up_to}
+use Rattle.reply_laws.proofs.StandingDocuments.{no_later, up_to}
 use Rattle.history_model.proofs.LegalHistories.{all_untouched, document_after_append, follows_prefix}
 
 -- ENTRIES UP TO A TIME

@@ -17,3 +17,4 @@ pub mod OwnWrites
 pub mod NumberedWrites
 pub mod StandingCursors
 pub mod CursorBatches
+pub mod StandingDocuments

@@ -26,7 +26,7 @@ use Rattle.history_model.proofs.LegalHistories.{same_after}
 use Rattle.reply_model.specs.Reads.{MayGive}
 use Rattle.reply_laws.specs.Earlier.{found, touches}
 use Rattle.reply_laws.proofs.FilteredOrders.{filter_permutes, others_behind, passed_again, one_order, no_order}
-use Rattle.history_model.proofs.StandingDocuments.{up_to}
+use Rattle.reply_laws.proofs.StandingDocuments.{up_to}
 use Rattle.reply_laws.proofs.FoundDocuments.{WritesNone, WritesNoneBetween, last_left, nothing_left, stands_since}
 use Rattle.reply_laws.proofs.SpanDocuments.{listed_in_span}
 

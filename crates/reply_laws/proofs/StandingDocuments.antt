@@ -5,7 +5,7 @@ use Rattle.std.specs.List.{AllByRecursion}
 use Rattle.std.specs.Str.{bytes_eq}
 use Rattle.std.proofs.lemmas.Bool.{le-leb}
 use Rattle.std.proofs.lemmas.List.Elements.{filter-append}
-use Rattle.base_model.specs.Tree.{Datum, Fields}
+use Rattle.bson_model.specs.Tree.{Datum, Fields}
 use Rattle.base_model.specs.Errors.{object_too_large}
 use Rattle.value_model.specs.Keys.{valid_key}
 use Rattle.history_model.specs.History.{Operation, insert_operation, Outcome, is_too_large, key_written, same_key, effect, Entry, writes_to, document_after, document_left, document_at, IsBefore, Legal, IsIn}
