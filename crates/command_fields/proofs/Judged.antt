@@ -9,7 +9,7 @@ use Rattle.command_fields.specs.Verdicts.{ReadsBy}
 use Rattle.command_fields.specs.declared.fault.CheckFault.{CheckFault}
 use Rattle.command_fields.specs.declared.fault.CheckFault.TheVariants.{Refused, Memory}
 use Rattle.history_model.specs.History.{Operation}
-use Rattle.shard_records.specs.Meanings.{operation_view}
+use Rattle.statement_views.specs.Views.{operation_view}
 use Rattle.value_compare.specs.declared.words.OpWords.{OpWords}
 
 -- behind a statement that passes the others are told of

@@ -13,7 +13,7 @@ ghost use Rattle.command_model.specs.Statements as model;
 ghost use Rattle.command_model.specs.Update as updates;
 ghost use Rattle.command_model.specs.Writes.{statement_form};
 ghost use Rattle.command_fields.specs.Verdicts.{ReadsBy, verdict_view};
-ghost use Rattle.shard_records.specs.Meanings.{operation_view};
+ghost use Rattle.statement_views.specs.Views.{operation_view};
 
 use crate::checks::{boolean_needed, boolean_or, check_required, document_needed, unless_passes};
 use crate::documents::value_named;

@@ -25,7 +25,7 @@ use Rattle.command_fields.specs.declared.fault.CheckFault.{CheckFault}
 use Rattle.command_fields.specs.declared.fault.CheckFault.TheVariants.{Refused, Memory}
 use Rattle.command_replies.specs.Kinds.{given_view, kind_view}
 use Rattle.command_replies.specs.Refusals.{refusal_view}
-use Rattle.shard_records.specs.Meanings.{operation_view}
+use Rattle.statement_views.specs.Views.{operation_view}
 
 abbrev pub legacy_view : program_legacies.Legacy → legacies.Legacy
 legacy_view legacy = record { shows_hello_ok = legacy.shows_hello_ok }

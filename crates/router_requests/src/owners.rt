@@ -12,7 +12,7 @@ ghost use Rattle.node_model.specs.RouterRows as rows;
 ghost use Rattle.pipeline_lang.specs.Halves.{half_of};
 ghost use Rattle.protocol_model.specs.Statements as protocol;
 ghost use Rattle.protocol_model.specs.Statements.{statement_view};
-ghost use Rattle.shard_records.specs.Meanings.{operation_view};
+ghost use Rattle.statement_views.specs.Views.{operation_view};
 ghost use Rattle.value_compare.specs.Keys.{is_key};
 
 use bson_values::{Memory, Value};

@@ -1,4 +1,3 @@
-pub mod Meanings
 pub mod Statements
 pub mod Code
 pub mod Places

@@ -6,7 +6,7 @@ use Rattle.command_model.specs.CommandSizes.{IsKeepable}
 use Rattle.node_model.specs.Exchanges as asked
 use Rattle.node_model.specs.RouterRows as rows
 use Rattle.protocol_model.specs.Statements.{statement_view}
-use Rattle.shard_records.specs.Meanings.{operation_view}
+use Rattle.statement_views.specs.Views.{operation_view}
 use Rattle.router_replies.proofs.statements.statements_of.Given as goal
 
 abbrev pub invariant-loop-words : goal.invariant-loop-words
