@@ -4,8 +4,8 @@ use Rattle.std.specs.Prelude.{ℤ}
 use Rattle.std.specs.List.{AllByRecursion}
 use Rattle.std.proofs.lemmas.List.Sums.{sum_by-cons}
 use Rattle.std.proofs.lemmas.Fmt.{length-decimal-le}
-use Rattle.opmsg_model.specs.Tree.{string_value, document_value, array_value, int32_value, int64_value, timestamp_value, Items, no_items, Fields, no_fields, field, value_depth, array_depth, document_depth}
-use Rattle.opmsg_model.specs.Spelling.{written, written_value, written_items, written_fields}
+use Rattle.bson_model.specs.Tree.{string_value, document_value, array_value, int32_value, int64_value, timestamp_value, Items, no_items, Fields, no_fields, field, value_depth, array_depth, document_depth}
+use Rattle.bson_model.specs.Spelling.{written, written_value, written_items, written_fields}
 use Rattle.opmsg_model.specs.MessageSizes.{IsWithin}
 use Rattle.base_model.specs.Refusals.{Evidence, Refusal, evidence_document, no_evidence, place_evidence, greatest_evidence, cursor_evidence, moments_evidence, disk_evidence, steps_evidence, node_evidence, number_evidence, oldest_evidence, bytes_evidence}
 use Rattle.base_model.specs.ReplyParts.{evidence_shown, refusal_reply, shown_if, write_error}
@@ -17,8 +17,8 @@ use Rattle.command_model.specs.Count.{count_document}
 use Rattle.command_model.specs.Answers.{Answer, hello_answer, legacy_answer, done_answer, write_answer, first_answer, next_answer, count_answer, killed_answer, refusal_answer, answer_document}
 use Rattle.command_model.specs.CommandSizes.{IsSmallAnswer, IsSmallBatch, IsSmallError, IsSmallRefusal, IsSmallSummary, keys_length}
 use Rattle.history_model.proofs.Lists.{all_weaken}
-use Rattle.opmsg_model.proofs.Lengths.{length-framed, length-item, length-field, length-string}
-use Rattle.opmsg_model.specs.Limits.{most_bytes_kept, most_bytes_written, most_depth_written}
+use Rattle.bson_model.proofs.Lengths.{length-framed, length-item, length-field, length-string}
+use Rattle.bson_model.specs.Limits.{most_bytes_kept, most_bytes_written, most_depth_written}
 use Rattle.pipeline_model.specs.Lengths.{document_length, documents_length}
 use Rattle.pipeline_model.specs.Batches as batches
 use Rattle.command_model.specs.CommandLimits.{most_bytes_upserted, most_cursors, most_statements}

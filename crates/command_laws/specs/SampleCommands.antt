@@ -1,6 +1,6 @@
 -- Requests to try the definitions on.
 use Rattle.std.specs.Prelude.{ℕ, List, [], ◌∷◌, codes, false, pos}
-use Rattle.opmsg_model.specs.Tree.{Datum, string_value, document_value, array_value, int32_value, Fields, no_fields, field, no_items, item}
+use Rattle.bson_model.specs.Tree.{Datum, string_value, document_value, array_value, int32_value, Fields, no_fields, field, no_items, item}
 use Rattle.query_model.specs.Queries.{Query, no_clauses, clause, path_clause, no_tests, test, eq_test}
 use Rattle.opmsg_model.specs.Requests.{Body, Form, Request, msg_form, read_body}
 

@@ -1,6 +1,6 @@
 -- Write commands of sessions, with and without their clients' numbers, to try the definitions on.
 use Rattle.std.specs.Prelude.{ℕ, ℤ, List, [], ◌∷◌, Option, Some, true, false, codes}
-use Rattle.opmsg_model.specs.Tree.{Datum, string_value, document_value, array_value, binary_value, no_items, item, Fields, no_fields, field, joined}
+use Rattle.bson_model.specs.Tree.{Datum, string_value, document_value, array_value, binary_value, no_items, item, Fields, no_fields, field, joined}
 use Rattle.opmsg_model.specs.Requests.{Request}
 use Rattle.history_model.specs.History.{insert_operation, update_operation, delete_operation}
 use Rattle.command_model.specs.Writes.{ClientNumber, WriteCommand, insert_kind, update_kind, delete_kind}

@@ -1,6 +1,6 @@
 -- Requests that read, to try the definitions on.
 use Rattle.std.specs.Prelude.{ℕ, List, [], ◌∷◌, map, Option, None, Result, false, codes}
-use Rattle.opmsg_model.specs.Tree.{Datum, string_value, document_value, array_value, timestamp_value, no_items, Fields, no_fields, field, joined}
+use Rattle.bson_model.specs.Tree.{Datum, string_value, document_value, array_value, timestamp_value, no_items, Fields, no_fields, field, joined}
 use Rattle.opmsg_model.specs.Requests.{Request}
 use Rattle.base_model.specs.Refusals.{Refusal}
 use Rattle.pipeline_model.specs.Stages.{Stage}

@@ -1,11 +1,11 @@
 -- Requests of one collection, with their answers, to try the definitions on.
 use Rattle.std.specs.Prelude.{ℕ, List, [], ◌∷◌, codes, Option, Some, None, Bool, pos, if◌then◌else◌, false}
-use Rattle.opmsg_model.specs.Tree.{Datum, string_value, document_value, array_value, boolean_value, int32_value, int64_value, timestamp_value, no_items, item, Fields, no_fields, field, joined}
-use Rattle.opmsg_model.specs.Spelling.{written}
-use Rattle.opmsg_model.specs.Faults.{Fault}
+use Rattle.bson_model.specs.Tree.{Datum, string_value, document_value, array_value, boolean_value, int32_value, int64_value, timestamp_value, no_items, item, Fields, no_fields, field, joined}
+use Rattle.bson_model.specs.Spelling.{written}
+use Rattle.bson_model.specs.Faults.{Fault}
 use Rattle.opmsg_model.specs.Requests.{Request, msg_form, query_form, read_body, faulty_body, msg_bytes, query_bytes}
 use Rattle.opmsg_model.specs.Sections.{body_section}
-use Rattle.opmsg_model.specs.SampleDocuments.{nested}
+use Rattle.bson_model.specs.SampleDocuments.{nested}
 use Rattle.base_model.specs.Times.{timestamp}
 use Rattle.command_model.specs.AnswerParts.{document_items}
 use Rattle.command_model.specs.Answers.{first_answer, answer_document}

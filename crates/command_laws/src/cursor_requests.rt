@@ -1,7 +1,7 @@
 //! Worked requests of `getMore` and `killCursors`, and the answers that cursors make.
 
 ghost use Rattle.std.specs.Prelude.{◌≡◌, ◌∷◌, [], codes, pos, negsuc, true, None, Ok, Err};
-ghost use Rattle.opmsg_model.specs.Tree.{array_value, boolean_value, document_value, int32_value, int64_value, item, field, no_items, no_fields, string_value, timestamp_value};
+ghost use Rattle.bson_model.specs.Tree.{array_value, boolean_value, document_value, int32_value, int64_value, item, field, no_items, no_fields, string_value, timestamp_value};
 ghost use Rattle.base_model.specs.Refusals.{without_evidence};
 ghost use Rattle.base_model.specs.Errors.{failed_to_parse, invalid_namespace, type_mismatch};
 ghost use Rattle.base_model.specs.Times.{timestamp};

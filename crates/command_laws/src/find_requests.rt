@@ -1,7 +1,7 @@
 //! Worked requests of `find`, `aggregate` and `count`.
 
 ghost use Rattle.std.specs.Prelude.{◌≡◌, ◌∷◌, [], codes, false, pos, negsuc, replicate, None, Some, Ok, Err};
-ghost use Rattle.opmsg_model.specs.Tree.{array_value, boolean_value, document_value, int32_value, item, field, joined, no_items, no_fields, string_value, timestamp_value};
+ghost use Rattle.bson_model.specs.Tree.{array_value, boolean_value, document_value, int32_value, item, field, joined, no_items, no_fields, string_value, timestamp_value};
 ghost use Rattle.base_model.specs.Refusals.{without_evidence};
 ghost use Rattle.base_model.specs.Errors.{bad_value, failed_to_parse, type_mismatch};
 ghost use Rattle.pipeline_model.specs.Projections.{include_it};

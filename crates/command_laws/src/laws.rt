@@ -2,7 +2,7 @@
 
 ghost use Rattle.std.specs.Prelude.{◌≡◌, Some, Ok, true};
 ghost use Rattle.std.specs.List.{list_all};
-ghost use Rattle.opmsg_model.specs.Tree.{Fields};
+ghost use Rattle.bson_model.specs.Tree.{Fields};
 ghost use Rattle.opmsg_model.specs.Requests.{Request};
 ghost use Rattle.opmsg_model.specs.MessageSizes.{IsSmallBody, IsWithin};
 ghost use Rattle.base_model.specs.Refusals.{Evidence, evidence_document};
@@ -12,7 +12,7 @@ ghost use Rattle.command_model.specs.Command.{command_of, count_command, find_co
 ghost use Rattle.command_model.specs.Find.{Find};
 ghost use Rattle.command_model.specs.Reading.{Reading};
 ghost use Rattle.command_model.specs.CommandSizes.{IsSmallAnswer, IsTaken};
-ghost use Rattle.opmsg_model.specs.Limits.{most_bytes_written, most_depth_written};
+ghost use Rattle.bson_model.specs.Limits.{most_bytes_written, most_depth_written};
 
 /// What a request asks for is as small as the request: at most 100,000 documents, each with a key and no larger than a
 /// document that is read, or a refusal with a short name.

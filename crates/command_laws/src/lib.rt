@@ -8,8 +8,8 @@ mod laws;
 mod write_requests;
 
 ghost use Rattle.std.specs.Prelude.{◌≡◌, ◌∷◌, [], codes, true, false, pos, negsuc, Some, None, Ok, Err};
-ghost use Rattle.opmsg_model.specs.Faults.{string_fault};
-ghost use Rattle.opmsg_model.specs.Tree.{array_value, boolean_value, document_value, int32_value, int64_value, item, field, no_items, no_fields, string_value, timestamp_value};
+ghost use Rattle.bson_model.specs.Faults.{string_fault};
+ghost use Rattle.bson_model.specs.Tree.{array_value, boolean_value, document_value, int32_value, int64_value, item, field, no_items, no_fields, string_value, timestamp_value};
 ghost use Rattle.opmsg_model.specs.Requests.{faulty_body, msg_form, query_form, read_body};
 ghost use Rattle.base_model.specs.Refusals.{no_evidence, place_evidence, without_evidence};
 ghost use Rattle.base_model.specs.Errors.{bad_value, command_not_found, failed_to_parse, invalid_bson, invalid_namespace, shard_key_not_found, type_mismatch};

@@ -1,7 +1,7 @@
 //! Worked requests that write in a session, with and without a client's number, and the answers that numbers make.
 
 ghost use Rattle.std.specs.Prelude.{◌≡◌, ◌∷◌, [], codes, false, pos, negsuc, true, None, Ok, Err};
-ghost use Rattle.opmsg_model.specs.Tree.{array_value, boolean_value, document_value, int32_value, int64_value, item, field, no_items, no_fields, string_value, timestamp_value};
+ghost use Rattle.bson_model.specs.Tree.{array_value, boolean_value, document_value, int32_value, int64_value, item, field, no_items, no_fields, string_value, timestamp_value};
 ghost use Rattle.base_model.specs.Refusals.{number_evidence, without_evidence};
 ghost use Rattle.base_model.specs.Errors.{bad_value, failed_to_parse, transaction_too_old, type_mismatch};
 ghost use Rattle.command_model.specs.Answers.{answer_document, write_answer};

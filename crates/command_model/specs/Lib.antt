@@ -24,16 +24,9 @@ pub mod Command
 pub mod Answers
 pub mod CommandSizes
 pub use Rattle.base_model.specs.Errors
-pub use Rattle.opmsg_model.specs.Faults
 pub use Rattle.value_model.specs.Keys
 pub use Rattle.opmsg_model.specs.MessageSizes
 pub use Rattle.base_model.specs.Names
 pub use Rattle.base_model.specs.Refusals
-pub use Rattle.opmsg_model.specs.Replies
 pub use Rattle.base_model.specs.ReplyParts
 pub use Rattle.opmsg_model.specs.Requests
-pub use Rattle.base_model.specs.SampleReplies
-pub use Rattle.opmsg_model.specs.Sections
-pub use Rattle.opmsg_model.specs.Spelling
-pub use Rattle.base_model.specs.Times
-pub use Rattle.opmsg_model.specs.Tree

@@ -5,10 +5,10 @@ use Rattle.std.specs.List.{AllByRecursion}
 use Rattle.std.specs.Option.{unwrap_or}
 use Rattle.std.specs.Ordering.{int_eq}
 use Rattle.std.proofs.lemmas.List.{take-append-drop}
-use Rattle.command_model.specs.Tree.{Fields}
-use Rattle.command_model.specs.Errors.{cursor_not_found}
-use Rattle.command_model.specs.Refusals.{Refusal, cursor_evidence}
-use Rattle.command_model.specs.Requests.{Request}
+use Rattle.bson_model.specs.Tree.{Fields}
+use Rattle.base_model.specs.Errors.{cursor_not_found}
+use Rattle.base_model.specs.Refusals.{Refusal, cursor_evidence}
+use Rattle.opmsg_model.specs.Requests.{Request}
 use Rattle.command_model.specs.Find.{Find}
 use Rattle.command_model.specs.Cursors.{Batch}
 use Rattle.command_model.specs.GetMore.{GetMore}

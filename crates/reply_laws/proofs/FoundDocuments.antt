@@ -5,7 +5,7 @@ use Rattle.std.specs.List.{AllByRecursion}
 use Rattle.std.proofs.lemmas.Bool.{le-leb}
 use Rattle.std.proofs.lemmas.Bool.Decides.{leb_tells}
 use Rattle.std.proofs.lemmas.List.Elements.{filter-append}
-use Rattle.command_model.specs.Tree.{Datum, Fields}
+use Rattle.bson_model.specs.Tree.{Datum, Fields}
 use Rattle.history_model.specs.History.{effect, Entry, writes_to, document_after, document_left, document_at, IsBefore, Legal}
 use Rattle.history_model.proofs.Lists.{all_weaken}
 use Rattle.reply_laws.proofs.StandingDocuments.{no_later, up_to}

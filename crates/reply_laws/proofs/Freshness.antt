@@ -2,9 +2,9 @@
 use Rattle.std.proofs.Common.{◌≡◌, ◌≢◌, ℕ, ◌<◌, ◌≤◌, ◌⊎◌, inl, inr, List, [], ◌∷◌, refl, sym, ap, subst, ◌∙◌, arith}
 use Rattle.std.specs.Prelude.{Option, Some, None, Ok}
 use Rattle.std.specs.Option.{unwrap_or}
-use Rattle.command_model.specs.Tree.{Fields}
-use Rattle.command_model.specs.Refusals.{time_ahead}
-use Rattle.command_model.specs.ReplyParts.{operation_time}
+use Rattle.bson_model.specs.Tree.{Fields}
+use Rattle.base_model.specs.Refusals.{time_ahead}
+use Rattle.base_model.specs.ReplyParts.{operation_time}
 use Rattle.command_model.specs.Writes.{ClientNumber, WriteCommand}
 use Rattle.command_model.specs.Reading.{Reading}
 use Rattle.command_model.specs.Command.{write_command, command_of}

@@ -3,7 +3,7 @@ use Rattle.std.proofs.Common.{◌≡◌, ℕ, ℤ, pos, ◌≤◌, inl, inr, Lis
 use Rattle.std.specs.Prelude.{Bool, true, false, Option, Some, None, Ok, filter}
 use Rattle.std.specs.Option.{unwrap_or}
 use Rattle.std.proofs.lemmas.List.Sorted.{IsPermutation-refl}
-use Rattle.command_model.specs.Tree.{Datum, Fields}
+use Rattle.bson_model.specs.Tree.{Datum, Fields}
 use Rattle.command_model.specs.Cursors.{Batch}
 use Rattle.command_model.specs.Command.{find_command, command_of}
 use Rattle.command_model.specs.Answers.{first_answer, answer_document}

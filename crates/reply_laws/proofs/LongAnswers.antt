@@ -4,8 +4,8 @@ use Rattle.std.specs.Prelude.{Bool, true, false, cond, Option, Some, None, filte
 use Rattle.std.specs.List.{AllByRecursion}
 use Rattle.std.proofs.lemmas.List.Sums.{sum_by-cons}
 use Rattle.std.proofs.lemmas.List.Sorted.{IsPermutation-refl, IsPermutation-trans, length_permutation}
-use Rattle.command_model.specs.Tree.{Fields}
-use Rattle.command_model.specs.Times.{timestamp}
+use Rattle.bson_model.specs.Tree.{Fields}
+use Rattle.base_model.specs.Times.{timestamp}
 use Rattle.bson_model.specs.Limits.{most_bytes_kept}
 use Rattle.bson_model.proofs.Booleans.{is_false}
 use Rattle.pipeline_model.specs.SortKeys.{SortSpec}

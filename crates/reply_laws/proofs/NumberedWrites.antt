@@ -2,11 +2,11 @@
 use Rattle.std.proofs.Common.{◌≡◌, ◌≢◌, ℕ, ◌+◌, ◌<◌, ◌≤◌, List, [], ◌∷◌, refl, sym, ap, subst, ◌∙◌, arith, codes}
 use Rattle.std.specs.Prelude.{Bool, true, false, ◌&&◌, Option, Some, Ok, int_lt}
 use Rattle.std.specs.List.{AllByRecursion}
-use Rattle.command_model.specs.Tree.{Fields}
+use Rattle.bson_model.specs.Tree.{Fields}
 use Rattle.command_model.specs.Writes.{ClientNumber, WriteCommand, WriteKind}
 use Rattle.command_model.specs.Answers.{answer_document}
 use Rattle.command_model.specs.Command.{command_of, write_command}
-use Rattle.command_model.specs.Times.{timestamp}
+use Rattle.base_model.specs.Times.{timestamp}
 use Rattle.chunk_model.specs.SampleCollections.{creation}
 use Rattle.history_model.specs.History.{Operation, StatementNumber, Entry}
 use Rattle.history_model.proofs.Lists.{all_at, in_first}

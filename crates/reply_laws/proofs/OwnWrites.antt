@@ -2,7 +2,7 @@
 use Rattle.std.proofs.Common.{◌≡◌, ℕ, ◌+◌, ◌≤◌, inl, inr, List, [], ◌∷◌, sym, ap, subst, ◌∙◌, arith}
 use Rattle.std.specs.Prelude.{Bool, true, false, Option, None, Result, Ok, map}
 use Rattle.std.specs.List.{AllByRecursion}
-use Rattle.command_model.specs.Refusals.{Refusal}
+use Rattle.base_model.specs.Refusals.{Refusal}
 use Rattle.command_model.specs.Writes.{ClientNumber, WriteCommand}
 use Rattle.command_model.specs.Answers.{answer_document}
 use Rattle.command_model.specs.Command.{Command, command_of, write_command}

@@ -1,10 +1,10 @@
 -- The times that reads are told.
 use Rattle.std.proofs.Common.{◌≡◌, ℕ, ◌≤◌, ◌⊎◌, inl, inr, List, refl, sym, ap, subst, ◌∙◌, arith}
 use Rattle.std.specs.Prelude.{Option, Some, None, Result, Ok, Err}
-use Rattle.command_model.specs.Tree.{Fields}
-use Rattle.command_model.specs.Errors.{overflow, query_exceeded_memory}
-use Rattle.command_model.specs.Refusals.{Refusal, bytes_evidence, time_ahead, without_evidence}
-use Rattle.command_model.specs.ReplyParts.{operation_time}
+use Rattle.bson_model.specs.Tree.{Fields}
+use Rattle.base_model.specs.Errors.{overflow, query_exceeded_memory}
+use Rattle.base_model.specs.Refusals.{Refusal, bytes_evidence, time_ahead, without_evidence}
+use Rattle.base_model.specs.ReplyParts.{operation_time}
 use Rattle.command_model.specs.Writes.{WriteKind, insert_kind, update_kind, delete_kind}
 use Rattle.command_model.specs.Reading.{Reading}
 use Rattle.command_model.specs.Cursors.{Batch}

@@ -2,10 +2,10 @@
 use Rattle.std.proofs.Common.{◌≡◌, ◌≢◌, ℕ, ℤ, pos, inl, inr, List, [], ◌∷◌, length, take, drop, refl, sym, ap, subst, ◌∙◌, arith, codes}
 use Rattle.std.specs.Prelude.{Bool, true, false, ◌||◌, Option, Some, None, Ok, IsPermutation, IsSortedBy}
 use Rattle.std.proofs.lemmas.List.Sorted.{IsPermutation-refl, IsPermutation-trans}
-use Rattle.command_model.specs.Tree.{Fields}
-use Rattle.command_model.specs.Errors.{cursor_not_found}
-use Rattle.command_model.specs.Refusals.{cursor_evidence}
-use Rattle.command_model.specs.Times.{timestamp}
+use Rattle.bson_model.specs.Tree.{Fields}
+use Rattle.base_model.specs.Errors.{cursor_not_found}
+use Rattle.base_model.specs.Refusals.{cursor_evidence}
+use Rattle.base_model.specs.Times.{timestamp}
 use Rattle.command_model.specs.Cursors.{Batch}
 use Rattle.command_model.specs.GetMore.{GetMore}
 use Rattle.command_model.specs.KillCursors.{KillCursors, number_items}

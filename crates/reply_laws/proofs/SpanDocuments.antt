@@ -7,7 +7,7 @@ use Rattle.std.specs.Map.{values_of}
 use Rattle.std.specs.Ordering.{is_eq}
 use Rattle.std.specs.Str.{bytes_eq}
 use Rattle.bson_model.proofs.Booleans.{both}
-use Rattle.command_model.specs.Tree.{Datum, Fields}
+use Rattle.bson_model.specs.Tree.{Datum, Fields}
 use Rattle.value_model.specs.Order.{order}
 use Rattle.value_model.specs.Keys.{Span, inside, is_key, key_of, KeyFault, valid_key}
 use Rattle.value_model.proofs.Flat.{order_total}

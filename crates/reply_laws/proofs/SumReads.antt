@@ -3,7 +3,7 @@ use Rattle.std.proofs.Common.{◌≡◌, ℕ, zero, suc, ◌<◌, ◌⊎◌, inl
 use Rattle.std.specs.Prelude.{true, false, Contains, IsPermutation, map}
 use Rattle.std.specs.List.{swap}
 use Rattle.std.proofs.lemmas.List.Sorted.{IsPermutation-keeps}
-use Rattle.command_model.specs.Tree.{Datum, null_value}
+use Rattle.bson_model.specs.Tree.{Datum, null_value}
 use Rattle.value_model.specs.Order.{same_value}
 use Rattle.pipeline_model.specs.Groups.{Cell, sum_cell, PartialRow, total, all_narrow, AreCells, rows_with, IsMade, IsJoined}
 use Rattle.reply_laws.specs.SampleSums.{sum_spec}

@@ -2,10 +2,10 @@
 use Rattle.std.proofs.Common.{◌≡◌, ℕ, zero, suc, pos, ◌<◌, ◌≤◌, ◌⊎◌, inl, inr, List, [], ◌∷◌, length, drop, refl, sym, ap, subst, ◌∙◌, arith, codes}
 use Rattle.std.specs.Prelude.{Bool, true, false, cond, Option, Some, None, Ok}
 use Rattle.std.proofs.lemmas.List.Sorted.{length_permutation}
-use Rattle.command_model.specs.Tree.{Fields, int32_value, int64_value}
-use Rattle.command_model.specs.Times.{timestamp}
-use Rattle.command_model.specs.Refusals.{time_ahead}
-use Rattle.command_model.specs.ReplyParts.{operation_time}
+use Rattle.bson_model.specs.Tree.{Fields, int32_value, int64_value}
+use Rattle.base_model.specs.Times.{timestamp}
+use Rattle.base_model.specs.Refusals.{time_ahead}
+use Rattle.base_model.specs.ReplyParts.{operation_time}
 use Rattle.command_model.specs.Reading.{Reading}
 use Rattle.command_model.specs.Cursors.{Batch}
 use Rattle.command_model.specs.Command.{find_command, count_command, command_of}

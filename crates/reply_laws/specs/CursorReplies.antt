@@ -1,6 +1,6 @@
 -- How the replies about one cursor follow one another.
 use Rattle.std.specs.Prelude.{◌≡◌, ◌≢◌, pos, List, [], ◌∷◌, ◌++◌, Ok, false}
-use Rattle.command_model.specs.Tree.{Fields}
+use Rattle.bson_model.specs.Tree.{Fields}
 use Rattle.command_model.specs.Command.{find_command, more_command, kill_command, command_of}
 use Rattle.command_model.specs.Find.{Find}
 use Rattle.command_model.specs.Cursors.{Batch}

@@ -1,6 +1,6 @@
 -- How requests, answers and entries stand to each other.
 use Rattle.std.specs.Prelude.{◌≡◌, ◌<◌, List, [], ◌∷◌, Bool, false, ◌&&◌, Option, Some, None}
-use Rattle.command_model.specs.Tree.{Fields}
+use Rattle.bson_model.specs.Tree.{Fields}
 use Rattle.std.specs.Str.{bytes_eq}
 use Rattle.value_model.specs.Keys.{inside}
 use Rattle.pipeline_model.specs.Split.{span_of_stages}

@@ -1,12 +1,12 @@
 -- Requests of two routers, answers and entries to try the definitions on.
 use Rattle.std.specs.Prelude.{ℕ, List, [], ◌∷◌, codes, Option, Some, None, Bool, true, false, pos}
-use Rattle.command_model.specs.Tree.{Datum, string_value, document_value, array_value, boolean_value, int32_value, timestamp_value, Fields, no_fields, field}
-use Rattle.command_model.specs.Requests.{Request}
+use Rattle.bson_model.specs.Tree.{Datum, string_value, document_value, array_value, boolean_value, int32_value, timestamp_value, Fields, no_fields, field}
+use Rattle.opmsg_model.specs.Requests.{Request}
 use Rattle.command_model.specs.AnswerParts.{document_items}
-use Rattle.command_model.specs.Times.{timestamp}
-use Rattle.command_model.specs.Errors.{immutable_field, object_too_large, duplicate_key}
+use Rattle.base_model.specs.Times.{timestamp}
+use Rattle.base_model.specs.Errors.{immutable_field, object_too_large, duplicate_key}
 use Rattle.command_laws.specs.SampleCommands.{change_one, delete_with, number_one, set_one, taken_out, update_with}
-use Rattle.command_model.specs.SampleReplies.{done_reply, duplicate_reply}
+use Rattle.base_model.specs.SampleReplies.{done_reply, duplicate_reply}
 use Rattle.command_laws.specs.SampleRequests.{deep, find_body, five, greeting, insert_body, long_five, request, shown, six, three, with_id}
 use Rattle.command_model.specs.Find.{Find}
 use Rattle.query_model.specs.Queries.{Query, no_clauses, clause, path_clause, no_tests, test, eq_test}

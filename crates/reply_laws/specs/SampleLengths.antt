@@ -1,8 +1,8 @@
 -- Reads of long documents, to try the definitions on.
 use Rattle.std.specs.Prelude.{◌≡◌, ℕ, List, [], ◌∷◌, length, codes, None}
 use Rattle.std.specs.List.{AllByRecursion}
-use Rattle.command_model.specs.Tree.{Fields}
-use Rattle.command_model.specs.Times.{timestamp}
+use Rattle.bson_model.specs.Tree.{Fields}
+use Rattle.base_model.specs.Times.{timestamp}
 use Rattle.pipeline_model.specs.Stages.{Stage}
 use Rattle.pipeline_model.specs.Lengths.{document_length}
 use Rattle.chunk_model.specs.SampleCollections.{creation}

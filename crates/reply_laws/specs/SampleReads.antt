@@ -1,9 +1,9 @@
 -- Reads of a collection of three documents, and cursors, to try the definitions on.
 use Rattle.std.specs.Prelude.{ℕ, ℤ, List, [], ◌∷◌, codes, Option, Some, None, Bool, true, false, pos}
-use Rattle.command_model.specs.Tree.{Datum, string_value, document_value, array_value, boolean_value, int32_value, int64_value, Items, no_items, item, Fields, no_fields, field, joined}
-use Rattle.command_model.specs.Times.{timestamp}
-use Rattle.command_model.specs.Errors.{cursor_not_found}
-use Rattle.command_model.specs.Refusals.{cursor_evidence}
+use Rattle.bson_model.specs.Tree.{Datum, string_value, document_value, array_value, boolean_value, int32_value, int64_value, Items, no_items, item, Fields, no_fields, field, joined}
+use Rattle.base_model.specs.Times.{timestamp}
+use Rattle.base_model.specs.Errors.{cursor_not_found}
+use Rattle.base_model.specs.Refusals.{cursor_evidence}
 use Rattle.command_model.specs.Reading.{Reading}
 use Rattle.command_model.specs.Find.{Find}
 use Rattle.command_model.specs.Cursors.{Batch}

@@ -1,15 +1,15 @@
 -- Requests with clients' numbers, answers and entries to try the definitions on.
 use Rattle.std.specs.Prelude.{◌≡◌, ℕ, ℤ, List, [], ◌∷◌, Bool, true, false, Some, map, pos, codes}
-use Rattle.command_model.specs.Tree.{Datum, string_value, document_value, array_value, boolean_value, int32_value, int64_value, timestamp_value, Fields, no_fields, field, joined}
+use Rattle.bson_model.specs.Tree.{Datum, string_value, document_value, array_value, boolean_value, int32_value, int64_value, timestamp_value, Fields, no_fields, field, joined}
 use Rattle.command_model.specs.AnswerParts.{document_items}
 use Rattle.command_model.specs.Answers.{answer_document, refusal_answer}
-use Rattle.command_model.specs.Errors.{duplicate_key}
-use Rattle.command_model.specs.Refusals.{time_ahead}
-use Rattle.command_model.specs.Times.{timestamp}
+use Rattle.base_model.specs.Errors.{duplicate_key}
+use Rattle.base_model.specs.Refusals.{time_ahead}
+use Rattle.base_model.specs.Times.{timestamp}
 use Rattle.command_model.specs.Writes.{WriteCommand, insert_kind}
 use Rattle.command_laws.specs.SampleCommands.{change_one, database_d, number_one, set_one, taken_out}
 use Rattle.command_laws.specs.SampleNumbers.{fifteen_sevens, number_of, numbered, sevens}
-use Rattle.command_model.specs.SampleReplies.{done_reply, duplicate_reply}
+use Rattle.base_model.specs.SampleReplies.{done_reply, duplicate_reply}
 use Rattle.command_laws.specs.SampleRequests.{find_body, five, insert_body, long_five, request, six, three, with_id}
 use Rattle.chunk_model.specs.SampleCollections.{creation}
 use Rattle.history_model.specs.History.{client_session, StatementNumber, insert_operation, update_operation, delete_operation, Operation, Outcome, done, fails_with, Entry}

@@ -1,9 +1,9 @@
 -- A sum of two values, to try the definitions on.
 use Rattle.std.specs.Prelude.{List, [], ◌∷◌, codes, false, pos}
-use Rattle.command_model.specs.Tree.{Datum, string_value, document_value, array_value, int32_value, int64_value, null_value, timestamp_value, no_items, item, Fields, no_fields, field}
-use Rattle.command_model.specs.Times.{timestamp}
-use Rattle.command_model.specs.Errors.{overflow}
-use Rattle.command_model.specs.Refusals.{without_evidence}
+use Rattle.bson_model.specs.Tree.{Datum, string_value, document_value, array_value, int32_value, int64_value, null_value, timestamp_value, no_items, item, Fields, no_fields, field}
+use Rattle.base_model.specs.Times.{timestamp}
+use Rattle.base_model.specs.Errors.{overflow}
+use Rattle.base_model.specs.Refusals.{without_evidence}
 use Rattle.command_model.specs.Cursors.{Batch}
 use Rattle.command_model.specs.Answers.{first_answer, refusal_answer, answer_document}
 use Rattle.command_laws.specs.SampleCommands.{database_d}

@@ -1,8 +1,8 @@
 -- Reads with a read concern, counts, and reads of a few documents, to try the definitions on.
 use Rattle.std.specs.Prelude.{ℕ, List, [], ◌∷◌, codes, Option, Some, None, false, pos}
-use Rattle.command_model.specs.Tree.{string_value, document_value, int32_value, timestamp_value, Fields, no_fields, field, joined}
-use Rattle.command_model.specs.Times.{timestamp}
-use Rattle.command_model.specs.Refusals.{time_ahead}
+use Rattle.bson_model.specs.Tree.{string_value, document_value, int32_value, timestamp_value, Fields, no_fields, field, joined}
+use Rattle.base_model.specs.Times.{timestamp}
+use Rattle.base_model.specs.Refusals.{time_ahead}
 use Rattle.command_model.specs.Reading.{Reading}
 use Rattle.command_model.specs.Find.{Find}
 use Rattle.command_model.specs.Answers.{count_answer, refusal_answer, answer_document}

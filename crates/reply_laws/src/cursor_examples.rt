@@ -5,7 +5,7 @@ ghost use Rattle.command_laws.specs.SampleCommands.{database_d};
 ghost use Rattle.command_laws.specs.SampleRequests.{with_id};
 ghost use Rattle.command_model.specs.Command.{find_command, more_command, kill_command, command_of};
 ghost use Rattle.command_model.specs.KillCursors.{KillCursors};
-ghost use Rattle.command_model.specs.Tree.{boolean_value, field, no_fields};
+ghost use Rattle.bson_model.specs.Tree.{boolean_value, field, no_fields};
 ghost use Rattle.chunk_model.specs.SampleCollections.{creation};
 ghost use Rattle.reply_model.specs.Cursors.{Cursor};
 ghost use Rattle.reply_model.specs.OneHistory.{AreRight};

@@ -1,9 +1,9 @@
 //! The laws of cursors.
 
 ghost use Rattle.std.specs.Prelude.{◌≡◌, ◌≢◌, ◌⊎◌, ◌∷◌, ◌++◌, ℕ, pos, List, [], Ok, true};
-ghost use Rattle.command_model.specs.Tree.{Fields};
-ghost use Rattle.command_model.specs.Errors.{cursor_not_found};
-ghost use Rattle.command_model.specs.Refusals.{Refusal, cursor_evidence};
+ghost use Rattle.bson_model.specs.Tree.{Fields};
+ghost use Rattle.base_model.specs.Errors.{cursor_not_found};
+ghost use Rattle.base_model.specs.Refusals.{Refusal, cursor_evidence};
 ghost use Rattle.command_model.specs.Find.{Find};
 ghost use Rattle.command_model.specs.Cursors.{Batch};
 ghost use Rattle.command_model.specs.GetMore.{GetMore};

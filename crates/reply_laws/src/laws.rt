@@ -1,7 +1,7 @@
 //! The laws between the definitions.
 
 ghost use Rattle.std.specs.Prelude.{◌≡◌, ◌≢◌, ◌<◌, ◌∷◌, ◌++◌, ℕ, List, None, Some, Ok};
-ghost use Rattle.command_model.specs.ReplyParts.{operation_time};
+ghost use Rattle.base_model.specs.ReplyParts.{operation_time};
 ghost use Rattle.command_model.specs.Writes.{ClientNumber, WriteCommand};
 ghost use Rattle.command_model.specs.Answers.{answer_document};
 ghost use Rattle.command_model.specs.Command.{write_command, command_of};

@@ -4,8 +4,8 @@ ghost use Rattle.std.specs.Prelude.{◌≡◌, ◌∷◌, [], codes, None, Ok, S
 ghost use Rattle.command_model.specs.Answers.{answer_document, first_answer};
 ghost use Rattle.command_model.specs.Command.{command_of, count_command, find_command};
 ghost use Rattle.command_laws.specs.SampleRequests.{with_id};
-ghost use Rattle.command_model.specs.Times.{timestamp};
-ghost use Rattle.command_model.specs.Tree.{no_fields};
+ghost use Rattle.base_model.specs.Times.{timestamp};
+ghost use Rattle.bson_model.specs.Tree.{no_fields};
 ghost use Rattle.pipeline_model.specs.Stages.{count_stage, limit_stage, skip_stage, sort_stage};
 ghost use Rattle.reply_laws.specs.SampleExchanges.{IsToldRightly, IsToldWrongly, tells};
 ghost use Rattle.reply_laws.specs.SampleReads.{all_three, batch, kept, one, three, two};

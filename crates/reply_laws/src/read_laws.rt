@@ -3,9 +3,9 @@
 ghost use Rattle.std.specs.Prelude.{◌≡◌, ◌⊎◌, codes, ◌<◌, ◌≤◌, ◌∷◌, ◌++◌, ℕ, List, [], Some, None, Ok, true, false};
 ghost use Rattle.std.specs.List.{AllByRecursion};
 ghost use Rattle.std.specs.Option.{unwrap_or};
-ghost use Rattle.command_model.specs.Tree.{Datum, Fields};
-ghost use Rattle.command_model.specs.Refusals.{time_ahead};
-ghost use Rattle.command_model.specs.ReplyParts.{operation_time};
+ghost use Rattle.bson_model.specs.Tree.{Datum, Fields};
+ghost use Rattle.base_model.specs.Refusals.{time_ahead};
+ghost use Rattle.base_model.specs.ReplyParts.{operation_time};
 ghost use Rattle.command_model.specs.Writes.{WriteCommand};
 ghost use Rattle.command_model.specs.Reading.{Reading};
 ghost use Rattle.command_model.specs.Find.{Find};

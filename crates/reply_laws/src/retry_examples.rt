@@ -1,16 +1,16 @@
 //! The definitions on requests with clients' numbers that one can check by hand.
 
 ghost use Rattle.std.specs.Prelude.{◌≡◌, ◌∷◌, List, [], codes, true, false, pos, negsuc, Ok};
-ghost use Rattle.command_model.specs.Tree.{Fields};
+ghost use Rattle.bson_model.specs.Tree.{Fields};
 ghost use Rattle.command_model.specs.Command.{command_of, write_command};
-ghost use Rattle.command_model.specs.Errors.{duplicate_key};
-ghost use Rattle.command_model.specs.Replies.{reply_bytes};
-ghost use Rattle.command_model.specs.Requests.{msg_form};
+ghost use Rattle.base_model.specs.Errors.{duplicate_key};
+ghost use Rattle.opmsg_model.specs.Replies.{reply_bytes};
+ghost use Rattle.opmsg_model.specs.Requests.{msg_form};
 ghost use Rattle.command_laws.specs.SampleCommands.{with_sequence};
 ghost use Rattle.command_laws.specs.SampleNumbers.{sevens};
-ghost use Rattle.command_model.specs.SampleReplies.{done_reply, duplicate_reply};
+ghost use Rattle.base_model.specs.SampleReplies.{done_reply, duplicate_reply};
 ghost use Rattle.command_laws.specs.SampleRequests.{five, long_five, second_fails, six, three, with_id};
-ghost use Rattle.command_model.specs.Times.{timestamp};
+ghost use Rattle.base_model.specs.Times.{timestamp};
 ghost use Rattle.chunk_model.specs.SampleCollections.{creation};
 ghost use Rattle.history_model.specs.History.{done, fails_with, insert_operation};
 ghost use Rattle.reply_model.specs.Cursors.{Cursor};

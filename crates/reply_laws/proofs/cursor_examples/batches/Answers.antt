@@ -1,10 +1,10 @@
 -- By the one batch of each size.
 use Rattle.std.proofs.Common.{◌≡◌, ◌≢◌, pos, inl, inr, List, [], ◌∷◌, refl, arith, codes}
 use Rattle.std.specs.Prelude.{false, negsuc, None}
-use Rattle.command_model.specs.Tree.{Fields, no_fields}
+use Rattle.bson_model.specs.Tree.{Fields, no_fields}
 use Rattle.command_laws.specs.SampleRequests.{with_id}
 use Rattle.chunk_model.specs.SampleCollections.{creation}
-use Rattle.command_model.specs.Times.{timestamp}
+use Rattle.base_model.specs.Times.{timestamp}
 use Rattle.history_model.specs.History.{Entry, done}
 use Rattle.history_model.proofs.Lists.{in_first, in_later}
 use Rattle.reply_model.specs.Exchanges.{Asked, Answered}

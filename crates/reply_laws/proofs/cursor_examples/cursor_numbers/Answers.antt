@@ -1,7 +1,7 @@
 -- Of all lives of a router.
 use Rattle.std.proofs.Common.{◌≡◌, ◌≢◌, pos, List, [], ◌∷◌, refl, arith}
 use Rattle.std.specs.Prelude.{true, false}
-use Rattle.command_model.specs.Tree.{Fields, no_fields}
+use Rattle.bson_model.specs.Tree.{Fields, no_fields}
 use Rattle.command_laws.specs.SampleRequests.{with_id}
 use Rattle.reply_model.specs.Exchanges.{Asked}
 use Rattle.reply_model.specs.Cursors.{opens_one}

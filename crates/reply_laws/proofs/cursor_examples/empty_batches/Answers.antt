@@ -1,7 +1,7 @@
 -- Nothing is shown, and all remains.
 use Rattle.std.proofs.Common.{◌≡◌, pos, [], ◌∷◌, refl, arith, codes}
 use Rattle.std.specs.Prelude.{false, Some, None}
-use Rattle.command_model.specs.Tree.{no_fields}
+use Rattle.bson_model.specs.Tree.{no_fields}
 use Rattle.command_laws.specs.SampleRequests.{with_id}
 use Rattle.reply_model.specs.Cursors.{opens_one}
 use Rattle.reply_model.specs.Right.{right_more}

@@ -1,8 +1,8 @@
 -- What remains of the cursor was read at its time.
 use Rattle.std.proofs.Common.{◌≡◌, pos, List, [], ◌∷◌, refl, arith, codes}
 use Rattle.std.specs.Prelude.{false, None}
-use Rattle.command_model.specs.Tree.{Fields, no_fields}
-use Rattle.command_model.specs.Times.{timestamp}
+use Rattle.bson_model.specs.Tree.{Fields, no_fields}
+use Rattle.base_model.specs.Times.{timestamp}
 use Rattle.command_laws.specs.SampleRequests.{with_id}
 use Rattle.reply_model.specs.Right.{right_more}
 use Rattle.reply_laws.specs.SampleReads.{asks_more, batch, changed_later, four, going_on, open_with, three, told_later, told_next, two}

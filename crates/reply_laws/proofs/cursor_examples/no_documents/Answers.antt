@@ -2,8 +2,8 @@
 use Rattle.std.proofs.Common.{◌≡◌, ℤ, pos, inl, inr, List, [], ◌∷◌, refl, sym, subst, ◌∙◌, arith, codes}
 use Rattle.std.specs.Prelude.{false, Ok}
 use Rattle.std.proofs.lemmas.List.Sorted.{IsPermutation-refl, IsPermutation-trans}
-use Rattle.command_model.specs.Tree.{Fields, no_fields}
-use Rattle.command_model.specs.Times.{timestamp}
+use Rattle.bson_model.specs.Tree.{Fields, no_fields}
+use Rattle.base_model.specs.Times.{timestamp}
 use Rattle.command_model.specs.Cursors.{Batch}
 use Rattle.command_model.specs.Command.{find_command}
 use Rattle.pipeline_model.specs.SortKeys.{comes_before}

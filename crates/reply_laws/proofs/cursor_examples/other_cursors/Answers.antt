@@ -1,7 +1,7 @@
 -- By router, life, number and collection.
 use Rattle.std.proofs.Common.{◌≡◌, pos, inl, [], ◌∷◌, refl, arith, codes}
 use Rattle.std.specs.Prelude.{false, None}
-use Rattle.command_model.specs.Tree.{no_fields}
+use Rattle.bson_model.specs.Tree.{no_fields}
 use Rattle.command_laws.specs.SampleRequests.{with_id}
 use Rattle.reply_model.specs.Right.{right_more, right_no_cursor}
 use Rattle.reply_laws.specs.SampleReads.{another_router, asks_more, batch, going_on, kept, open_with, three, told_next, two}

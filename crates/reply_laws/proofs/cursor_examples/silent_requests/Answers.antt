@@ -1,7 +1,7 @@
 -- What is not put leaves the cursor.
 use Rattle.std.proofs.Common.{pos, List, [], ◌∷◌, refl, codes}
 use Rattle.std.specs.Prelude.{false, None}
-use Rattle.command_model.specs.Tree.{Fields, no_fields}
+use Rattle.bson_model.specs.Tree.{Fields, no_fields}
 use Rattle.command_laws.specs.SampleRequests.{with_id}
 use Rattle.reply_model.specs.Cursors.{kills_none, kills}
 use Rattle.reply_model.specs.Right.{right_more, right_kill}

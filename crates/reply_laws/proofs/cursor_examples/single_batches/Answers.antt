@@ -1,7 +1,7 @@
 -- No cursor is opened.
 use Rattle.std.proofs.Common.{◌≡◌, pos, inr, [], ◌∷◌, refl, codes}
 use Rattle.std.specs.Prelude.{true, false, None}
-use Rattle.command_model.specs.Tree.{no_fields}
+use Rattle.bson_model.specs.Tree.{no_fields}
 use Rattle.command_laws.specs.SampleRequests.{with_id}
 use Rattle.reply_model.specs.Cursors.{opens_none}
 use Rattle.reply_model.specs.Right.{right_no_cursor}

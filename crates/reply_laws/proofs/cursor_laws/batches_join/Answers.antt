@@ -1,6 +1,6 @@
 -- What remains of the cursor is behind what was shown.
 use Rattle.std.proofs.Common.{◌≡◌, ◌≢◌, ◌⊎◌, inl, inr, pos, List, [], ◌∷◌, ◌++◌, refl, ap, subst, ◌∙◌}
-use Rattle.command_model.specs.Tree.{Fields}
+use Rattle.bson_model.specs.Tree.{Fields}
 use Rattle.command_model.specs.Cursors.{Batch}
 use Rattle.pipeline_model.specs.Runs.{listed}
 use Rattle.reply_model.specs.Cursors.{number_left}

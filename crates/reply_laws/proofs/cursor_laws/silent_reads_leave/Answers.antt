@@ -1,7 +1,7 @@
 -- No cursor is opened for them, and none is moved on.
 use Rattle.std.proofs.Common.{◌≡◌, ℕ, ℤ, List, inl, inr, refl, true, sym, ◌∙◌}
 use Rattle.std.specs.Prelude.{Bool, false, ◌||◌, Ok}
-use Rattle.command_model.specs.Tree.{Fields}
+use Rattle.bson_model.specs.Tree.{Fields}
 use Rattle.command_model.specs.Find.{Find}
 use Rattle.command_model.specs.GetMore.{GetMore}
 use Rattle.command_model.specs.Command.{find_command, more_command}

@@ -6,7 +6,7 @@ use Rattle.command_laws.specs.SampleRequests.{five, long_five, with_id}
 use Rattle.command_model.specs.Writes.{WriteCommand, delete_kind, update_kind}
 use Rattle.history_model.specs.History.{StatementNumber, delete_operation, router_session, update_operation}
 use Rattle.reply_laws.specs.SampleExchanges.{changed_reply, changing, changing_entry, deleted_reply, deleting, deleting_entry, first_entry, tells, three_writes}
-use Rattle.command_model.specs.Tree.{Fields}
+use Rattle.bson_model.specs.Tree.{Fields}
 use Rattle.chunk_model.specs.SampleCollections.{creation}
 use Rattle.reply_model.specs.Cursors.{Cursor}
 use Rattle.reply_model.specs.Right.{IsRight}

@@ -2,7 +2,7 @@
 use Rattle.std.proofs.Common.{◌≡◌, [], ◌∷◌, refl, arith}
 use Rattle.std.specs.Prelude.{None, Some}
 use Rattle.command_laws.specs.SampleRequests.{five, long_five, six, with_id}
-use Rattle.command_model.specs.Times.{timestamp}
+use Rattle.base_model.specs.Times.{timestamp}
 use Rattle.history_model.proofs.Lists.{in_none}
 use Rattle.reply_model.specs.Reads.{named_time, own_time}
 use Rattle.reply_model.specs.Right.{find_reads, refused_ahead, right_refused_read}

@@ -2,7 +2,7 @@
 use Rattle.std.proofs.Common.{◌≡◌, [], ◌∷◌, refl, arith}
 use Rattle.std.specs.Prelude.{None, Some}
 use Rattle.command_laws.specs.SampleRequests.{five, with_id}
-use Rattle.command_model.specs.Times.{timestamp}
+use Rattle.base_model.specs.Times.{timestamp}
 use Rattle.reply_model.specs.Reads.{named_time, own_time}
 use Rattle.reply_laws.specs.SampleExchanges.{changed_five, finding_later, is_shown_later, three_writes}
 use Rattle.reply_laws.proofs.KeyFinds.{key_find_right, tells_key}

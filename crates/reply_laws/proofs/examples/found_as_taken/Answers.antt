@@ -2,7 +2,7 @@
 use Rattle.std.proofs.Common.{[], ◌∷◌, refl, arith}
 use Rattle.std.specs.Prelude.{None}
 use Rattle.command_laws.specs.SampleRequests.{five}
-use Rattle.command_model.specs.Times.{timestamp}
+use Rattle.base_model.specs.Times.{timestamp}
 use Rattle.reply_model.specs.Reads.{own_time}
 use Rattle.reply_laws.specs.SampleExchanges.{changed_five, finding_at, is_shown_at, three_writes}
 use Rattle.reply_laws.proofs.KeyFinds.{key_find_right}

@@ -1,6 +1,6 @@
 -- Moments and times by their lists.
 use Rattle.std.proofs.Common.{◌≡◌, inl, inr, [], ◌∷◌, refl, arith}
-use Rattle.command_model.specs.Times.{timestamp, time_of_moment}
+use Rattle.base_model.specs.Times.{timestamp, time_of_moment}
 use Rattle.chunk_model.specs.Catalogue.{Creation}
 use Rattle.chunk_model.specs.SampleCollections.{creation}
 use Rattle.history_model.specs.History.{Entry}

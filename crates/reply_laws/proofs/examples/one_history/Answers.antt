@@ -1,10 +1,10 @@
 -- Two inserts and a find, at two routers.
 use Rattle.std.proofs.Common.{◌≡◌, ◌≤◌, ℕ, inl, inr, [], ◌∷◌, refl, sym, ap, subst, codes, arith}
 use Rattle.std.specs.Prelude.{true, Some, None}
-use Rattle.command_model.specs.SampleReplies.{done_reply, duplicate_reply}
+use Rattle.base_model.specs.SampleReplies.{done_reply, duplicate_reply}
 use Rattle.command_laws.specs.SampleRequests.{five, long_five, shown, with_id}
-use Rattle.command_model.specs.Tree.{Fields}
-use Rattle.command_model.specs.Times.{timestamp}
+use Rattle.bson_model.specs.Tree.{Fields}
+use Rattle.base_model.specs.Times.{timestamp}
 use Rattle.command_model.specs.Writes.{WriteCommand, insert_kind}
 use Rattle.chunk_model.specs.SampleCollections.{creation}
 use Rattle.history_model.specs.History.{Legal, IsIn, insert_operation, StatementNumber, router_session}

@@ -2,7 +2,7 @@
 use Rattle.std.proofs.Common.{◌<◌, [], ◌∷◌, refl, ap, codes, arith}
 use Rattle.std.specs.Prelude.{true, None}
 use Rattle.command_laws.specs.SampleRequests.{five, long_five, with_id}
-use Rattle.command_model.specs.Times.{timestamp}
+use Rattle.base_model.specs.Times.{timestamp}
 use Rattle.chunk_model.specs.Catalogue.{Creation}
 use Rattle.chunk_model.specs.SampleCollections.{creation}
 use Rattle.command_model.specs.Writes.{insert_kind}

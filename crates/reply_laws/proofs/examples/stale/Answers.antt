@@ -1,6 +1,6 @@
 -- By their steps and times.
 use Rattle.std.proofs.Common.{◌≤◌, ◌<◌, refl, arith}
-use Rattle.command_model.specs.Times.{timestamp}
+use Rattle.base_model.specs.Times.{timestamp}
 use Rattle.history_model.proofs.Lists.{all_at}
 use Rattle.reply_model.specs.Exchanges.{Asked}
 use Rattle.reply_laws.specs.SampleExchanges.{all_asked}

@@ -2,7 +2,7 @@
 use Rattle.std.proofs.Common.{◌≡◌, [], ◌∷◌, refl, codes, arith}
 use Rattle.std.specs.Prelude.{None, true}
 use Rattle.command_laws.specs.SampleRequests.{deep, five, six, too_large_reply, with_id}
-use Rattle.command_model.specs.Times.{timestamp}
+use Rattle.base_model.specs.Times.{timestamp}
 use Rattle.command_model.specs.Writes.{WriteCommand, insert_kind}
 use Rattle.history_model.specs.History.{insert_operation}
 use Rattle.reply_model.specs.Reads.{own_time}

@@ -5,8 +5,8 @@ use Rattle.command_laws.specs.SampleRequests.{five, six, with_id}
 use Rattle.command_model.specs.Writes.{WriteCommand, delete_kind, update_kind}
 use Rattle.history_model.specs.History.{StatementNumber, Entry, router_session, done, fails_with, delete_operation, update_operation}
 use Rattle.reply_laws.specs.SampleExchanges.{entry_at, first_entry, deleted_reply, set_key, set_nothing, tells, unmet_delete, unmet_entries, upserting, upserting_entries, upserting_reply}
-use Rattle.command_model.specs.Errors.{immutable_field}
-use Rattle.command_model.specs.Tree.{Fields}
+use Rattle.base_model.specs.Errors.{immutable_field}
+use Rattle.bson_model.specs.Tree.{Fields}
 use Rattle.chunk_model.specs.SampleCollections.{creation}
 use Rattle.reply_model.specs.Cursors.{Cursor}
 use Rattle.reply_model.specs.Right.{IsRight}

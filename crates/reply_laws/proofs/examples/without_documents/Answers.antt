@@ -1,7 +1,7 @@
 -- No document is looked at.
 use Rattle.std.proofs.Common.{refl}
 use Rattle.std.specs.Prelude.{false}
-use Rattle.command_model.specs.Refusals.{no_document_at}
+use Rattle.base_model.specs.Refusals.{no_document_at}
 use Rattle.reply_model.specs.Right.{right_legacy, right_refusal}
 use Rattle.reply_laws.proofs.examples.without_documents.Goals as goal
 

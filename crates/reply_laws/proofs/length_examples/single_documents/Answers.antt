@@ -1,7 +1,7 @@
 -- One document is an answer.
 use Rattle.std.proofs.Common.{List, arith, codes}
-use Rattle.command_model.specs.Tree.{Fields}
-use Rattle.command_model.specs.Times.{timestamp}
+use Rattle.bson_model.specs.Tree.{Fields}
+use Rattle.base_model.specs.Times.{timestamp}
 use Rattle.history_model.specs.History.{Entry}
 use Rattle.history_model.specs.Documents.{documents_at}
 use Rattle.reply_laws.proofs.LongAnswers.{of_whole, whole_is, longer_is, only_longer}

@@ -1,8 +1,8 @@
 -- Only seven such documents have more bytes than an answer may have.
 use Rattle.std.proofs.Common.{◌≡◌, ℕ, ◌*◌, List, ap, ◌∙◌, arith, codes}
 use Rattle.std.specs.Prelude.{Some}
-use Rattle.command_model.specs.Tree.{Fields}
-use Rattle.command_model.specs.Times.{timestamp}
+use Rattle.bson_model.specs.Tree.{Fields}
+use Rattle.base_model.specs.Times.{timestamp}
 use Rattle.pipeline_model.specs.Lengths.{documents_length, excess_of_answer}
 use Rattle.history_model.specs.History.{Entry}
 use Rattle.history_model.specs.Documents.{documents_at}

@@ -2,8 +2,8 @@
 use Rattle.std.proofs.Common.{pos, [], ◌∷◌, take, drop, refl, arith, codes}
 use Rattle.std.specs.Prelude.{Some, None}
 use Rattle.std.proofs.lemmas.List.Sorted.{IsPermutation-refl}
-use Rattle.command_model.specs.Tree.{no_fields}
-use Rattle.command_model.specs.Times.{timestamp}
+use Rattle.bson_model.specs.Tree.{no_fields}
+use Rattle.base_model.specs.Times.{timestamp}
 use Rattle.pipeline_model.specs.Stages.{skip_stage, limit_stage, count_stage}
 use Rattle.pipeline_model.specs.Runs.{no_stage_run, skip_run, limit_run, count_run, listed, count_documents}
 use Rattle.reply_model.specs.Reads.{named_time, own_time}

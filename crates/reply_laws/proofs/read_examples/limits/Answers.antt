@@ -2,8 +2,8 @@
 use Rattle.std.proofs.Common.{◌≡◌, suc, inl, inr, List, [], ◌∷◌, length, take, refl, ap, subst, ◌∙◌, arith}
 use Rattle.std.specs.Prelude.{Bool, ◌&&◌, None, filter, IsPermutation}
 use Rattle.std.proofs.lemmas.List.Sorted.{IsPermutation-refl, length_permutation}
-use Rattle.command_model.specs.Tree.{Fields}
-use Rattle.command_model.specs.Times.{timestamp}
+use Rattle.bson_model.specs.Tree.{Fields}
+use Rattle.base_model.specs.Times.{timestamp}
 use Rattle.command_laws.specs.SampleRequests.{with_id}
 use Rattle.bson_model.specs.Limits.{most_bytes_kept}
 use Rattle.pipeline_model.specs.SortKeys.{comes_before}

@@ -2,8 +2,8 @@
 use Rattle.std.proofs.Common.{◌≡◌, ℕ, ◌<◌, ◌≤◌, inr, List, [], ◌∷◌, refl, sym, subst, arith, codes}
 use Rattle.std.specs.Prelude.{Option, Some, None, IsPermutation}
 use Rattle.std.proofs.lemmas.List.Sorted.{IsPermutation-refl}
-use Rattle.command_model.specs.Tree.{Fields}
-use Rattle.command_model.specs.Times.{timestamp}
+use Rattle.bson_model.specs.Tree.{Fields}
+use Rattle.base_model.specs.Times.{timestamp}
 use Rattle.command_laws.specs.SampleRequests.{with_id}
 use Rattle.bson_model.specs.Limits.{most_bytes_kept}
 use Rattle.pipeline_model.specs.Runs.{no_stage_run, listed}

@@ -2,7 +2,7 @@
 use Rattle.std.proofs.Common.{◌≡◌, ◌⊎◌, inl, inr, List}
 use Rattle.std.specs.Prelude.{Some, Ok}
 use Rattle.std.specs.Option.{unwrap_or}
-use Rattle.command_model.specs.Tree.{Fields}
+use Rattle.bson_model.specs.Tree.{Fields}
 use Rattle.command_model.specs.Find.{Find}
 use Rattle.command_model.specs.Cursors.{Batch}
 use Rattle.command_model.specs.Command.{find_command}

@@ -1,10 +1,10 @@
 -- The entry under the number tells what was done, and no other does.
 use Rattle.std.proofs.Common.{◌≡◌, ◌≤◌, pos, List, [], ◌∷◌, ◌++◌, refl, ap, ◌∙◌, codes, arith}
 use Rattle.std.specs.Prelude.{true, Some}
-use Rattle.command_model.specs.Tree.{Fields}
+use Rattle.bson_model.specs.Tree.{Fields}
 use Rattle.command_laws.specs.SampleCommands.{change_one}
 use Rattle.command_laws.specs.SampleNumbers.{sevens}
-use Rattle.command_model.specs.SampleReplies.{done_reply}
+use Rattle.base_model.specs.SampleReplies.{done_reply}
 use Rattle.command_laws.specs.SampleRequests.{five, six, with_id}
 use Rattle.command_model.specs.Writes.{ClientNumber, WriteCommand, delete_kind, insert_kind, update_kind}
 use Rattle.history_model.specs.History.{Entry, Operation, StatementNumber, delete_operation, done, insert_operation, update_operation}

@@ -1,10 +1,10 @@
 -- The entry with the greater transaction tells it, and it was sent before.
 use Rattle.std.proofs.Common.{◌≡◌, ◌≤◌, ℕ, pos, negsuc, inl, inr, [], ◌∷◌, refl, sym, ap, ◌∙◌, arith, codes}
 use Rattle.std.specs.Prelude.{Bool, true, false, Option, Some}
-use Rattle.command_model.specs.Tree.{Fields}
+use Rattle.bson_model.specs.Tree.{Fields}
 use Rattle.command_laws.specs.SampleNumbers.{sevens}
 use Rattle.command_laws.specs.SampleRequests.{five, long_five, six, with_id}
-use Rattle.command_model.specs.Times.{time_of_moment, timestamp}
+use Rattle.base_model.specs.Times.{time_of_moment, timestamp}
 use Rattle.command_model.specs.Writes.{ClientNumber, WriteCommand, insert_kind}
 use Rattle.chunk_model.specs.Catalogue.{Creation}
 use Rattle.chunk_model.specs.SampleCollections.{creation}

@@ -4,9 +4,9 @@ use Rattle.std.specs.Prelude.{true, false, None, Ok}
 use Rattle.std.specs.List.{AllByRecursion}
 use Rattle.command_model.specs.Command.{command_of, write_command}
 use Rattle.command_laws.specs.SampleNumbers.{sevens}
-use Rattle.command_model.specs.SampleReplies.{duplicate_reply}
+use Rattle.base_model.specs.SampleReplies.{duplicate_reply}
 use Rattle.command_laws.specs.SampleRequests.{long_five, six, with_id}
-use Rattle.command_model.specs.Times.{timestamp}
+use Rattle.base_model.specs.Times.{timestamp}
 use Rattle.command_model.specs.Writes.{ClientNumber, WriteCommand, insert_kind}
 use Rattle.history_model.specs.History.{Entry, IsIn, StatementNumber, insert_operation}
 use Rattle.history_model.proofs.Lists.{all_at, in_first, in_later}

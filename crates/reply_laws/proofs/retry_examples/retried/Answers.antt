@@ -3,7 +3,7 @@ use Rattle.std.proofs.Common.{◌≡◌, ℕ, pos, inl, inr, [], ◌∷◌, refl
 use Rattle.std.specs.Prelude.{true, Some, None, Ok}
 use Rattle.command_model.specs.Command.{command_of, write_command}
 use Rattle.command_laws.specs.SampleNumbers.{sevens}
-use Rattle.command_model.specs.SampleReplies.{done_reply}
+use Rattle.base_model.specs.SampleReplies.{done_reply}
 use Rattle.command_laws.specs.SampleRequests.{five, with_id}
 use Rattle.command_model.specs.Writes.{ClientNumber, WriteCommand, insert_kind}
 use Rattle.chunk_model.specs.SampleCollections.{creation}

@@ -2,7 +2,7 @@
 use Rattle.std.proofs.Common.{◌≡◌, pos, [], ◌∷◌, refl, arith}
 use Rattle.std.specs.Prelude.{true}
 use Rattle.command_laws.specs.SampleNumbers.{sevens}
-use Rattle.command_model.specs.SampleReplies.{duplicate_reply}
+use Rattle.base_model.specs.SampleReplies.{duplicate_reply}
 use Rattle.command_laws.specs.SampleRequests.{long_five, with_id}
 use Rattle.command_model.specs.Writes.{ClientNumber, insert_kind}
 use Rattle.history_model.specs.History.{insert_operation}

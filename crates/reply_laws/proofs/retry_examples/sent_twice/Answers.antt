@@ -1,7 +1,7 @@
 -- Each statement has one entry, which both requests are told.
 use Rattle.std.proofs.Common.{◌≡◌, ℕ, pos, List, [], ◌∷◌, refl, arith}
 use Rattle.std.specs.Prelude.{false}
-use Rattle.command_model.specs.Errors.{duplicate_key}
+use Rattle.base_model.specs.Errors.{duplicate_key}
 use Rattle.command_laws.specs.SampleNumbers.{sevens}
 use Rattle.command_laws.specs.SampleRequests.{five, long_five, second_fails, six, with_id}
 use Rattle.command_model.specs.Writes.{ClientNumber, insert_kind}

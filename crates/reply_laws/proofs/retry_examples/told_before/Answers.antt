@@ -3,7 +3,7 @@ use Rattle.std.proofs.Common.{◌≡◌, ◌<◌, ℕ, pos, inl, [], ◌∷◌, 
 use Rattle.std.specs.Prelude.{true, Option, Some, None}
 use Rattle.command_model.specs.Answers.{answer_document}
 use Rattle.command_laws.specs.SampleRequests.{five, with_id}
-use Rattle.command_model.specs.Times.{timestamp}
+use Rattle.base_model.specs.Times.{timestamp}
 use Rattle.command_model.specs.Writes.{ClientNumber, WriteCommand}
 use Rattle.chunk_model.specs.SampleCollections.{creation}
 use Rattle.history_model.specs.History.{Entry, IsIn, StatementNumber}

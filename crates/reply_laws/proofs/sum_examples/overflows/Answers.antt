@@ -2,8 +2,8 @@
 use Rattle.std.proofs.Common.{◌≡◌, ◌⊎◌, inl, inr, List, [], ◌∷◌, refl, sym, ap, subst, ◌∙◌, pos}
 use Rattle.std.specs.Prelude.{true, false, Some, None}
 use Rattle.std.proofs.lemmas.List.Sorted.{IsPermutation-refl}
-use Rattle.command_model.specs.Tree.{Fields}
-use Rattle.command_model.specs.Times.{timestamp}
+use Rattle.bson_model.specs.Tree.{Fields}
+use Rattle.base_model.specs.Times.{timestamp}
 use Rattle.command_model.specs.Reading.{Reading}
 use Rattle.pipeline_model.specs.Groups.{sum_cell, PartialRow, IsGrouped, documents_of}
 use Rattle.pipeline_model.specs.Stages.{Stage, group_stage}

@@ -2,8 +2,8 @@
 use Rattle.std.proofs.Common.{◌≡◌, ◌⊎◌, inl, inr, List, [], ◌∷◌, take, refl, sym, ap, subst, ◌∙◌, arith, pos}
 use Rattle.std.specs.Prelude.{true, Some, None, Ok}
 use Rattle.std.proofs.lemmas.List.Sorted.{IsPermutation-refl}
-use Rattle.command_model.specs.Tree.{Fields}
-use Rattle.command_model.specs.Times.{timestamp}
+use Rattle.bson_model.specs.Tree.{Fields}
+use Rattle.base_model.specs.Times.{timestamp}
 use Rattle.command_model.specs.Reading.{Reading}
 use Rattle.command_model.specs.Command.{find_command}
 use Rattle.pipeline_model.specs.Groups.{sum_cell, PartialRow, IsGrouped, documents_of}
