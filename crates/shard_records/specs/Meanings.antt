@@ -4,9 +4,9 @@ use Rattle.cluster_base.specs.declared.identity.Stmt.{Stmt}
 use Rattle.cluster_base.specs.declared.time.Time.{Time}
 use Rattle.value_compare.specs.declared.words.Reply.{Reply}
 use Rattle.statement_views.specs.Views.{number_view, operation_view}
-use Rattle.record_model.specs.History.{Operation, insert_operation, update_operation, delete_operation}
+use Rattle.history_model.specs.History.{Operation, insert_operation, update_operation, delete_operation}
 use Rattle.record_model.specs.Records as records
-use Rattle.record_model.specs.Catalogue.{Creation}
+use Rattle.chunk_model.specs.Catalogue.{Creation}
 use Rattle.record_model.specs.Records.{OutcomeWords, EntryWords, table_record, entry_record, create_record, life_record, block_record}
 use Rattle.shard_records.specs.declared.record.Record.{Record}
 use Rattle.shard_records.specs.declared.record.Record.TheVariants.{Table, Entry, Create, Life, Block}
