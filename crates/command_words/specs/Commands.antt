@@ -1,7 +1,7 @@
 -- What the program's commands are.
 use Rattle.std.specs.Prelude.{◌≡◌, ℕ, map, Option, Result, Ok, Err}
-use Rattle.command_model.specs.Errors.{ErrorCode}
-use Rattle.command_model.specs.Refusals as history
+use Rattle.base_model.specs.Errors.{ErrorCode}
+use Rattle.base_model.specs.Refusals as history
 use Rattle.cluster_base.specs.Codes.{meaning_of}
 use Rattle.command_model.specs.IsMaster as legacies
 use Rattle.command_model.specs.Writes as writes

@@ -7,4 +7,3 @@ pub mod Rows
 pub mod WriteNames
 pub use Rattle.command_model.specs.Command
 pub use Rattle.command_model.specs.CommandSizes
-pub use Rattle.command_model.specs.MessageSizes

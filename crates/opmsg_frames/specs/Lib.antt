@@ -9,4 +9,3 @@ pub use Rattle.opmsg_model.specs.Frames
 pub use Rattle.opmsg_model.specs.Outline
 pub use Rattle.opmsg_model.specs.Replies
 pub use Rattle.opmsg_model.specs.Requests
-pub use Rattle.opmsg_model.specs.Sections
