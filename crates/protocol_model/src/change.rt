@@ -19,7 +19,7 @@ pub struct NewChange {
 }
 
 impl Model for NewChange {
-    ghost use Rattle.node_traits.specs.History.{Operation};
+    ghost use Rattle.history_model.specs.History.{Operation};
     ghost use Rattle.protocol_model.specs.Code.{operation_code};
 
     ghost Value = { Operation };
