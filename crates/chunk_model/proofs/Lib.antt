@@ -1,4 +1,2 @@
 pub mod FirstTables
 pub mod OwnTables
-pub use Rattle.bson_model.proofs.Lengths
-pub use Rattle.base_model.proofs.OpenNames

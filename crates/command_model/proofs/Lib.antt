@@ -1,4 +1,3 @@
 pub mod Passed
 pub mod Inside
 pub mod Judged
-pub use Rattle.base_model.proofs.OpenNames

@@ -23,10 +23,4 @@ pub mod KillCursors
 pub mod Command
 pub mod Answers
 pub mod CommandSizes
-pub use Rattle.base_model.specs.Errors
-pub use Rattle.value_model.specs.Keys
 pub use Rattle.opmsg_model.specs.MessageSizes
-pub use Rattle.base_model.specs.Names
-pub use Rattle.base_model.specs.Refusals
-pub use Rattle.base_model.specs.ReplyParts
-pub use Rattle.opmsg_model.specs.Requests

@@ -1,4 +1,3 @@
 pub mod KnownTables
 pub mod Code
 pub mod Places
-pub use Rattle.chunk_model.specs.Tables

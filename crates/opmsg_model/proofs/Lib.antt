@@ -1,1 +1,0 @@
-pub use Rattle.bson_model.proofs.Lengths
