@@ -16,7 +16,7 @@ ghost use Rattle.bson_model.specs.Limits.{most_bytes_written, most_depth_written
 
 /// What a request asks for is as small as the request: at most 100,000 documents, each with a key and no larger than a
 /// document that is read, or a refusal with a short name.
-#[tactic(auto, using(crate::proofs::Taken::command_taken))]
+#[tactic(auto, using(command_model::proofs::Taken::command_taken))]
 pub fn commands_are_small()
     ensures { (request : Request) → IsSmallBody request.body → IsTaken (command_of request) }
 {}
@@ -34,7 +34,7 @@ pub fn answers_are_small()
 {}
 
 /// How many documents a command passes over or keeps is a number that a message can have.
-#[tactic(auto, using(crate::proofs::Taken::int64_of_find, crate::proofs::Taken::int64_of_count))]
+#[tactic(auto, using(command_model::proofs::Taken::int64_of_find, command_model::proofs::Taken::int64_of_count))]
 pub fn numbers_are_small()
     ensures find { (request : Request) (find : Find) → command_of request ≡ Ok (find_command find) → list_all has_int64 find.reading.stages ≡ true }
     ensures count { (request : Request) (reading : Reading) → command_of request ≡ Ok (count_command reading) → list_all has_int64 reading.stages ≡ true }

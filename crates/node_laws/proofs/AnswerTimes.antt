@@ -3,7 +3,7 @@ use Rattle.std.proofs.Common.{◌≡◌, ℕ, ℤ, ◌≤◌, List, [], ◌∷�
 use Rattle.std.specs.Prelude.{Option, Some, None, Bool, max}
 use Rattle.std.specs.List.{AllByRecursion}
 use Rattle.std.specs.Option.{unwrap_or}
-use Rattle.command_laws.proofs.AnswerTimes.{time_of_write, time_of_first, time_of_next, time_of_count, time_of_killed, time_of_legacy, time_refused}
+use Rattle.command_model.proofs.AnswerTimes.{time_of_write, time_of_first, time_of_next, time_of_count, time_of_killed, time_of_legacy, time_refused}
 use Rattle.command_model.specs.Cursors.{Batch}
 use Rattle.command_model.specs.Writes.{WriteKind}
 use Rattle.base_model.specs.Refusals.{Refusal}

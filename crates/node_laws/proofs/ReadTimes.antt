@@ -13,7 +13,7 @@ use Rattle.pipeline_model.specs.Stages.{has_int64}
 use Rattle.reply_model.specs.Reads.{IfReached, IsTimeRead, named_time, own_time, later_time, time_wanted}
 use Rattle.reply_model.specs.Right.{Reads, find_reads, count_reads}
 use Rattle.node_model.specs.States.{Telling}
-use Rattle.command_laws.proofs.Taken.{int64_of_find, int64_of_count}
+use Rattle.command_model.proofs.Taken.{int64_of_find, int64_of_count}
 use Rattle.node_laws.proofs.Views.{View, chosen_time}
 use Rattle.node_laws.proofs.ReadFacts.{IsTimeAt, is_named, is_own, is_reached, IsAwaited, IsTelling, tells_find, tells_count}
 

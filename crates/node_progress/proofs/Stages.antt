@@ -15,7 +15,7 @@ use Rattle.node_model.specs.States.{Catalogue, Shard, Router, Work, writing, rea
 use Rattle.node_model.specs.RouterRows.{id_of, RouterRow}
 use Rattle.node_model.specs.Steps.{Step, catalogue_step, shard_step, router_step, begin_step, other_step, number_of}
 use Rattle.node_model.specs.World.{Held, World, asked_by, answered_by, after, is_given, tick, Moves, journal_at, Happens, delivers, deliver_event}
-use Rattle.command_laws.proofs.Taken.{operations_with_keys}
+use Rattle.command_model.proofs.Taken.{operations_with_keys}
 use Rattle.node_model.proofs.Journals.{journal_got}
 use Rattle.node_laws.proofs.Views.{Book, View, view_of, creations_in}
 use Rattle.node_laws.proofs.Places.{EachAt, each_get, each_set}

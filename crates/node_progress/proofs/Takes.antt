@@ -19,7 +19,7 @@ use Rattle.node_model.specs.States.{Telling, in_batches, as_number, Router, Work
 use Rattle.node_model.specs.RouterRows.{needs, plan_of, statements_from, opened_request, taken_now, takes, id_of, begins as in_life, RouterRow, router_plain, router_more, router_no_cursor, router_kill, router_take}
 use Rattle.node_model.specs.Steps.{Step, catalogue_step, shard_step, router_step, begin_step}
 use Rattle.node_model.specs.World.{Held, World, asked_by, answered_by, after, is_given, tick, IsRouter, Happens, comes, client_event}
-use Rattle.command_laws.proofs.Taken.{some_operations, operations_with_keys}
+use Rattle.command_model.proofs.Taken.{some_operations, operations_with_keys}
 use Rattle.command_model.proofs.Judged.{HasKey}
 use Rattle.node_laws.proofs.Views.{Book, view_of}
 use Rattle.node_laws.proofs.Places.{EachAt, each_set}

@@ -9,7 +9,7 @@ use Rattle.command_model.specs.Writes.{ClientNumber, WriteCommand}
 use Rattle.command_model.specs.Reading.{Reading}
 use Rattle.command_model.specs.Command.{write_command, command_of}
 use Rattle.command_model.specs.Answers.{refusal_answer, answer_document}
-use Rattle.command_laws.proofs.Taken.{some_operations}
+use Rattle.command_model.proofs.Taken.{some_operations}
 use Rattle.chunk_model.specs.Catalogue.{Creation}
 use Rattle.history_model.specs.History.{Operation, Outcome, Entry, IsIn}
 use Rattle.history_model.proofs.Lists.{all_at, in_cons, in_first, in_none}

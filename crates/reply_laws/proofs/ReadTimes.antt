@@ -10,7 +10,7 @@ use Rattle.command_model.specs.Reading.{Reading}
 use Rattle.command_model.specs.Cursors.{Batch}
 use Rattle.command_model.specs.Command.{Command, hello_command, legacy_command, ping_command, end_sessions_command, write_command, find_command, count_command, more_command, kill_command, command_of}
 use Rattle.command_model.specs.Answers.{first_answer, count_answer, refusal_answer, answer_document}
-use Rattle.command_laws.proofs.AnswerTimes.{time_refused}
+use Rattle.command_model.proofs.AnswerTimes.{time_refused}
 use Rattle.command_laws.proofs.ToldRefusals.{never_ahead}
 use Rattle.chunk_model.specs.Catalogue.{Creation}
 use Rattle.history_model.specs.History.{Entry}

@@ -15,7 +15,7 @@ use Rattle.command_model.specs.KillCursors.{KillCursors}
 use Rattle.command_model.specs.AnswerParts.{document_items}
 use Rattle.command_model.specs.Command.{Command, hello_command, legacy_command, ping_command, end_sessions_command, write_command, find_command, count_command, more_command, kill_command, command_of}
 use Rattle.command_model.specs.Answers.{hello_answer, legacy_answer, done_answer, first_answer, next_answer, count_answer, killed_answer, refusal_answer, answer_document}
-use Rattle.command_laws.proofs.AnswerTimes.{time_of_write}
+use Rattle.command_model.proofs.AnswerTimes.{time_of_write}
 use Rattle.pipeline_model.specs.Runs.{listed, count_documents}
 use Rattle.pipeline_model.specs.Lengths.{excess_of_answer}
 use Rattle.chunk_model.specs.Catalogue.{Creation}

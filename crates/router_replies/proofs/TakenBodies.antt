@@ -5,7 +5,7 @@ use Rattle.bson_model.specs.Faults.{short_fault, length_fault, type_fault, strin
 use Rattle.bson_values.specs.ReadFaults.{fault_offset}
 use Rattle.bson_values.specs.declared.fault.BsonFault.{BsonFault}
 use Rattle.bson_values.specs.declared.fault.BsonFault.TheVariants.{Short, BadLength, BadType, BadText, BadBool, Deep, Trailing, Memory}
-use Rattle.command_laws.proofs.Taken.{command_taken}
+use Rattle.command_model.proofs.Taken.{command_taken}
 use Rattle.command_model.specs.Command.{Command, command_in}
 use Rattle.command_model.specs.CommandSizes.{IsSmallCommand, IsTaken}
 use Rattle.opmsg_model.specs.MessageSizes.{IsSmall, IsSmallBody}

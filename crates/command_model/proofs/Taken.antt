@@ -25,12 +25,12 @@ use Rattle.command_model.specs.KillCursors.{kill_form}
 use Rattle.command_model.specs.Command.{Command, hello_command, legacy_command, ping_command, end_sessions_command, write_command, find_command, count_command, more_command, kill_command, rows, form_of, by_form, by_verdict, command_asked, command_in, command_of, or_refusal}
 use Rattle.command_model.specs.CommandSizes.{IsKeepable, IsSmallCommand, IsTaken}
 use Rattle.bson_model.proofs.Lengths.{length-framed}
-use Rattle.command_laws.proofs.ShortErrors.{IsShort, IsShortForm, collection_short, command_short, aggregate_short, count_rules_short, cursor_number_short, documents_sequence_short, find_short, handshake_short, kill_short, more_short, required_short, statements_short, two_needed_short, write_needed_short, write_short}
+use Rattle.command_model.proofs.ShortErrors.{IsShort, IsShortForm, collection_short, command_short, aggregate_short, count_rules_short, cursor_number_short, documents_sequence_short, find_short, handshake_short, kill_short, more_short, required_short, statements_short, two_needed_short, write_needed_short, write_short}
 use Rattle.command_model.proofs.Passed.{few_documents, field_passed, passed_else, passed_last, passed_parts, some_counted}
 use Rattle.command_model.proofs.Judged.{HasKey, keepable, keys_passed}
 use Rattle.command_model.proofs.Inside.{got_inside, items_small}
-use Rattle.command_laws.proofs.Int64.{HaveInt64, numbers_of_find, numbers_of_pipeline, numbers_of_count}
-use Rattle.command_laws.proofs.Rows.{found_row}
+use Rattle.command_model.proofs.Int64.{HaveInt64, numbers_of_find, numbers_of_pipeline, numbers_of_count}
+use Rattle.command_model.proofs.Rows.{found_row}
 use Rattle.command_model.specs.CommandLimits.{most_statements}
 
 abbrev AreSmall : Sequences → Type 0
