@@ -1,2 +1,1 @@
 pub mod SmallAnswers
-pub mod ToldRefusals

@@ -4,7 +4,7 @@ use Rattle.std.specs.Prelude.{Option, Some, None, Result, Ok, true, false, map, 
 use Rattle.std.specs.List.{AllByRecursion}
 use Rattle.std.specs.Option.{unwrap_or}
 use Rattle.history_model.proofs.Lists.{all_at, in_prefix, in_append, in_back, in_cons, in_none}
-use Rattle.reply_laws.proofs.Statements.{on_first}
+use Rattle.reply_facts.proofs.Statements.{on_first}
 use Rattle.command_model.specs.Writes.{ClientNumber, WriteCommand}
 use Rattle.base_model.specs.Refusals.{Refusal}
 use Rattle.base_model.specs.ReplyParts.{operation_time}

@@ -11,7 +11,7 @@ use Rattle.node_model.specs.States.{Open, Router, open_with, without, replaced}
 use Rattle.node_model.specs.RouterRows.{id_of, open_of}
 use Rattle.node_laws.proofs.Facts.{counts_of, AreDifferentCounts}
 use Rattle.node_laws.proofs.Lists.{all_of}
-use Rattle.reply_laws.proofs.Requests.{same_id}
+use Rattle.reply_facts.proofs.Requests.{same_id}
 
 -- LOOKING UP
 

@@ -34,7 +34,7 @@ use Rattle.reply_model.specs.OneHistory.{ids_asked, AreDifferent}
 use Rattle.node_model.specs.States.{Telling, in_batches, as_number, Open}
 use Rattle.node_model.specs.RouterRows.{too_much, empty_answer}
 use Rattle.node_model.specs.ShardRows.{IsTold}
-use Rattle.reply_laws.proofs.Requests.{one_asked}
+use Rattle.reply_facts.proofs.Requests.{one_asked}
 use Rattle.node_laws.proofs.Views.{View, entries_in, creations_in, chosen_time}
 use Rattle.node_laws.proofs.ReadFacts.{NoneBegan, IsTelling, tells_find, tells_count, IsReading, IsMade}
 use Rattle.node_laws.proofs.Facts.{IsFixed, NeighboursFit}

@@ -21,7 +21,7 @@ use Rattle.node_laws.proofs.Views.{View, creations_in}
 use Rattle.node_laws.proofs.Facts.{IsOwned, IsWriteOf}
 use Rattle.node_laws.proofs.Lists.{all_unmapped, all_within, all_prefix}
 use Rattle.node_laws.proofs.Growth.{entries_by_longer}
-use Rattle.reply_laws.proofs.Requests.{same_id, one_asked}
+use Rattle.reply_facts.proofs.Requests.{same_id, one_asked}
 use Rattle.node_laws.proofs.Requests.{other_number}
 use Rattle.node_laws.proofs.SeenStatements.{true_false, own_session}
 use Rattle.node_laws.proofs.NotedOutcomes.{HasNoOther}

@@ -10,7 +10,7 @@ use Rattle.reply_model.specs.Right.{Sends, AreStatements}
 use Rattle.reply_model.specs.OneHistory.{StandsInPart, IsNotBefore, IsFresh, ids_asked, AreDifferent}
 use Rattle.node_model.specs.Letters.{Taken, Reply}
 use Rattle.node_model.specs.World.{asked_by, answered_by}
-use Rattle.reply_laws.proofs.Requests.{same_id}
+use Rattle.reply_facts.proofs.Requests.{same_id}
 use Rattle.node_laws.proofs.WriteFacts.{WasMade}
 use Rattle.node_laws.proofs.Lists.{all_of}
 use Rattle.node_laws.proofs.SeenStatements.{own_session}

@@ -17,7 +17,7 @@ use Rattle.reply_model.specs.OneHistory.{StandsInPart, ids_asked, AreDifferent}
 use Rattle.node_model.specs.Letters.{Statement, Reply}
 use Rattle.node_model.specs.States.{writing, Open, Router}
 use Rattle.node_model.specs.RouterRows.{statements_from, noted, is_answered, at_once, plan_of, reply_to}
-use Rattle.reply_laws.proofs.Requests.{number_same, one_asked}
+use Rattle.reply_facts.proofs.Requests.{number_same, one_asked}
 use Rattle.node_laws.proofs.Views.{View, entries_in}
 use Rattle.node_laws.proofs.ReadFacts.{IsAwaited}
 use Rattle.node_laws.proofs.WriteFacts.{IsAnswerOf, by_entry, by_older, IsDoneAt, AreAnswers, OnlyLast, WasMade}

@@ -19,7 +19,7 @@ use Rattle.node_model.specs.Letters.{At, Statement, Body, table_told, write_done
 use Rattle.node_model.specs.States.{Telling, writing, reading, for_time, Open, Router, router_state, replaced, without}
 use Rattle.node_model.specs.RouterRows.{id_of, heard, as_before, reached, asks_for, going_on, noted, is_answered, reply_to, adopted, next_of, Next}
 use Rattle.node_model.specs.World.{World, answered_by}
-use Rattle.reply_laws.proofs.Requests.{one_asked}
+use Rattle.reply_facts.proofs.Requests.{one_asked}
 use Rattle.node_laws.proofs.Views.{Book, View, view_of, entries_in, chosen_time}
 use Rattle.node_laws.proofs.WriteFacts.{AreAnswers}
 use Rattle.node_laws.proofs.ReadFacts.{IsAwaited, WaitsFor}

@@ -2,7 +2,7 @@
 use Rattle.std.proofs.Common.{◌≡◌, inl, inr, ℕ, ◌+◌, ◌<◌, List, [], ◌∷◌, refl, sym, ap, subst, ◌∙◌, arith, Bool}
 use Rattle.std.specs.Prelude.{Option, Some, None, true, false, is_some}
 use Rattle.history_model.proofs.Lists.{all_at}
-use Rattle.reply_laws.proofs.Statements.{one_number}
+use Rattle.reply_facts.proofs.Statements.{one_number}
 use Rattle.base_model.specs.Errors.{ErrorCode}
 use Rattle.base_model.specs.Refusals.{Refusal, without_evidence}
 use Rattle.command_model.specs.Writes.{ClientNumber, WriteCommand}

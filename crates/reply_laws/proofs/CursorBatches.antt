@@ -23,7 +23,7 @@ use Rattle.reply_model.specs.Reads.{MayGive}
 use Rattle.reply_model.specs.Right.{asks_for_one, usual_size, IsReadRefused, refused_overflow, refused_excess, refused_ahead, unless_silent}
 use Rattle.reply_model.specs.OneHistory.{Given, IsRightOf, AreRight, nothing_told, then_told}
 use Rattle.reply_laws.specs.CursorReplies.{OpensCursor, AsksMore, AsksToClose, Shows, shows_nothing, shows_batch, shows_other, EndsCursor, shows_last, closes}
-use Rattle.reply_laws.proofs.RightAnswers.{RightBy, right_by, right_of, TellsNext, same_first, same_next}
+use Rattle.reply_facts.proofs.RightAnswers.{RightBy, right_by, right_of, TellsNext, same_first, same_next}
 use Rattle.reply_laws.proofs.StandingCursors.{Stands, StandsStill, IsNamed, cursor_with, found_open, number_found, found_standing, none_found, itself, named, set_own, set_other, opens_stays, found_still, kills_still, kills_leave, kills_end}
 
 pub unless_silent_not : (request : Request) (before after : List Cursor) → request.more ≡ false → unless_silent request before after ≡ after

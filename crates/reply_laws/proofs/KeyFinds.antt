@@ -22,9 +22,9 @@ use Rattle.reply_model.specs.Exchanges.{RequestId, Asked, Answered}
 use Rattle.reply_model.specs.Cursors.{Cursor, IsNewNumber, Opens, opens_none, opens_one, ShowsFirst}
 use Rattle.reply_model.specs.Reads.{IsTimeRead, MayGive}
 use Rattle.reply_model.specs.Right.{asks_for_one, usual_size, IsReadRefused, refused_overflow, refused_excess, refused_ahead, IsRight, right_find}
-use Rattle.reply_laws.specs.Earlier.{found}
+use Rattle.reply_facts.specs.Earlier.{found}
 use Rattle.reply_laws.specs.SampleExchanges.{IsToldRightly, id_is, find_of}
-use Rattle.reply_laws.proofs.RightAnswers.{RightBy, right_of, same_first}
+use Rattle.reply_facts.proofs.RightAnswers.{RightBy, right_of, same_first}
 use Rattle.reply_laws.proofs.SpanReads.{runs_of_key}
 
 -- BATCHES

@@ -5,14 +5,9 @@ pub mod SpanReads
 pub mod SortedOrders
 pub mod KeyFinds
 pub mod SortedFinds
-pub mod Requests
-pub mod RightAnswers
-pub mod Statements
-pub mod ReadTimes
 pub mod TimedReads
 pub mod LongAnswers
 pub mod SumReads
-pub mod Freshness
 pub mod OwnWrites
 pub mod NumberedWrites
 pub mod StandingCursors

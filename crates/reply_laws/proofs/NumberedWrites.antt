@@ -15,8 +15,8 @@ use Rattle.reply_model.specs.Outcomes.{StatementOutcome, is_older, Done, answer_
 use Rattle.reply_model.specs.Right.{IsStatement, HadSent, MayBeTold, told_own, told_other, told_older, AreTold, right_write}
 use Rattle.reply_laws.specs.SampleExchanges.{tells}
 use Rattle.reply_laws.specs.SampleRetries.{IsToldJust, IsUntold}
-use Rattle.reply_laws.proofs.RightAnswers.{right_of}
-use Rattle.reply_laws.proofs.Statements.{UnlessEnded}
+use Rattle.reply_facts.proofs.RightAnswers.{right_of}
+use Rattle.reply_facts.proofs.Statements.{UnlessEnded}
 
 -- the outcomes from this index on
 abbrev pub dones_from : ℕ → List StatementOutcome → List Done

@@ -15,9 +15,9 @@ use Rattle.reply_model.specs.Outcomes.{Done, answer_by, done_of, answer_of}
 use Rattle.reply_model.specs.Cursors.{Cursor}
 use Rattle.reply_model.specs.Right.{MayBeTold, told_own, AreTold, AreStatements, AreAll, IsWhole, told_by, ends, IsRight, right_write}
 use Rattle.reply_model.specs.OneHistory.{AreNumbered, EndsBefore}
-use Rattle.reply_laws.proofs.Requests.{by_in}
-use Rattle.reply_laws.proofs.RightAnswers.{TellsWrite, right_of}
-use Rattle.reply_laws.proofs.Statements.{UnlessEnded, one_number, all_told}
+use Rattle.reply_facts.proofs.Requests.{by_in}
+use Rattle.reply_facts.proofs.RightAnswers.{TellsWrite, right_of}
+use Rattle.reply_facts.proofs.Statements.{UnlessEnded, one_number, all_told}
 
 -- nothing ends in front of the first statement
 pub none_before : (write : WriteCommand) (dones : List Done) → EndsBefore 0 write dones → ⊥

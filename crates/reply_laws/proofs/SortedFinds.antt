@@ -28,7 +28,7 @@ use Rattle.reply_model.specs.Cursors.{Cursor, open_cursor, with_remaining, IsNew
 use Rattle.reply_model.specs.Reads.{IsTimeRead, named_time, own_time, later_time, MayGive}
 use Rattle.reply_model.specs.Right.{IsReadRefused, refused_overflow, refused_excess, refused_ahead, IsRight, right_find}
 use Rattle.reply_laws.specs.SampleReads.{kept, all_three, by_id, reading_all, finds_sorted}
-use Rattle.reply_laws.proofs.RightAnswers.{RightBy, right_of, same_first, same_next}
+use Rattle.reply_facts.proofs.RightAnswers.{RightBy, right_of, same_first, same_next}
 use Rattle.reply_laws.proofs.SortedOrders.{one_rising}
 
 -- THE DOCUMENTS

@@ -24,7 +24,7 @@ use Rattle.history_model.specs.Documents.{AreInOrder, documents_at, ListsDocumen
 use Rattle.history_model.proofs.Collections.{one_listing}
 use Rattle.history_model.proofs.LegalHistories.{same_after}
 use Rattle.reply_model.specs.Reads.{MayGive}
-use Rattle.reply_laws.specs.Earlier.{found, touches}
+use Rattle.reply_facts.specs.Earlier.{found, touches}
 use Rattle.reply_laws.proofs.FilteredOrders.{filter_permutes, others_behind, passed_again, one_order, no_order}
 use Rattle.reply_laws.proofs.StandingDocuments.{up_to}
 use Rattle.reply_laws.proofs.FoundDocuments.{WritesNone, WritesNoneBetween, last_left, nothing_left, stands_since}

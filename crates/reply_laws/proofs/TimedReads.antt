@@ -26,8 +26,8 @@ use Rattle.reply_model.specs.Right.{Reads, find_reads, usual_size, IsReadRefused
 use Rattle.reply_laws.specs.SampleExchanges.{IsToldRightly}
 use Rattle.reply_laws.specs.SampleReads.{kept, all_three}
 use Rattle.reply_laws.specs.SampleTimes.{reading_of, find_in}
-use Rattle.reply_laws.proofs.RightAnswers.{RightBy, right_of, same_first, TellsCount}
-use Rattle.reply_laws.proofs.ReadTimes.{shown_time, ahead_time, is_ahead}
+use Rattle.reply_facts.proofs.RightAnswers.{RightBy, right_of, same_first, TellsCount}
+use Rattle.reply_facts.proofs.ReadTimes.{shown_time, ahead_time, is_ahead}
 use Rattle.reply_laws.proofs.KeyFinds.{whole_batch, told_of, none_behind}
 
 -- TIMES

@@ -1,4 +1,3 @@
-pub mod Earlier
 pub mod CursorReplies
 pub mod SampleExchanges
 pub mod SampleRetries

@@ -10,7 +10,7 @@ ghost use Rattle.history_model.specs.History.{Entry, IsIn, Outcome};
 ghost use Rattle.reply_model.specs.Exchanges.{Asked, Answered};
 ghost use Rattle.reply_model.specs.Outcomes.{Done, answer_of, was_done};
 ghost use Rattle.reply_model.specs.Right.{AreTold, IsWhole, Sends, told_by};
-ghost use Rattle.reply_laws.specs.Earlier.{IsTold, WasTakenBefore, WasToldBefore};
+ghost use Rattle.reply_facts.specs.Earlier.{IsTold, WasTakenBefore, WasToldBefore};
 ghost use Rattle.reply_model.specs.OneHistory.{Given, OneHistory};
 
 /// What a write was told is what its statements may be told, one by one. Where its client gave no number it is whole in the history, and its

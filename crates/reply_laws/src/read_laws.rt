@@ -22,7 +22,7 @@ ghost use Rattle.reply_model.specs.Exchanges.{Asked, Answered, number_for};
 ghost use Rattle.reply_model.specs.Outcomes.{Done, answer_of, was_done};
 ghost use Rattle.reply_model.specs.Reads.{IsTimeRead, MayGive};
 ghost use Rattle.reply_model.specs.Right.{IsReadRefused, Reads, usual_size};
-ghost use Rattle.reply_laws.specs.Earlier.{IsTold, WasToldBefore, found, touches};
+ghost use Rattle.reply_facts.specs.Earlier.{IsTold, WasToldBefore, found, touches};
 ghost use Rattle.reply_model.specs.OneHistory.{Given, OneHistory};
 
 /// A find or an aggregate is told a first batch, of no more documents than its size, of a list that it may give at a time that it may be

@@ -17,7 +17,7 @@ use Rattle.reply_model.specs.Cursors.{Cursor, Opens, opens_none, opens_one, Show
 use Rattle.reply_model.specs.Reads.{own_time, MayGive}
 use Rattle.reply_model.specs.Right.{IsReadRefused, refused_overflow, refused_excess, refused_ahead, right_find}
 use Rattle.reply_laws.specs.SampleReads.{batch, by_id, finds_sorted, reading_all, sorting, told_first}
-use Rattle.reply_laws.proofs.RightAnswers.{RightBy, right_of, same_first}
+use Rattle.reply_facts.proofs.RightAnswers.{RightBy, right_of, same_first}
 use Rattle.reply_laws.proofs.FilteredOrders.{no_order}
 use Rattle.reply_laws.proofs.KeyFinds.{whole_batch}
 use Rattle.reply_laws.proofs.cursor_examples.no_documents.Goals as goal

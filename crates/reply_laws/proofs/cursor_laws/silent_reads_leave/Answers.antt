@@ -10,7 +10,7 @@ use Rattle.history_model.specs.History.{Entry}
 use Rattle.reply_model.specs.Exchanges.{RequestId, Asked, Answered}
 use Rattle.reply_model.specs.Cursors.{Cursor, Opens, opens_none, opens_one}
 use Rattle.reply_model.specs.Right.{asks_for_one}
-use Rattle.reply_laws.proofs.RightAnswers.{RightBy, right_of}
+use Rattle.reply_facts.proofs.RightAnswers.{RightBy, right_of}
 use Rattle.reply_laws.proofs.CursorBatches.{unless_silent_is}
 use Rattle.reply_laws.proofs.cursor_laws.silent_reads_leave.Goals as goal
 

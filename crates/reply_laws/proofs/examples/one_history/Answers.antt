@@ -15,9 +15,9 @@ use Rattle.reply_model.specs.Right.{IsPart, IsRight, Sends}
 use Rattle.reply_model.specs.Reads.{own_time}
 use Rattle.reply_laws.specs.SampleExchanges.{all_told, all_asked, both_entries, first, first_entry, first_told, id_at, moments, second, second_entry, second_told, tells, third, third_told}
 use Rattle.reply_laws.proofs.OwnWrites.{none_before, own_right, same_write}
-use Rattle.reply_laws.proofs.Requests.{number_same}
+use Rattle.reply_facts.proofs.Requests.{number_same}
 use Rattle.reply_laws.proofs.KeyFinds.{key_find_right_among}
-use Rattle.reply_laws.proofs.Freshness.{told_to, told_write}
+use Rattle.reply_facts.proofs.Freshness.{told_to, told_write}
 use Rattle.reply_laws.proofs.examples.one_history.Goals as goal
 
 -- THE WHOLE

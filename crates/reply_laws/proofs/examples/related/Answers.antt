@@ -12,7 +12,7 @@ use Rattle.reply_model.specs.Exchanges.{RequestId, Asked}
 use Rattle.reply_model.specs.Right.{Sends}
 use Rattle.reply_model.specs.OneHistory.{IsWriteIn, IsPlaced, WasWanted}
 use Rattle.reply_laws.specs.SampleExchanges.{all_asked, id_at, first, first_entry, second, second_entry, third}
-use Rattle.reply_laws.proofs.Requests.{number_same}
+use Rattle.reply_facts.proofs.Requests.{number_same}
 use Rattle.reply_laws.proofs.examples.related.Goals as goal
 
 own : Sends first first_entry

@@ -1,5 +1,5 @@
 -- A write has a statement at least.
-use Rattle.reply_laws.proofs.Freshness.{later_told}
+use Rattle.reply_facts.proofs.Freshness.{later_told}
 use Rattle.reply_laws.proofs.laws.later_writes_tell_later.Goals as goal
 
 pub returns : goal.returns

@@ -1,5 +1,5 @@
 -- Their numbers differ.
-use Rattle.reply_laws.proofs.Requests.{one_asked, once_told}
+use Rattle.reply_facts.proofs.Requests.{one_asked, once_told}
 use Rattle.reply_laws.proofs.laws.one_answer.Goals as goal
 
 pub returns-clause-once : goal.returns-clause-once

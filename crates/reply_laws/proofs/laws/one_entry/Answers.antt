@@ -1,5 +1,5 @@
 -- All entries stand on the first shard.
-use Rattle.reply_laws.proofs.Freshness.{one_entry}
+use Rattle.reply_facts.proofs.Freshness.{one_entry}
 use Rattle.reply_laws.proofs.laws.one_entry.Goals as goal
 
 pub returns : goal.returns

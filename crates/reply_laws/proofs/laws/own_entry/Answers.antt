@@ -1,6 +1,6 @@
 -- A statement under a router's own number is of one request.
-use Rattle.reply_laws.proofs.Freshness.{sent}
-use Rattle.reply_laws.proofs.Requests.{own_entry}
+use Rattle.reply_facts.proofs.Freshness.{sent}
+use Rattle.reply_facts.proofs.Requests.{own_entry}
 use Rattle.reply_laws.proofs.laws.own_entry.Goals as goal
 
 pub returns-clause-sent : goal.returns-clause-sent

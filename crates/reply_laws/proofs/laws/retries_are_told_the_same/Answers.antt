@@ -1,5 +1,5 @@
 -- Both are told the one entry of the number.
-use Rattle.reply_laws.proofs.Freshness.{told_again}
+use Rattle.reply_facts.proofs.Freshness.{told_again}
 use Rattle.reply_laws.proofs.laws.retries_are_told_the_same.Goals as goal
 
 pub returns : goal.returns

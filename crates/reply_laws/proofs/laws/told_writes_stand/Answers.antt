@@ -1,5 +1,5 @@
 -- The request of an answer is the one that was taken.
-use Rattle.reply_laws.proofs.Freshness.{told_write, tells_all}
+use Rattle.reply_facts.proofs.Freshness.{told_write, tells_all}
 use Rattle.reply_laws.proofs.laws.told_writes_stand.Goals as goal
 
 pub returns-clause-statements : goal.returns-clause-statements

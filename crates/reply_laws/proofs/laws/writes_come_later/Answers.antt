@@ -1,5 +1,5 @@
 -- Entries are later than what their routers knew.
-use Rattle.reply_laws.proofs.Freshness.{comes_later}
+use Rattle.reply_facts.proofs.Freshness.{comes_later}
 use Rattle.reply_laws.proofs.laws.writes_come_later.Goals as goal
 
 pub returns : goal.returns

@@ -15,8 +15,8 @@ use Rattle.reply_model.specs.Exchanges.{Asked, Answered}
 use Rattle.reply_model.specs.Cursors.{Cursor}
 use Rattle.reply_model.specs.Reads.{IsTimeRead, MayGive}
 use Rattle.reply_model.specs.Right.{IsReadRefused, usual_size}
-use Rattle.reply_laws.proofs.RightAnswers.{RightBy, right_of}
-use Rattle.reply_laws.proofs.Freshness.{answer_right}
+use Rattle.reply_facts.proofs.RightAnswers.{RightBy, right_of}
+use Rattle.reply_facts.proofs.Freshness.{answer_right}
 use Rattle.reply_laws.proofs.read_laws.finds_are_answered.Goals as goal
 
 tells : (creations : List Creation) (history : List Entry) (asked : List Asked) (answered : List Answered) (cursors next : List Cursor) (a : Asked)

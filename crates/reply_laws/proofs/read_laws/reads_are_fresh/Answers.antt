@@ -1,5 +1,5 @@
 -- A router knew all that it had told.
-use Rattle.reply_laws.proofs.Freshness.{reads_at_least, reads_after, greatest_at_least}
+use Rattle.reply_facts.proofs.Freshness.{reads_at_least, reads_after, greatest_at_least}
 use Rattle.reply_laws.proofs.read_laws.reads_are_fresh.Goals as goal
 
 pub returns-clause-now : goal.returns-clause-now

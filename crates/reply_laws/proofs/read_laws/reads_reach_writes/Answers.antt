@@ -1,5 +1,5 @@
 -- A router knew the times of all that it had told.
-use Rattle.reply_laws.proofs.Freshness.{reaches}
+use Rattle.reply_facts.proofs.Freshness.{reaches}
 use Rattle.reply_laws.proofs.read_laws.reads_reach_writes.Goals as goal
 
 pub returns : goal.returns

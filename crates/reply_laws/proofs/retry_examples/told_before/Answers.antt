@@ -16,7 +16,7 @@ use Rattle.reply_model.specs.Right.{AreTold, Sends, find_reads, told_own}
 use Rattle.reply_laws.specs.SampleExchanges.{find_of, first_entry}
 use Rattle.reply_laws.specs.SampleRetries.{ended, failed, finding_two, first_answer, inserts_under, put_five, second_done, sent_first, told_ahead, two_documents, two_sent, unordered_later}
 use Rattle.reply_laws.proofs.OwnWrites.{same_write}
-use Rattle.reply_laws.proofs.ReadTimes.{is_ahead}
+use Rattle.reply_facts.proofs.ReadTimes.{is_ahead}
 use Rattle.reply_laws.proofs.retry_examples.told_before.Goals as goal
 
 pub returns-clause-ahead : goal.returns-clause-ahead

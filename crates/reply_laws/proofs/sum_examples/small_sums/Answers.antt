@@ -18,7 +18,7 @@ use Rattle.reply_model.specs.Right.{IsReadRefused, refused_overflow, refused_exc
 use Rattle.reply_laws.specs.SampleReads.{one, two, three}
 use Rattle.reply_laws.specs.SampleSums.{both_valued, of_sum, sum_spec, summing, told_batch, told_overflow, valued}
 use Rattle.reply_laws.specs.SampleTimes.{find_in, reading_of}
-use Rattle.reply_laws.proofs.RightAnswers.{RightBy, right_of}
+use Rattle.reply_facts.proofs.RightAnswers.{RightBy, right_of}
 use Rattle.reply_laws.proofs.TimedReads.{own_is, find_right, told_first}
 use Rattle.reply_laws.proofs.SumReads.{two_orders, joined_of, joined_is}
 use Rattle.reply_laws.proofs.sum_examples.small_sums.Goals as goal

@@ -11,7 +11,7 @@ use Rattle.command_model.specs.Cursors.{Batch}
 use Rattle.command_model.specs.Command.{Command, hello_command, legacy_command, ping_command, end_sessions_command, write_command, find_command, count_command, more_command, kill_command, command_of}
 use Rattle.command_model.specs.Answers.{first_answer, count_answer, refusal_answer, answer_document}
 use Rattle.command_model.proofs.AnswerTimes.{time_refused}
-use Rattle.command_laws.proofs.ToldRefusals.{never_ahead}
+use Rattle.reply_facts.proofs.ToldRefusals.{never_ahead}
 use Rattle.chunk_model.specs.Catalogue.{Creation}
 use Rattle.history_model.specs.History.{Entry}
 use Rattle.reply_model.specs.Exchanges.{Asked, Answered}
@@ -19,7 +19,7 @@ use Rattle.reply_model.specs.Outcomes.{Done, answer_of}
 use Rattle.reply_model.specs.Cursors.{Cursor}
 use Rattle.reply_model.specs.Reads.{IsTimeRead, named_time, own_time, later_time, IfReached, IsAhead, time_wanted}
 use Rattle.reply_model.specs.Right.{Reads, find_reads, count_reads, IsReadRefused, refused_overflow, refused_excess, refused_ahead, IsRight}
-use Rattle.reply_laws.proofs.RightAnswers.{RightBy, right_by}
+use Rattle.reply_facts.proofs.RightAnswers.{RightBy, right_by}
 
 -- a read that names no time is of none before its router's
 pub not_before : (a : Asked) (t : Answered) (reading : Reading) (time : ℕ) → IsTimeRead a t reading time → reading.at ≡ None → a.time ≤ time

@@ -19,11 +19,11 @@ use Rattle.reply_model.specs.Cursors.{Cursor}
 use Rattle.reply_model.specs.Reads.{IsTimeRead}
 use Rattle.reply_model.specs.Right.{Sends, MayBeTold, AreTold, told_by, IsRight, Reads}
 use Rattle.reply_model.specs.OneHistory.{WasSent, IsPlaced, IsRightOf, AreRight, nothing_told, then_told, IsNotBefore, IsFresh, IsInOrder, Given, OneHistory}
-use Rattle.reply_laws.specs.Earlier.{IsTold, WasToldBefore, WasTakenBefore}
-use Rattle.reply_laws.proofs.Requests.{number_same, one_asked, by_in}
-use Rattle.reply_laws.proofs.RightAnswers.{TellsWrite, right_of, write_time, most}
-use Rattle.reply_laws.proofs.Statements.{on_first, one_number, IsAnswerOf, answer_of_entry, was_done_own, told_in, all_told}
-use Rattle.reply_laws.proofs.ReadTimes.{shown_time, not_before, not_before_after, ahead_time, is_ahead, wanted_is}
+use Rattle.reply_facts.specs.Earlier.{IsTold, WasToldBefore, WasTakenBefore}
+use Rattle.reply_facts.proofs.Requests.{number_same, one_asked, by_in}
+use Rattle.reply_facts.proofs.RightAnswers.{TellsWrite, right_of, write_time, most}
+use Rattle.reply_facts.proofs.Statements.{on_first, one_number, IsAnswerOf, answer_of_entry, was_done_own, told_in, all_told}
+use Rattle.reply_facts.proofs.ReadTimes.{shown_time, not_before, not_before_after, ahead_time, is_ahead, wanted_is}
 
 -- each of the answers is right, with some cursors before it and after it
 pub record IsRightIn (given : List Given) (creations : List Creation) (history : List Entry) (asked : List Asked) (answered : List Answered)
