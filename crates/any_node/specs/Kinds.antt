@@ -1,6 +1,6 @@
 -- The state of the definitions that a node is in, and how many steps it took.
 use Rattle.std.specs.Prelude.{ℕ}
-use Rattle.node_traits.specs.States.{NodeState}
+use Rattle.node_model.specs.States.{NodeState}
 use Rattle.config_node.specs.State as catalogue
 use Rattle.shard_node.specs.State as shard
 use Rattle.router_node.specs.RouterStates as router

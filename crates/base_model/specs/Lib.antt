@@ -4,8 +4,3 @@ pub mod Errors
 pub mod Refusals
 pub mod ReplyParts
 pub mod SampleReplies
-pub use Rattle.bson_model.specs.Grammar
-pub use Rattle.bson_model.specs.Limits
-pub use Rattle.bson_model.specs.SampleDocuments
-pub use Rattle.bson_model.specs.Spelling
-pub use Rattle.bson_model.specs.Tree

@@ -4,7 +4,7 @@ use Rattle.std.specs.Prelude.{Bool, true, false, Option, Some, None, nat_le, ifâ
 use Rattle.std.proofs.lemmas.Bool.Decides.{nat_tests}
 use Rattle.value_model.specs.Keys.{is_key, range_span, min_bound, max_bound, inside}
 use Rattle.value_model.proofs.Spans.{whole_inside}
-use Rattle.chunk_model.specs.Tree.{Datum}
+use Rattle.bson_model.specs.Tree.{Datum}
 use Rattle.chunk_model.specs.Catalogue.{Creation}
 use Rattle.chunk_model.specs.Tables.{Chunk, first_shard, first_chunk, first_table, chunk_of, owner_among, newest, owner_now, owner_at}
 

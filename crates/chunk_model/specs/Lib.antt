@@ -4,10 +4,3 @@ pub mod Tables
 pub mod Verdicts
 pub mod SampleCollections
 pub mod SampleTables
-pub use Rattle.base_model.specs.Errors
-pub use Rattle.base_model.specs.Grammar
-pub use Rattle.base_model.specs.Names
-pub use Rattle.base_model.specs.SampleDocuments
-pub use Rattle.base_model.specs.Spelling
-pub use Rattle.base_model.specs.Times
-pub use Rattle.base_model.specs.Tree

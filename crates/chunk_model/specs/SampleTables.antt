@@ -1,6 +1,6 @@
 -- Tables to try the definitions on.
 use Rattle.std.specs.Prelude.{[], ◌∷◌, codes, pos}
-use Rattle.chunk_model.specs.Tree.{Datum, int32_value}
+use Rattle.bson_model.specs.Tree.{Datum, int32_value}
 use Rattle.value_model.specs.Keys.{min_bound, key_bound, max_bound}
 use Rattle.chunk_model.specs.Versions.{Version}
 use Rattle.chunk_model.specs.Tables.{Chunk, Table}

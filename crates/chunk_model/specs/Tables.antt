@@ -2,7 +2,7 @@
 -- its owners of the past is own).
 use Rattle.std.specs.Prelude.{ℕ, List, [], ◌∷◌, Bool, false, Option, Some, None, ◌==◌, nat_le, nat_lt, if◌then◌else◌}
 use Rattle.std.specs.Str.{bytes_eq}
-use Rattle.base_model.specs.Tree.{Datum}
+use Rattle.bson_model.specs.Tree.{Datum}
 use Rattle.value_model.specs.Keys.{Range, min_bound, max_bound, range_span, inside}
 use Rattle.chunk_model.specs.Catalogue.{Creation}
 use Rattle.chunk_model.specs.Versions.{Version, greater, no_chunk}

@@ -1,7 +1,7 @@
 //! The definitions on tables that one can check by hand.
 
 ghost use Rattle.std.specs.Prelude.{◌≡◌, [], ◌∷◌, codes, pos, true, false, Some, None};
-ghost use Rattle.chunk_model.specs.Tree.{int32_value, int64_value};
+ghost use Rattle.bson_model.specs.Tree.{int32_value, int64_value};
 ghost use Rattle.chunk_model.specs.SampleCollections.{creation};
 ghost use Rattle.chunk_model.specs.SampleTables.{lower_chunk, moved_table, other_table, split_at, upper_chunk};
 ghost use Rattle.chunk_model.specs.Tables.{chunk_of, chunks_on, collection_version, first_chunk, first_table, is_longer, newest, owner_among, owner_at, owner_now, shard_version, table_of, with_table};

@@ -2,7 +2,7 @@
 
 ghost use Rattle.std.specs.Prelude.{◌≡◌, ◌↔◌, ◌≤◌, ℕ, Some, None, true};
 ghost use Rattle.value_model.specs.Keys.{is_key};
-ghost use Rattle.chunk_model.specs.Tree.{Datum};
+ghost use Rattle.bson_model.specs.Tree.{Datum};
 ghost use Rattle.chunk_model.specs.Catalogue.{Creation};
 ghost use Rattle.chunk_model.specs.Tables.{Table, first_shard, first_table, owner_at, owner_now};
 ghost use Rattle.chunk_model.specs.Verdicts.{Sent, fits, sent_by, shard_is_old, verdict_of};

@@ -1,8 +1,8 @@
 -- The chunk that a search comes to first.
 use Rattle.std.proofs.Common.{◌≡◌, ℕ, ◌<◌, List, length, get_or, drop, map, refl, sym, drop-cons}
 use Rattle.std.specs.Prelude.{true, Some}
-use Rattle.bson_values.specs.Tree.{Datum}
-use Rattle.value_compare.specs.Keys.{range_span, inside}
+use Rattle.bson_model.specs.Tree.{Datum}
+use Rattle.value_model.specs.Keys.{range_span, inside}
 use Rattle.chunk_model.specs.Tables.{chunk_of}
 use Rattle.chunk_table.specs.declared.chunk.Chunk.{Chunk}
 use Rattle.chunk_table.specs.Meanings.{chunk_view}

@@ -3,10 +3,10 @@ use Rattle.std.proofs.Common.{◌≡◌, ℕ, List, [], ◌∷◌, refl, sym, ap
 use Rattle.std.specs.Prelude.{Bool, true, ◌&&◌, Option, Some, None, is_some, if◌then◌else◌}
 use Rattle.std.specs.Ordering.{ordering_reverse, is_le, is_lt, is_eq}
 use Rattle.std.specs.Cmp.{Equal-is}
-use Rattle.bson_values.specs.Tree.{Datum, document_value, array_value, min_key_value, max_key_value}
-use Rattle.value_compare.specs.Order.{order}
-use Rattle.value_compare.specs.Keys.{is_key, Bound, min_bound, max_bound, value_of_bound, order_bounds}
-use Rattle.value_compare.proofs.Flat.{order_total}
+use Rattle.bson_model.specs.Tree.{Datum, document_value, array_value, min_key_value, max_key_value}
+use Rattle.value_model.specs.Order.{order}
+use Rattle.value_model.specs.Keys.{is_key, Bound, min_bound, max_bound, value_of_bound, order_bounds}
+use Rattle.value_model.proofs.Flat.{order_total}
 use Rattle.chunk_model.specs.Tables.{Chunk, Table, newest, chunk_of, owner_now}
 use Rattle.chunk_table.specs.Whole.{follow_from}
 use Rattle.bson_model.proofs.Booleans.{both}

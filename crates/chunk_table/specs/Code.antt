@@ -1,7 +1,7 @@
 -- How a table is told from others: as its parts.
 use Rattle.std.specs.Prelude.{ℕ, List, refl}
 use Rattle.std.specs.Coded.{Coded, code_by, coded×, coded_list, coded_ℕ}
-use Rattle.value_compare.specs.Keys.{Range}
+use Rattle.value_model.specs.Keys.{Range}
 use Rattle.value_compare.specs.Code.{range_code}
 use Rattle.chunk_model.specs.Versions.{Version}
 use Rattle.chunk_model.specs.Tables.{Owned, Chunk, Table}

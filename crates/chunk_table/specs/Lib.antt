@@ -2,8 +2,5 @@ pub mod Code
 pub mod VerdictMeanings
 pub mod Meanings
 pub mod Whole
-pub use Rattle.chunk_model.specs.Catalogue
-pub use Rattle.chunk_model.specs.SampleCollections
 pub use Rattle.chunk_model.specs.Tables
 pub use Rattle.chunk_model.specs.Verdicts
-pub use Rattle.chunk_model.specs.Versions

@@ -3,9 +3,9 @@
 use Rattle.std.specs.Prelude.{◌≡◌, ◌<◌, ◌^◌, List, [], ◌∷◌, Bool, true, ◌&&◌, codes, is_some, length}
 use Rattle.std.specs.Ordering.{is_eq}
 use Rattle.std.specs.List.{AllByRecursion}
-use Rattle.bson_values.specs.Tree.{Datum, no_fields, field}
-use Rattle.value_compare.specs.Keys.{is_key, Bound, min_bound, key_bound, max_bound, order_bounds}
-use Rattle.bson_values.specs.Limits.{IsWritable}
+use Rattle.bson_model.specs.Tree.{Datum, no_fields, field}
+use Rattle.value_model.specs.Keys.{is_key, Bound, min_bound, key_bound, max_bound, order_bounds}
+use Rattle.bson_model.specs.Limits.{IsWritable}
 use Rattle.chunk_model.specs.Tables.{Chunk, Table, newest, owner_now}
 
 -- the chunks follow one another from this bound to the end of all keys, and each has an owner

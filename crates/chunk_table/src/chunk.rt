@@ -9,7 +9,7 @@ ghost use Rattle.chunk_table.specs.Whole.{follow_from};
 ghost use Rattle.std.specs.Ordering.{is_eq};
 ghost use Rattle.bson_values.specs.View.{datum_of};
 ghost use Rattle.value_compare.specs.Bounds.{bound_of};
-ghost use Rattle.value_compare.specs.Keys.{min_bound, order_bounds};
+ghost use Rattle.value_model.specs.Keys.{min_bound, order_bounds};
 
 use crate::version::Version;
 use bson_values::{Memory, Value};

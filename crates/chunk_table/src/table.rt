@@ -3,12 +3,12 @@
 ghost use Rattle.std.specs.Prelude.{◌≡◌, ◌<◌, ◌^◌, ◌↔◌, false, true, IfOk, IfSome, None, Some, length, map};
 ghost use Rattle.std.specs.List.{AllByRecursion};
 ghost use Rattle.std.specs.Option.{option_map};
-ghost use Rattle.bson_values.specs.Tree.{Datum};
+ghost use Rattle.bson_model.specs.Tree.{Datum};
 ghost use Rattle.bson_values.specs.View.{datum_of};
 ghost use Rattle.chunk_model.specs.Tables.{collection_version, first_table, is_longer, owner_at, owner_now, shard_version};
 ghost use Rattle.chunk_table.specs.Meanings.{chunk_view, table_of_parts, version_view};
 ghost use Rattle.chunk_table.specs.Whole.{IsWritableChunk, follow_from};
-ghost use Rattle.value_compare.specs.Keys.{is_key, min_bound};
+ghost use Rattle.value_model.specs.Keys.{is_key, min_bound};
 
 use crate::chunk::{
     Chunk, Owned, OwnedList, chunk_of, copy_all, follow, greatest_on, greatest_version,

@@ -2,8 +2,8 @@
 use Rattle.std.proofs.Common.{◌≡◌, ℕ, suc, ◌+◌, ◌<◌, ◌≤◌, List, [], ◌∷◌, ◌++◌, length, get_or, drop, refl, sym, ◌∙◌, ap, add-one, drop-cons, Option, Some, None, append_assoc, append-nil, true, false, arith}
 use Rattle.std.specs.Option.{is_some}
 use Rattle.std.proofs.lemmas.List.{drop_all}
-use Rattle.bson_values.specs.Tree.{Datum, document_value, Items, no_items, item, Fields, get}
-use Rattle.command_model.specs.Errors.{bad_value, type_mismatch}
+use Rattle.bson_model.specs.Tree.{Datum, document_value, Items, no_items, item, Fields, get}
+use Rattle.base_model.specs.Errors.{bad_value, type_mismatch}
 use Rattle.bson_values.specs.Sizes.{items_count}
 use Rattle.bson_values.specs.declared.value.Value.{Value}
 use Rattle.bson_values.specs.View.{datum_of, items_of}

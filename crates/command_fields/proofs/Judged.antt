@@ -1,7 +1,7 @@
 -- Statements one by one: what is told of the first, and of those behind it.
 use Rattle.std.proofs.Common.{◌≡◌, List, [], ◌∷◌, ◌++◌, sym, ◌∙◌, ap, subst, None, Err}
 use Rattle.std.specs.Prelude.{map}
-use Rattle.bson_values.specs.Tree.{Fields}
+use Rattle.bson_model.specs.Tree.{Fields}
 use Rattle.command_model.specs.Checks.{Verdict, first_of}
 use Rattle.command_model.specs.Statements.{StatementForm, check_statement, check_statements}
 use Rattle.command_fields.proofs.Rulings.{last_of}
@@ -9,7 +9,7 @@ use Rattle.command_fields.specs.Verdicts.{ReadsBy}
 use Rattle.command_fields.specs.declared.fault.CheckFault.{CheckFault}
 use Rattle.command_fields.specs.declared.fault.CheckFault.TheVariants.{Refused, Memory}
 use Rattle.history_model.specs.History.{Operation}
-use Rattle.shard_records.specs.Meanings.{operation_view}
+use Rattle.statement_views.specs.Views.{operation_view}
 use Rattle.value_compare.specs.declared.words.OpWords.{OpWords}
 
 -- behind a statement that passes the others are told of

@@ -1,7 +1,7 @@
 -- The first values of two names, found in one pass.
 use Rattle.std.proofs.Common.{ℕ, List, Option}
 use Rattle.std.specs.Option.{option_or}
-use Rattle.bson_values.specs.Tree.{Datum, get}
+use Rattle.bson_model.specs.Tree.{Datum, get}
 use Rattle.bson_values.specs.declared.value.Field.{Field}
 use Rattle.bson_values.specs.View.{fields_of}
 

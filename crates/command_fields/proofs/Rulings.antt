@@ -3,8 +3,8 @@ use Rattle.std.proofs.Common.{◌≡◌, ℕ, suc, ◌+◌, ◌<◌, List, [], �
 use Rattle.std.specs.List.{list_any}
 use Rattle.std.specs.Str.{bytes_eq}
 use Rattle.std.proofs.Math.Seq.{take-suc}
-use Rattle.bson_values.specs.Tree.{Datum, Fields, field}
-use Rattle.command_model.specs.Errors.{ErrorCode}
+use Rattle.bson_model.specs.Tree.{Datum, Fields, field}
+use Rattle.base_model.specs.Errors.{ErrorCode}
 use Rattle.bson_values.specs.declared.value.Field.{Field}
 use Rattle.bson_values.specs.View.{datum_of, fields_of}
 use Rattle.command_model.specs.Checks.{Verdict, first_of, is_one_of}

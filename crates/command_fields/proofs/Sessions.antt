@@ -3,9 +3,9 @@ use Rattle.std.proofs.Common.{◌≡◌, ℕ, List, [], ◌∷◌, length, refl,
 use Rattle.std.specs.Prelude.{ℤ, pos}
 use Rattle.std.specs.Option.{unwrap_or}
 use Rattle.std.proofs.lemmas.Bool.{and_parts, eqb-true}
-use Rattle.bson_values.specs.Tree.{Datum, document_value, binary_value, Fields, get}
+use Rattle.bson_model.specs.Tree.{Datum, document_value, binary_value, Fields, get}
 use Rattle.command_model.specs.Checks.{Verdict}
-use Rattle.command_model.specs.Errors.{bad_value, failed_to_parse}
+use Rattle.base_model.specs.Errors.{bad_value, failed_to_parse}
 use Rattle.command_model.specs.Fields.{check_inner_fields, check_required, check_session, document_needed, session_id, session_rules}
 use Rattle.command_model.specs.Writes.{ClientNumber, session_bytes, session_in, number_given, session_needed}
 use Rattle.command_model.proofs.Passed.{field_passed, passed_last, passed_parts, passed_test}

@@ -1,7 +1,7 @@
 -- What stands before other fields.
 use Rattle.std.specs.Prelude.{◌≡◌, ℕ, List, [], ◌∷◌, Some}
-use Rattle.bson_values.specs.Tree.{Datum}
-use Rattle.command_model.specs.Names.{full_name}
+use Rattle.bson_model.specs.Tree.{Datum}
+use Rattle.base_model.specs.Names.{full_name}
 use Rattle.command_model.specs.Forms.{string_or}
 use Rattle.bson_values.specs.declared.value.Field.{Field}
 

@@ -1,6 +1,6 @@
 -- The documents of sequences.
 use Rattle.std.specs.Prelude.{List, [], ◌∷◌, Option, Some, None}
-use Rattle.bson_values.specs.Tree.{Fields}
+use Rattle.bson_model.specs.Tree.{Fields}
 use Rattle.command_model.specs.Forms.{Sequences}
 
 -- the documents of the first sequence

@@ -1,6 +1,6 @@
 -- The sessions that writes name.
 use Rattle.std.specs.Prelude.{◌≡◌, Some, None, codes}
-use Rattle.bson_values.specs.Tree.{Datum, Fields, get}
+use Rattle.bson_model.specs.Tree.{Datum, Fields, get}
 use Rattle.command_model.specs.Fields.{check_session, document_needed}
 
 -- a session that is named passes

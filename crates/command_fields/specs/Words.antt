@@ -1,10 +1,10 @@
 -- The words of a pipeline in a command's fields.
 use Rattle.std.specs.Prelude.{List, [], ◌∷◌, Option, Some, None, Result, Ok, Err}
-use Rattle.bson_values.specs.Tree.{Datum, document_value, array_value, Fields}
+use Rattle.bson_model.specs.Tree.{Datum, document_value, array_value, Fields}
 use Rattle.cluster_base.specs.Codes.{meaning_of}
 use Rattle.cluster_base.specs.declared.code.Code.{Code}
 use Rattle.command_model.specs.Checks.{Verdict}
-use Rattle.command_model.specs.Errors.{ErrorCode, bad_value, type_mismatch}
+use Rattle.base_model.specs.Errors.{ErrorCode, bad_value, type_mismatch}
 use Rattle.command_model.specs.Find.{read_shown}
 use Rattle.pipeline_lang.specs.View.{stage_of}
 use Rattle.pipeline_lang.specs.declared.stage.Stage as program

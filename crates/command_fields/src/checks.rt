@@ -1,7 +1,7 @@
 //! Checks of values, as they stand in all commands. Each tells the error, if any.
 
 ghost use Rattle.std.specs.Prelude.{◌≡◌, [], None, Some};
-ghost use Rattle.bson_values.specs.Tree.{get};
+ghost use Rattle.bson_model.specs.Tree.{get};
 ghost use Rattle.bson_values.specs.View.{datum_of};
 ghost use Rattle.cluster_base.specs.Codes.{meaning_of};
 ghost use Rattle.command_model.specs.Checks as checks;

@@ -1,10 +1,10 @@
 //! Read concerns: at which time a read reads (MongoDB manual, "Read Concern").
 
 ghost use Rattle.std.specs.Prelude.{◌≡◌, ◌∷◌, [], Some, codes};
-ghost use Rattle.bson_values.specs.Tree.{document_value, get};
+ghost use Rattle.bson_model.specs.Tree.{document_value, get};
 ghost use Rattle.bson_values.specs.View.{datum_of};
 ghost use Rattle.command_model.specs.Checks as checks;
-ghost use Rattle.command_model.specs.Errors.{failed_to_parse};
+ghost use Rattle.base_model.specs.Errors.{failed_to_parse};
 ghost use Rattle.command_model.specs.Fields as fields;
 ghost use Rattle.command_model.specs.Reading as model;
 ghost use Rattle.command_model.specs.Reading.{concern_rules};

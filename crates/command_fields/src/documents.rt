@@ -2,7 +2,7 @@
 
 ghost use Rattle.std.specs.Prelude.{◌≡◌, IfOk};
 ghost use Rattle.std.specs.Option.{option_map};
-ghost use Rattle.bson_values.specs.Tree.{get};
+ghost use Rattle.bson_model.specs.Tree.{get};
 ghost use Rattle.bson_values.specs.View.{datum_of, fields_of, items_of};
 ghost use Rattle.opmsg_frames.specs.Lists.{pairs_of};
 ghost use Rattle.command_replies.specs.Kinds.{kind_view};

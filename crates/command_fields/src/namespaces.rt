@@ -1,12 +1,12 @@
 //! The database that a request names, and the namespaces of collections in it.
 
 ghost use Rattle.std.specs.Prelude.{◌≡◌, codes};
-ghost use Rattle.bson_values.specs.Tree.{get};
+ghost use Rattle.bson_model.specs.Tree.{get};
 ghost use Rattle.bson_values.specs.View.{datum_of};
 ghost use Rattle.command_model.specs.Checks.{unless_passes};
-ghost use Rattle.command_model.specs.Errors.{invalid_namespace};
+ghost use Rattle.base_model.specs.Errors.{invalid_namespace};
 ghost use Rattle.command_model.specs.Forms as model;
-ghost use Rattle.command_model.specs.Names.{full_name, is_open_namespace};
+ghost use Rattle.base_model.specs.Names.{full_name, is_open_namespace};
 ghost use Rattle.opmsg_frames.specs.RequestMeanings.{form_view};
 ghost use Rattle.command_fields.specs.FieldNames.{NamesCollection};
 ghost use Rattle.command_fields.specs.Verdicts.{ReadsBy, verdict_view};

@@ -1,7 +1,7 @@
 //! The pipeline in a field of a command. It is read once, before the fields are checked in their order; its rule tells what came of it.
 
 ghost use Rattle.std.specs.Prelude.{◌≡◌, IfOk, Ok, codes};
-ghost use Rattle.bson_values.specs.Tree.{get};
+ghost use Rattle.bson_model.specs.Tree.{get};
 ghost use Rattle.bson_values.specs.View.{datum_of};
 ghost use Rattle.command_model.specs.Reading.{unless_faulty};
 ghost use Rattle.pipeline_model.specs.Stages.{read_pipeline};

@@ -4,8 +4,8 @@ ghost use Rattle.std.specs.Prelude.{◌≡◌, ℕ, List, [], ◌∷◌, take, d
 ghost use Rattle.std.specs.List.{list_any};
 ghost use Rattle.std.specs.Option.{option_map};
 ghost use Rattle.std.specs.Str.{bytes_eq};
-ghost use Rattle.bson_values.specs.Tree.{Datum, Fields, field};
-ghost use Rattle.command_model.specs.Errors.{failed_to_parse};
+ghost use Rattle.bson_model.specs.Tree.{Datum, Fields, field};
+ghost use Rattle.base_model.specs.Errors.{failed_to_parse};
 ghost use Rattle.bson_values.specs.View.{datum_of, fields_of};
 ghost use Rattle.command_model.specs.Checks.{Verdict};
 ghost use Rattle.command_model.specs.Fields as model;

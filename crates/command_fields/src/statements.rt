@@ -2,18 +2,18 @@
 
 ghost use Rattle.std.specs.Prelude.{◌≡◌, map, None, Some, codes};
 ghost use Rattle.std.specs.Option.{option_map, option_or};
-ghost use Rattle.bson_values.specs.Tree.{get};
+ghost use Rattle.bson_model.specs.Tree.{get};
 ghost use Rattle.bson_values.specs.View.{datum_of, fields_of};
 ghost use Rattle.command_replies.specs.Kinds.{kind_view};
 ghost use Rattle.command_model.specs.Delete as deletes;
-ghost use Rattle.command_model.specs.Errors.{failed_to_parse};
+ghost use Rattle.base_model.specs.Errors.{failed_to_parse};
 ghost use Rattle.command_model.specs.Fields.{check_inner_fields};
-ghost use Rattle.command_model.specs.Keys as keys;
+ghost use Rattle.value_model.specs.Keys as keys;
 ghost use Rattle.command_model.specs.Statements as model;
 ghost use Rattle.command_model.specs.Update as updates;
 ghost use Rattle.command_model.specs.Writes.{statement_form};
 ghost use Rattle.command_fields.specs.Verdicts.{ReadsBy, verdict_view};
-ghost use Rattle.shard_records.specs.Meanings.{operation_view};
+ghost use Rattle.statement_views.specs.Views.{operation_view};
 
 use crate::checks::{boolean_needed, boolean_or, check_required, document_needed, unless_passes};
 use crate::documents::value_named;

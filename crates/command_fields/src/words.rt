@@ -3,7 +3,7 @@
 
 ghost use Rattle.std.specs.Prelude.{◌≡◌, ◌++◌, IfOk, Ok, OnOk, codes, map};
 ghost use Rattle.std.specs.Option.{option_map};
-ghost use Rattle.bson_values.specs.Tree.{get};
+ghost use Rattle.bson_model.specs.Tree.{get};
 ghost use Rattle.bson_values.specs.View.{datum_of};
 ghost use Rattle.command_model.specs.Fields as fields;
 ghost use Rattle.command_model.specs.Find.{stage_counted};

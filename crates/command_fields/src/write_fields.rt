@@ -2,11 +2,11 @@
 
 ghost use Rattle.std.specs.Prelude.{◌≡◌, None, Some, codes, length, pos};
 ghost use Rattle.std.specs.Option.{is_some, unwrap_or};
-ghost use Rattle.bson_values.specs.Tree.{get};
+ghost use Rattle.bson_model.specs.Tree.{get};
 ghost use Rattle.bson_values.specs.View.{datum_of, items_of};
 ghost use Rattle.command_replies.specs.Kinds.{given_view, kind_view};
 ghost use Rattle.command_model.specs.Checks.{unless_passes};
-ghost use Rattle.command_model.specs.Errors.{bad_value};
+ghost use Rattle.base_model.specs.Errors.{bad_value};
 ghost use Rattle.command_model.specs.Writes as model;
 ghost use Rattle.command_model.specs.Writes.{statement_form};
 ghost use Rattle.opmsg_frames.specs.Lists.{pairs_of};

@@ -2,12 +2,12 @@
 use Rattle.std.proofs.Common.{◌≡◌, ℕ, suc, ◌+◌, ◌≤◌, List, [], ◌∷◌, length, refl, Bool, true, false, Option, Some, None, if◌then◌else◌, arith, subst}
 use Rattle.std.specs.List.{AllByRecursion}
 use Rattle.std.specs.Str.{bytes_eq}
-use Rattle.opmsg_model.specs.Tree.{Datum, document_value, Items, no_items, item, Fields, no_fields, field, get, value_depth, array_depth, document_depth}
-use Rattle.opmsg_model.specs.Spelling.{written_value, written_items, written_fields}
+use Rattle.bson_model.specs.Tree.{Datum, document_value, Items, no_items, item, Fields, no_fields, field, get, value_depth, array_depth, document_depth}
+use Rattle.bson_model.specs.Spelling.{written_value, written_items, written_fields}
 use Rattle.opmsg_model.specs.MessageSizes.{IsSmall}
 use Rattle.command_model.specs.Statements.{document_or_none}
 use Rattle.command_model.specs.Writes.{documents_in}
-use Rattle.opmsg_model.proofs.Lengths.{length-framed, length-item, length-field}
+use Rattle.bson_model.proofs.Lengths.{length-framed, length-item, length-field}
 
 abbrev pub IsInside : Datum → Fields → Type 0
 IsInside value ms = (suc (value_depth value) ≤ document_depth ms) × (length (written_value value) ≤ length (written_fields ms))

@@ -3,7 +3,7 @@ use Rattle.std.proofs.Common.{◌≡◌, ℕ, List, [], ◌∷◌, ◌++◌, ref
 use Rattle.std.specs.Prelude.{Result, nat_lt}
 use Rattle.std.specs.List.{list_all}
 use Rattle.std.proofs.lemmas.List.Folds.{list_all-append}
-use Rattle.opmsg_model.specs.Tree.{Datum, array_value, document_value, Items, no_items, item, Fields, no_fields, field, get}
+use Rattle.bson_model.specs.Tree.{Datum, array_value, document_value, Items, no_items, item, Fields, no_fields, field, get}
 use Rattle.query_model.specs.Queries.{QueryFault}
 use Rattle.query_model.specs.Reading.{read_query}
 use Rattle.pipeline_model.specs.Projections.{Projection}

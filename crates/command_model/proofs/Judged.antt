@@ -2,7 +2,7 @@
 use Rattle.std.proofs.Common.{◌≡◌, List, [], ◌∷◌, refl, sym, ap, ◌∙◌, Bool, true, Option, Some, None, Ok, Err, codes}
 use Rattle.std.specs.Prelude.{Result, map, if◌then◌else◌}
 use Rattle.std.specs.List.{AllByRecursion}
-use Rattle.opmsg_model.specs.Tree.{Datum, Fields}
+use Rattle.bson_model.specs.Tree.{Datum, Fields}
 use Rattle.opmsg_model.specs.MessageSizes.{IsSmall}
 use Rattle.value_model.specs.Keys.{is_key, key_of, valid_key}
 use Rattle.base_model.specs.Errors.{bad_value}

@@ -1,12 +1,8 @@
-pub mod ShortErrors
 pub mod Passed
 pub mod Inside
 pub mod Judged
+pub mod ShortErrors
 pub mod Rows
 pub mod Int64
 pub mod Taken
-pub mod SmallAnswers
 pub mod AnswerTimes
-pub mod ToldRefusals
-pub use Rattle.base_model.proofs.OpenNames
-pub use Rattle.base_model.proofs.Replies

@@ -3,7 +3,7 @@ use Rattle.std.proofs.Common.{◌≡◌, ◌≢◌, ℕ, ◌≤◌, List, [], �
 use Rattle.std.specs.Str.{bytes_eq}
 use Rattle.std.proofs.lemmas.Slice.Eq.{bytes_eq-Decides}
 use Rattle.std.proofs.lemmas.Bool.{and_parts, leb-true}
-use Rattle.opmsg_model.specs.Tree.{Datum, Fields, no_fields, field, get}
+use Rattle.bson_model.specs.Tree.{Datum, Fields, no_fields, field, get}
 use Rattle.base_model.specs.Errors.{ErrorCode, bad_value, failed_to_parse}
 use Rattle.command_model.specs.Checks.{Verdict, first_of, is_one_of, unless_passes}
 use Rattle.command_model.specs.Fields.{Rule, by_rule, check_fields, find_rule}

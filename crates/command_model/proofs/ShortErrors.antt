@@ -2,7 +2,7 @@
 use Rattle.std.proofs.Common.{ℕ, ◌≤◌, List, [], ◌∷◌, ◌++◌, length, Bool, true, false, ◌||◌, not, Option, Some, None, if◌then◌else◌, codes, arith}
 use Rattle.std.specs.List.{AllByRecursion}
 use Rattle.std.specs.Str.{bytes_eq}
-use Rattle.opmsg_model.specs.Tree.{Datum, string_value, document_value, array_value, binary_value, boolean_value, timestamp_value, Fields, no_fields, field, get}
+use Rattle.bson_model.specs.Tree.{Datum, string_value, document_value, array_value, binary_value, boolean_value, timestamp_value, Fields, no_fields, field, get}
 use Rattle.std.specs.Prelude.{ℤ, pos, Result, Ok, Err, is_some}
 use Rattle.std.specs.Ordering.{int_eq}
 use Rattle.pipeline_model.specs.Operands.{whole_number}

@@ -3,8 +3,8 @@ use Rattle.std.proofs.Common.{◌≡◌, ◌≢◌, ℕ, ◌≤◌, List, [], �
 use Rattle.std.specs.Prelude.{Result, drop, map}
 use Rattle.std.specs.Str.{bytes_eq}
 use Rattle.std.specs.List.{AllByRecursion}
-use Rattle.opmsg_model.specs.Tree.{Datum, array_value, Fields, no_fields, field, get}
-use Rattle.opmsg_model.specs.Spelling.{written_items, written_fields}
+use Rattle.bson_model.specs.Tree.{Datum, array_value, Fields, no_fields, field, get}
+use Rattle.bson_model.specs.Spelling.{written_items, written_fields}
 use Rattle.opmsg_model.specs.Requests.{Form, Body, read_body, faulty_body, Request}
 use Rattle.opmsg_model.specs.MessageSizes.{IsSmall, IsSmallBody}
 use Rattle.base_model.specs.Errors.{failed_to_parse}
@@ -24,7 +24,7 @@ use Rattle.command_model.specs.GetMore.{more_form}
 use Rattle.command_model.specs.KillCursors.{kill_form}
 use Rattle.command_model.specs.Command.{Command, hello_command, legacy_command, ping_command, end_sessions_command, write_command, find_command, count_command, more_command, kill_command, rows, form_of, by_form, by_verdict, command_asked, command_in, command_of, or_refusal}
 use Rattle.command_model.specs.CommandSizes.{IsKeepable, IsSmallCommand, IsTaken}
-use Rattle.opmsg_model.proofs.Lengths.{length-framed}
+use Rattle.bson_model.proofs.Lengths.{length-framed}
 use Rattle.command_model.proofs.ShortErrors.{IsShort, IsShortForm, collection_short, command_short, aggregate_short, count_rules_short, cursor_number_short, documents_sequence_short, find_short, handshake_short, kill_short, more_short, required_short, statements_short, two_needed_short, write_needed_short, write_short}
 use Rattle.command_model.proofs.Passed.{few_documents, field_passed, passed_else, passed_last, passed_parts, some_counted}
 use Rattle.command_model.proofs.Judged.{HasKey, keepable, keys_passed}

@@ -1,6 +1,6 @@
 -- `aggregate` (MongoDB manual, "aggregate"; the order of refusals is own): the stages of a pipeline, and how large the first batch is.
 use Rattle.std.specs.Prelude.{List, [], ◌∷◌, false, Option, Some, None, Ok, Err, codes}
-use Rattle.opmsg_model.specs.Tree.{Datum, array_value, get}
+use Rattle.bson_model.specs.Tree.{Datum, array_value, get}
 use Rattle.base_model.specs.Errors.{failed_to_parse, type_mismatch}
 use Rattle.base_model.specs.Names.{full_name}
 use Rattle.pipeline_model.specs.Stages.{Stage, read_pipeline}

@@ -1,6 +1,6 @@
 -- Parts of the documents that answer commands (MongoDB manual, "Command Response"; the order of fields is own).
 use Rattle.std.specs.Prelude.{ℕ, pos, List, [], ◌∷◌, ◌^◌, ◌-◌, codes, if◌then◌else◌, nat_lt}
-use Rattle.opmsg_model.specs.Tree.{Datum, document_value, date_value, int32_value, int64_value, timestamp_value, Items, no_items, item, Fields, no_fields, field}
+use Rattle.bson_model.specs.Tree.{Datum, document_value, date_value, int32_value, int64_value, timestamp_value, Items, no_items, item, Fields, no_fields, field}
 
 abbrev pub number : ℕ → Datum
 number n = int32_value (pos n)

@@ -1,6 +1,6 @@
 -- The documents that answer commands.
 use Rattle.std.specs.Prelude.{ℕ, ℤ, List, Bool, codes}
-use Rattle.opmsg_model.specs.Tree.{Fields}
+use Rattle.bson_model.specs.Tree.{Fields}
 use Rattle.base_model.specs.Refusals.{Refusal}
 use Rattle.base_model.specs.ReplyParts.{refusal_reply}
 use Rattle.command_model.specs.Hello.{hello_document}

@@ -2,7 +2,7 @@
 -- and the evidence are own). Each command is a row of the list: its name and its form.
 use Rattle.std.specs.Prelude.{ℕ, List, [], ◌∷◌, Option, Some, None, Result, Ok, Err, if◌then◌else◌, codes}
 use Rattle.std.specs.Str.{bytes_eq}
-use Rattle.opmsg_model.specs.Tree.{Datum, Fields, no_fields, field}
+use Rattle.bson_model.specs.Tree.{Datum, Fields, no_fields, field}
 use Rattle.opmsg_model.specs.Requests.{Form, Body, read_body, faulty_body, Request}
 use Rattle.base_model.specs.Errors.{ErrorCode, command_not_found}
 use Rattle.base_model.specs.Refusals.{Refusal, no_document_at, without_evidence}

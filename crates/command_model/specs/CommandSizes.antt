@@ -2,10 +2,10 @@
 -- statements (MongoDB manual, "MongoDB Limits and Thresholds").
 use Rattle.std.specs.Prelude.{◌≡◌, ◌<◌, ◌≤◌, ◌+◌, ◌^◌, ℕ, List, [], ◌∷◌, length, Some, Result, Ok, Err}
 use Rattle.std.specs.List.{AllByRecursion}
-use Rattle.opmsg_model.specs.Tree.{Datum, value_depth}
+use Rattle.bson_model.specs.Tree.{Datum, value_depth}
 use Rattle.opmsg_model.specs.MessageSizes.{IsSmall, IsWithin}
 use Rattle.base_model.specs.Refusals.{Refusal}
-use Rattle.opmsg_model.specs.Spelling.{written_value}
+use Rattle.bson_model.specs.Spelling.{written_value}
 use Rattle.query_model.specs.Writes.{Write}
 use Rattle.query_model.specs.Effects.{write_key}
 use Rattle.history_model.specs.History.{Operation, insert_operation, update_operation, delete_operation, read_operation}
@@ -15,7 +15,7 @@ use Rattle.command_model.specs.Command.{Command, hello_command, legacy_command, 
 use Rattle.command_model.specs.CommandLimits.{most_statements, most_bytes_upserted, most_cursors}
 use Rattle.command_model.specs.Cursors.{Batch}
 use Rattle.pipeline_model.specs.Batches as batches
-use Rattle.opmsg_model.specs.Limits.{most_bytes_kept}
+use Rattle.bson_model.specs.Limits.{most_bytes_kept}
 
 -- the documents of an operation are small
 abbrev pub AreSmallWords : Operation → Type 0

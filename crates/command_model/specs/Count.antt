@@ -1,7 +1,7 @@
 -- `count` (MongoDB manual, "count"; the order of refusals is own): how many documents meet the query, of those that are not passed
 -- over, and no more than a limit.
 use Rattle.std.specs.Prelude.{ℕ, List, [], ◌∷◌, ◌++◌, Some, None, codes}
-use Rattle.opmsg_model.specs.Tree.{timestamp_value, Fields, field, get}
+use Rattle.bson_model.specs.Tree.{timestamp_value, Fields, field, get}
 use Rattle.base_model.specs.Errors.{failed_to_parse}
 use Rattle.base_model.specs.Names.{full_name}
 use Rattle.query_model.specs.Reading.{read_query}

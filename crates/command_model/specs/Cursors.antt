@@ -2,7 +2,7 @@
 -- manual, "Cursors", "Cursor Batches"; the order of the answers' fields is own).
 use Rattle.std.specs.Prelude.{ℕ, ℤ, pos, List, Bool, ◌&&◌, not, codes}
 use Rattle.std.specs.Option.{unwrap_or}
-use Rattle.opmsg_model.specs.Tree.{Datum, string_value, document_value, array_value, int64_value, timestamp_value, Fields, no_fields, field}
+use Rattle.bson_model.specs.Tree.{Datum, string_value, document_value, array_value, int64_value, timestamp_value, Fields, no_fields, field}
 use Rattle.base_model.specs.Names.{is_database_name, is_reserved}
 use Rattle.pipeline_model.specs.Operands.{whole_number}
 use Rattle.command_model.specs.AnswerParts.{document_items, ok, operation_time_at}

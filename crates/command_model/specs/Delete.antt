@@ -2,7 +2,7 @@
 -- then.
 use Rattle.std.specs.Prelude.{pos, List, [], ◌∷◌, ◌||◌, Some, None, codes}
 use Rattle.std.specs.Ordering.{int_eq}
-use Rattle.opmsg_model.specs.Tree.{Datum, Fields, get}
+use Rattle.bson_model.specs.Tree.{Datum, Fields, get}
 use Rattle.pipeline_model.specs.Operands.{whole_number}
 use Rattle.base_model.specs.Errors.{bad_value, type_mismatch}
 use Rattle.history_model.specs.History.{Operation, delete_operation}

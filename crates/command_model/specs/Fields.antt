@@ -3,7 +3,7 @@
 -- value fails the check.
 use Rattle.std.specs.Prelude.{ℕ, List, [], ◌∷◌, length, Bool, false, ◌&&◌, Option, Some, None, ◌==◌, if◌then◌else◌, codes}
 use Rattle.std.specs.Str.{bytes_eq}
-use Rattle.opmsg_model.specs.Tree.{Datum, string_value, document_value, binary_value, boolean_value, timestamp_value, Fields, no_fields, field, get}
+use Rattle.bson_model.specs.Tree.{Datum, string_value, document_value, binary_value, boolean_value, timestamp_value, Fields, no_fields, field, get}
 use Rattle.base_model.specs.Errors.{bad_value, failed_to_parse, type_mismatch}
 use Rattle.command_model.specs.Checks.{Verdict, first_of, is_one_of, unless_passes}
 

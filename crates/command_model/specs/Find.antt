@@ -1,7 +1,7 @@
 -- `find` (MongoDB manual, "find"; the order of refusals is own): the stages are a filter, a sort, how many are passed over, how many
 -- are shown, and a projection, each where it is given.
 use Rattle.std.specs.Prelude.{ℕ, List, [], ◌∷◌, ◌++◌, false, Option, Some, None, Result, Ok, Err, codes}
-use Rattle.opmsg_model.specs.Tree.{Datum, document_value, Fields, no_fields, field, get}
+use Rattle.bson_model.specs.Tree.{Datum, document_value, Fields, no_fields, field, get}
 use Rattle.base_model.specs.Errors.{failed_to_parse}
 use Rattle.base_model.specs.Names.{full_name}
 use Rattle.query_model.specs.Queries.{QueryFault}

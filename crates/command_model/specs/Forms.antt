@@ -2,7 +2,7 @@
 -- refusals is own).
 use Rattle.std.specs.Prelude.{ℕ, List, [], ◌∷◌, Bool, ◌||◌, not, Option, Some, None, if◌then◌else◌, codes}
 use Rattle.std.specs.Str.{bytes_eq}
-use Rattle.opmsg_model.specs.Tree.{Datum, string_value, Fields, field, get}
+use Rattle.bson_model.specs.Tree.{Datum, string_value, Fields, field, get}
 use Rattle.opmsg_model.specs.Requests.{Form, msg_form, query_form}
 use Rattle.base_model.specs.Errors.{failed_to_parse, invalid_namespace, type_mismatch}
 use Rattle.base_model.specs.Names.{is_open_namespace}

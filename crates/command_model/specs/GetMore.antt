@@ -1,6 +1,6 @@
 -- `getMore` (MongoDB manual, "getMore"; the order of refusals is own). It is answered a batch under `nextBatch`.
 use Rattle.std.specs.Prelude.{ℕ, ℤ, List, [], ◌∷◌, Option, Some, None, codes, is_some, if◌then◌else◌}
-use Rattle.opmsg_model.specs.Tree.{Datum, get}
+use Rattle.bson_model.specs.Tree.{Datum, get}
 use Rattle.base_model.specs.Errors.{failed_to_parse, invalid_namespace, type_mismatch}
 use Rattle.base_model.specs.Names.{full_name}
 use Rattle.pipeline_model.specs.Operands.{whole_number}

@@ -1,11 +1,11 @@
 -- What commands share that look at `$db` and `helloOk` alone: `hello`, `isMaster`, `ping` and `endSessions` (MongoDB manual,
 -- "hello", "ping", "endSessions"; the order of fields is own).
 use Rattle.std.specs.Prelude.{ℕ, List, [], ◌∷◌, Bool, true, false, None, if◌then◌else◌, codes}
-use Rattle.opmsg_model.specs.Tree.{string_value, boolean_value, Fields, no_fields, field}
+use Rattle.bson_model.specs.Tree.{string_value, boolean_value, Fields, no_fields, field}
 use Rattle.command_model.specs.Fields.{Rule, boolean_needed, string_needed}
 use Rattle.command_model.specs.Forms.{CommandForm, any_own, nothing_judged}
 use Rattle.command_model.specs.AnswerParts.{moment_shown, number, ok}
-use Rattle.opmsg_model.specs.Limits.{most_bytes_kept}
+use Rattle.bson_model.specs.Limits.{most_bytes_kept}
 use Rattle.command_model.specs.CommandLimits.{most_statements}
 
 abbrev pub handshake_rules : List Rule

@@ -1,6 +1,6 @@
 -- `hello` (MongoDB manual, "hello"; the order of fields is own): the handshake, at the moment of the answer.
 use Rattle.std.specs.Prelude.{ℕ, true, codes}
-use Rattle.opmsg_model.specs.Tree.{boolean_value, Fields, no_fields, field}
+use Rattle.bson_model.specs.Tree.{boolean_value, Fields, no_fields, field}
 use Rattle.command_model.specs.AnswerParts.{ok}
 use Rattle.command_model.specs.Forms.{CommandForm}
 use Rattle.command_model.specs.Handshake.{handshake_form, handshake}

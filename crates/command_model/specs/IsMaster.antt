@@ -1,7 +1,7 @@
 -- `isMaster`, also `ismaster`, the older `hello` (MongoDB manual, "hello"; the order of fields is own): the handshake in the old
 -- words, at the moment of the answer.
 use Rattle.std.specs.Prelude.{ℕ, Bool, true, false, codes}
-use Rattle.opmsg_model.specs.Tree.{boolean_value, Fields, no_fields, field, get}
+use Rattle.bson_model.specs.Tree.{boolean_value, Fields, no_fields, field, get}
 use Rattle.command_model.specs.AnswerParts.{ok}
 use Rattle.command_model.specs.Fields.{boolean_or}
 use Rattle.command_model.specs.Forms.{CommandForm}

@@ -1,6 +1,6 @@
 -- `killCursors` (MongoDB manual, "killCursors"; the order of refusals and of the answer's fields is own).
 use Rattle.std.specs.Prelude.{ℕ, ℤ, List, [], ◌∷◌, Bool, true, ◌&&◌, Option, Some, None, codes, is_some}
-use Rattle.opmsg_model.specs.Tree.{Datum, array_value, int64_value, Items, no_items, item, Fields, no_fields, field, get}
+use Rattle.bson_model.specs.Tree.{Datum, array_value, int64_value, Items, no_items, item, Fields, no_fields, field, get}
 use Rattle.base_model.specs.Errors.{failed_to_parse, type_mismatch}
 use Rattle.base_model.specs.Names.{full_name}
 use Rattle.pipeline_model.specs.Operands.{whole_number}

@@ -2,7 +2,7 @@
 -- "Cursor Batches"; the order of refusals is own).
 use Rattle.std.specs.Prelude.{ℕ, List, [], ◌∷◌, Bool, false, ◌&&◌, not, Option, Some, None, Result, Ok, Err, is_some, nat_lt, codes, if◌then◌else◌}
 use Rattle.std.specs.Str.{bytes_eq}
-use Rattle.opmsg_model.specs.Tree.{Datum, string_value, document_value, timestamp_value, Fields, get}
+use Rattle.bson_model.specs.Tree.{Datum, string_value, document_value, timestamp_value, Fields, get}
 use Rattle.base_model.specs.Errors.{bad_value, type_mismatch}
 use Rattle.query_model.specs.Queries.{QueryFault}
 use Rattle.pipeline_model.specs.Operands.{whole_number}

@@ -1,6 +1,6 @@
 -- The statements of write commands, each a document (MongoDB manual, "insert", "update", "delete"; the order of refusals is own).
 use Rattle.std.specs.Prelude.{ℕ, List, [], ◌∷◌, Option, Some, None, Ok, Err}
-use Rattle.opmsg_model.specs.Tree.{Datum, document_value, Fields, no_fields}
+use Rattle.bson_model.specs.Tree.{Datum, document_value, Fields, no_fields}
 use Rattle.value_model.specs.Keys.{is_key, key_of}
 use Rattle.query_model.specs.DocumentKeys.{key_asked_in}
 use Rattle.history_model.specs.History.{Operation, insert_operation, update_operation, delete_operation, read_operation}

@@ -1,7 +1,7 @@
 -- The statements of `update` (MongoDB manual, "update"): each has a filter that names one `_id`, a change, and whether a document is
 -- put in where none is met. `multi` means nothing then.
 use Rattle.std.specs.Prelude.{List, [], ◌∷◌, false, None, codes}
-use Rattle.opmsg_model.specs.Tree.{Fields, get}
+use Rattle.bson_model.specs.Tree.{Fields, get}
 use Rattle.history_model.specs.History.{Operation, update_operation}
 use Rattle.command_model.specs.Checks.{Verdict, first_of}
 use Rattle.command_model.specs.Fields.{Rule, boolean_needed, boolean_or, check_inner_fields, check_required, document_needed}

@@ -1,7 +1,7 @@
 -- Write commands: `insert`, `update` and `delete` (MongoDB manual, "insert", "update", "delete"; the order of refusals and of the
 -- answer's fields is own).
 use Rattle.std.specs.Prelude.{ℕ, ℤ, pos, List, [], ◌∷◌, length, map, Bool, true, ◌&&◌, Option, Some, None, nat_le, codes}
-use Rattle.opmsg_model.specs.Tree.{Datum, document_value, array_value, binary_value, Items, no_items, item, Fields, no_fields, field, get}
+use Rattle.bson_model.specs.Tree.{Datum, document_value, array_value, binary_value, Items, no_items, item, Fields, no_fields, field, get}
 use Rattle.std.specs.Option.{unwrap_or}
 use Rattle.pipeline_model.specs.Operands.{whole_number}
 use Rattle.history_model.specs.History.{Operation}

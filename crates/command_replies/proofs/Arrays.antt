@@ -1,8 +1,8 @@
 -- Arrays, made a value at a time.
 use Rattle.std.proofs.Common.{◌≡◌, ℕ, suc, ◌+◌, ◌<◌, ◌≤◌, List, ◌∷◌, length, get_or, drop, refl, sym, ◌∙◌, ap, add-one, drop-cons, arith, codes, [], Option, Some, None}
 use Rattle.std.proofs.lemmas.List.{drop_all}
-use Rattle.bson_values.specs.Tree.{Datum, array_value, Items, no_items, item, joined_items, Fields, no_fields, field, joined}
-use Rattle.command_model.specs.ReplyParts.{shown_if}
+use Rattle.bson_model.specs.Tree.{Datum, array_value, Items, no_items, item, joined_items, Fields, no_fields, field, joined}
+use Rattle.base_model.specs.ReplyParts.{shown_if}
 use Rattle.command_model.specs.AnswerParts.{number}
 use Rattle.command_model.specs.Writes.{upserted_items, upserted_shown, write_error_items, write_errors_shown}
 use Rattle.command_replies.specs.Errors.{errors_view}
@@ -10,7 +10,7 @@ use Rattle.command_replies.specs.Upserts.{upserted_view}
 use Rattle.command_replies.specs.declared.answer.Upserted.{Upserted}
 use Rattle.command_replies.specs.declared.answer.WriteError.{WriteError}
 use Rattle.std.specs.Arc.{arc_value}
-use Rattle.bson_values.proofs.Joined.{joined_items_none, joined_items_one, joined_none}
+use Rattle.bson_model.proofs.Joined.{joined_items_none, joined_items_one, joined_none}
 
 -- no evidence is shown
 pub nothing_shown : (ms : Fields) (o : Option Fields) → None ≡ o → ms ≡ joined ms (shown_if o)

@@ -1,3 +1,2 @@
 mod Arrays
 mod WriteParts
-pub use Rattle.command_model.proofs.SmallAnswers

@@ -1,6 +1,6 @@
 -- The answer to a write, a part at a time.
 use Rattle.std.proofs.Common.{◌≡◌, List, [], ◌∷◌, refl, ◌∙◌, ap, codes}
-use Rattle.bson_values.specs.Tree.{Fields, no_fields, field, joined}
+use Rattle.bson_model.specs.Tree.{Fields, no_fields, field, joined}
 use Rattle.command_model.specs.AnswerParts.{count, ok, operation_time_at}
 use Rattle.command_model.specs.Writes.{WriteKind, insert_kind, update_kind, delete_kind, WriteError, Upserted, WriteSummary, changes_shown, upserted_shown, write_document, write_errors_shown}
 use Rattle.command_replies.specs.Upserts.{changes_alone}

@@ -1,5 +1,5 @@
 -- What the program's evidence and refusals mean.
-use Rattle.command_model.specs.Refusals as model
+use Rattle.base_model.specs.Refusals as model
 use Rattle.cluster_base.specs.Codes.{meaning_of}
 use Rattle.command_replies.specs.declared.refusal.Evidence.{Evidence}
 use Rattle.command_replies.specs.declared.refusal.Evidence.TheVariants.{Nothing, Place, Greatest, Cursor, Moments, Disk, Steps, Node, Number, Oldest, Bytes}

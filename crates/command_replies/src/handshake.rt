@@ -2,7 +2,7 @@
 //! "endSessions").
 
 ghost use Rattle.std.specs.Prelude.{◌≡◌, IfOk, IsTrue, true};
-ghost use Rattle.bson_values.specs.Tree.{boolean_value, no_fields, field};
+ghost use Rattle.bson_model.specs.Tree.{boolean_value, no_fields, field};
 ghost use Rattle.bson_values.specs.Names.{has_no_zero};
 ghost use Rattle.bson_values.specs.View.{datum_of};
 ghost use Rattle.command_model.specs.Handshake.{done_document, handshake};

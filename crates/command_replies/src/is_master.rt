@@ -1,7 +1,7 @@
 //! The answer to `isMaster`, the older `hello` (MongoDB manual, "hello").
 
 ghost use Rattle.std.specs.Prelude.{◌≡◌, IfOk, true, codes};
-ghost use Rattle.bson_values.specs.Tree.{boolean_value, no_fields, field};
+ghost use Rattle.bson_model.specs.Tree.{boolean_value, no_fields, field};
 ghost use Rattle.command_model.specs.Handshake.{handshake, hello_ok};
 ghost use Rattle.command_model.specs.IsMaster.{legacy_document};
 

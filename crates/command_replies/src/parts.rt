@@ -1,7 +1,7 @@
 //! Building documents, a field at a time.
 
 ghost use Rattle.std.specs.Prelude.{◌≡◌, ◌<◌, ◌^◌, IsTrue, OnOk, pos};
-ghost use Rattle.bson_values.specs.Tree.{boolean_value, int32_value, string_value, no_fields, field, joined};
+ghost use Rattle.bson_model.specs.Tree.{boolean_value, int32_value, string_value, no_fields, field, joined};
 ghost use Rattle.bson_values.specs.Names.{has_no_zero};
 ghost use Rattle.bson_values.specs.View.{datum_of};
 ghost use Rattle.command_model.specs.AnswerParts as shown;

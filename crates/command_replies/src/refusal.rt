@@ -1,9 +1,9 @@
 //! Why requests are refused.
 
 ghost use Rattle.std.specs.Prelude.{◌≡◌, IfOk, IsTrue, OnOk, Some};
-ghost use Rattle.bson_values.specs.Tree.{joined, field, no_fields};
-ghost use Rattle.command_model.specs.Refusals as history;
-ghost use Rattle.command_model.specs.ReplyParts.{evidence_shown, refusal_reply};
+ghost use Rattle.bson_model.specs.Tree.{joined, field, no_fields};
+ghost use Rattle.base_model.specs.Refusals as history;
+ghost use Rattle.base_model.specs.ReplyParts.{evidence_shown, refusal_reply};
 ghost use Rattle.bson_values.specs.Names.{has_no_zero};
 ghost use Rattle.bson_values.specs.View.{datum_of};
 ghost use Rattle.command_replies.specs.Refusals.{evidence_view, refusal_view};

@@ -2,10 +2,10 @@
 
 ghost use Rattle.std.specs.Prelude.{◌≡◌, IfOk, OnOk, codes};
 ghost use Rattle.std.specs.Arc.{arc_value};
-ghost use Rattle.bson_values.specs.Tree.{field, joined, no_fields};
+ghost use Rattle.bson_model.specs.Tree.{field, joined, no_fields};
 ghost use Rattle.bson_values.specs.View.{datum_of};
 ghost use Rattle.command_model.specs.Writes as model;
-ghost use Rattle.command_model.specs.ReplyParts as replies;
+ghost use Rattle.base_model.specs.ReplyParts as replies;
 ghost use Rattle.command_model.specs.AnswerParts as shown;
 ghost use Rattle.command_replies.specs.Errors.{errors_view};
 ghost use Rattle.command_replies.specs.Kinds.{kind_view};

@@ -2,9 +2,9 @@
 use Rattle.std.proofs.Common.{◌≡◌, ℕ, List, [], ◌∷◌, refl, ◌∙◌, ap, Bool, true, false, ◌||◌, Option, Some, if◌then◌else◌}
 use Rattle.std.specs.Str.{bytes_eq}
 use Rattle.std.proofs.lemmas.Slice.Eq.{bytes_eq-Decides}
-use Rattle.bson_values.specs.Tree.{Datum, Fields, no_fields, field, get}
+use Rattle.bson_model.specs.Tree.{Datum, Fields, no_fields, field, get}
 use Rattle.command_model.specs.Checks.{Verdict, first_of, is_one_of}
-use Rattle.command_model.specs.Errors.{failed_to_parse}
+use Rattle.base_model.specs.Errors.{failed_to_parse}
 use Rattle.command_model.specs.Fields.{Rule, by_rule, check_fields, find_rule}
 
 -- rules of the same names, which tell the same of the values that these fields have

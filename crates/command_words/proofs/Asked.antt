@@ -1,9 +1,9 @@
 -- What the definitions tell of documents by the form of their first field.
 use Rattle.std.proofs.Common.{◌≡◌, ◌≤◌, ℕ, List, [], ◌∷◌, length, get_or, sym, ◌∙◌, ap, subst, true, Some, None, arith}
 use Rattle.std.specs.Prelude.{Result, Err, Option}
-use Rattle.bson_values.specs.Tree.{Fields, field}
-use Rattle.command_model.specs.Requests.{Form}
-use Rattle.command_model.specs.Errors.{ErrorCode, command_not_found}
+use Rattle.bson_model.specs.Tree.{Fields, field}
+use Rattle.opmsg_model.specs.Requests.{Form}
+use Rattle.base_model.specs.Errors.{ErrorCode, command_not_found}
 use Rattle.bson_values.specs.declared.value.Field.{Field}
 use Rattle.bson_values.specs.View.{datum_of, fields_of}
 use Rattle.command_model.specs.Forms.{CommandForm, Sequences}

@@ -5,4 +5,3 @@ mod Ordered
 mod Sequences
 mod Sessions
 mod WordRules
-pub use Rattle.command_model.proofs.Taken

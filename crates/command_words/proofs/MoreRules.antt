@@ -1,12 +1,12 @@
 -- What the rules of `getMore` tell of a collection that was read.
 use Rattle.std.proofs.Common.{◌≡◌, ℕ, List, [], ◌∷◌, refl, sym, ◌∙◌, ap, subst, Option, Some, None, Ok, Err, codes}
 use Rattle.std.specs.Prelude.{Result, drop}
-use Rattle.bson_values.specs.Tree.{Datum, Fields, field, get}
+use Rattle.bson_model.specs.Tree.{Datum, Fields, field, get}
 use Rattle.cluster_base.specs.Codes.{meaning_of}
 use Rattle.cluster_base.specs.declared.code.Code.{Code}
 use Rattle.cluster_base.specs.declared.namespace.Namespace.{Namespace}
 use Rattle.command_model.specs.GetMore.{more_rules}
-use Rattle.command_model.specs.Errors.{failed_to_parse}
+use Rattle.base_model.specs.Errors.{failed_to_parse}
 use Rattle.command_model.specs.Fields.{check_fields}
 use Rattle.command_model.specs.Forms.{check_collection}
 use Rattle.command_model.proofs.Passed.{field_passed}

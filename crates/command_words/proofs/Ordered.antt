@@ -1,15 +1,15 @@
 -- The checks of a command, in their order.
 use Rattle.std.proofs.Common.{◌≡◌, ℕ, List, [], ◌∷◌, refl, sym, ◌∙◌, ap, subst, Some, None, Err, codes}
 use Rattle.std.specs.Prelude.{Result}
-use Rattle.bson_values.specs.Tree.{Datum, Fields, field, get}
+use Rattle.bson_model.specs.Tree.{Datum, Fields, field, get}
 use Rattle.cluster_base.specs.Codes.{meaning_of}
 use Rattle.cluster_base.specs.declared.code.Code.{Code}
 use Rattle.command_model.specs.Checks.{Verdict, first_of}
 use Rattle.command_model.specs.Command.{Command, by_form, by_verdict}
-use Rattle.command_model.specs.Errors.{ErrorCode}
+use Rattle.base_model.specs.Errors.{ErrorCode}
 use Rattle.command_model.specs.Fields.{check_fields, names_of}
 use Rattle.command_model.specs.Forms.{CommandForm, Sequences, check_database, check_sequences, command_by, database_of}
-use Rattle.command_model.specs.Requests.{Form}
+use Rattle.opmsg_model.specs.Requests.{Form}
 use Rattle.command_words.specs.Drafts.{Drafts}
 use Rattle.command_fields.specs.Verdicts.{ReadsBy}
 use Rattle.command_words.specs.declared.draft.Draft.{Draft}

@@ -3,8 +3,8 @@ use Rattle.std.proofs.Common.{◌≡◌, ℕ, ◌≤◌, List, [], ◌∷◌, le
 use Rattle.std.specs.Option.{is_some, option_map}
 use Rattle.std.specs.Str.{bytes_eq}
 use Rattle.std.proofs.lemmas.Slice.Eq.{bytes_eq-Decides}
-use Rattle.bson_values.specs.Tree.{Datum, Fields, no_fields, field, get}
-use Rattle.command_model.specs.Errors.{failed_to_parse}
+use Rattle.bson_model.specs.Tree.{Datum, Fields, no_fields, field, get}
+use Rattle.base_model.specs.Errors.{failed_to_parse}
 use Rattle.command_model.specs.Checks.{Verdict, first_of, is_one_of}
 use Rattle.command_model.specs.Fields.{names_of}
 use Rattle.command_model.specs.Forms.{SequenceRule, Sequences, check_sequence, check_sequences}

@@ -2,12 +2,12 @@
 use Rattle.std.proofs.Common.{◌≡◌, ℕ, List, [], ◌∷◌, refl, sym, ◌∙◌, ap, subst, false, Some, None, codes}
 use Rattle.std.specs.Prelude.{Result, Ok, Err}
 use Rattle.std.specs.Str.{bytes_eq}
-use Rattle.bson_values.specs.Tree.{Datum, Fields, field, get}
+use Rattle.bson_model.specs.Tree.{Datum, Fields, field, get}
 use Rattle.command_replies.specs.Kinds.{kind_view}
 use Rattle.command_replies.specs.declared.answer.WriteKind.{WriteKind}
 use Rattle.command_replies.specs.declared.answer.WriteKind.TheVariants.{Insert, Update, Delete}
 use Rattle.command_model.specs.Checks.{Verdict}
-use Rattle.command_model.specs.Errors.{failed_to_parse}
+use Rattle.base_model.specs.Errors.{failed_to_parse}
 use Rattle.command_model.specs.Fields.{check_fields, check_session, document_needed}
 use Rattle.command_model.specs.Writes.{statement_form, write_rules}
 use Rattle.command_model.proofs.Passed.{field_passed}

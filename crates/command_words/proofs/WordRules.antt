@@ -1,9 +1,9 @@
 -- What the rules tell of words that were read, and which stages these are.
 use Rattle.std.proofs.Common.{◌≡◌, ℕ, List, [], ◌∷◌, ◌++◌, append_assoc, refl, ◌∙◌, ap, Option, Some, None, Ok, Err, codes}
 use Rattle.std.specs.Prelude.{Result, drop}
-use Rattle.bson_values.specs.Tree.{Datum, document_value, array_value, Fields, field, get}
+use Rattle.bson_model.specs.Tree.{Datum, document_value, array_value, Fields, field, get}
 use Rattle.command_model.specs.Checks.{Verdict}
-use Rattle.command_model.specs.Errors.{ErrorCode, failed_to_parse}
+use Rattle.base_model.specs.Errors.{ErrorCode, failed_to_parse}
 use Rattle.command_model.specs.Fields.{check_fields, document_needed}
 use Rattle.command_model.specs.Reading.{unless_faulty}
 use Rattle.command_model.specs.Find.{find_rules, find_stages, read_shown, shown_stages, stage_counted, stage_given}

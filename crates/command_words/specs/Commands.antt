@@ -1,7 +1,7 @@
 -- What the program's commands are.
 use Rattle.std.specs.Prelude.{◌≡◌, ℕ, map, Option, Result, Ok, Err}
-use Rattle.command_model.specs.Errors.{ErrorCode}
-use Rattle.command_model.specs.Refusals as history
+use Rattle.base_model.specs.Errors.{ErrorCode}
+use Rattle.base_model.specs.Refusals as history
 use Rattle.cluster_base.specs.Codes.{meaning_of}
 use Rattle.command_model.specs.IsMaster as legacies
 use Rattle.command_model.specs.Writes as writes
@@ -25,7 +25,7 @@ use Rattle.command_fields.specs.declared.fault.CheckFault.{CheckFault}
 use Rattle.command_fields.specs.declared.fault.CheckFault.TheVariants.{Refused, Memory}
 use Rattle.command_replies.specs.Kinds.{given_view, kind_view}
 use Rattle.command_replies.specs.Refusals.{refusal_view}
-use Rattle.shard_records.specs.Meanings.{operation_view}
+use Rattle.statement_views.specs.Views.{operation_view}
 
 abbrev pub legacy_view : program_legacies.Legacy → legacies.Legacy
 legacy_view legacy = record { shows_hello_ok = legacy.shows_hello_ok }

@@ -1,7 +1,7 @@
 -- Commands whose statements are still in their request.
 use Rattle.std.specs.Prelude.{◌≡◌, ℕ, List, [], ◌∷◌, map, Bool, Option, Some, None, Result, Ok, Err}
-use Rattle.bson_values.specs.Tree.{Fields}
-use Rattle.command_model.specs.Errors.{ErrorCode}
+use Rattle.bson_model.specs.Tree.{Fields}
+use Rattle.base_model.specs.Errors.{ErrorCode}
 use Rattle.cluster_base.specs.Codes.{meaning_of}
 use Rattle.command_model.specs.Forms.{Sequences}
 use Rattle.command_model.specs.Statements.{check_statements}

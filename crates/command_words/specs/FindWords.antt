@@ -1,6 +1,6 @@
 -- The words of a find, read.
 use Rattle.std.specs.Prelude.{◌≡◌, List, codes}
-use Rattle.bson_values.specs.Tree.{Fields, get}
+use Rattle.bson_model.specs.Tree.{Fields, get}
 use Rattle.command_model.specs.Fields.{Rule}
 use Rattle.command_words.specs.HeldRules.{find_rules_held}
 use Rattle.command_fields.specs.Words.{told, word_view, word_read}

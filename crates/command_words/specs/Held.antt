@@ -1,6 +1,6 @@
 -- A collection that is read before its turn comes to be checked.
 use Rattle.std.specs.Prelude.{◌≡◌, List, ℕ, Option, Some, None, Result, Ok, Err}
-use Rattle.bson_values.specs.Tree.{Datum}
+use Rattle.bson_model.specs.Tree.{Datum}
 use Rattle.cluster_base.specs.Codes.{meaning_of}
 use Rattle.cluster_base.specs.declared.code.Code.{Code}
 use Rattle.cluster_base.specs.declared.namespace.Namespace.{Namespace}

@@ -5,6 +5,3 @@ pub mod Held
 pub mod HeldRules
 pub mod Rows
 pub mod WriteNames
-pub use Rattle.command_model.specs.Command
-pub use Rattle.command_model.specs.CommandSizes
-pub use Rattle.command_model.specs.MessageSizes

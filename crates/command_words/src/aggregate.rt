@@ -1,11 +1,11 @@
 //! `aggregate` (MongoDB manual, "aggregate").
 
 ghost use Rattle.std.specs.Prelude.{◌≡◌, Some, codes};
-ghost use Rattle.bson_values.specs.Tree.{get};
+ghost use Rattle.bson_model.specs.Tree.{get};
 ghost use Rattle.bson_values.specs.View.{datum_of};
 ghost use Rattle.command_model.specs.Aggregate.{aggregate_form, cursor_rules};
 ghost use Rattle.command_model.specs.Command.{find_command};
-ghost use Rattle.command_model.specs.Errors.{failed_to_parse};
+ghost use Rattle.base_model.specs.Errors.{failed_to_parse};
 ghost use Rattle.command_model.specs.Fields as fields;
 ghost use Rattle.command_model.specs.Forms.{made_into};
 ghost use Rattle.command_model.specs.Reading as readings;

@@ -2,11 +2,11 @@
 
 ghost use Rattle.std.specs.Prelude.{◌≡◌, ℕ, Result, drop};
 ghost use Rattle.std.specs.Option.{option_map, option_or};
-ghost use Rattle.bson_values.specs.Faults.{Fault};
-ghost use Rattle.command_model.specs.Errors.{ErrorCode};
-ghost use Rattle.command_model.specs.Refusals.{no_document_at};
+ghost use Rattle.bson_model.specs.Faults.{Fault};
+ghost use Rattle.base_model.specs.Errors.{ErrorCode};
+ghost use Rattle.base_model.specs.Refusals.{no_document_at};
 ghost use Rattle.bson_values.specs.ReadFaults.{fault_from};
-ghost use Rattle.command_model.specs.Requests as wire;
+ghost use Rattle.opmsg_model.specs.Requests as wire;
 ghost use Rattle.opmsg_frames.specs.Lists.{pairs_of};
 ghost use Rattle.opmsg_frames.specs.RequestMeanings.{IsBody, IsMeant, form_view};
 ghost use Rattle.command_model.specs.Command as model;

@@ -1,10 +1,10 @@
 //! `count` (MongoDB manual, "count").
 
 ghost use Rattle.std.specs.Prelude.{◌≡◌, IfOk, Some, codes};
-ghost use Rattle.bson_values.specs.Tree.{get};
+ghost use Rattle.bson_model.specs.Tree.{get};
 ghost use Rattle.command_model.specs.Command.{count_command};
 ghost use Rattle.command_model.specs.Count.{count_form, count_stages};
-ghost use Rattle.command_model.specs.Errors.{failed_to_parse};
+ghost use Rattle.base_model.specs.Errors.{failed_to_parse};
 ghost use Rattle.command_model.specs.Forms.{made_into};
 ghost use Rattle.command_fields.specs.FieldNames.{NamesCollection};
 ghost use Rattle.command_words.specs.HeldRules.{count_rules_held};

@@ -4,7 +4,7 @@ ghost use Rattle.std.specs.Prelude.{◌≡◌, IfOk, Some, drop};
 ghost use Rattle.std.specs.Option.{option_map};
 ghost use Rattle.bson_values.specs.View.{datum_of};
 ghost use Rattle.command_model.specs.Command.{find_command};
-ghost use Rattle.command_model.specs.Errors.{failed_to_parse};
+ghost use Rattle.base_model.specs.Errors.{failed_to_parse};
 ghost use Rattle.command_model.specs.Fields.{find_rule};
 ghost use Rattle.command_model.specs.Find.{find_form, find_rules, find_stages};
 ghost use Rattle.command_model.specs.Forms.{made_into};

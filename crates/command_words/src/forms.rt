@@ -1,7 +1,7 @@
 //! The form of a command, and the one order in which its checks come.
 
 ghost use Rattle.std.specs.Prelude.{◌≡◌, ℕ, List, [], ◌∷◌, None, Some};
-ghost use Rattle.bson_values.specs.Tree.{Datum, Fields, field};
+ghost use Rattle.bson_model.specs.Tree.{Datum, Fields, field};
 ghost use Rattle.bson_values.specs.View.{datum_of};
 ghost use Rattle.opmsg_frames.specs.Lists.{pairs_of};
 ghost use Rattle.opmsg_frames.specs.RequestMeanings.{form_view};

@@ -1,13 +1,13 @@
 //! `getMore` (MongoDB manual, "getMore").
 
 ghost use Rattle.std.specs.Prelude.{◌≡◌, IfOk, Ok, Some, codes};
-ghost use Rattle.bson_values.specs.Tree.{get};
+ghost use Rattle.bson_model.specs.Tree.{get};
 ghost use Rattle.bson_values.specs.View.{datum_of};
 ghost use Rattle.command_model.specs.Checks as checks;
 ghost use Rattle.command_model.specs.Command.{more_command};
 ghost use Rattle.command_model.specs.Cursors as cursors;
 ghost use Rattle.command_model.specs.GetMore.{more_form};
-ghost use Rattle.command_model.specs.Errors.{failed_to_parse, invalid_namespace};
+ghost use Rattle.base_model.specs.Errors.{failed_to_parse, invalid_namespace};
 ghost use Rattle.command_model.specs.Forms.{check_collection, made_into};
 ghost use Rattle.command_words.specs.Held.{IsCollection, IsGiven, collection_told};
 ghost use Rattle.command_words.specs.HeldRules.{more_rules_held};

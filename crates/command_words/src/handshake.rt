@@ -2,7 +2,7 @@
 //! "hello", "ping", "endSessions").
 
 ghost use Rattle.std.specs.Prelude.{◌≡◌, None};
-ghost use Rattle.bson_values.specs.Tree.{Fields};
+ghost use Rattle.bson_model.specs.Tree.{Fields};
 ghost use Rattle.command_model.specs.Command as model;
 ghost use Rattle.command_model.specs.Handshake.{handshake_form, handshake_rules};
 ghost use Rattle.command_words.specs.Commands.{command_view};

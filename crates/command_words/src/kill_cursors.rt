@@ -1,12 +1,12 @@
 //! `killCursors` (MongoDB manual, "killCursors").
 
 ghost use Rattle.std.specs.Prelude.{◌≡◌, [], IfOk, Some, codes};
-ghost use Rattle.bson_values.specs.Tree.{get};
+ghost use Rattle.bson_model.specs.Tree.{get};
 ghost use Rattle.bson_values.specs.View.{datum_of, items_of};
 ghost use Rattle.command_model.specs.Command.{kill_command};
 ghost use Rattle.command_model.specs.KillCursors as model;
 ghost use Rattle.command_model.specs.KillCursors.{kill_form, kill_rules};
-ghost use Rattle.command_model.specs.Errors.{failed_to_parse};
+ghost use Rattle.base_model.specs.Errors.{failed_to_parse};
 ghost use Rattle.command_model.specs.Forms.{made_into};
 ghost use Rattle.command_fields.specs.FieldNames.{NamesCollection};
 ghost use Rattle.command_fields.specs.Verdicts.{verdict_view};

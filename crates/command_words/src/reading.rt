@@ -1,7 +1,7 @@
 //! What is read of a collection: the stages of a pipeline, at which time, and in which batches.
 
 ghost use Rattle.std.specs.Prelude.{◌≡◌, codes};
-ghost use Rattle.bson_values.specs.Tree.{get};
+ghost use Rattle.bson_model.specs.Tree.{get};
 ghost use Rattle.command_model.specs.Reading.{time_given};
 ghost use Rattle.command_words.specs.Commands.{reading_view};
 

@@ -2,7 +2,7 @@
 
 ghost use Rattle.std.specs.Prelude.{◌≡◌, Some};
 ghost use Rattle.command_replies.specs.Kinds.{kind_view};
-ghost use Rattle.command_model.specs.Errors.{failed_to_parse};
+ghost use Rattle.base_model.specs.Errors.{failed_to_parse};
 ghost use Rattle.command_model.specs.Command.{write_command};
 ghost use Rattle.command_model.specs.Forms.{made_into};
 ghost use Rattle.command_model.specs.Writes.{statement_form, write_form, write_rules};

@@ -1,17 +1,17 @@
 -- A row of the catalogue is a step that is planned.
 use Rattle.std.proofs.Common.{◌≡◌, ◌⊎◌, inl, inr, ℕ, ◌+◌, ◌<◌, List, [], ◌∷◌, ◌++◌, refl, sym, ap, subst, Bool, true, false, ◌∙◌, map}
 use Rattle.std.specs.Prelude.{Option, Some, None, IsSome, max, Result, Ok, Err, IfOk}
-use Rattle.chunk_table.specs.Tables.{Table, first_table, table_of, with_table}
+use Rattle.chunk_model.specs.Tables.{Table, first_table, table_of, with_table}
 use Rattle.known_tables.proofs.Places.{with_new}
-use Rattle.node_traits.specs.CatalogueRows.{CatalogueRow, catalogue_create, catalogue_tell, catalogue_moment, begun_at, heard, told}
+use Rattle.node_model.specs.CatalogueRows.{CatalogueRow, catalogue_create, catalogue_tell, catalogue_moment, begun_at, heard, told}
 use Rattle.node_traits.specs.Effects.{AreSound, StepPlanned, spellings}
-use Rattle.node_traits.specs.Journal.{kept_creation}
-use Rattle.node_traits.specs.Letters.{At, Body, table_ask, table_told, Letter, Input, letter_input, moment_input, Effect, nothing, sends, writes}
-use Rattle.shard_records.specs.RecordFormat.{spelled, IsSound}
-use Rattle.shard_records.specs.Records.{create_record}
-use Rattle.node_traits.specs.States.{Catalogue, catalogue_state}
-use Rattle.node_traits.specs.Steps.{IsFor, catalogue_step, other_step}
-use Rattle.node_traits.specs.Times.{time_of_moment}
+use Rattle.node_model.specs.Journal.{kept_creation}
+use Rattle.node_model.specs.Letters.{At, Body, table_ask, table_told, Letter, Input, letter_input, moment_input, Effect, nothing, sends, writes}
+use Rattle.record_model.specs.RecordFormat.{spelled, IsSound}
+use Rattle.record_model.specs.Records.{create_record}
+use Rattle.node_model.specs.States.{Catalogue, catalogue_state}
+use Rattle.node_model.specs.Steps.{IsFor, catalogue_step, other_step}
+use Rattle.base_model.specs.Times.{time_of_moment}
 use Rattle.std.specs.Arc.{arc_value}
 use Rattle.std.specs.Option.{option_map}
 use Rattle.cluster_base.specs.declared.time.Time.{Time}

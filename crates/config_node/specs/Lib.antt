@@ -1,4 +1,2 @@
 pub mod Plans
 pub mod State
-pub use Rattle.node_traits.specs.CatalogueRows
-pub use Rattle.node_traits.specs.States

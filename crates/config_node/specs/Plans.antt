@@ -1,7 +1,7 @@
 -- What a catalogue will be after a step.
 use Rattle.std.specs.Prelude.{ℕ, List, Option, Some, None}
-use Rattle.chunk_table.specs.Tables.{Table, with_table}
-use Rattle.node_traits.specs.States.{Catalogue, NodeState, catalogue_state}
+use Rattle.chunk_model.specs.Tables.{Table, with_table}
+use Rattle.node_model.specs.States.{Catalogue, NodeState, catalogue_state}
 
 -- the tables with one more, if there is one
 abbrev pub tables_with : Option Table → List Table → List Table

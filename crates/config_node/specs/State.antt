@@ -1,5 +1,5 @@
 -- The state of the definitions that the catalogue is in.
-use Rattle.node_traits.specs.States.{NodeState, catalogue_state}
+use Rattle.node_model.specs.States.{NodeState, catalogue_state}
 use Rattle.config_node.specs.declared.node.ConfigNode.{ConfigNode}
 
 abbrev pub state_of : ConfigNode → NodeState

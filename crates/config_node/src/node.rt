@@ -4,14 +4,14 @@ ghost use Rattle.std.specs.Prelude.{◌≡◌, ◌<◌, ◌≤◌, [], IfOk, IfS
 ghost use Rattle.std.specs.Arc.{arc_value};
 ghost use Rattle.std.specs.Option.{option_map};
 ghost use Rattle.node_traits.specs.Effects.{StepPlanned, last_time, time_in};
-ghost use Rattle.node_traits.specs.States.{catalogue_state, new_catalogue};
-ghost use Rattle.node_traits.specs.CatalogueRows.{AsksNothing};
-ghost use Rattle.node_traits.specs.Letters.{Letter, letter_input};
+ghost use Rattle.node_model.specs.States.{catalogue_state, new_catalogue};
+ghost use Rattle.node_model.specs.CatalogueRows.{AsksNothing};
+ghost use Rattle.node_model.specs.Letters.{Letter, letter_input};
 ghost use Rattle.protocol_model.specs.Bodies.{body_view, table_ask_view};
 ghost use Rattle.protocol_model.specs.Inputs.{input_of};
 ghost use Rattle.protocol_model.specs.Requests.{request_of};
 ghost use Rattle.protocol_model.specs.Messages.{letter_of};
-ghost use Rattle.known_tables.specs.Tables.{table_of};
+ghost use Rattle.chunk_model.specs.Tables.{table_of};
 ghost use Rattle.config_node.specs.Plans.{at_then};
 ghost use Rattle.config_node.specs.State.{state_of};
 

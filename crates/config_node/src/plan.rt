@@ -3,13 +3,13 @@
 ghost use Rattle.std.specs.Prelude.{◌≡◌, ◌+◌, ◌<◌, ◌^◌, ◌-◌, ◌∷◌, [], IfOk, Some, None, map};
 ghost use Rattle.std.specs.Arc.{arc_value};
 ghost use Rattle.std.specs.Option.{option_map};
-ghost use Rattle.chunk_table.specs.Tables.{first_table};
-ghost use Rattle.node_traits.specs.CatalogueRows.{begun_at};
-ghost use Rattle.node_traits.specs.Letters.{table_told};
+ghost use Rattle.chunk_model.specs.Tables.{first_table};
+ghost use Rattle.node_model.specs.CatalogueRows.{begun_at};
+ghost use Rattle.node_model.specs.Letters.{table_told};
 ghost use Rattle.protocol_model.specs.Bodies.{at_view};
 ghost use Rattle.protocol_model.specs.Messages.{letter_of};
-ghost use Rattle.shard_records.specs.Records.{create_record};
-ghost use Rattle.shard_records.specs.RecordFormat.{spelled, IsSound};
+ghost use Rattle.record_model.specs.Records.{create_record};
+ghost use Rattle.record_model.specs.RecordFormat.{spelled, IsSound};
 
 use bson_values::{Blob, Memory};
 use chunk_table::Table;

@@ -7,8 +7,8 @@ use Rattle.std.proofs.Math.ListN.{get_or-map}
 use Rattle.std.proofs.Math.Seq.{take-append_seam, take-suc, drop-append_seam}
 use Rattle.std.proofs.lemmas.List.Sums.{sum_by-take-le, sum_by_more}
 use Rattle.std.proofs.lemmas.Bool.Decides.{leb_tells}
-use Rattle.bson_values.specs.Tree.{Fields}
-use Rattle.bson_values.specs.Limits.{most_bytes_kept}
+use Rattle.bson_model.specs.Tree.{Fields}
+use Rattle.bson_model.specs.Limits.{most_bytes_kept}
 use Rattle.pipeline_model.specs.Lengths.{document_length, documents_length}
 use Rattle.pipeline_model.specs.Batches.{IsFew, MayBeBatch, IsBatch}
 use Rattle.cursor_shelf.specs.Cursors.{IsLongest, is_reached}

@@ -6,7 +6,7 @@ use Rattle.std.specs.Ordering.{int_cmp, is_eq}
 use Rattle.std.specs.Str.{bytes_eq}
 use Rattle.std.proofs.lemmas.Bool.{eqb-true}
 use Rattle.std.proofs.lemmas.Map.Lookups.{exact_signed}
-use Rattle.bson_values.specs.Tree.{Fields}
+use Rattle.bson_model.specs.Tree.{Fields}
 use Rattle.cursor_shelf.specs.Cursors.{OpenCursor, under, left_with}
 use Rattle.cursor_shelf.specs.Shelves.{cursor_under}
 use Rattle.cursor_shelf.specs.declared.shelf.Shelf.{Shelf}

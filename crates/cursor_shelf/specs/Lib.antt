@@ -1,3 +1,2 @@
 pub mod Cursors
 pub mod Shelves
-pub use Rattle.pipeline_model.specs.Batches

@@ -4,7 +4,7 @@ ghost use Rattle.std.specs.Prelude.{◌≡◌, ◌≤◌, ◌<◌, ◌+◌, ◌&
 ghost use Rattle.std.specs.Arc.{arc_value};
 ghost use Rattle.std.specs.Str.{bytes_eq};
 ghost use Rattle.std.specs.Vec.{vec_capacity, vec_len};
-ghost use Rattle.bson_values.specs.Limits.{most_bytes_kept};
+ghost use Rattle.bson_model.specs.Limits.{most_bytes_kept};
 ghost use Rattle.cursor_shelf.specs.Cursors.{IsLongest, is_reached};
 ghost use Rattle.pipeline_model.specs.Batches.{IsBatch};
 

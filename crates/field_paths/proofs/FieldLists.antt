@@ -4,7 +4,7 @@ use Rattle.std.specs.Prelude.{map}
 use Rattle.std.proofs.lemmas.List.{drop_all}
 use Rattle.bson_values.specs.declared.value.Field.{Field}
 use Rattle.bson_values.specs.View.{datum_of, fields_of}
-use Rattle.bson_values.specs.Tree.{Datum, Fields, no_fields, field}
+use Rattle.bson_model.specs.Tree.{Datum, Fields, no_fields, field}
 use Rattle.query_model.specs.Queries.{QueryFault}
 use Rattle.query_model.specs.Reading.{◌>>=◌}
 use Rattle.field_paths.specs.declared.path.ParseFault.{ParseFault}

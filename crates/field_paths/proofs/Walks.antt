@@ -4,7 +4,7 @@ use Rattle.std.specs.Prelude.{Option, Some, None, filter_map, flat_map}
 use Rattle.std.specs.List.{cons_option}
 use Rattle.bson_values.specs.declared.value.Value.{Value}
 use Rattle.bson_values.specs.View.{datum_of, items_of}
-use Rattle.bson_values.specs.Tree.{Datum, array_value, Items, no_items, item, Fields, get}
+use Rattle.bson_model.specs.Tree.{Datum, array_value, Items, no_items, item, Fields, get}
 use Rattle.query_model.specs.Paths.{Path, as_document, elements, values_from}
 
 one_value : (f : Datum → List Datum) (o : Option Datum) (ds : List Datum) → flat_map f (cons_option o ds) ≡ flat_map f (cons_option o []) ++ flat_map f ds

@@ -4,7 +4,7 @@ ghost use Rattle.std.specs.Prelude.{◌≡◌, ◌∷◌, ◌++◌, IfOk, OnOk};
 ghost use Rattle.bson_values.specs.View.{datum_of};
 ghost use Rattle.field_paths.specs.References.{seen};
 ghost use Rattle.query_model.specs.Paths.{values_at, values_from};
-ghost use Rattle.bson_values.specs.Tree.{array_value, document_value, item, no_items};
+ghost use Rattle.bson_model.specs.Tree.{array_value, document_value, item, no_items};
 
 use crate::path::Path;
 use bson_values::{Array, Document, Memory, Text, Value};

@@ -4,7 +4,7 @@ ghost use Rattle.std.specs.Prelude.{◌≡◌, ◌∷◌, Bool};
 ghost use Rattle.std.specs.List.{list_any};
 ghost use Rattle.bson_values.specs.View.{datum_of};
 ghost use Rattle.query_model.specs.Paths.{gap_from, has_gap, values_at, values_from};
-ghost use Rattle.bson_values.specs.Tree.{Datum, array_value, document_value};
+ghost use Rattle.bson_model.specs.Tree.{Datum, array_value, document_value};
 
 use crate::path::Path;
 use bson_values::{Array, Document, Text, Value};

@@ -6,7 +6,7 @@ use Rattle.std.specs.List.{list_any}
 use Rattle.std.specs.Map.{lookup, set_value}
 use Rattle.std.specs.Ordering.{is_eq, match_ordering}
 use Rattle.std.specs.declared.vec.Vec.{Vec}
-use Rattle.bson_values.specs.Tree.{Datum}
+use Rattle.bson_model.specs.Tree.{Datum}
 use Rattle.value_model.specs.Order.{order}
 use Rattle.pipeline_model.specs.Groups.{has_key}
 use Rattle.group_accum.specs.declared.absorb.Cell.{Cell}

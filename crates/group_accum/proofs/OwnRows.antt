@@ -3,7 +3,7 @@ use Rattle.std.proofs.Common.{◌≡◌, List, [], ◌∷◌, ◌++◌, map, ref
 use Rattle.std.specs.Prelude.{true, false, Option, Some, flat_map, unwrap_or}
 use Rattle.std.specs.List.{AllZip}
 use lib.IntN.{ℤ, +ℤ_idl}
-use Rattle.bson_values.specs.Tree.{Datum, null_value, int32_value, int64_value, Fields}
+use Rattle.bson_model.specs.Tree.{Datum, null_value, int32_value, int64_value, Fields}
 use Rattle.pipeline_model.specs.GroupSpecs.{Accumulator, sum_accumulator, count_accumulator, extreme_accumulator, GroupField, GroupSpec}
 use Rattle.pipeline_model.specs.Groups.{Cell, sum_cell, extreme_cell, PartialRow, summand, own_cell, own_row, IsJoined, IsGrouped}
 use Rattle.pipeline_model.specs.Operands.{Operand, value_of}

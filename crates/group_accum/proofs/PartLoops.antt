@@ -4,7 +4,7 @@ use Rattle.std.specs.Prelude.{Bool, true, false, codes, if◌then◌else◌}
 use Rattle.std.specs.Str.{bytes_eq}
 use Rattle.std.proofs.lemmas.List.{drop_all, map-append}
 use Rattle.bson_values.specs.declared.value.Field.{Field}
-use Rattle.bson_values.specs.Tree.{Datum, Fields}
+use Rattle.bson_model.specs.Tree.{Datum, Fields}
 use Rattle.bson_values.specs.View.{datum_of, fields_of}
 use Rattle.field_paths.proofs.FieldLists.{next_field}
 use Rattle.query_model.specs.Queries.{QueryFault}

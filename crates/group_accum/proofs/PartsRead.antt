@@ -1,7 +1,7 @@
 -- Reading operands and accumulators.
 use Rattle.std.proofs.Common.{◌≡◌, ◌≢◌, ℕ, ◌≤◌, List, [], ◌∷◌, length, Ok, Err, refl, arith}
 use Rattle.bson_values.specs.declared.value.Field.{Field}
-use Rattle.bson_values.specs.Tree.{document_value, string_value}
+use Rattle.bson_model.specs.Tree.{document_value, string_value}
 use Rattle.bson_values.specs.View.{fields_of}
 use Rattle.query_model.specs.Queries.{bad_operand}
 use Rattle.pipeline_model.specs.Operands.{constant_operand, read_operand}

@@ -3,7 +3,7 @@ use Rattle.std.proofs.Common.{◌≡◌, List, [], ◌∷◌, map, refl}
 use Rattle.std.specs.List.{AllZip}
 use Rattle.std.specs.Vec.{vec_len}
 use Rattle.std.specs.declared.vec.Vec.{Vec}
-use Rattle.bson_values.specs.Tree.{Datum}
+use Rattle.bson_model.specs.Tree.{Datum}
 use Rattle.group_accum.specs.declared.absorb.Cell.{Cell}
 use Rattle.group_accum.specs.Rows.{rows_of}
 use Rattle.group_accum.specs.View.{cell_of}

@@ -2,7 +2,7 @@
 use Rattle.std.proofs.Common.{◌≡◌, ◌⊎◌, inl, inr, ℕ, ◌<◌, ◌+◌, List, [], ◌∷◌, ◌++◌, length, get_or, drop, map, refl, sym, ap, ◌∙◌, append_assoc, arith}
 use Rattle.std.specs.Prelude.{Option, Some, None, option_map, option_and_then}
 use Rattle.std.proofs.lemmas.List.{map-append}
-use Rattle.bson_values.specs.Tree.{Datum, Fields, no_fields, field, joined}
+use Rattle.bson_model.specs.Tree.{Datum, Fields, no_fields, field, joined}
 use Rattle.bson_model.proofs.Joined.{joined_none, joined_one}
 use Rattle.field_paths.proofs.FieldLists.{next_one}
 use Rattle.pipeline_model.specs.GroupSpecs as model

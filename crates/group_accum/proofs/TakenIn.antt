@@ -6,7 +6,7 @@ use Rattle.std.specs.List.{list_any}
 use Rattle.std.specs.Map.{lookup, set_value}
 use Rattle.std.specs.declared.vec.Vec.{Vec}
 use Rattle.std.proofs.lemmas.List.{map-append}
-use Rattle.bson_values.specs.Tree.{Datum}
+use Rattle.bson_model.specs.Tree.{Datum}
 use Rattle.value_model.specs.Order.{order}
 use Rattle.value_model.proofs.Spans.{same_value_equivalence}
 use Rattle.pipeline_model.specs.GroupSpecs.{GroupSpec}

@@ -2,7 +2,7 @@
 use Rattle.std.specs.Prelude.{◌≡◌, ◌⊎◌, ℕ, ℤ, List, Bool, refl}
 use Rattle.std.proofs.Common.{inl, inr}
 use Rattle.std.specs.Coded.{Coded, code_by, coded×, coded⊎, coded_list, coded_ℕ, coded_ℤ, coded_bool}
-use Rattle.bson_values.specs.Tree.{Datum}
+use Rattle.bson_model.specs.Tree.{Datum}
 use Rattle.query_model.specs.Paths.{Path}
 use Rattle.projection.specs.Code.{path_code}
 use Rattle.value_compare.specs.Code.{datum_code}

@@ -5,7 +5,3 @@ pub mod Rows
 pub mod ShowResults
 pub mod Sizes
 pub mod View
-pub use Rattle.field_paths.specs.ReadFaults
-pub use Rattle.pipeline_model.specs.GroupSpecs
-pub use Rattle.pipeline_model.specs.Groups
-pub use Rattle.pipeline_model.specs.Lengths

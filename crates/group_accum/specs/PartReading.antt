@@ -2,7 +2,7 @@
 use Rattle.std.specs.Prelude.{ℕ, List, ◌++◌, map, Result, Ok, ok_or}
 use Rattle.query_model.specs.Queries.{QueryFault, named, unknown_operator}
 use Rattle.query_model.specs.Reading.{◌>>=◌}
-use Rattle.bson_values.specs.Tree.{Datum}
+use Rattle.bson_model.specs.Tree.{Datum}
 use Rattle.pipeline_model.specs.GroupSpecs.{Accumulator, accumulate, accumulators, extreme_accumulator, GroupParts}
 use Rattle.pipeline_model.specs.Operands.{read_operand}
 use Rattle.pipeline_model.specs.SortKeys.{Direction}

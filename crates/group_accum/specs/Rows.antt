@@ -1,7 +1,7 @@
 -- The rows of groups, and the number of documents behind them.
 use Rattle.std.specs.Prelude.{ℕ, List, map}
 use Rattle.std.specs.declared.vec.Vec.{Vec}
-use Rattle.bson_values.specs.Tree.{Datum}
+use Rattle.bson_model.specs.Tree.{Datum}
 use Rattle.pipeline_model.specs.Groups.{PartialRow}
 use Rattle.group_accum.specs.View.{cell_of}
 use Rattle.group_accum.specs.declared.absorb.Cell.{Cell}

@@ -1,7 +1,7 @@
 //! What rows show: a document of each, or that a sum overflows.
 
 ghost use Rattle.std.specs.Prelude.{◌≡◌, ◌∷◌, map, option_map};
-ghost use Rattle.bson_values.specs.Tree.{joined};
+ghost use Rattle.bson_model.specs.Tree.{joined};
 ghost use Rattle.bson_values.specs.View.{datum_of};
 ghost use Rattle.pipeline_model.specs.Groups.{count_cell, fits_in, row_document, shown, shown_fields, sum_cell};
 ghost use Rattle.group_accum.specs.ShowResults.{Shows};

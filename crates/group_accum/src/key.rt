@@ -21,7 +21,7 @@ pub(crate) struct GroupKey {
 }
 
 impl Model for GroupKey {
-    ghost use Rattle.bson_values.specs.Tree.{Datum};
+    ghost use Rattle.bson_model.specs.Tree.{Datum};
     ghost use Rattle.value_compare.specs.Code.{datum_code};
 
     ghost Value = { Datum };

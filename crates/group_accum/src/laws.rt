@@ -2,7 +2,7 @@
 
 ghost use Rattle.std.specs.Prelude.{◌++◌, List, flat_map, map};
 ghost use Rattle.std.specs.List.{AllZip};
-ghost use Rattle.bson_values.specs.Tree.{Fields};
+ghost use Rattle.bson_model.specs.Tree.{Fields};
 ghost use Rattle.pipeline_model.specs.GroupSpecs.{GroupSpec};
 ghost use Rattle.pipeline_model.specs.Groups.{IsGrouped, IsJoined, PartialRow, own_row};
 

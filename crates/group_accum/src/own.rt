@@ -1,7 +1,7 @@
 //! The row that a document is by itself.
 
 ghost use Rattle.std.specs.Prelude.{◌≡◌, IfOk, Some, map, option_map, unwrap_or};
-ghost use Rattle.bson_values.specs.Tree.{null_value};
+ghost use Rattle.bson_model.specs.Tree.{null_value};
 ghost use Rattle.bson_values.specs.View.{datum_of};
 ghost use Rattle.pipeline_model.specs.Groups.{own_cell, own_row, summand};
 ghost use Rattle.pipeline_model.specs.Operands.{value_of};

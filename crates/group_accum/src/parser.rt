@@ -2,7 +2,7 @@
 
 ghost use Rattle.std.specs.Prelude.{◌≡◌, IfErr, OnOk, Result, codes, option_map};
 ghost use Rattle.std.specs.Str.{bytes_eq};
-ghost use Rattle.bson_values.specs.Tree.{string_value};
+ghost use Rattle.bson_model.specs.Tree.{string_value};
 ghost use Rattle.bson_values.specs.View.{datum_of};
 ghost use Rattle.field_paths.specs.ReadFaults.{Fails, Gives};
 ghost use Rattle.query_model.specs.Queries.{QueryFault, named};

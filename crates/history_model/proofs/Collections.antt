@@ -5,7 +5,7 @@ use Rattle.std.specs.List.Sorted.{IsStrictlySortedBy}
 use Rattle.std.specs.Map.{keys_of, values_of}
 use Rattle.std.specs.Ordering.{is_eq}
 use Rattle.std.specs.Str.{bytes_eq}
-use Rattle.base_model.specs.Tree.{Datum, Fields}
+use Rattle.bson_model.specs.Tree.{Datum, Fields}
 use Rattle.value_model.specs.Order.{order, same_value}
 use Rattle.value_model.proofs.Flat.{order_total}
 use Rattle.query_model.proofs.Entries.{equal_is, turned, equal_turned, itself, AreAbove, above_more, above_never, sorted_insert, sorted_remove, same_find, find_insert, find_remove}

@@ -5,7 +5,7 @@ use Rattle.std.specs.List.{AllByRecursion}
 use Rattle.std.specs.Result.{result_map_both, result_ok}
 use Rattle.std.specs.Str.{bytes_eq}
 use Rattle.std.proofs.lemmas.Slice.Eq.{bytes_eq-Decides}
-use Rattle.base_model.specs.Tree.{Datum, Fields}
+use Rattle.bson_model.specs.Tree.{Datum, Fields}
 use Rattle.value_model.specs.Order.{same_value}
 use Rattle.value_model.specs.Keys.{is_key, key_of, KeyFault, valid_key}
 use Rattle.value_model.proofs.Spans.{same_value_equivalence, same_is_key}

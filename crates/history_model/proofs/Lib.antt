@@ -5,4 +5,3 @@ pub mod Noted
 pub mod Collections
 pub mod Keyed
 pub mod Versions
-pub mod StandingDocuments

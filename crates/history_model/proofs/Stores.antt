@@ -3,7 +3,7 @@ use Rattle.std.proofs.Common.{◌≡◌, ℕ, ◌<◌, List, [], ◌∷◌, ◌+
 use Rattle.std.specs.Prelude.{Bool, true, false, Option, if◌then◌else◌, filter, nat_le}
 use Rattle.std.specs.List.{AllByRecursion}
 use Rattle.std.proofs.lemmas.Bool.{lt-leb}
-use Rattle.base_model.specs.Tree.{Datum, Fields}
+use Rattle.bson_model.specs.Tree.{Datum, Fields}
 use Rattle.history_model.specs.History.{effect, Entry, writes_to, document_after, document_left, document_at}
 
 -- one more entry

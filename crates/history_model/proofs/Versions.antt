@@ -1,7 +1,7 @@
 -- One put behind others.
 use Rattle.std.proofs.Common.{◌≡◌, ℕ, List, [], ◌∷◌, ◌++◌, refl}
 use Rattle.std.specs.Prelude.{Option, None}
-use Rattle.base_model.specs.Tree.{Datum, Fields}
+use Rattle.bson_model.specs.Tree.{Datum, Fields}
 use Rattle.history_model.specs.Versions.{Put, one_more, put_after, last_put}
 
 after_push : (puts : List Put) (put : Put) (key : Datum) (time : ℕ) (before : Option Fields) →

@@ -5,7 +5,7 @@ use Rattle.std.specs.BTreeMap.{insert_entry, is_at}
 use Rattle.std.specs.List.Sorted.{IsStrictlySortedBy}
 use Rattle.std.specs.Map.{keys_of, values_of, lookup, remove_entry}
 use Rattle.std.specs.Str.{bytes_eq}
-use Rattle.base_model.specs.Tree.{Datum, Fields}
+use Rattle.bson_model.specs.Tree.{Datum, Fields}
 use Rattle.value_model.specs.Order.{order}
 use Rattle.history_model.specs.History.{Entry, key_written, effect}
 

@@ -3,7 +3,7 @@
 use Rattle.std.specs.Prelude.{◌≡◌, ◌<◌, ◌⊎◌, ℕ, ℤ, List, [], ◌∷◌, ◌++◌, Option, Some, None, Result, Ok, Err, Bool, IsTrue, ◌&&◌, if◌then◌else◌, filter, nat_le}
 use Rattle.std.specs.List.{AllByRecursion}
 use Rattle.std.specs.Str.{bytes_eq}
-use Rattle.base_model.specs.Tree.{Datum, Fields}
+use Rattle.bson_model.specs.Tree.{Datum, Fields}
 use Rattle.base_model.specs.Errors.{ErrorCode, bad_value, type_mismatch, path_not_viable, immutable_field, object_too_large, duplicate_key}
 use Rattle.query_model.specs.Queries.{QueryFault}
 pub use Rattle.query_model.specs.Edits.{same_key, is_too_large}

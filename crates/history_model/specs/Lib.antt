@@ -3,8 +3,3 @@ pub mod Documents
 pub mod Versions
 pub mod Notes
 pub mod SampleEntries
-pub use Rattle.query_model.specs.Edits
-pub use Rattle.query_model.specs.Effects
-pub use Rattle.query_model.specs.Writes
-pub use Rattle.query_model.specs.Queries
-pub use Rattle.value_model.specs.Keys

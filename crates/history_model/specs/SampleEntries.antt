@@ -1,10 +1,10 @@
 -- Values to try the definitions on.
 use Rattle.std.specs.Prelude.{ℕ, ℤ, List, [], ◌∷◌, Bool, false, None, codes, pos}
 use Prim.Native.String.{String}
-use Rattle.base_model.specs.SampleDocuments.{id_document, nested}
+use Rattle.bson_model.specs.SampleDocuments.{id_document, nested}
 use Rattle.base_model.specs.Times.{timestamp}
 use Rattle.base_model.specs.Errors.{duplicate_key}
-use Rattle.base_model.specs.Tree.{Fields, no_fields, field, document_value, array_value, no_items, int32_value}
+use Rattle.bson_model.specs.Tree.{Fields, no_fields, field, document_value, array_value, no_items, int32_value}
 use Rattle.history_model.specs.History.{Session, client_session, router_session, StatementNumber, Operation, insert_operation, update_operation, delete_operation, Outcome, done, fails_with, Entry}
 use Rattle.history_model.specs.Notes.{Note}
 

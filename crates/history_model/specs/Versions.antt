@@ -1,6 +1,6 @@
 -- Documents put under keys at times, and what was put last up to a time (MongoDB manual, "Read Concern \"snapshot\"").
 use Rattle.std.specs.Prelude.{ℕ, List, [], ◌∷◌, Bool, ◌&&◌, Option, None, nat_le, if◌then◌else◌}
-use Rattle.base_model.specs.Tree.{Datum, Fields}
+use Rattle.bson_model.specs.Tree.{Datum, Fields}
 use Rattle.value_model.specs.Order.{same_value}
 
 -- from this time on this document, or none, stands under the key

@@ -1,8 +1,8 @@
 //! The definitions on values that one can check by hand.
 
 ghost use Rattle.std.specs.Prelude.{◌≡◌, ◌∷◌, [], ℕ, codes, Some, None, negsuc, pos, false, true};
-ghost use Rattle.base_model.specs.SampleDocuments.{id_document};
-ghost use Rattle.base_model.specs.Tree.{int32_value, int64_value};
+ghost use Rattle.bson_model.specs.SampleDocuments.{id_document};
+ghost use Rattle.bson_model.specs.Tree.{int32_value, int64_value};
 ghost use Rattle.base_model.specs.Errors.{bad_value, duplicate_key, immutable_field, object_too_large, path_not_viable, type_mismatch};
 ghost use Rattle.base_model.specs.Times.{timestamp};
 ghost use Rattle.query_model.specs.Edits.{not_document_fault, not_number_fault, overflow_fault};

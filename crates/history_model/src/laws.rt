@@ -2,7 +2,7 @@
 
 ghost use Rattle.std.specs.Prelude.{◌≡◌, ◌≢◌, ◌++◌, ◌∷◌, ℕ, List, [], Option, Some, None, false, true};
 ghost use Rattle.std.specs.List.{AllByRecursion};
-ghost use Rattle.base_model.specs.Tree.{Datum, Fields};
+ghost use Rattle.bson_model.specs.Tree.{Datum, Fields};
 ghost use Rattle.value_model.specs.Keys.{is_key, key_of};
 ghost use Rattle.base_model.specs.Errors.{ErrorCode, duplicate_key, object_too_large};
 ghost use Rattle.history_model.specs.Documents.{ListsDocuments, documents_at};

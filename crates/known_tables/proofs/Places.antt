@@ -6,7 +6,7 @@ use Rattle.std.proofs.lemmas.List.{map-append, map-set, length-map}
 use Rattle.std.proofs.lemmas.Option.{slice_get-get_or, slice_get-map, slice_get_past}
 use Rattle.std.specs.Option.{option_map}
 use Rattle.std.specs.Str.{bytes_eq}
-use Rattle.chunk_table.specs.Tables.{Table, is_longer, table_of, with_table}
+use Rattle.chunk_model.specs.Tables.{Table, is_longer, table_of, with_table}
 use Rattle.known_tables.specs.Places.{place_of}
 
 -- one step, by whether the first table is that of the collection

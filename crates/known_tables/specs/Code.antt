@@ -2,7 +2,7 @@
 use Rattle.std.specs.Prelude.{ℕ, List, refl}
 use Rattle.std.specs.Coded.{Coded, code_by, coded×, coded_list, coded_ℕ}
 use Rattle.chunk_table.specs.Code.{table_code}
-use Rattle.chunk_table.specs.Tables.{Table}
+use Rattle.chunk_model.specs.Tables.{Table}
 use Rattle.known_tables.specs.KnownTables.{Known}
 
 abbrev pub known_code : Coded Known

@@ -1,7 +1,7 @@
 -- Where the table of a collection stands.
 use Rattle.std.specs.Prelude.{ℕ, suc, List, [], ◌∷◌, if◌then◌else◌}
 use Rattle.std.specs.Str.{bytes_eq}
-use Rattle.chunk_table.specs.Tables.{Table}
+use Rattle.chunk_model.specs.Tables.{Table}
 
 -- how many tables stand before that of a collection; all where there is none
 abbrev pub place_of : List ℕ → List Table → ℕ

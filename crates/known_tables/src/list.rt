@@ -3,7 +3,7 @@
 ghost use Rattle.std.specs.Prelude.{◌≡◌, ◌≤◌, [], OnOk};
 ghost use Rattle.std.specs.Arc.{arc_value};
 ghost use Rattle.std.specs.Option.{option_map};
-ghost use Rattle.chunk_table.specs.Tables.{table_of, with_table};
+ghost use Rattle.chunk_model.specs.Tables.{table_of, with_table};
 ghost use Rattle.known_tables.specs.Places.{place_of};
 
 use bson_values::Memory;

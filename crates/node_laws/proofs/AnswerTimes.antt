@@ -3,14 +3,13 @@ use Rattle.std.proofs.Common.{◌≡◌, ℕ, ℤ, ◌≤◌, List, [], ◌∷�
 use Rattle.std.specs.Prelude.{Option, Some, None, Bool, max}
 use Rattle.std.specs.List.{AllByRecursion}
 use Rattle.std.specs.Option.{unwrap_or}
-use Rattle.node_model.proofs.AnswerTimes.{time_of_write, time_of_first, time_of_next, time_of_count, time_of_killed, time_of_legacy, time_refused}
+use Rattle.command_model.proofs.AnswerTimes.{time_of_write, time_of_first, time_of_next, time_of_count, time_of_killed, time_of_legacy, time_refused}
 use Rattle.command_model.specs.Cursors.{Batch}
-use Rattle.node_model.specs.Writes.{WriteKind}
-use Rattle.node_model.specs.Refusals.{Refusal}
-use Rattle.node_model.specs.ReplyParts.{operation_time}
-use Rattle.node_model.specs.Answers.{Answer, hello_answer, legacy_answer, done_answer, first_answer, next_answer, count_answer, killed_answer, refusal_answer}
-use Rattle.node_model.specs.Answers.{answer_document}
-use Rattle.node_model.specs.Outcomes.{StatementOutcome, was_done, was_refused, Done, later, time_of, summary_of, answer_of}
+use Rattle.command_model.specs.Writes.{WriteKind}
+use Rattle.base_model.specs.Refusals.{Refusal}
+use Rattle.base_model.specs.ReplyParts.{operation_time}
+use Rattle.command_model.specs.Answers.{Answer, hello_answer, legacy_answer, done_answer, first_answer, next_answer, count_answer, killed_answer, refusal_answer, answer_document}
+use Rattle.reply_model.specs.Outcomes.{StatementOutcome, was_done, was_refused, Done, later, time_of, summary_of, answer_of}
 
 -- an answer shows no time above this one
 abbrev pub ShowsBelow : ℕ → Answer → Type 0

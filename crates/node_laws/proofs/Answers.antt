@@ -4,28 +4,23 @@ use Rattle.std.specs.Prelude.{Option, Some, None, Result, Ok, true, false, map, 
 use Rattle.std.specs.List.{AllByRecursion}
 use Rattle.std.specs.Option.{unwrap_or}
 use Rattle.history_model.proofs.Lists.{all_at, in_prefix, in_append, in_back, in_cons, in_none}
-use Rattle.reply_model.proofs.Statements.{on_first}
-use Rattle.node_model.specs.Writes.{ClientNumber, WriteCommand}
-use Rattle.node_model.specs.Refusals.{Refusal}
-use Rattle.node_model.specs.ReplyParts.{operation_time}
-use Rattle.node_model.specs.Command.{Command, write_command, command_of}
-use Rattle.node_model.specs.Reading.{Reading}
-use Rattle.node_model.specs.Answers.{answer_document}
-use Rattle.node_model.specs.Cursors.{Cursor}
-use Rattle.node_model.specs.Tables.{first_shard}
-use Rattle.node_model.specs.Documents.{documents_at}
-use Rattle.node_model.specs.Runs.{Outcome, Allows}
-use Rattle.node_model.specs.History.{StatementNumber, Operation, Entry, IsIn}
-use Rattle.node_model.specs.Exchanges.{RequestId, Asked, Answered, number_for, entries_by}
-use Rattle.node_model.specs.Outcomes.{StatementOutcome, was_done, was_refused, Done, done_of, time_of, answer_of}
-use Rattle.node_model.specs.Outcomes.{later as greatest}
-use Rattle.node_model.specs.Reads.{MayGive, IsExcess, excess_answer, excess_half, IsAhead, owned_by}
-use Rattle.node_model.specs.Right.{ends, MayBeTold, told_own, told_other, told_older, AreTold, AreStatements, AreAll, IsPart, IsWhole, Reads, find_reads}
-use Rattle.node_model.specs.Right.{count_reads, IsReadRefused, refused_overflow, refused_excess, refused_ahead}
-use Rattle.node_model.specs.Right.{IsRight, right_write, right_find, right_count, right_refused_read, right_more, right_no_cursor, right_kill, right_hello}
-use Rattle.node_model.specs.Right.{right_legacy, right_ping}
-use Rattle.node_model.specs.Right.{right_end_sessions, right_refusal}
-use Rattle.node_model.specs.OneHistory.{StandsInPart, IsPlaced, KeepsNumbers, AreNumbered}
+use Rattle.reply_facts.proofs.Statements.{on_first}
+use Rattle.command_model.specs.Writes.{ClientNumber, WriteCommand}
+use Rattle.base_model.specs.Refusals.{Refusal}
+use Rattle.base_model.specs.ReplyParts.{operation_time}
+use Rattle.command_model.specs.Command.{Command, write_command, command_of}
+use Rattle.command_model.specs.Reading.{Reading}
+use Rattle.command_model.specs.Answers.{answer_document}
+use Rattle.reply_model.specs.Cursors.{Cursor}
+use Rattle.chunk_model.specs.Tables.{first_shard}
+use Rattle.history_model.specs.Documents.{documents_at}
+use Rattle.pipeline_model.specs.Runs.{Outcome, Allows}
+use Rattle.history_model.specs.History.{StatementNumber, Operation, Entry, IsIn}
+use Rattle.reply_model.specs.Exchanges.{RequestId, Asked, Answered, number_for, entries_by}
+use Rattle.reply_model.specs.Outcomes.{StatementOutcome, was_done, was_refused, Done, done_of, time_of, answer_of, later as greatest}
+use Rattle.reply_model.specs.Reads.{MayGive, IsExcess, excess_answer, excess_half, IsAhead, owned_by}
+use Rattle.reply_model.specs.Right.{ends, MayBeTold, told_own, told_other, told_older, AreTold, AreStatements, AreAll, IsPart, IsWhole, Reads, find_reads, count_reads, IsReadRefused, refused_overflow, refused_excess, refused_ahead, IsRight, right_write, right_find, right_count, right_refused_read, right_more, right_no_cursor, right_kill, right_hello, right_legacy, right_ping, right_end_sessions, right_refusal}
+use Rattle.reply_model.specs.OneHistory.{StandsInPart, IsPlaced, KeepsNumbers, AreNumbered}
 use Rattle.node_laws.proofs.Views.{View, entries_in, creations_in, Later}
 use Rattle.node_laws.proofs.Facts.{IsFixed, IsRefusalFixed, IsSettled, AnswersFit, no_answer, one_answer, IsToldOf, NeighboursFit}
 use Rattle.node_laws.proofs.KeptDocuments.{AreOwned, all_owned, owned_same}

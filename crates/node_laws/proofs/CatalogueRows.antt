@@ -5,18 +5,17 @@ use Rattle.std.specs.List.{AllByRecursion, slice_get}
 use Rattle.std.specs.Str.{bytes_eq}
 use Rattle.std.proofs.lemmas.Slice.Eq.{bytes_eq-Decides}
 use Rattle.history_model.proofs.Lists.{all_weaken, all_append, all_at, in_back, in_first, in_later}
-use Rattle.node_model.specs.Times.{time_of_moment}
-use Rattle.node_model.specs.Catalogue.{Creation}
-use Rattle.node_model.specs.Tables.{Table, first_table, table_of}
-use Rattle.node_model.specs.History.{IsIn}
-use Rattle.node_model.specs.Exchanges.{Asked, Answered}
-use Rattle.node_model.specs.OneHistory.{WasWanted, AreDifferentNames, ids_asked, ids_told, AreDifferent}
-use Rattle.node_model.specs.Cursors.{Cursor}
+use Rattle.base_model.specs.Times.{time_of_moment}
+use Rattle.chunk_model.specs.Catalogue.{Creation}
+use Rattle.chunk_model.specs.Tables.{Table, first_table, table_of}
+use Rattle.history_model.specs.History.{IsIn}
+use Rattle.reply_model.specs.Exchanges.{Asked, Answered}
+use Rattle.reply_model.specs.OneHistory.{WasWanted, AreDifferentNames, ids_asked, ids_told, AreDifferent}
+use Rattle.reply_model.specs.Cursors.{Cursor}
 use Rattle.node_model.specs.Journal.{Kept, kept_creation, creations_kept}
 use Rattle.node_model.specs.Letters.{At, no_time, at_time, table_ask, Letter, Input, Effect, sends}
 use Rattle.node_model.specs.States.{Catalogue, catalogue_state}
-use Rattle.node_model.specs.CatalogueRows.{told, begun_at, CatalogueRow, catalogue_create, catalogue_tell, catalogue_skip, catalogue_moment, catalogue_opened}
-use Rattle.node_model.specs.CatalogueRows.{catalogue_client}
+use Rattle.node_model.specs.CatalogueRows.{told, begun_at, CatalogueRow, catalogue_create, catalogue_tell, catalogue_skip, catalogue_moment, catalogue_opened, catalogue_client}
 use Rattle.node_model.specs.World.{World}
 use Rattle.node_laws.proofs.Views.{Book, View, view_of, creations_in, Later}
 use Rattle.node_laws.proofs.Facts.{IsWanted, TableFits, AtFits, BodyFits, CatalogueFits, HeldFits, IsMet, AnswersFit, no_answer, Good}

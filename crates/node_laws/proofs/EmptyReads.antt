@@ -3,19 +3,18 @@ use Rattle.std.proofs.Common.{◌≡◌, ℕ, ◌<◌, ◌≤◌, List, [], ◌�
 use Rattle.std.specs.Prelude.{Option, Some, None, true, false, nat_le, if◌then◌else◌}
 use Rattle.std.specs.List.{AllByRecursion}
 use Rattle.std.proofs.lemmas.Bool.{eqb-true, leb-true, leb-false}
-use Rattle.value_model.specs.Keys.{is_key}
+use Rattle.value_model.specs.Keys.{is_key, Span, point_span, range_span}
 use Rattle.query_model.specs.KeySpans.{key_asked, key_equal}
 use Rattle.query_model.proofs.KeysAsked.{asked_is_key}
 use Rattle.chunk_model.proofs.FirstTables.{every_key_at}
 use Rattle.history_model.proofs.Lists.{all_at, all_from}
-use Rattle.node_model.specs.Tree.{Datum, null_value}
-use Rattle.node_model.specs.Keys.{Span, point_span, range_span}
-use Rattle.node_model.specs.Catalogue.{Creation}
-use Rattle.node_model.specs.Tables.{Table, first_table, table_of, with_table}
-use Rattle.node_model.specs.Stages.{Stage, match_stage, project_stage, group_stage, sort_stage, skip_stage, limit_stage, count_stage}
-use Rattle.node_model.specs.Split.{split, span_of_stages}
-use Rattle.node_model.specs.History.{IsIn}
-use Rattle.node_model.specs.Exchanges.{Asked}
+use Rattle.bson_model.specs.Tree.{Datum, null_value}
+use Rattle.chunk_model.specs.Catalogue.{Creation}
+use Rattle.chunk_model.specs.Tables.{Table, first_table, table_of, with_table}
+use Rattle.pipeline_model.specs.Stages.{Stage, match_stage, project_stage, group_stage, sort_stage, skip_stage, limit_stage, count_stage}
+use Rattle.pipeline_model.specs.Split.{split, span_of_stages}
+use Rattle.history_model.specs.History.{IsIn}
+use Rattle.reply_model.specs.Exchanges.{Asked}
 use Rattle.node_model.specs.Letters.{At, no_time, at_time}
 use Rattle.node_model.specs.States.{Telling, reading}
 use Rattle.node_model.specs.RouterRows.{owner_of_span, enough_of, table_for, is_for, adopted}

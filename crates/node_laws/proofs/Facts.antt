@@ -2,26 +2,21 @@
 use Rattle.std.proofs.Common.{◌≡◌, ◌≢◌, ◌⊎◌, ℕ, ◌+◌, ◌<◌, ◌≤◌, List, [], ◌∷◌, ◌++◌, Bool, false}
 use Rattle.std.specs.Prelude.{pos, Option, Some, None, Ok, true, map, filter, length, drop, ◌*◌, ◌==◌, ◌&&◌}
 use Rattle.std.specs.List.{AllByRecursion}
-use Rattle.node_model.specs.ReplyParts.{operation_time}
-use Rattle.node_model.specs.Writes.{WriteCommand}
-use Rattle.node_model.specs.Command.{write_command, command_of}
-use Rattle.node_model.specs.Reading.{Reading}
-use Rattle.node_model.specs.Cursors.{Cursor}
-use Rattle.node_model.specs.Catalogue.{Creation}
-use Rattle.node_model.specs.Tables.{Table, first_table, first_shard}
-use Rattle.node_model.specs.History.{Entry, Legal, IsIn}
-use Rattle.node_model.specs.Exchanges.{RequestId, Asked, Answered, number_for}
-use Rattle.node_model.specs.Outcomes.{Done}
-use Rattle.node_model.specs.Right.{ends, IsReadRefused, refused_overflow, refused_excess, refused_ahead, IsRight, right_write, right_find}
-use Rattle.node_model.specs.Right.{right_count, right_refused_read, right_more, right_no_cursor, right_kill, right_hello, right_legacy, right_ping}
-use Rattle.node_model.specs.Right.{right_end_sessions, right_refusal}
-use Rattle.node_model.specs.OneHistory.{IsWriteIn, WasWanted, StandsInPart, IsPlaced, AreNumbered, IsFresh, IsInOrder, Given, WasMet, ids_asked}
-use Rattle.node_model.specs.OneHistory.{ids_told, AreDifferent, AreDifferentNames}
+use Rattle.base_model.specs.ReplyParts.{operation_time}
+use Rattle.command_model.specs.Writes.{WriteCommand}
+use Rattle.command_model.specs.Command.{write_command, command_of}
+use Rattle.command_model.specs.Reading.{Reading}
+use Rattle.reply_model.specs.Cursors.{Cursor}
+use Rattle.chunk_model.specs.Catalogue.{Creation}
+use Rattle.chunk_model.specs.Tables.{Table, first_table, first_shard}
+use Rattle.history_model.specs.History.{Entry, Legal, IsIn}
+use Rattle.reply_model.specs.Exchanges.{RequestId, Asked, Answered, number_for}
+use Rattle.reply_model.specs.Outcomes.{Done}
+use Rattle.reply_model.specs.Right.{ends, IsReadRefused, refused_overflow, refused_excess, refused_ahead, IsRight, right_write, right_find, right_count, right_refused_read, right_more, right_no_cursor, right_kill, right_hello, right_legacy, right_ping, right_end_sessions, right_refusal}
+use Rattle.reply_model.specs.OneHistory.{IsWriteIn, WasWanted, StandsInPart, IsPlaced, AreNumbered, IsFresh, IsInOrder, Given, WasMet, ids_asked, ids_told, AreDifferent, AreDifferentNames}
 use Rattle.node_model.specs.Journal.{Kept, entries_kept, creations_kept}
-use Rattle.node_model.specs.Letters.{At, no_time, at_time, Statement, Body, table_ask, table_told, write_ask, write_done, read_ask, half_ask, read_rows}
-use Rattle.node_model.specs.Letters.{stale, time_ask, time_told, Letter}
-use Rattle.node_model.specs.States.{Catalogue, Shard, Router, Work, writing, reading, Wait, for_time, Open, NodeState, catalogue_state, shard_state}
-use Rattle.node_model.specs.States.{router_state, time_of_node}
+use Rattle.node_model.specs.Letters.{At, no_time, at_time, Statement, Body, table_ask, table_told, write_ask, write_done, read_ask, half_ask, read_rows, stale, time_ask, time_told, Letter}
+use Rattle.node_model.specs.States.{Catalogue, Shard, Router, Work, writing, reading, Wait, for_time, Open, NodeState, catalogue_state, shard_state, router_state, time_of_node}
 use Rattle.node_model.specs.RouterRows.{id_of, statements_from, owner_of_statement, is_ahead, block_size}
 use Rattle.node_model.specs.World.{Held, World}
 use Rattle.node_laws.proofs.Views.{Choice, Book, View, view_of, entries_in, creations_in}

@@ -4,19 +4,18 @@ use Rattle.std.specs.Prelude.{Option, Some, None, Result, Ok, Err, true, false, 
 use Rattle.std.specs.List.{AllByRecursion}
 use Rattle.std.proofs.lemmas.Bool.{leb-true, leb-false}
 use Rattle.history_model.proofs.Lists.{all_weaken, all_append, all_at, in_prefix}
-use Rattle.node_model.specs.Tree.{Fields}
-use Rattle.node_model.specs.Catalogue.{Creation}
-use Rattle.node_model.specs.Tables.{Table, first_shard}
-use Rattle.node_model.specs.Documents.{documents_at}
-use Rattle.node_model.specs.Halves.{Half, Rows, kept_at_head, may_stand_in}
-use Rattle.node_model.specs.Writes.{WriteCommand}
-use Rattle.node_model.specs.History.{StatementNumber, Entry, IsIn}
-use Rattle.node_model.specs.Exchanges.{RequestId, Asked, number_for, is_session_of, entries_by}
-use Rattle.node_model.specs.Outcomes.{StatementOutcome, Done}
-use Rattle.node_model.specs.OneHistory.{WasWanted, IsPlaced, Given}
+use Rattle.bson_model.specs.Tree.{Fields}
+use Rattle.chunk_model.specs.Catalogue.{Creation}
+use Rattle.chunk_model.specs.Tables.{Table, first_shard}
+use Rattle.history_model.specs.Documents.{documents_at}
+use Rattle.pipeline_model.specs.Halves.{Half, Rows, kept_at_head, may_stand_in}
+use Rattle.command_model.specs.Writes.{WriteCommand}
+use Rattle.history_model.specs.History.{StatementNumber, Entry, IsIn}
+use Rattle.reply_model.specs.Exchanges.{RequestId, Asked, number_for, is_session_of, entries_by}
+use Rattle.reply_model.specs.Outcomes.{StatementOutcome, Done}
+use Rattle.reply_model.specs.OneHistory.{WasWanted, IsPlaced, Given}
 use Rattle.node_model.specs.Journal.{Kept, kept_table, kept_entry, kept_creation, kept_life, kept_block, entries_kept, creations_kept}
-use Rattle.node_model.specs.Letters.{At, no_time, at_time, Statement, HalfFault, half_overflow, half_excess, Body, table_ask, table_told, write_ask}
-use Rattle.node_model.specs.Letters.{write_done, read_ask, half_ask, read_rows, stale, time_ask, time_told, Letter}
+use Rattle.node_model.specs.Letters.{At, no_time, at_time, Statement, HalfFault, half_overflow, half_excess, Body, table_ask, table_told, write_ask, write_done, read_ask, half_ask, read_rows, stale, time_ask, time_told, Letter}
 use Rattle.node_model.specs.States.{Work, writing, reading}
 use Rattle.node_laws.proofs.Views.{View, entries_in, creations_in, IsAbove, Later}
 use Rattle.node_laws.proofs.ReadFacts.{NoneBegan, IsReadOf, IsShown, IsMade, RowsFit}

@@ -2,7 +2,7 @@
 use Rattle.std.proofs.Common.{◌≡◌, ◌≢◌, ℕ, zero, suc, ◌≤◌, List, [], ◌∷◌, ◌++◌, refl, sym, ap, subst, arith, append-nil}
 use Rattle.std.specs.Prelude.{Some}
 use Rattle.std.specs.List.{AllByRecursion, slice_get, slice_set}
-use Rattle.node_model.specs.Cursors.{Cursor}
+use Rattle.reply_model.specs.Cursors.{Cursor}
 use Rattle.node_model.specs.Journal.{Kept}
 use Rattle.node_model.specs.States.{NodeState, time_of_node}
 use Rattle.node_model.specs.World.{Held, journal_at}

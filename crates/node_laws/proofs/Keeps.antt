@@ -3,23 +3,20 @@ use Rattle.std.proofs.Common.{◌≡◌, ◌≢◌, ◌⊎◌, inl, inr, ℕ, ze
 use Rattle.std.specs.Prelude.{Some, filter}
 use Rattle.std.specs.List.{AllByRecursion, slice_get, slice_set}
 use Rattle.history_model.proofs.Lists.{all_weaken, all_both, all_append, all_at, in_prefix, in_append}
-use Rattle.node_model.specs.Writes.{WriteCommand}
-use Rattle.node_model.specs.Tables.{first_shard}
-use Rattle.node_model.specs.History.{Entry, IsIn}
-use Rattle.node_model.specs.Exchanges.{Asked, Answered}
-use Rattle.node_model.specs.OneHistory.{StandsInPart, IsPlaced, AreNumbered, IsFresh, IsInOrder, Given, ids_asked, ids_told, AreDifferent}
+use Rattle.command_model.specs.Writes.{WriteCommand}
+use Rattle.chunk_model.specs.Tables.{first_shard}
+use Rattle.history_model.specs.History.{Entry, IsIn}
+use Rattle.reply_model.specs.Exchanges.{Asked, Answered}
+use Rattle.reply_model.specs.OneHistory.{StandsInPart, IsPlaced, AreNumbered, IsFresh, IsInOrder, Given, ids_asked, ids_told, AreDifferent}
 use Rattle.node_model.specs.Journal.{Kept, entries_kept, creations_kept}
-use Rattle.node_model.specs.Letters.{Body, table_ask, table_told, write_ask, write_done, read_ask, half_ask, read_rows, stale, time_ask, time_told, Letter}
-use Rattle.node_model.specs.Letters.{Effect}
+use Rattle.node_model.specs.Letters.{Body, table_ask, table_told, write_ask, write_done, read_ask, half_ask, read_rows, stale, time_ask, time_told, Letter, Effect}
 use Rattle.node_model.specs.States.{Shard, NodeState, catalogue_state, shard_state, router_state, time_of_node}
 use Rattle.node_model.specs.World.{Held, World, asked_by, answered_by, after, journal_at}
 use Rattle.node_model.proofs.Journals.{journal_here}
 use Rattle.node_laws.proofs.Views.{Choice, Book, View, view_of, time_at, entries_in, creations_in, Later}
 use Rattle.node_laws.proofs.Places.{EachAt, each_set}
 use Rattle.node_laws.proofs.WriteFacts.{WasMade}
-use Rattle.node_laws.proofs.Facts.{BodyFits, ShardFits, StateFits, is_of, HeldFits, IsMet, AnswersFit, IsPast, IsToldOf, TimeFits, TellsAll, AreBegun}
-use Rattle.node_laws.proofs.Facts.{NeighboursFit}
-use Rattle.node_laws.proofs.Facts.{IsCatalogue, IsShard, InOrder, SentFits, Good, SameKind}
+use Rattle.node_laws.proofs.Facts.{BodyFits, ShardFits, StateFits, is_of, HeldFits, IsMet, AnswersFit, IsPast, IsToldOf, TimeFits, TellsAll, AreBegun, NeighboursFit, IsCatalogue, IsShard, InOrder, SentFits, Good, SameKind}
 use Rattle.node_laws.proofs.Owes.{asked_after, answered_after, IsSaid, OwesIn, Owes}
 use Rattle.node_laws.proofs.Lists.{map_longer}
 use Rattle.node_laws.proofs.Growth.{letter_grows, met_later}

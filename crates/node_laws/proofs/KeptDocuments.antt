@@ -21,12 +21,12 @@ use Rattle.history_model.specs.Documents.{document_under, row_written, rows_afte
 use Rattle.history_model.proofs.Collections.{lists_collection}
 use Rattle.history_model.proofs.Keyed.{after_under, written_is_key}
 use Rattle.history_model.proofs.Lists.{all_weaken, all_at, in_cons, in_none}
-use Rattle.node_model.specs.Tree.{Datum, Fields}
-use Rattle.node_model.specs.Catalogue.{Creation}
-use Rattle.node_model.specs.Tables.{first_table, first_shard, owner_at}
-use Rattle.node_model.specs.History.{key_written, same_key, writes_to, effect, Entry, document_after, IsIn}
-use Rattle.node_model.specs.OneHistory.{IsPlaced, AreDifferentNames}
-use Rattle.node_model.specs.Reads.{is_on, is_owned, owned_by}
+use Rattle.bson_model.specs.Tree.{Datum, Fields}
+use Rattle.chunk_model.specs.Catalogue.{Creation}
+use Rattle.chunk_model.specs.Tables.{first_table, first_shard, owner_at}
+use Rattle.history_model.specs.History.{key_written, same_key, writes_to, effect, Entry, document_after, IsIn}
+use Rattle.reply_model.specs.OneHistory.{IsPlaced, AreDifferentNames}
+use Rattle.reply_model.specs.Reads.{is_on, is_owned, owned_by}
 use Rattle.node_laws.proofs.Lists.{all_filtered}
 
 -- WHICH ENTRIES COUNT

@@ -5,10 +5,10 @@ use Rattle.std.specs.List.{AllByRecursion}
 use Rattle.std.specs.Str.{bytes_eq}
 use Rattle.std.proofs.lemmas.Slice.Eq.{bytes_eq-Decides}
 use Rattle.history_model.proofs.Lists.{all_at, in_first, in_later, in_none, in_cons}
-use Rattle.node_model.specs.Catalogue.{Creation}
-use Rattle.node_model.specs.Tables.{Table, table_of, with_table, is_longer}
-use Rattle.node_model.specs.History.{IsIn}
-use Rattle.node_model.specs.OneHistory.{AreDifferentNames}
+use Rattle.chunk_model.specs.Catalogue.{Creation}
+use Rattle.chunk_model.specs.Tables.{Table, table_of, with_table, is_longer}
+use Rattle.history_model.specs.History.{IsIn}
+use Rattle.reply_model.specs.OneHistory.{AreDifferentNames}
 use Rattle.node_model.specs.RouterRows.{adopted}
 
 pub record FoundTable (namespace : List ℕ) (tables : List Table) (t : Table) : Type 0 where

@@ -4,13 +4,13 @@ use Rattle.std.specs.Prelude.{Option, Some, None, true, false, length, drop, is_
 use Rattle.std.specs.List.{AllByRecursion}
 use Rattle.std.proofs.lemmas.Bool.{leb-true, leb-false}
 use Rattle.history_model.proofs.Lists.{all_at, in_back, in_first, in_prefix}
-use Rattle.node_model.specs.Errors.{ErrorCode}
-use Rattle.node_model.specs.Refusals.{Refusal, without_evidence}
-use Rattle.node_model.specs.Writes.{ClientNumber, WriteCommand}
-use Rattle.node_model.specs.History.{StatementNumber, Operation, Entry, IsIn}
-use Rattle.node_model.specs.Exchanges.{RequestId, Asked, number_for}
-use Rattle.node_model.specs.Outcomes.{StatementOutcome, is_older, Done, answer_by, done_of}
-use Rattle.node_model.specs.Right.{ends, IsEntryAt}
+use Rattle.base_model.specs.Errors.{ErrorCode}
+use Rattle.base_model.specs.Refusals.{Refusal, without_evidence}
+use Rattle.command_model.specs.Writes.{ClientNumber, WriteCommand}
+use Rattle.history_model.specs.History.{StatementNumber, Operation, Entry, IsIn}
+use Rattle.reply_model.specs.Exchanges.{RequestId, Asked, number_for}
+use Rattle.reply_model.specs.Outcomes.{StatementOutcome, is_older, Done, answer_by, done_of}
+use Rattle.reply_model.specs.Right.{ends, IsEntryAt}
 use Rattle.node_model.specs.Letters.{Statement}
 use Rattle.node_model.specs.Service.{entry_for, Serves, serves_no_more, serves_again, serves_new, ends_again, ends_new}
 use Rattle.node_model.specs.RouterRows.{statements_from}

@@ -4,18 +4,14 @@ use Rattle.std.specs.Prelude.{true, false, ◌==◌, ◌&&◌, nat_lt, if◌then
 use Rattle.std.specs.List.{AllByRecursion}
 use Rattle.std.proofs.lemmas.Bool.{ltb-true, ltb-false, eqb-true, eqb-false}
 use Rattle.history_model.proofs.Lists.{all_weaken, all_append}
-use Rattle.node_model.specs.Times.{time_of_moment}
-use Rattle.node_model.specs.Exchanges.{Asked}
-use Rattle.node_model.specs.OneHistory.{Given, last_from, last_given}
+use Rattle.base_model.specs.Times.{time_of_moment}
+use Rattle.reply_model.specs.Exchanges.{Asked}
+use Rattle.reply_model.specs.OneHistory.{Given, last_from, last_given}
 use Rattle.node_model.specs.Letters.{Letter, Input, client_input, letter_input, moment_input, opened_input, Taken, Effect, nothing}
 use Rattle.node_model.specs.States.{Catalogue, Shard, Router, NodeState, catalogue_state, shard_state, router_state}
 use Rattle.node_model.specs.CatalogueRows.{CatalogueRow, catalogue_create, catalogue_tell, catalogue_skip, catalogue_moment, catalogue_opened, catalogue_client}
-use Rattle.node_model.specs.ShardRows.{ShardRow, shard_write, shard_repeat, shard_empty, shard_park, shard_waits, shard_stale, shard_read, shard_rows}
-use Rattle.node_model.specs.ShardRows.{shard_excess, shard_overflow, shard_time, shard_learn, shard_known, shard_skip, shard_moment, shard_opened}
-use Rattle.node_model.specs.ShardRows.{shard_client}
-use Rattle.node_model.specs.RouterRows.{RouterRow, begins, router_begin, router_opened, router_plain, router_more, router_no_cursor, router_kill, router_take}
-use Rattle.node_model.specs.RouterRows.{router_learn, router_reach, router_ahead, router_note, router_wrote, router_read, router_excess, router_overflow}
-use Rattle.node_model.specs.RouterRows.{router_late, router_skip, router_moment}
+use Rattle.node_model.specs.ShardRows.{ShardRow, shard_write, shard_repeat, shard_empty, shard_park, shard_waits, shard_stale, shard_read, shard_rows, shard_excess, shard_overflow, shard_time, shard_learn, shard_known, shard_skip, shard_moment, shard_opened, shard_client}
+use Rattle.node_model.specs.RouterRows.{RouterRow, begins, router_begin, router_opened, router_plain, router_more, router_no_cursor, router_kill, router_take, router_learn, router_reach, router_ahead, router_note, router_wrote, router_read, router_excess, router_overflow, router_late, router_skip, router_moment}
 use Rattle.node_model.specs.Steps.{Step, catalogue_step, shard_step, router_step, begin_step, other_step}
 use Rattle.node_model.specs.World.{World, asked_by, moment_in, Moves}
 use Rattle.node_laws.proofs.Places.{EachAt, each_get, each_set}

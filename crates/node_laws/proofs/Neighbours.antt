@@ -2,10 +2,10 @@
 use Rattle.std.proofs.Common.{◌≡◌, ◌≢◌, ℕ, ◌<◌, ◌≤◌, refl, sym, ap, subst, arith}
 use Rattle.std.specs.List.{AllByRecursion}
 use Rattle.history_model.proofs.Lists.{all_weaken}
-use Rattle.node_model.specs.Catalogue.{Creation}
-use Rattle.node_model.specs.Tables.{first_shard}
-use Rattle.node_model.specs.History.{Entry}
-use Rattle.node_model.specs.OneHistory.{StandsInPart, IsPlaced, AreNumbered, AreDifferentNames}
+use Rattle.chunk_model.specs.Catalogue.{Creation}
+use Rattle.chunk_model.specs.Tables.{first_shard}
+use Rattle.history_model.specs.History.{Entry}
+use Rattle.reply_model.specs.OneHistory.{StandsInPart, IsPlaced, AreNumbered, AreDifferentNames}
 use Rattle.node_model.specs.Journal.{entries_kept, creations_kept}
 use Rattle.node_model.specs.World.{World, journal_at}
 use Rattle.node_laws.proofs.Views.{Book, View, view_of, time_at, entries_in, creations_in, Later}

@@ -6,15 +6,14 @@ use Rattle.std.specs.Str.{bytes_eq}
 use Rattle.std.proofs.lemmas.Bool.{ltb-false}
 use Rattle.std.proofs.lemmas.Slice.Eq.{bytes_eq-Decides}
 use Rattle.history_model.proofs.Lists.{all_at}
-use Rattle.node_model.specs.Cursors.{Cursor}
-use Rattle.node_model.specs.Stages.{Stage}
-use Rattle.node_model.specs.Tables.{Table}
-use Rattle.node_model.specs.Exchanges.{Asked, Answered}
-use Rattle.node_model.specs.OneHistory.{Given}
+use Rattle.reply_model.specs.Cursors.{Cursor}
+use Rattle.pipeline_model.specs.Stages.{Stage}
+use Rattle.chunk_model.specs.Tables.{Table}
+use Rattle.reply_model.specs.Exchanges.{Asked, Answered}
+use Rattle.reply_model.specs.OneHistory.{Given}
 use Rattle.node_model.specs.Letters.{At, Reply}
 use Rattle.node_model.specs.States.{Telling, in_batches, as_number, Work, writing, reading, Wait, for_time, for_table, for_shards, Open, Router}
-use Rattle.node_model.specs.RouterRows.{id_of, table_for, is_ahead, reply_to, empty_answer, is_for, is_for_table, adopted, Next, stays, is_told, next_without}
-use Rattle.node_model.specs.RouterRows.{next_waiting, next_of}
+use Rattle.node_model.specs.RouterRows.{id_of, table_for, is_ahead, reply_to, empty_answer, is_for, is_for_table, adopted, Next, stays, is_told, next_without, next_waiting, next_of}
 use Rattle.node_laws.proofs.Views.{View}
 use Rattle.node_laws.proofs.ReadFacts.{NoneBegan, IsDecided}
 use Rattle.node_laws.proofs.Facts.{IsKnownTable, TableFits, WorkFits, HasTime, IsOpenOf, ToldBelow, IsMet, AnswerFits, NeighboursFit}

@@ -2,9 +2,9 @@
 use Rattle.std.proofs.Common.{◌≡◌, ◌≢◌, ◌⊎◌, inl, inr, ℕ, List, [], ◌∷◌, ◌++◌, sym, ap, subst, ◌∙◌}
 use Rattle.std.specs.List.{AllByRecursion, flat_map}
 use Rattle.history_model.proofs.Lists.{all_weaken, all_both, all_append, in_first, in_later, in_cons}
-use Rattle.node_model.specs.History.{IsIn}
-use Rattle.node_model.specs.Exchanges.{RequestId, Answered}
-use Rattle.node_model.specs.OneHistory.{ids_told}
+use Rattle.history_model.specs.History.{IsIn}
+use Rattle.reply_model.specs.Exchanges.{RequestId, Answered}
+use Rattle.reply_model.specs.OneHistory.{ids_told}
 use Rattle.node_model.specs.Letters.{Letter, Reply}
 use Rattle.node_model.specs.States.{Open, Router}
 use Rattle.node_model.specs.RouterRows.{id_of, Next, stays, is_told, stay_in, letters_in, replies_in}

@@ -4,11 +4,11 @@ use Rattle.std.specs.Prelude.{pos, Option, Some, None, true, false, map, length,
 use Rattle.std.specs.List.{AllByRecursion}
 use Rattle.std.proofs.lemmas.Bool.{eqb-true}
 use Rattle.history_model.proofs.Lists.{all_weaken, all_append, all_at, in_none, in_cons}
-use Rattle.node_model.specs.Writes.{ClientNumber, WriteCommand}
-use Rattle.node_model.specs.History.{router_session, StatementNumber, Operation, Entry, IsIn}
-use Rattle.node_model.specs.Exchanges.{RequestId, Asked, number_for, is_session_of, entries_by}
-use Rattle.node_model.specs.Outcomes.{StatementOutcome, Done, answer_by, done_of}
-use Rattle.node_model.specs.Right.{ends, AreStatements, AreAll, IsPart, told_by}
+use Rattle.command_model.specs.Writes.{ClientNumber, WriteCommand}
+use Rattle.history_model.specs.History.{router_session, StatementNumber, Operation, Entry, IsIn}
+use Rattle.reply_model.specs.Exchanges.{RequestId, Asked, number_for, is_session_of, entries_by}
+use Rattle.reply_model.specs.Outcomes.{StatementOutcome, Done, answer_by, done_of}
+use Rattle.reply_model.specs.Right.{ends, AreStatements, AreAll, IsPart, told_by}
 use Rattle.node_model.specs.Letters.{Statement}
 use Rattle.node_model.specs.RouterRows.{statements_from, noted, is_answered}
 use Rattle.node_laws.proofs.WriteFacts.{IsAnswerOf, by_entry, by_older, IsDoneAt, AreAnswers, OnlyLast, WasMade}

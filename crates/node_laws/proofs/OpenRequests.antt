@@ -4,14 +4,14 @@ use Rattle.std.specs.Prelude.{Some, None, true, false, ◌==◌, if◌then◌els
 use Rattle.std.specs.List.{AllByRecursion}
 use Rattle.std.proofs.lemmas.Bool.{eqb-true, eqb-false}
 use Rattle.history_model.proofs.Lists.{all_weaken, in_first, in_later, in_none, in_cons}
-use Rattle.node_model.specs.History.{IsIn}
-use Rattle.node_model.specs.Exchanges.{RequestId, same_request, Answered}
-use Rattle.node_model.specs.OneHistory.{ids_told, AreDifferent}
+use Rattle.history_model.specs.History.{IsIn}
+use Rattle.reply_model.specs.Exchanges.{RequestId, same_request, Answered}
+use Rattle.reply_model.specs.OneHistory.{ids_told, AreDifferent}
 use Rattle.node_model.specs.States.{Open, Router, open_with, without, replaced}
 use Rattle.node_model.specs.RouterRows.{id_of, open_of}
 use Rattle.node_laws.proofs.Facts.{counts_of, AreDifferentCounts}
 use Rattle.node_laws.proofs.Lists.{all_of}
-use Rattle.node_model.proofs.Requests.{same_id}
+use Rattle.reply_facts.proofs.Requests.{same_id}
 
 -- LOOKING UP
 

@@ -3,20 +3,19 @@ use Rattle.std.proofs.Common.{◌≡◌, ◌≢◌, inl, inr, ℕ, ◌≤◌, Li
 use Rattle.std.specs.Prelude.{None, filter}
 use Rattle.std.specs.List.{AllByRecursion}
 use Rattle.history_model.proofs.Lists.{all_weaken, all_append, in_prefix}
-use Rattle.node_model.specs.History.{IsIn}
-use Rattle.node_model.specs.Exchanges.{RequestId, Asked, Answered}
-use Rattle.node_model.specs.OneHistory.{WasWanted, IsPlaced, Given, ids_asked, ids_told, AreDifferent}
+use Rattle.history_model.specs.History.{IsIn}
+use Rattle.reply_model.specs.Exchanges.{RequestId, Asked, Answered}
+use Rattle.reply_model.specs.OneHistory.{WasWanted, IsPlaced, Given, ids_asked, ids_told, AreDifferent}
 use Rattle.node_model.specs.Journal.{Kept}
 use Rattle.node_model.specs.Letters.{Letter}
-use Rattle.node_model.specs.Cursors.{Cursor}
+use Rattle.reply_model.specs.Cursors.{Cursor}
 use Rattle.node_model.specs.States.{Router, Work, writing, reading, Open, NodeState, catalogue_state, shard_state, router_state, time_of_node}
 use Rattle.node_model.specs.RouterRows.{id_of}
 use Rattle.node_model.specs.World.{Held}
 use Rattle.node_laws.proofs.Views.{Choice, View, creations_in, chosen_time, Later}
 use Rattle.node_laws.proofs.ReadFacts.{WaitsFor, IsDecided}
 use Rattle.node_laws.proofs.WriteFacts.{WasMade}
-use Rattle.node_laws.proofs.Facts.{IsKnownTable, ParkedFits, HasTime, IsOpenOf, IsBy, ToldBelow, IsClosedOrOpen, RouterFits, StateFits, IsGiven, is_of}
-use Rattle.node_laws.proofs.Facts.{OwnCursors, HeldFits}
+use Rattle.node_laws.proofs.Facts.{IsKnownTable, ParkedFits, HasTime, IsOpenOf, IsBy, ToldBelow, IsClosedOrOpen, RouterFits, StateFits, IsGiven, is_of, OwnCursors, HeldFits}
 use Rattle.node_laws.proofs.Choices.{none_longer, none_of_others, decided_stays}
 use Rattle.node_laws.proofs.OwnCursors.{same_lives}
 use Rattle.node_laws.proofs.Lists.{map_longer}

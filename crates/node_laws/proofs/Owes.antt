@@ -2,11 +2,11 @@
 use Rattle.std.proofs.Common.{◌≡◌, ◌≢◌, ℕ, ◌≤◌, List, ◌++◌}
 use Rattle.std.specs.Prelude.{filter}
 use Rattle.std.specs.List.{AllByRecursion}
-use Rattle.node_model.specs.Times.{time_of_moment}
-use Rattle.node_model.specs.Cursors.{Cursor}
-use Rattle.node_model.specs.Exchanges.{Asked, Answered}
-use Rattle.node_model.specs.History.{IsIn}
-use Rattle.node_model.specs.OneHistory.{IsFresh, IsInOrder, Given, ids_asked, ids_told, AreDifferent}
+use Rattle.base_model.specs.Times.{time_of_moment}
+use Rattle.reply_model.specs.Cursors.{Cursor}
+use Rattle.reply_model.specs.Exchanges.{Asked, Answered}
+use Rattle.history_model.specs.History.{IsIn}
+use Rattle.reply_model.specs.OneHistory.{IsFresh, IsInOrder, Given, ids_asked, ids_told, AreDifferent}
 use Rattle.node_model.specs.Letters.{Letter, Input, client_input, letter_input, moment_input, opened_input, Taken, Reply, Effect}
 use Rattle.node_model.specs.States.{NodeState, time_of_node}
 use Rattle.node_model.specs.World.{Held, World, asked_by, answered_by, journal_at}

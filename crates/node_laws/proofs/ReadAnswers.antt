@@ -1,42 +1,40 @@
 -- What reads are told is right, and stays so.
 use Rattle.std.proofs.Common.{◌≡◌, inl, inr, ℕ, ◌<◌, ◌≤◌, List, [], ◌∷◌, zero, suc, refl, sym, ap, subst, ◌∙◌, arith, append-nil, Bool}
-use Rattle.std.specs.Prelude.{pos, Some, None, true, false, filter, flat_map, length, drop, take, codes, ◌^◌, nat_lt, ◌-◌, IsPermutation, IsSortedBy}
-use Rattle.std.specs.Prelude.{if◌then◌else◌}
+use Rattle.std.specs.Prelude.{pos, Some, None, true, false, filter, flat_map, length, drop, take, codes, ◌^◌, nat_lt, ◌-◌, IsPermutation, IsSortedBy, if◌then◌else◌}
 use Rattle.std.specs.List.{list_all}
 use Rattle.std.specs.Option.{unwrap_or}
 use Rattle.std.proofs.lemmas.Bool.{ltb-true}
 use Rattle.std.proofs.lemmas.List.Sorted.{IsPermutation-refl}
 use Rattle.pipeline_model.specs.Batches.{IsBatch}
 use Rattle.pipeline_model.specs.Lengths.{excess_of_answer, excess_of_half}
-use Rattle.pipeline_model.specs.Runs.{Outcome, listed, overflowed, Runs, count_documents, no_stage_run, match_run, project_run, sort_run, skip_run, limit_run}
-use Rattle.pipeline_model.specs.Runs.{count_run, group_run}
+use Rattle.pipeline_model.specs.Runs.{Outcome, listed, overflowed, Runs, count_documents, no_stage_run, match_run, project_run, sort_run, skip_run, limit_run, count_run, group_run}
 use Rattle.pipeline_model.specs.SortKeys.{SortSpec, comes_before}
-use Rattle.pipeline_model.proofs.PartRows.{chain_of, one_way_of}
+use Rattle.pipeline_laws.proofs.PartRows.{chain_of, one_way_of}
 use Rattle.pipeline_model.proofs.OrderedLists.{sorted_from_up}
 use Rattle.pipeline_model.specs.Halves.{Half, Rows, IsHalf, may_stand_in, MergesInTurn}
 use Rattle.pipeline_model.specs.Split.{split}
-use Rattle.pipeline_model.proofs.KeptAtHead.{half_of_kept}
-use Rattle.pipeline_model.proofs.MergedHalves.{halves_merge}
-use Rattle.pipeline_model.proofs.OutsideSpan.{split_half_outside, split_run_outside}
+use Rattle.pipeline_laws.proofs.KeptAtHead.{half_of_kept}
+use Rattle.pipeline_laws.proofs.MergedHalves.{halves_merge}
+use Rattle.pipeline_laws.proofs.OutsideSpan.{split_half_outside, split_run_outside}
 use Rattle.command_model.specs.Cursors.{Batch}
-use Rattle.node_model.specs.Tree.{Fields}
-use Rattle.node_model.specs.Errors.{overflow}
-use Rattle.node_model.specs.Refusals.{without_evidence}
-use Rattle.node_model.specs.Reading.{Reading}
-use Rattle.node_model.specs.Answers.{first_answer, count_answer, refusal_answer, answer_document}
-use Rattle.node_model.specs.Stages.{Stage, has_int64, match_stage, project_stage, group_stage, sort_stage, skip_stage, limit_stage, count_stage}
-use Rattle.node_model.specs.Cursors.{Cursor, Opens, opens_none}
-use Rattle.node_model.specs.Documents.{documents_at}
-use Rattle.node_model.specs.Tables.{first_shard}
-use Rattle.node_model.specs.History.{IsIn}
-use Rattle.node_model.specs.Exchanges.{RequestId, Asked, Answered}
-use Rattle.node_model.specs.Reads.{IsTimeRead, MayGive, IsExcess, excess_half}
-use Rattle.node_model.specs.Right.{asks_for_one, usual_size, refused_overflow, refused_excess, right_find, right_count, right_refused_read}
-use Rattle.node_model.specs.OneHistory.{ids_asked, AreDifferent}
+use Rattle.bson_model.specs.Tree.{Fields}
+use Rattle.base_model.specs.Errors.{overflow}
+use Rattle.base_model.specs.Refusals.{without_evidence}
+use Rattle.command_model.specs.Reading.{Reading}
+use Rattle.command_model.specs.Answers.{first_answer, count_answer, refusal_answer, answer_document}
+use Rattle.pipeline_model.specs.Stages.{Stage, has_int64, match_stage, project_stage, group_stage, sort_stage, skip_stage, limit_stage, count_stage}
+use Rattle.reply_model.specs.Cursors.{Cursor, Opens, opens_none}
+use Rattle.history_model.specs.Documents.{documents_at}
+use Rattle.chunk_model.specs.Tables.{first_shard}
+use Rattle.history_model.specs.History.{IsIn}
+use Rattle.reply_model.specs.Exchanges.{RequestId, Asked, Answered}
+use Rattle.reply_model.specs.Reads.{IsTimeRead, MayGive, IsExcess, excess_half}
+use Rattle.reply_model.specs.Right.{asks_for_one, usual_size, refused_overflow, refused_excess, right_find, right_count, right_refused_read}
+use Rattle.reply_model.specs.OneHistory.{ids_asked, AreDifferent}
 use Rattle.node_model.specs.States.{Telling, in_batches, as_number, Open}
 use Rattle.node_model.specs.RouterRows.{too_much, empty_answer}
 use Rattle.node_model.specs.ShardRows.{IsTold}
-use Rattle.node_model.proofs.Requests.{one_asked}
+use Rattle.reply_facts.proofs.Requests.{one_asked}
 use Rattle.node_laws.proofs.Views.{View, entries_in, creations_in, chosen_time}
 use Rattle.node_laws.proofs.ReadFacts.{NoneBegan, IsTelling, tells_find, tells_count, IsReading, IsMade}
 use Rattle.node_laws.proofs.Facts.{IsFixed, NeighboursFit}

@@ -3,20 +3,20 @@ use Rattle.std.proofs.Common.{◌≡◌, ℕ, ◌<◌, ◌≤◌, List}
 use Rattle.std.specs.Prelude.{Some, None, Result, Ok, Err, Bool, true, false}
 use Rattle.std.specs.List.{AllByRecursion}
 use Rattle.std.specs.Option.{unwrap_or}
-use Rattle.node_model.specs.Tree.{Fields}
-use Rattle.node_model.specs.Catalogue.{Creation}
-use Rattle.node_model.specs.Tables.{first_shard}
-use Rattle.node_model.specs.Command.{find_command, count_command, command_of}
-use Rattle.node_model.specs.Find.{Find}
-use Rattle.node_model.specs.Reading.{Reading}
-use Rattle.node_model.specs.Exchanges.{RequestId, Asked}
-use Rattle.node_model.specs.History.{IsIn}
-use Rattle.node_model.specs.Reads.{IfReached, time_wanted}
-use Rattle.node_model.specs.Right.{Reads, asks_for_one, usual_size}
-use Rattle.node_model.specs.Stages.{Stage}
-use Rattle.node_model.specs.Halves.{Half, Rows, IsHalf}
-use Rattle.node_model.specs.Lengths.{excess_of_half}
-use Rattle.node_model.specs.Split.{split}
+use Rattle.bson_model.specs.Tree.{Fields}
+use Rattle.chunk_model.specs.Catalogue.{Creation}
+use Rattle.chunk_model.specs.Tables.{first_shard}
+use Rattle.command_model.specs.Command.{find_command, count_command, command_of}
+use Rattle.command_model.specs.Find.{Find}
+use Rattle.command_model.specs.Reading.{Reading}
+use Rattle.reply_model.specs.Exchanges.{RequestId, Asked}
+use Rattle.history_model.specs.History.{IsIn}
+use Rattle.reply_model.specs.Reads.{IfReached, time_wanted}
+use Rattle.reply_model.specs.Right.{Reads, asks_for_one, usual_size}
+use Rattle.pipeline_model.specs.Stages.{Stage}
+use Rattle.pipeline_model.specs.Halves.{Half, Rows, IsHalf}
+use Rattle.pipeline_model.specs.Lengths.{excess_of_half}
+use Rattle.pipeline_model.specs.Split.{split}
 use Rattle.node_model.specs.Letters.{HalfFault, half_overflow, half_excess}
 use Rattle.node_model.specs.States.{Telling, in_batches, as_number, Work, writing, reading}
 use Rattle.node_model.specs.Service.{documents_at}

@@ -4,14 +4,14 @@ use Rattle.std.specs.Prelude.{Option, Some, None, Result, Ok, true, false, max, 
 use Rattle.std.specs.List.{list_all}
 use Rattle.std.specs.Option.{unwrap_or}
 use Rattle.std.proofs.lemmas.Bool.{leb-true, leb-false}
-use Rattle.node_model.specs.Refusals.{Refusal}
-use Rattle.node_model.specs.Command.{Command, find_command, count_command, command_of}
-use Rattle.node_model.specs.Find.{Find}
-use Rattle.node_model.specs.Reading.{Reading}
-use Rattle.node_model.specs.Exchanges.{RequestId, Asked, Answered}
-use Rattle.node_model.specs.Stages.{has_int64}
-use Rattle.node_model.specs.Reads.{IfReached, IsTimeRead, named_time, own_time, later_time, time_wanted}
-use Rattle.node_model.specs.Right.{Reads, find_reads, count_reads}
+use Rattle.base_model.specs.Refusals.{Refusal}
+use Rattle.command_model.specs.Command.{Command, find_command, count_command, command_of}
+use Rattle.command_model.specs.Find.{Find}
+use Rattle.command_model.specs.Reading.{Reading}
+use Rattle.reply_model.specs.Exchanges.{RequestId, Asked, Answered}
+use Rattle.pipeline_model.specs.Stages.{has_int64}
+use Rattle.reply_model.specs.Reads.{IfReached, IsTimeRead, named_time, own_time, later_time, time_wanted}
+use Rattle.reply_model.specs.Right.{Reads, find_reads, count_reads}
 use Rattle.node_model.specs.States.{Telling}
 use Rattle.command_model.proofs.Taken.{int64_of_find, int64_of_count}
 use Rattle.node_laws.proofs.Views.{View, chosen_time}

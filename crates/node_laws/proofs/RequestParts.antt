@@ -1,20 +1,19 @@
 -- Where an ask to write is served, its entries are sent and placed, and of each request a prefix stands.
-use Rattle.std.proofs.Common.{◌≡◌, ◌≢◌, ℕ, ◌+◌, ◌<◌, List, [], ◌∷◌, ◌++◌, refl, sym, ap, subst, ◌∙◌, arith, append_assoc}
-use Rattle.std.proofs.Common.{append-nil, Bool}
+use Rattle.std.proofs.Common.{◌≡◌, ◌≢◌, ℕ, ◌+◌, ◌<◌, List, [], ◌∷◌, ◌++◌, refl, sym, ap, subst, ◌∙◌, arith, append_assoc, append-nil, Bool}
 use Rattle.std.specs.Prelude.{Option, Some, None, Result, Ok, true, false, map, length, drop, if◌then◌else◌}
 use Rattle.std.specs.List.{AllByRecursion}
 use Rattle.std.proofs.lemmas.List.{length-map}
 use Rattle.chunk_model.proofs.FirstTables.{only_now, owned_at}
-use Rattle.node_model.specs.Tree.{Datum}
-use Rattle.node_model.specs.Writes.{ClientNumber, WriteCommand}
-use Rattle.node_model.specs.Refusals.{Refusal}
-use Rattle.node_model.specs.Command.{Command, write_command, command_of}
-use Rattle.node_model.specs.Tables.{Table, first_table, first_shard, owner_now}
-use Rattle.node_model.specs.History.{StatementNumber, Operation, Entry, IsIn, key_written}
-use Rattle.node_model.specs.Exchanges.{RequestId, same_request, Asked, number_for, is_session_of, entries_by}
-use Rattle.node_model.specs.Outcomes.{Done, done_of}
-use Rattle.node_model.specs.Right.{ends, AreStatements, IsPart, told_by}
-use Rattle.node_model.specs.OneHistory.{StandsInPart, IsPlaced, ids_asked, AreDifferent}
+use Rattle.bson_model.specs.Tree.{Datum}
+use Rattle.command_model.specs.Writes.{ClientNumber, WriteCommand}
+use Rattle.base_model.specs.Refusals.{Refusal}
+use Rattle.command_model.specs.Command.{Command, write_command, command_of}
+use Rattle.chunk_model.specs.Tables.{Table, first_table, first_shard, owner_now}
+use Rattle.history_model.specs.History.{StatementNumber, Operation, Entry, IsIn, key_written}
+use Rattle.reply_model.specs.Exchanges.{RequestId, same_request, Asked, number_for, is_session_of, entries_by}
+use Rattle.reply_model.specs.Outcomes.{Done, done_of}
+use Rattle.reply_model.specs.Right.{ends, AreStatements, IsPart, told_by}
+use Rattle.reply_model.specs.OneHistory.{StandsInPart, IsPlaced, ids_asked, AreDifferent}
 use Rattle.node_model.specs.Letters.{Statement}
 use Rattle.node_model.specs.Service.{Serves}
 use Rattle.node_model.specs.RouterRows.{statements_from, owner_of_statement}
@@ -22,7 +21,7 @@ use Rattle.node_laws.proofs.Views.{View, creations_in}
 use Rattle.node_laws.proofs.Facts.{IsOwned, IsWriteOf}
 use Rattle.node_laws.proofs.Lists.{all_unmapped, all_within, all_prefix}
 use Rattle.node_laws.proofs.Growth.{entries_by_longer}
-use Rattle.node_model.proofs.Requests.{same_id, one_asked}
+use Rattle.reply_facts.proofs.Requests.{same_id, one_asked}
 use Rattle.node_laws.proofs.Requests.{other_number}
 use Rattle.node_laws.proofs.SeenStatements.{true_false, own_session}
 use Rattle.node_laws.proofs.NotedOutcomes.{HasNoOther}

@@ -3,14 +3,14 @@ use Rattle.std.proofs.Common.{◌≡◌, ◌≢◌, ℕ, ◌+◌, ◌<◌, List,
 use Rattle.std.specs.Prelude.{Option, Some, None, true, false, if◌then◌else◌}
 use Rattle.std.specs.List.{AllByRecursion}
 use Rattle.history_model.proofs.Lists.{all_weaken, all_append, all_at}
-use Rattle.node_model.specs.Writes.{ClientNumber}
-use Rattle.node_model.specs.History.{Session, client_session, router_session, StatementNumber, Entry}
-use Rattle.node_model.specs.Exchanges.{RequestId, same_request, Asked, Answered, number_for, is_session_of, entries_by}
-use Rattle.node_model.specs.Right.{Sends, AreStatements}
-use Rattle.node_model.specs.OneHistory.{StandsInPart, IsNotBefore, IsFresh, ids_asked, AreDifferent}
+use Rattle.command_model.specs.Writes.{ClientNumber}
+use Rattle.history_model.specs.History.{Session, client_session, router_session, StatementNumber, Entry}
+use Rattle.reply_model.specs.Exchanges.{RequestId, same_request, Asked, Answered, number_for, is_session_of, entries_by}
+use Rattle.reply_model.specs.Right.{Sends, AreStatements}
+use Rattle.reply_model.specs.OneHistory.{StandsInPart, IsNotBefore, IsFresh, ids_asked, AreDifferent}
 use Rattle.node_model.specs.Letters.{Taken, Reply}
 use Rattle.node_model.specs.World.{asked_by, answered_by}
-use Rattle.node_model.proofs.Requests.{same_id}
+use Rattle.reply_facts.proofs.Requests.{same_id}
 use Rattle.node_laws.proofs.WriteFacts.{WasMade}
 use Rattle.node_laws.proofs.Lists.{all_of}
 use Rattle.node_laws.proofs.SeenStatements.{own_session}

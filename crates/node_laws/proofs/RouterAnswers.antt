@@ -1,28 +1,23 @@
 -- What a router tells is right, and stays so.
-use Rattle.std.proofs.Common.{◌≡◌, ◌≢◌, ◌⊎◌, inl, inr, ℕ, ◌+◌, ◌<◌, ◌≤◌, List, [], ◌∷◌, ◌++◌, refl, sym, ap, subst, ◌∙◌, arith, append-nil, append_assoc}
-use Rattle.std.proofs.Common.{Bool}
+use Rattle.std.proofs.Common.{◌≡◌, ◌≢◌, ◌⊎◌, inl, inr, ℕ, ◌+◌, ◌<◌, ◌≤◌, List, [], ◌∷◌, ◌++◌, refl, sym, ap, subst, ◌∙◌, arith, append-nil, append_assoc, Bool}
 use Rattle.std.specs.Prelude.{pos, Option, Some, None, Result, Ok, Err, true, false, length, int_lt, if◌then◌else◌}
 use Rattle.std.specs.List.{AllByRecursion}
 use Rattle.history_model.proofs.Lists.{all_weaken, all_at, in_push}
-use Rattle.node_model.specs.Refusals.{Refusal, time_ahead}
-use Rattle.node_model.specs.Writes.{ClientNumber, WriteCommand, WriteKind}
-use Rattle.node_model.specs.Command.{Command, hello_command, legacy_command, ping_command, end_sessions_command, write_command, find_command, count_command}
-use Rattle.node_model.specs.Command.{more_command, kill_command}
-use Rattle.node_model.specs.Command.{command_of}
-use Rattle.node_model.specs.Answers.{Answer, hello_answer, legacy_answer, refusal_answer, answer_document}
-use Rattle.node_model.specs.Cursors.{Cursor}
-use Rattle.node_model.specs.Tables.{first_shard}
-use Rattle.node_model.specs.History.{StatementNumber, Operation, Entry, IsIn}
-use Rattle.node_model.specs.Exchanges.{RequestId, Asked, Answered, number_for, entries_by}
-use Rattle.node_model.specs.Outcomes.{StatementOutcome, Done, answer_of}
-use Rattle.node_model.specs.Right.{ends, IsStatement, HadSent, MayBeTold, told_own, told_other, told_older, AreTold, IsPart, told_by, AreAll, right_write}
-use Rattle.node_model.specs.Right.{right_refused_read, refused_ahead, right_hello, right_legacy, right_ping}
-use Rattle.node_model.specs.Right.{right_end_sessions, right_refusal}
-use Rattle.node_model.specs.OneHistory.{StandsInPart, ids_asked, AreDifferent}
+use Rattle.base_model.specs.Refusals.{Refusal, time_ahead}
+use Rattle.command_model.specs.Writes.{ClientNumber, WriteCommand, WriteKind}
+use Rattle.command_model.specs.Command.{Command, hello_command, legacy_command, ping_command, end_sessions_command, write_command, find_command, count_command, more_command, kill_command, command_of}
+use Rattle.command_model.specs.Answers.{Answer, hello_answer, legacy_answer, refusal_answer, answer_document}
+use Rattle.reply_model.specs.Cursors.{Cursor}
+use Rattle.chunk_model.specs.Tables.{first_shard}
+use Rattle.history_model.specs.History.{StatementNumber, Operation, Entry, IsIn}
+use Rattle.reply_model.specs.Exchanges.{RequestId, Asked, Answered, number_for, entries_by}
+use Rattle.reply_model.specs.Outcomes.{StatementOutcome, Done, answer_of}
+use Rattle.reply_model.specs.Right.{ends, IsStatement, HadSent, MayBeTold, told_own, told_other, told_older, AreTold, IsPart, told_by, AreAll, right_write, right_refused_read, refused_ahead, right_hello, right_legacy, right_ping, right_end_sessions, right_refusal}
+use Rattle.reply_model.specs.OneHistory.{StandsInPart, ids_asked, AreDifferent}
 use Rattle.node_model.specs.Letters.{Statement, Reply}
 use Rattle.node_model.specs.States.{writing, Open, Router}
 use Rattle.node_model.specs.RouterRows.{statements_from, noted, is_answered, at_once, plan_of, reply_to}
-use Rattle.node_model.proofs.Requests.{number_same, one_asked}
+use Rattle.reply_facts.proofs.Requests.{number_same, one_asked}
 use Rattle.node_laws.proofs.Views.{View, entries_in}
 use Rattle.node_laws.proofs.ReadFacts.{IsAwaited}
 use Rattle.node_laws.proofs.WriteFacts.{IsAnswerOf, by_entry, by_older, IsDoneAt, AreAnswers, OnlyLast, WasMade}

@@ -4,21 +4,20 @@ use Rattle.std.specs.Prelude.{Option, Some, None, true, false, max, nat_lt, ifâ—
 use Rattle.std.specs.List.{AllByRecursion, flat_map}
 use Rattle.std.proofs.lemmas.Bool.{ltb-true}
 use Rattle.history_model.proofs.Lists.{all_weaken, all_append, all_at}
-use Rattle.node_model.specs.Times.{time_of_moment}
-use Rattle.node_model.specs.Answers.{Answer}
-use Rattle.node_model.specs.Cursors.{Cursor}
-use Rattle.node_model.specs.Tables.{Table}
-use Rattle.node_model.specs.History.{IsIn}
-use Rattle.node_model.specs.Exchanges.{RequestId, Asked}
-use Rattle.node_model.specs.OneHistory.{ids_asked}
+use Rattle.base_model.specs.Times.{time_of_moment}
+use Rattle.command_model.specs.Answers.{Answer}
+use Rattle.reply_model.specs.Cursors.{Cursor}
+use Rattle.chunk_model.specs.Tables.{Table}
+use Rattle.history_model.specs.History.{IsIn}
+use Rattle.reply_model.specs.Exchanges.{RequestId, Asked}
+use Rattle.reply_model.specs.OneHistory.{ids_asked}
 use Rattle.node_model.specs.Journal.{Kept}
 use Rattle.node_model.specs.States.{Work, for_time, Open, Router, router_state, replaced, without}
 use Rattle.node_model.specs.RouterRows.{id_of, Opened, as_before, table_for, wait_by, asks_for, asks_again, wait_of, going_on, is_ahead, reply_to}
 use Rattle.node_model.specs.World.{World, journal_at}
 use Rattle.node_laws.proofs.Views.{Choice, Book, View, view_of, chosen_time, IsAbove, Later}
 use Rattle.node_laws.proofs.ReadFacts.{IsDecided}
-use Rattle.node_laws.proofs.Facts.{IsKnownTable, WorkFits, AreSeen, IsOpenOf, ToldBelow, RouterFits, HeldFits, IsMet, AnswerFits, AnswersFit, no_answer}
-use Rattle.node_laws.proofs.Facts.{one_answer, NeighboursFit, Good}
+use Rattle.node_laws.proofs.Facts.{IsKnownTable, WorkFits, AreSeen, IsOpenOf, ToldBelow, RouterFits, HeldFits, IsMet, AnswerFits, AnswersFit, no_answer, one_answer, NeighboursFit, Good}
 use Rattle.node_laws.proofs.Owes.{IsSaid, Owes}
 use Rattle.node_laws.proofs.Growth.{known_grows, met_later, met_max}
 use Rattle.node_laws.proofs.OpenRequests.{all_without, all_replaced, parted_same, parted_replaced, parted_without}

@@ -3,29 +3,27 @@ use Rattle.std.proofs.Common.{◌≡◌, ◌≢◌, inl, inr, ℕ, ◌+◌, ◌<
 use Rattle.std.specs.Prelude.{Option, Some, None, true, false, nat_lt, if◌then◌else◌}
 use Rattle.std.specs.List.{AllByRecursion}
 use Rattle.history_model.proofs.Lists.{all_weaken, all_at}
-use Rattle.node_model.specs.Refusals.{time_ahead}
-use Rattle.node_model.specs.Answers.{refusal_answer}
-use Rattle.node_model.specs.Cursors.{Cursor}
-use Rattle.node_model.specs.Stages.{Stage}
-use Rattle.node_model.specs.Tables.{Table, first_shard}
-use Rattle.node_model.specs.Writes.{WriteCommand, WriteKind}
-use Rattle.node_model.specs.Command.{command_of}
-use Rattle.node_model.specs.History.{IsIn}
-use Rattle.node_model.specs.Exchanges.{RequestId, Asked, Answered}
-use Rattle.node_model.specs.OneHistory.{ids_asked}
-use Rattle.node_model.specs.Outcomes.{Done, answer_of}
+use Rattle.base_model.specs.Refusals.{time_ahead}
+use Rattle.command_model.specs.Answers.{refusal_answer}
+use Rattle.reply_model.specs.Cursors.{Cursor}
+use Rattle.pipeline_model.specs.Stages.{Stage}
+use Rattle.chunk_model.specs.Tables.{Table, first_shard}
+use Rattle.command_model.specs.Writes.{WriteCommand, WriteKind}
+use Rattle.command_model.specs.Command.{command_of}
+use Rattle.history_model.specs.History.{IsIn}
+use Rattle.reply_model.specs.Exchanges.{RequestId, Asked, Answered}
+use Rattle.reply_model.specs.OneHistory.{ids_asked}
+use Rattle.reply_model.specs.Outcomes.{Done, answer_of}
 use Rattle.node_model.specs.Journal.{Kept, entries_kept}
 use Rattle.node_model.specs.Letters.{At, Statement, Body, table_told, write_done, time_told, Letter, Reply}
 use Rattle.node_model.specs.States.{Telling, writing, reading, for_time, Open, Router, router_state, replaced, without}
 use Rattle.node_model.specs.RouterRows.{id_of, heard, as_before, reached, asks_for, going_on, noted, is_answered, reply_to, adopted, next_of, Next}
 use Rattle.node_model.specs.World.{World, answered_by}
-use Rattle.node_model.proofs.Requests.{one_asked}
+use Rattle.reply_facts.proofs.Requests.{one_asked}
 use Rattle.node_laws.proofs.Views.{Book, View, view_of, entries_in, chosen_time}
 use Rattle.node_laws.proofs.WriteFacts.{AreAnswers}
 use Rattle.node_laws.proofs.ReadFacts.{IsAwaited, WaitsFor}
-use Rattle.node_laws.proofs.Facts.{IsKnownTable, TableFits, IsDoneOf, BodyFits, WorkFits, AreSeen, HasTime, IsOpenOf, ToldBelow, HeldFits, IsMet, AnswerFits}
-use Rattle.node_laws.proofs.Facts.{AnswersFit, no_answer, one_answer}
-use Rattle.node_laws.proofs.Facts.{IsPast, TimeFits, SentFits, Good}
+use Rattle.node_laws.proofs.Facts.{IsKnownTable, TableFits, IsDoneOf, BodyFits, WorkFits, AreSeen, HasTime, IsOpenOf, ToldBelow, HeldFits, IsMet, AnswerFits, AnswersFit, no_answer, one_answer, IsPast, TimeFits, SentFits, Good}
 use Rattle.node_laws.proofs.Owes.{IsSaid, Owes}
 use Rattle.node_laws.proofs.Lists.{map_longer}
 use Rattle.node_laws.proofs.Choices.{chosen_last, none_of_others}

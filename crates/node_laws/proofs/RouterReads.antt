@@ -7,22 +7,21 @@ use Rattle.pipeline_model.specs.Halves.{Rows, MergesInTurn}
 use Rattle.pipeline_model.specs.Lengths.{excess_of_answer}
 use Rattle.pipeline_model.specs.Runs.{Outcome, listed, overflowed, count_documents}
 use Rattle.pipeline_model.specs.Split.{split}
-use Rattle.node_model.specs.Tree.{Fields}
-use Rattle.node_model.specs.Errors.{overflow}
-use Rattle.node_model.specs.Refusals.{without_evidence}
-use Rattle.node_model.specs.Answers.{Answer, first_answer, count_answer, refusal_answer}
-use Rattle.node_model.specs.Cursors.{Cursor, Opens, opens_none, opens_one, IsNewNumber}
-use Rattle.node_model.specs.Stages.{Stage}
-use Rattle.node_model.specs.Tables.{first_shard}
+use Rattle.bson_model.specs.Tree.{Fields}
+use Rattle.base_model.specs.Errors.{overflow}
+use Rattle.base_model.specs.Refusals.{without_evidence}
+use Rattle.command_model.specs.Answers.{Answer, first_answer, count_answer, refusal_answer}
+use Rattle.reply_model.specs.Cursors.{Cursor, Opens, opens_none, opens_one, IsNewNumber}
+use Rattle.pipeline_model.specs.Stages.{Stage}
+use Rattle.chunk_model.specs.Tables.{first_shard}
 use Rattle.history_model.proofs.Lists.{all_at}
-use Rattle.node_model.specs.History.{IsIn}
-use Rattle.node_model.specs.Exchanges.{RequestId, Asked, Answered}
-use Rattle.node_model.specs.Reads.{MayGive, excess_answer}
+use Rattle.history_model.specs.History.{IsIn}
+use Rattle.reply_model.specs.Exchanges.{RequestId, Asked, Answered}
+use Rattle.reply_model.specs.Reads.{MayGive, excess_answer}
 use Rattle.node_model.specs.Journal.{Kept}
 use Rattle.node_model.specs.Letters.{half_overflow, half_excess, read_rows, Letter}
 use Rattle.node_model.specs.States.{Telling, in_batches, as_number, reading, Open, Router, router_state, without}
-use Rattle.node_model.specs.RouterRows.{id_of, heard, Opened, as_before, too_much, block_size, gives_number, next_number, new_cursor, batch_of, reply_to}
-use Rattle.node_model.specs.RouterRows.{Tells, tells_overflow, tells_excess, tells_number, tells_batch, tells_cursor}
+use Rattle.node_model.specs.RouterRows.{id_of, heard, Opened, as_before, too_much, block_size, gives_number, next_number, new_cursor, batch_of, reply_to, Tells, tells_overflow, tells_excess, tells_number, tells_batch, tells_cursor}
 use Rattle.node_model.specs.World.{World}
 use Rattle.node_laws.proofs.Views.{Book, View, view_of, entries_in, chosen_time, IsAbove}
 use Rattle.node_laws.proofs.ReadFacts.{WaitsFor, IsDecided, IsReading, IsMade, IsTooMuch}

@@ -8,26 +8,20 @@ use Rattle.history_model.proofs.Lists.{in_back, in_first}
 use Rattle.command_model.specs.Cursors.{Batch}
 use Rattle.command_model.specs.GetMore.{GetMore}
 use Rattle.command_model.specs.KillCursors.{KillCursors}
-use Rattle.node_model.specs.Requests.{Request}
-use Rattle.node_model.specs.Errors.{cursor_not_found}
-use Rattle.node_model.specs.Refusals.{Refusal, cursor_evidence}
-use Rattle.node_model.specs.Command.{Command, hello_command, legacy_command, ping_command, end_sessions_command, write_command, find_command, count_command}
-use Rattle.node_model.specs.Command.{more_command, kill_command}
-use Rattle.node_model.specs.Command.{command_of}
-use Rattle.node_model.specs.Reading.{Reading}
-use Rattle.node_model.specs.Answers.{Answer, next_answer, killed_answer, refusal_answer, answer_document}
-use Rattle.node_model.specs.Cursors.{Cursor, open_cursor, with_remaining, ShowsNext, Kills}
-use Rattle.node_model.specs.History.{IsIn}
-use Rattle.node_model.specs.Exchanges.{RequestId, Asked, Answered}
-use Rattle.node_model.specs.Right.{asks_for_one, usual_size, unless_silent, right_more, right_no_cursor, right_kill}
+use Rattle.opmsg_model.specs.Requests.{Request}
+use Rattle.base_model.specs.Errors.{cursor_not_found}
+use Rattle.base_model.specs.Refusals.{Refusal, cursor_evidence}
+use Rattle.command_model.specs.Command.{Command, hello_command, legacy_command, ping_command, end_sessions_command, write_command, find_command, count_command, more_command, kill_command, command_of}
+use Rattle.command_model.specs.Reading.{Reading}
+use Rattle.command_model.specs.Answers.{Answer, next_answer, killed_answer, refusal_answer, answer_document}
+use Rattle.reply_model.specs.Cursors.{Cursor, open_cursor, with_remaining, ShowsNext, Kills}
+use Rattle.history_model.specs.History.{IsIn}
+use Rattle.reply_model.specs.Exchanges.{RequestId, Asked, Answered}
+use Rattle.reply_model.specs.Right.{asks_for_one, usual_size, unless_silent, right_more, right_no_cursor, right_kill}
 use Rattle.node_model.specs.Journal.{Kept}
 use Rattle.node_model.specs.Letters.{Input, Reply, Effect}
 use Rattle.node_model.specs.States.{Telling, in_batches, as_number, Work, writing, reading, for_time, Open, Router, router_state}
-use Rattle.node_model.specs.RouterRows.{id_of, heard, is_ahead, table_for, wait_by, wait_of, asks_for, RequestPlan, at_once, needs, needs_batch, needs_end, plan_of}
-use Rattle.node_model.specs.RouterRows.{plan_read, opened_request, taken_now}
-use Rattle.node_model.specs.RouterRows.{RouterRow, router_begin, router_opened, router_plain, router_more, router_no_cursor, router_kill, router_take}
-use Rattle.node_model.specs.RouterRows.{router_learn, router_reach, router_ahead}
-use Rattle.node_model.specs.RouterRows.{router_note, router_wrote, router_read, router_excess, router_overflow, router_late, router_skip, router_moment}
+use Rattle.node_model.specs.RouterRows.{id_of, heard, is_ahead, table_for, wait_by, wait_of, asks_for, RequestPlan, at_once, needs, needs_batch, needs_end, plan_of, plan_read, opened_request, taken_now, RouterRow, router_begin, router_opened, router_plain, router_more, router_no_cursor, router_kill, router_take, router_learn, router_reach, router_ahead, router_note, router_wrote, router_read, router_excess, router_overflow, router_late, router_skip, router_moment}
 use Rattle.node_model.specs.World.{World}
 use Rattle.node_laws.proofs.Views.{Choice, Book, View, view_of, chosen_time}
 use Rattle.node_laws.proofs.ReadFacts.{is_named, WaitsFor, IsDecided, IsTelling, tells_find, tells_count}

@@ -3,19 +3,18 @@ use Rattle.std.proofs.Common.{◌≡◌, ◌≢◌, inl, inr, ℕ, ℤ, ◌+◌,
 use Rattle.std.specs.Prelude.{None, true, false}
 use Rattle.std.specs.List.{AllByRecursion}
 use Rattle.history_model.proofs.Lists.{all_weaken, all_append, all_at, in_back, in_first, in_prefix}
-use Rattle.node_model.specs.Requests.{Request}
-use Rattle.node_model.specs.History.{IsIn}
-use Rattle.node_model.specs.Exchanges.{RequestId, Asked, Answered}
-use Rattle.node_model.specs.OneHistory.{IsNotBefore, ids_asked, ids_told, AreDifferent}
+use Rattle.opmsg_model.specs.Requests.{Request}
+use Rattle.history_model.specs.History.{IsIn}
+use Rattle.reply_model.specs.Exchanges.{RequestId, Asked, Answered}
+use Rattle.reply_model.specs.OneHistory.{IsNotBefore, ids_asked, ids_told, AreDifferent}
 use Rattle.node_model.specs.Journal.{Kept, kept_life}
 use Rattle.node_model.specs.Letters.{Letter, Reply, writes}
-use Rattle.node_model.specs.Cursors.{Cursor}
+use Rattle.reply_model.specs.Cursors.{Cursor}
 use Rattle.node_model.specs.States.{Open, Router, router_state}
 use Rattle.node_model.specs.RouterRows.{id_of, begins, takes, with_cursors, taken_now}
 use Rattle.node_model.specs.World.{World, answered_by}
 use Rattle.node_laws.proofs.Views.{Choice, Book, View, view_of, chosen_time}
-use Rattle.node_laws.proofs.Facts.{IsOpenOf, IsBy, ToldBelow, counts_of, AreDifferentCounts, IsClosedOrOpen, RouterFits, CursorsFit, HeldFits, AnswersFit}
-use Rattle.node_laws.proofs.Facts.{no_answer, one_answer, Good}
+use Rattle.node_laws.proofs.Facts.{IsOpenOf, IsBy, ToldBelow, counts_of, AreDifferentCounts, IsClosedOrOpen, RouterFits, CursorsFit, HeldFits, AnswersFit, no_answer, one_answer, Good}
 use Rattle.node_laws.proofs.Owes.{IsSaid, Owes}
 use Rattle.node_laws.proofs.Lists.{all_mapped, map_longer}
 use Rattle.node_laws.proofs.Choices.{none_longer, none_of_others}

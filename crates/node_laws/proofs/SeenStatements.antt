@@ -11,9 +11,9 @@ use Rattle.std.proofs.lemmas.Slice.Eq.{bytes_eq-Decides}
 use Rattle.history_model.specs.Notes.{Note, new_statement, done_before, older_than, same_session, same_number, greatest_of, noted, seen_beside, notes_of}
 use Rattle.history_model.proofs.Lists.{all_weaken, all_both, in_first, in_later, in_cons, in_none}
 use Rattle.history_model.proofs.Noted.{same_session_is, same_number_is}
-use Rattle.node_model.specs.History.{Session, client_session, router_session, StatementNumber, Outcome, Entry, IsIn}
-use Rattle.node_model.specs.Exchanges.{RequestId, same_request, is_session_of, entries_by}
-use Rattle.node_model.specs.Outcomes.{was_done, is_older, Done, done_of}
+use Rattle.history_model.specs.History.{Session, client_session, router_session, StatementNumber, Outcome, Entry, IsIn}
+use Rattle.reply_model.specs.Exchanges.{RequestId, same_request, is_session_of, entries_by}
+use Rattle.reply_model.specs.Outcomes.{was_done, is_older, Done, done_of}
 use Rattle.node_model.specs.Service.{told_again, seen_before}
 
 -- A NUMBER IS EQUAL TO ITSELF

@@ -2,16 +2,16 @@
 use Rattle.std.proofs.Common.{◌≡◌, inl, inr, ℕ, ◌+◌, ◌<◌, List, [], ◌∷◌, refl, sym, ap, subst, ◌∙◌, arith, Bool}
 use Rattle.std.specs.Prelude.{Option, Some, None, true, false, is_some}
 use Rattle.history_model.proofs.Lists.{all_at}
-use Rattle.reply_model.proofs.Statements.{one_number}
-use Rattle.node_model.specs.Errors.{ErrorCode}
-use Rattle.node_model.specs.Refusals.{Refusal, without_evidence}
-use Rattle.node_model.specs.Writes.{ClientNumber, WriteCommand}
-use Rattle.node_model.specs.Tables.{first_shard}
-use Rattle.node_model.specs.History.{StatementNumber, Operation, Entry, IsIn}
-use Rattle.node_model.specs.Exchanges.{RequestId, Asked, Answered, number_for}
-use Rattle.node_model.specs.Outcomes.{StatementOutcome, WasDone, Done, answer_by}
-use Rattle.node_model.specs.Right.{ends, Sends, MayBeTold, told_own, told_other, told_older, AreTold}
-use Rattle.node_model.specs.OneHistory.{EndsBefore, WasSent, IsReached, AreNumbered}
+use Rattle.reply_facts.proofs.Statements.{one_number}
+use Rattle.base_model.specs.Errors.{ErrorCode}
+use Rattle.base_model.specs.Refusals.{Refusal, without_evidence}
+use Rattle.command_model.specs.Writes.{ClientNumber, WriteCommand}
+use Rattle.chunk_model.specs.Tables.{first_shard}
+use Rattle.history_model.specs.History.{StatementNumber, Operation, Entry, IsIn}
+use Rattle.reply_model.specs.Exchanges.{RequestId, Asked, Answered, number_for}
+use Rattle.reply_model.specs.Outcomes.{StatementOutcome, WasDone, Done, answer_by}
+use Rattle.reply_model.specs.Right.{ends, Sends, MayBeTold, told_own, told_other, told_older, AreTold}
+use Rattle.reply_model.specs.OneHistory.{EndsBefore, WasSent, IsReached, AreNumbered}
 use Rattle.node_laws.proofs.WriteFacts.{AreDoneBefore, WasMade}
 use Rattle.node_laws.proofs.SeenStatements.{true_false}
 use Rattle.node_laws.proofs.MadeEntries.{index_at}

@@ -1,15 +1,14 @@
 -- Where statements of a request without a client's number are served that are its next ones, a prefix of its statements stands before
 -- and after.
-use Rattle.std.proofs.Common.{◌≡◌, ◌≢◌, ◌⊎◌, inl, inr, ℕ, ◌+◌, ◌<◌, ◌≤◌, List, [], ◌∷◌, ◌++◌, refl, sym, ap, subst, ◌∙◌, arith, append_assoc, append-nil}
-use Rattle.std.proofs.Common.{Bool}
+use Rattle.std.proofs.Common.{◌≡◌, ◌≢◌, ◌⊎◌, inl, inr, ℕ, ◌+◌, ◌<◌, ◌≤◌, List, [], ◌∷◌, ◌++◌, refl, sym, ap, subst, ◌∙◌, arith, append_assoc, append-nil, Bool}
 use Rattle.std.specs.Prelude.{pos, Option, Some, None, true, false, length, drop, int_lt, if◌then◌else◌}
 use Rattle.std.specs.List.{AllByRecursion}
 use Rattle.history_model.proofs.Lists.{all_weaken, all_append, all_at, in_cons, in_none}
-use Rattle.node_model.specs.Writes.{ClientNumber}
-use Rattle.node_model.specs.History.{StatementNumber, Operation, Entry, IsIn}
-use Rattle.node_model.specs.Exchanges.{RequestId, number_for, is_session_of, entries_by}
-use Rattle.node_model.specs.Outcomes.{Done, done_of}
-use Rattle.node_model.specs.Right.{IsStatement, ends, AreStatements}
+use Rattle.command_model.specs.Writes.{ClientNumber}
+use Rattle.history_model.specs.History.{StatementNumber, Operation, Entry, IsIn}
+use Rattle.reply_model.specs.Exchanges.{RequestId, number_for, is_session_of, entries_by}
+use Rattle.reply_model.specs.Outcomes.{Done, done_of}
+use Rattle.reply_model.specs.Right.{IsStatement, ends, AreStatements}
 use Rattle.node_model.specs.Letters.{Statement}
 use Rattle.node_model.specs.Service.{seen_before, entry_for, Serves, serves_no_more, serves_again, serves_new, ends_again, ends_new}
 use Rattle.node_model.specs.RouterRows.{statements_from}

@@ -1,17 +1,15 @@
 -- What serving statements leaves: entries that rise, each as its operation tells, each once, and what their statements are told.
-use Rattle.std.proofs.Common.{◌≡◌, ◌⊎◌, inl, inr, ℕ, ◌+◌, ◌<◌, ◌≤◌, List, [], ◌∷◌, ◌++◌, refl, sym, ap, subst, ◌∙◌, arith, append_assoc, append-nil}
-use Rattle.std.proofs.Common.{Bool}
+use Rattle.std.proofs.Common.{◌≡◌, ◌⊎◌, inl, inr, ℕ, ◌+◌, ◌<◌, ◌≤◌, List, [], ◌∷◌, ◌++◌, refl, sym, ap, subst, ◌∙◌, arith, append_assoc, append-nil, Bool}
 use Rattle.std.specs.Prelude.{None, length, int_lt}
 use Rattle.std.specs.List.{AllByRecursion}
 use Rattle.history_model.proofs.Lists.{all_weaken, all_append, all_at, in_first, in_later, in_back, in_prefix}
-use Rattle.node_model.specs.Writes.{WriteCommand}
-use Rattle.node_model.specs.History.{StatementNumber, Entry, IsIn, IsBefore, IsSameStatement, Follows, LegalAfter, Legal}
-use Rattle.node_model.specs.Exchanges.{RequestId, number_for}
-use Rattle.node_model.specs.Outcomes.{Done, done_of}
-use Rattle.node_model.specs.OneHistory.{KeepsNumbers, AreNumbered}
+use Rattle.command_model.specs.Writes.{WriteCommand}
+use Rattle.history_model.specs.History.{StatementNumber, Entry, IsIn, IsBefore, IsSameStatement, Follows, LegalAfter, Legal}
+use Rattle.reply_model.specs.Exchanges.{RequestId, number_for}
+use Rattle.reply_model.specs.Outcomes.{Done, done_of}
+use Rattle.reply_model.specs.OneHistory.{KeepsNumbers, AreNumbered}
 use Rattle.node_model.specs.Letters.{Statement}
-use Rattle.node_model.specs.Service.{seen_before, entry_for, Serves, serves_no_more, serves_again, serves_new, ends_again, ends_new, Repeats}
-use Rattle.node_model.specs.Service.{repeats_no_more, repeats, ends_repeat}
+use Rattle.node_model.specs.Service.{seen_before, entry_for, Serves, serves_no_more, serves_again, serves_new, ends_again, ends_new, Repeats, repeats_no_more, repeats, ends_repeat}
 use Rattle.node_laws.proofs.WriteFacts.{by_entry, by_older, IsDoneAt, OnlyLast}
 use Rattle.node_laws.proofs.SeenStatements.{true_false, IsFound, found_entry, found_older, seen_found, IsNewBehind, unseen_new}
 

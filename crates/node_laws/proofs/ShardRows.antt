@@ -3,26 +3,22 @@ use Rattle.std.proofs.Common.{◌≡◌, ◌⊎◌, inl, inr, ℕ, ◌≤◌, Li
 use Rattle.std.specs.Prelude.{Some, true, not, max, filter}
 use Rattle.std.specs.List.{AllByRecursion, slice_get}
 use Rattle.history_model.proofs.Lists.{all_weaken, all_append}
-use Rattle.node_model.specs.Tree.{Fields}
-use Rattle.node_model.specs.Times.{time_of_moment}
+use Rattle.bson_model.specs.Tree.{Fields}
+use Rattle.base_model.specs.Times.{time_of_moment}
 use Rattle.pipeline_model.specs.Halves.{Half, Rows, IsHalf}
 use Rattle.pipeline_model.specs.Runs.{Runs, overflowed}
 use Rattle.pipeline_model.specs.Split.{split}
-use Rattle.pipeline_model.proofs.OutsideSpan.{split_half_lists}
-use Rattle.node_model.specs.Tables.{Table, first_shard, with_table}
-use Rattle.node_model.specs.History.{Entry}
-use Rattle.node_model.specs.Verdicts.{Sent}
-use Rattle.node_model.specs.Exchanges.{RequestId}
-use Rattle.node_model.specs.Outcomes.{Done}
+use Rattle.pipeline_laws.proofs.OutsideSpan.{split_half_lists}
+use Rattle.chunk_model.specs.Tables.{Table, first_shard, with_table}
+use Rattle.history_model.specs.History.{Entry}
+use Rattle.chunk_model.specs.Verdicts.{Sent}
+use Rattle.reply_model.specs.Exchanges.{RequestId}
+use Rattle.reply_model.specs.Outcomes.{Done}
 use Rattle.node_model.specs.Journal.{Kept, kept_table, entries_kept}
-use Rattle.node_model.specs.Letters.{At, Statement, Body, table_told, write_ask, write_done, read_ask, half_ask, time_ask, Letter, Input}
-use Rattle.node_model.specs.Letters.{letter_input, Effect}
+use Rattle.node_model.specs.Letters.{At, Statement, Body, table_told, write_ask, write_done, read_ask, half_ask, time_ask, Letter, Input, letter_input, Effect}
 use Rattle.node_model.specs.States.{Shard, shard_state}
 use Rattle.node_model.specs.Service.{Repeats, repeats_no_more, repeats, ends_repeat, documents_at}
-use Rattle.node_model.specs.ShardRows.{heard, at_later, says, Ask, ask_in, wants_table, tries, asks_table, ShardRow, shard_write, shard_repeat, shard_empty}
-use Rattle.node_model.specs.ShardRows.{shard_park, shard_waits, shard_stale, shard_read, shard_rows, shard_excess, shard_overflow, shard_time, shard_learn}
-use Rattle.node_model.specs.ShardRows.{shard_known, shard_skip}
-use Rattle.node_model.specs.ShardRows.{shard_moment, shard_opened, shard_client}
+use Rattle.node_model.specs.ShardRows.{heard, at_later, says, Ask, ask_in, wants_table, tries, asks_table, ShardRow, shard_write, shard_repeat, shard_empty, shard_park, shard_waits, shard_stale, shard_read, shard_rows, shard_excess, shard_overflow, shard_time, shard_learn, shard_known, shard_skip, shard_moment, shard_opened, shard_client}
 use Rattle.node_model.specs.World.{World}
 use Rattle.node_laws.proofs.Views.{Book, View, view_of, entries_in, Later}
 use Rattle.node_laws.proofs.WriteFacts.{OnlyLast}
@@ -31,11 +27,9 @@ use Rattle.node_laws.proofs.Facts.{IsKnownTable, IsWriteOf, IsDoneOf, BodyFits, 
 use Rattle.node_laws.proofs.Owes.{InputFits, IsSaid, Owes}
 use Rattle.node_laws.proofs.Lists.{all_filtered, all_mapped}
 use Rattle.node_laws.proofs.Growth.{entries_longer, read_grows, known_grows, met_later, met_max}
-use Rattle.node_laws.proofs.ServedStatements.{up_to_later}
-use Rattle.node_laws.proofs.ServedStatements.{repeats_told, repeats_last}
+use Rattle.node_laws.proofs.ServedStatements.{up_to_later, repeats_told, repeats_last}
 use Rattle.node_laws.proofs.RequestParts.{ask_own}
-use Rattle.node_laws.proofs.ShardSteps.{wrote, quiet, letter_later, shown_later, shard_later, ask_receiver, retried_fits, asks_again_fit, tells_none}
-use Rattle.node_laws.proofs.ShardSteps.{AreToldBy, told_done}
+use Rattle.node_laws.proofs.ShardSteps.{wrote, quiet, letter_later, shown_later, shard_later, ask_receiver, retried_fits, asks_again_fit, tells_none, AreToldBy, told_done}
 use Rattle.node_laws.proofs.ShardWrites.{held_shard, Stood, heard_later, begun_by, served, writes_all}
 use Rattle.node_laws.proofs.KnownTables.{all_with}
 

@@ -4,27 +4,24 @@ use Rattle.std.specs.Prelude.{Option, Some, None, Ok, true, false}
 use Rattle.std.specs.List.{AllByRecursion}
 use Rattle.std.specs.Str.{bytes_eq}
 use Rattle.history_model.proofs.Lists.{all_weaken}
-use Rattle.node_model.specs.Tree.{Fields}
-use Rattle.node_model.specs.Tables.{first_shard}
-use Rattle.node_model.specs.Halves.{Half}
-use Rattle.node_model.specs.History.{Entry, IsIn}
-use Rattle.node_model.specs.Writes.{WriteCommand}
-use Rattle.node_model.specs.Command.{write_command, command_of}
-use Rattle.node_model.specs.Exchanges.{RequestId, Asked}
-use Rattle.node_model.specs.Outcomes.{Done}
-use Rattle.node_model.specs.OneHistory.{IsPlaced, Given, ids_asked, ids_told, AreDifferent}
+use Rattle.bson_model.specs.Tree.{Fields}
+use Rattle.chunk_model.specs.Tables.{first_shard}
+use Rattle.pipeline_model.specs.Halves.{Half}
+use Rattle.history_model.specs.History.{Entry, IsIn}
+use Rattle.command_model.specs.Writes.{WriteCommand}
+use Rattle.command_model.specs.Command.{write_command, command_of}
+use Rattle.reply_model.specs.Exchanges.{RequestId, Asked}
+use Rattle.reply_model.specs.Outcomes.{Done}
+use Rattle.reply_model.specs.OneHistory.{IsPlaced, Given, ids_asked, ids_told, AreDifferent}
 use Rattle.node_model.specs.Journal.{Kept}
-use Rattle.node_model.specs.Letters.{Statement, Body, table_ask, table_told, write_ask, write_done, read_ask, half_ask, read_rows, stale, time_ask}
-use Rattle.node_model.specs.Letters.{time_told, Letter}
+use Rattle.node_model.specs.Letters.{Statement, Body, table_ask, table_told, write_ask, write_done, read_ask, half_ask, read_rows, stale, time_ask, time_told, Letter}
 use Rattle.node_model.specs.States.{Shard, NodeState, time_of_node}
 use Rattle.node_model.specs.ShardRows.{at_later, says, Ask, ask_in, wants_table, asks_table, asks_again}
 use Rattle.node_model.specs.World.{Held, World}
 use Rattle.node_laws.proofs.Views.{Book, View, view_of, entries_in, creations_in, IsAbove, Later}
 use Rattle.node_laws.proofs.ReadFacts.{IsShown}
 use Rattle.node_laws.proofs.WriteFacts.{IsDoneAt, OnlyLast}
-use Rattle.node_laws.proofs.Facts.{IsKnownTable, IsOwned, HasBegun, IsDoneOf, BodyFits, LetterFits, ParkedFits, ShardFits, StateFits, OwnCursors, IsMet}
-use Rattle.node_laws.proofs.Facts.{TellsAll}
-use Rattle.node_laws.proofs.Facts.{SameKind, Good}
+use Rattle.node_laws.proofs.Facts.{IsKnownTable, IsOwned, HasBegun, IsDoneOf, BodyFits, LetterFits, ParkedFits, ShardFits, StateFits, OwnCursors, IsMet, TellsAll, SameKind, Good}
 use Rattle.node_laws.proofs.Owes.{IsSaid, Owes}
 use Rattle.node_laws.proofs.CatalogueRows.{no_answers}
 use Rattle.node_laws.proofs.Growth.{answers_later, begun_grows, known_grows, owned_grows, shown_grows, letter_grows, placed_grows}

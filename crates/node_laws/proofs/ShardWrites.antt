@@ -3,12 +3,12 @@ use Rattle.std.proofs.Common.{◌≡◌, ◌⊎◌, inl, inr, ℕ, ◌+◌, ◌<
 use Rattle.std.specs.Prelude.{Some, None, true, map, length, drop}
 use Rattle.std.specs.List.{AllByRecursion, slice_get}
 use Rattle.history_model.proofs.Lists.{all_weaken, all_both, all_append, all_at, in_back, in_prefix}
-use Rattle.node_model.specs.Tables.{first_shard}
-use Rattle.node_model.specs.History.{Operation, Entry, IsIn, Legal}
-use Rattle.node_model.specs.Exchanges.{RequestId, Asked, entries_by}
-use Rattle.node_model.specs.Outcomes.{Done}
-use Rattle.node_model.specs.Right.{AreStatements, IsPart}
-use Rattle.node_model.specs.OneHistory.{StandsInPart, IsPlaced, AreNumbered}
+use Rattle.chunk_model.specs.Tables.{first_shard}
+use Rattle.history_model.specs.History.{Operation, Entry, IsIn, Legal}
+use Rattle.reply_model.specs.Exchanges.{RequestId, Asked, entries_by}
+use Rattle.reply_model.specs.Outcomes.{Done}
+use Rattle.reply_model.specs.Right.{AreStatements, IsPart}
+use Rattle.reply_model.specs.OneHistory.{StandsInPart, IsPlaced, AreNumbered}
 use Rattle.node_model.specs.Journal.{Kept, kept_entry, entries_kept}
 use Rattle.node_model.specs.Letters.{Statement, write_done, Letter}
 use Rattle.node_model.specs.States.{Shard, shard_state}
@@ -24,12 +24,10 @@ use Rattle.node_laws.proofs.Owes.{Owes}
 use Rattle.node_laws.proofs.Lists.{all_mapped}
 use Rattle.node_laws.proofs.Growth.{entries_longer, entry_grows, known_grows, placed_grows, met_later}
 use Rattle.node_laws.proofs.NotedOutcomes.{HasNoOther, made_no_other, answers_stand}
-use Rattle.node_laws.proofs.ServedStatements.{AreUpTo, Rises, IsEntryOf, up_to_later, serves_rises, serves_legal, serves_numbered, legal_joined}
-use Rattle.node_laws.proofs.ServedStatements.{serves_entries, serves_told, serves_last}
+use Rattle.node_laws.proofs.ServedStatements.{AreUpTo, Rises, IsEntryOf, up_to_later, serves_rises, serves_legal, serves_numbered, legal_joined, serves_entries, serves_told, serves_last}
 use Rattle.node_laws.proofs.MadeEntries.{drop_statements, parted, few_answers, front_done, IsMadeAt, serves_made}
 use Rattle.node_laws.proofs.RequestParts.{owned_placed, ask_own, request_part, IsBy, parts_longer}
-use Rattle.node_laws.proofs.ShardSteps.{wrote, parked_later, AreToldBy}
-use Rattle.node_laws.proofs.ShardSteps.{told_done, begun_owned}
+use Rattle.node_laws.proofs.ShardSteps.{wrote, parked_later, AreToldBy, told_done, begun_owned}
 
 abbrev pub held_shard : Shard → List Kept → Held
 held_shard s kept = record { state = shard_state s; kept = kept }

@@ -2,10 +2,10 @@
 use Rattle.std.proofs.Common.{◌≡◌, ℕ, zero, suc, ◌<◌, ◌≤◌, List, [], ◌∷◌, ◌++◌}
 use Rattle.std.specs.Prelude.{Option, Some, None, if◌then◌else◌}
 use Rattle.std.specs.List.{AllByRecursion}
-use Rattle.node_model.specs.Catalogue.{Creation}
-use Rattle.node_model.specs.History.{Entry}
-use Rattle.node_model.specs.Exchanges.{RequestId, same_request}
-use Rattle.node_model.specs.Cursors.{Cursor}
+use Rattle.chunk_model.specs.Catalogue.{Creation}
+use Rattle.history_model.specs.History.{Entry}
+use Rattle.reply_model.specs.Exchanges.{RequestId, same_request}
+use Rattle.reply_model.specs.Cursors.{Cursor}
 use Rattle.node_model.specs.Journal.{Kept, kept_table, kept_entry, kept_creation, kept_life, kept_block, entries_kept, creations_kept}
 use Rattle.node_model.specs.States.{time_of_node}
 use Rattle.node_model.specs.World.{Held, journal_at}

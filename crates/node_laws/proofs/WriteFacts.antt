@@ -1,11 +1,11 @@
 -- What is known of writes: for which request an entry was made, and what statements are told.
 use Rattle.std.proofs.Common.{◌≡◌, ℕ, ◌+◌, ◌<◌, ◌≤◌, List, [], ◌∷◌, Bool}
 use Rattle.std.specs.Prelude.{None, true, length, int_lt}
-use Rattle.node_model.specs.Writes.{WriteCommand}
-use Rattle.node_model.specs.History.{StatementNumber, Entry, IsIn}
-use Rattle.node_model.specs.Exchanges.{RequestId, Asked, number_for}
-use Rattle.node_model.specs.Outcomes.{StatementOutcome, is_older, Done, answer_by}
-use Rattle.node_model.specs.Right.{ends, Sends}
+use Rattle.command_model.specs.Writes.{WriteCommand}
+use Rattle.history_model.specs.History.{StatementNumber, Entry, IsIn}
+use Rattle.reply_model.specs.Exchanges.{RequestId, Asked, number_for}
+use Rattle.reply_model.specs.Outcomes.{StatementOutcome, is_older, Done, answer_by}
+use Rattle.reply_model.specs.Right.{ends, Sends}
 
 -- WHAT A STATEMENT IS TOLD
 

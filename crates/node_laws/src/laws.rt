@@ -1,8 +1,8 @@
 //! The laws of runs.
 
 ghost use Rattle.std.specs.Prelude.{ℕ, List};
-ghost use Rattle.node_model.specs.Tables.{first_shard};
-ghost use Rattle.node_model.specs.OneHistory.{OneHistory};
+ghost use Rattle.chunk_model.specs.Tables.{first_shard};
+ghost use Rattle.reply_model.specs.OneHistory.{OneHistory};
 ghost use Rattle.node_model.specs.Journal.{creations_kept, entries_kept};
 ghost use Rattle.node_model.specs.World.{Event, Run, World, journal_at, start};
 

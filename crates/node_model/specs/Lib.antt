@@ -24,13 +24,11 @@ pub use Rattle.pipeline_model.specs.Lengths
 pub use Rattle.pipeline_model.specs.Runs
 pub use Rattle.pipeline_model.specs.Split
 pub use Rattle.reply_model.specs.History
-pub use Rattle.reply_model.specs.Statements
 pub use Rattle.reply_model.specs.Writes
 pub use Rattle.reply_model.specs.Keys
 pub use Rattle.reply_model.specs.OneHistory
 pub use Rattle.reply_model.specs.Outcomes
 pub use Rattle.reply_model.specs.Refusals
-pub use Rattle.reply_model.specs.Replies
 pub use Rattle.reply_model.specs.ReplyParts
 pub use Rattle.reply_model.specs.Requests
 pub use Rattle.reply_model.specs.Right

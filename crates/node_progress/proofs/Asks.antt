@@ -3,23 +3,21 @@ use Rattle.std.proofs.Common.{◌≡◌, ℕ, zero, suc, ◌+◌, List, [], ◌�
 use Rattle.std.specs.Prelude.{Option, Some, None, true, false, if◌then◌else◌}
 use Rattle.std.specs.List.{AllByRecursion}
 use Rattle.std.proofs.lemmas.Bool.Decides.{Decides-eqb}
-use Rattle.node_model.specs.Tree.{Datum}
-use Rattle.node_model.specs.Keys.{is_key, Span}
-use Rattle.node_model.specs.Halves.{Half}
-use Rattle.node_model.specs.Split.{split}
-use Rattle.node_model.specs.Catalogue.{Creation}
-use Rattle.node_model.specs.Tables.{Table, first_table, first_shard, table_of, owner_now}
-use Rattle.node_model.specs.Verdicts.{sent_by}
-use Rattle.node_model.specs.History.{Operation, key_written}
-use Rattle.node_model.specs.Writes.{ClientNumber}
-use Rattle.node_model.specs.Exchanges.{RequestId, number_for}
-use Rattle.node_model.specs.Outcomes.{Done}
-use Rattle.node_model.specs.Right.{ends}
+use Rattle.bson_model.specs.Tree.{Datum}
+use Rattle.value_model.specs.Keys.{is_key, Span}
+use Rattle.pipeline_model.specs.Halves.{Half}
+use Rattle.pipeline_model.specs.Split.{split}
+use Rattle.chunk_model.specs.Catalogue.{Creation}
+use Rattle.chunk_model.specs.Tables.{Table, first_table, first_shard, table_of, owner_now}
+use Rattle.chunk_model.specs.Verdicts.{sent_by}
+use Rattle.history_model.specs.History.{Operation, key_written}
+use Rattle.command_model.specs.Writes.{ClientNumber}
+use Rattle.reply_model.specs.Exchanges.{RequestId, number_for}
+use Rattle.reply_model.specs.Outcomes.{Done}
+use Rattle.reply_model.specs.Right.{ends}
 use Rattle.node_model.specs.Letters.{no_time, at_time, Statement, write_ask, read_ask, time_ask, Letter}
 use Rattle.node_model.specs.States.{Router, Work, writing, reading, for_time, for_table, Open}
-use Rattle.node_model.specs.RouterRows.{id_of, statements_from, owner_of_statement, is_on, run_to, says, asks_to_write, owner_of_span, asks_to_read}
-use Rattle.node_model.specs.RouterRows.{asks_shards, asks_table, is_enough, enough_of, table_for, asks_times, is_ahead, wait_by, asks_by, wait_of, asks_for}
-use Rattle.node_model.specs.RouterRows.{is_answered}
+use Rattle.node_model.specs.RouterRows.{id_of, statements_from, owner_of_statement, is_on, run_to, says, asks_to_write, owner_of_span, asks_to_read, asks_shards, asks_table, is_enough, enough_of, table_for, asks_times, is_ahead, wait_by, asks_by, wait_of, asks_for, is_answered}
 use Rattle.chunk_model.proofs.FirstTables.{every_key}
 use Rattle.command_model.proofs.Judged.{HasKey}
 use Rattle.history_model.proofs.Keyed.{written_is_key}

@@ -1,9 +1,8 @@
 -- The catalogue leads on.
 use Rattle.std.proofs.Common.{◌≡◌, ◌≢◌, ◌⊎◌, inl, inr, ℕ, ◌+◌, List, [], ◌∷◌, refl, sym, ap, subst, ◌∙◌, Bool}
 use Rattle.std.specs.Prelude.{Option, Some, None, true, false, IsSome}
-use Rattle.node_model.specs.Tables.{Table, first_table, table_of}
-use Rattle.node_model.specs.Letters.{At, Body, table_ask, table_told, write_ask, write_done, read_ask, half_ask, read_rows, stale, time_ask, time_told}
-use Rattle.node_model.specs.Letters.{Letter, letter_input, Effect}
+use Rattle.chunk_model.specs.Tables.{Table, first_table, table_of}
+use Rattle.node_model.specs.Letters.{At, Body, table_ask, table_told, write_ask, write_done, read_ask, half_ask, read_rows, stale, time_ask, time_told, Letter, letter_input, Effect}
 use Rattle.node_model.specs.States.{Catalogue, Router, Work, writing, reading, Open}
 use Rattle.node_model.specs.CatalogueRows.{CatalogueRow, catalogue_create, catalogue_tell, catalogue_skip, begun_at, heard, told, AsksNothing}
 use Rattle.node_laws.proofs.KnownTables.{table_found}

@@ -3,16 +3,15 @@ use Rattle.std.proofs.Common.{◌≡◌, ℕ, zero, suc, ◌+◌, List, [], ◌�
 use Rattle.std.specs.Prelude.{Some, max}
 use Rattle.std.specs.List.{AllByRecursion, slice_get, slice_set, flat_map}
 use Rattle.history_model.proofs.Lists.{all_weaken}
-use Rattle.node_model.specs.Exchanges.{Asked, Answered}
+use Rattle.reply_model.specs.Exchanges.{Asked, Answered}
 use Rattle.node_model.specs.Letters.{Input, moment_input, opened_input, Effect}
 use Rattle.node_model.specs.States.{NodeState}
 use Rattle.node_model.specs.CatalogueRows.{catalogue_moment, catalogue_opened}
 use Rattle.node_model.specs.ShardRows.{asks_again as shard_asks_again, shard_moment, shard_opened}
 use Rattle.node_model.specs.RouterRows.{asks_again, router_moment, router_begin, router_opened}
 use Rattle.node_model.specs.Steps.{Step, catalogue_step, shard_step, router_step, begin_step}
-use Rattle.node_model.specs.Times.{time_of_moment}
-use Rattle.node_model.specs.World.{Held, World, asked_by, answered_by, after, is_given, tick, Moves, Event, client_event, deliver_event, moment_event}
-use Rattle.node_model.specs.World.{opened_event, Happens, comes, delivers, passes, begins as was_opened, Run, stands, goes, routers_from, start}
+use Rattle.base_model.specs.Times.{time_of_moment}
+use Rattle.node_model.specs.World.{Held, World, asked_by, answered_by, after, is_given, tick, Moves, Event, client_event, deliver_event, moment_event, opened_event, Happens, comes, delivers, passes, begins as was_opened, Run, stands, goes, routers_from, start}
 use Rattle.node_laws.proofs.Others.{told_more}
 use Rattle.node_progress.specs.Completion.{IsQuiet, IsAnswered}
 

@@ -2,13 +2,12 @@
 -- the shard, if one is.
 use Rattle.std.proofs.Common.{◌≡◌, ◌⊎◌, ℕ, List, [], ◌∷◌, length, drop, Bool}
 use Rattle.std.specs.Prelude.{Option, Some, None, true, false}
-use Rattle.node_model.specs.Tree.{Datum}
-use Rattle.node_model.specs.Keys.{is_key}
-use Rattle.node_model.specs.History.{key_written}
-use Rattle.node_model.specs.Tables.{Table, table_of, first_shard}
-use Rattle.node_model.specs.Verdicts.{Sent, sent_by}
-use Rattle.node_model.specs.Letters.{At, Statement, Body, table_ask, table_told, write_ask, write_done, read_ask, half_ask, read_rows, stale, time_ask}
-use Rattle.node_model.specs.Letters.{time_told, Letter, Effect}
+use Rattle.bson_model.specs.Tree.{Datum}
+use Rattle.value_model.specs.Keys.{is_key}
+use Rattle.history_model.specs.History.{key_written}
+use Rattle.chunk_model.specs.Tables.{Table, table_of, first_shard}
+use Rattle.chunk_model.specs.Verdicts.{Sent, sent_by}
+use Rattle.node_model.specs.Letters.{At, Statement, Body, table_ask, table_told, write_ask, write_done, read_ask, half_ask, read_rows, stale, time_ask, time_told, Letter, Effect}
 use Rattle.node_model.specs.States.{Shard, Router, Work, writing, reading, for_time, for_table, Open}
 use Rattle.node_model.specs.RouterRows.{id_of, is_for}
 

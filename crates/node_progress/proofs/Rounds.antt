@@ -4,22 +4,21 @@ use Rattle.std.specs.Prelude.{Ok}
 use Rattle.std.specs.List.{AllByRecursion}
 use Rattle.std.proofs.lemmas.Option.{slice_get_within}
 use Rattle.history_model.proofs.Lists.{in_first, in_later, in_cons, in_none, in_prefix}
-use Rattle.node_model.specs.Tables.{first_shard}
-use Rattle.node_model.specs.Command.{write_command, command_of}
-use Rattle.node_model.specs.Catalogue.{Creation}
-use Rattle.node_model.specs.Right.{IsWhole}
-use Rattle.node_model.specs.History.{Entry, IsIn}
-use Rattle.node_model.specs.Exchanges.{RequestId, Asked, Answered}
-use Rattle.node_model.specs.OneHistory.{ids_told}
+use Rattle.chunk_model.specs.Tables.{first_shard}
+use Rattle.command_model.specs.Command.{write_command, command_of}
+use Rattle.chunk_model.specs.Catalogue.{Creation}
+use Rattle.reply_model.specs.Right.{IsWhole}
+use Rattle.history_model.specs.History.{Entry, IsIn}
+use Rattle.reply_model.specs.Exchanges.{RequestId, Asked, Answered}
+use Rattle.reply_model.specs.OneHistory.{ids_told}
 use Rattle.node_model.specs.Journal.{entries_kept, creations_kept}
-use Rattle.node_model.specs.World.{World, asked_by, answered_by, Moves, Event, client_event, deliver_event, Happens, comes, delivers, passes}
-use Rattle.node_model.specs.World.{begins as was_opened, Run, stands, goes, start, journal_at}
+use Rattle.node_model.specs.World.{World, asked_by, answered_by, Moves, Event, client_event, deliver_event, Happens, comes, delivers, passes, begins as was_opened, Run, stands, goes, start, journal_at}
 use Rattle.node_model.specs.Letters.{Input}
 use Rattle.node_model.specs.Schedule.{openings, moments_given, Delivers, delivers_none, delivers_next, Round, IsRound, Pipes, opens, serves}
-use Rattle.node_model.proofs.Requests.{one_asked}
+use Rattle.reply_facts.proofs.Requests.{one_asked}
 use Rattle.node_laws.proofs.Lists.{all_within}
 use Rattle.node_laws.proofs.Others.{told_more}
-use Rattle.reply_model.proofs.Freshness.{told_to, told_write}
+use Rattle.reply_facts.proofs.Freshness.{told_to, told_write}
 use Rattle.node_laws.proofs.Runs.{StaysTrue, happens_keeps, run_keeps, start_good, start_moments, makes_one_history}
 use Rattle.node_progress.specs.Completion.{IsAnswered, IsServed, AreAnswered}
 use Rattle.node_progress.proofs.Idle.{Idle, IsStillEvent, run_idle, start_idle}

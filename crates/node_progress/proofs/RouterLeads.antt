@@ -1,24 +1,19 @@
 -- A router leads on, or tells the answer.
-use Rattle.std.proofs.Common.{◌≡◌, ◌≢◌, ◌⊎◌, inl, inr, ℕ, ◌+◌, ◌≤◌, List, [], ◌∷◌, ◌++◌, length, refl, sym, ap, subst, ◌∙◌, arith, append-nil, length-append}
-use Rattle.std.proofs.Common.{Bool}
+use Rattle.std.proofs.Common.{◌≡◌, ◌≢◌, ◌⊎◌, inl, inr, ℕ, ◌+◌, ◌≤◌, List, [], ◌∷◌, ◌++◌, length, refl, sym, ap, subst, ◌∙◌, arith, append-nil, length-append, Bool}
 use Rattle.std.specs.Prelude.{Option, Some, None, true, false, ◌==◌, ◌&&◌, if◌then◌else◌}
 use Rattle.std.specs.List.{AllByRecursion, flat_map}
 use Rattle.std.specs.Str.{bytes_eq}
 use Rattle.std.proofs.lemmas.Bool.Decides.{Decides-eqb}
 use Rattle.std.proofs.lemmas.Slice.Eq.{bytes_eq-Decides}
 use Rattle.history_model.proofs.Lists.{all_at, in_cons, in_none}
-use Rattle.node_model.specs.Tables.{Table, table_of}
-use Rattle.node_model.specs.Writes.{WriteKind}
-use Rattle.node_model.specs.History.{IsIn}
-use Rattle.node_model.specs.Exchanges.{RequestId}
-use Rattle.node_model.specs.Outcomes.{Done}
-use Rattle.node_model.specs.Letters.{At, Statement, Body, table_ask, table_told, write_ask, write_done, read_ask, half_ask, read_rows, stale, time_ask}
-use Rattle.node_model.specs.Letters.{time_told, Letter, letter_input, Reply, Effect, sends}
+use Rattle.chunk_model.specs.Tables.{Table, table_of}
+use Rattle.command_model.specs.Writes.{WriteKind}
+use Rattle.history_model.specs.History.{IsIn}
+use Rattle.reply_model.specs.Exchanges.{RequestId}
+use Rattle.reply_model.specs.Outcomes.{Done}
+use Rattle.node_model.specs.Letters.{At, Statement, Body, table_ask, table_told, write_ask, write_done, read_ask, half_ask, read_rows, stale, time_ask, time_told, Letter, letter_input, Reply, Effect, sends}
 use Rattle.node_model.specs.States.{Router, Work, writing, reading, for_time, for_table, for_shards, Open, open_with, without, replaced}
-use Rattle.node_model.specs.RouterRows.{id_of, heard, open_of, noted, reached, with_work, going_on, asks_for, is_enough, enough_of, table_for, adopted}
-use Rattle.node_model.specs.RouterRows.{is_for, is_for_table, Next, stays, is_told, next_of, next_waiting, stay_in, letters_in, replies_in, reply_to}
-use Rattle.node_model.specs.RouterRows.{empty_answer, knows, AreNoNews, IsNoRead, IsNotAwaited, IsLate, TellsNothing, RouterRow, router_learn, router_reach}
-use Rattle.node_model.specs.RouterRows.{router_ahead, router_note, router_wrote, router_read, router_excess, router_overflow, router_late, router_skip}
+use Rattle.node_model.specs.RouterRows.{id_of, heard, open_of, noted, reached, with_work, going_on, asks_for, is_enough, enough_of, table_for, adopted, is_for, is_for_table, Next, stays, is_told, next_of, next_waiting, stay_in, letters_in, replies_in, reply_to, empty_answer, knows, AreNoNews, IsNoRead, IsNotAwaited, IsLate, TellsNothing, RouterRow, router_learn, router_reach, router_ahead, router_note, router_wrote, router_read, router_excess, router_overflow, router_late, router_skip}
 use Rattle.node_laws.proofs.KnownTables.{table_found, table_there, all_adopted}
 use Rattle.node_laws.proofs.OpenRequests.{open_of_found}
 use Rattle.node_laws.proofs.SeenStatements.{own_session}

@@ -3,19 +3,16 @@ use Rattle.std.proofs.Common.{◌≡◌, ◌≢◌, ◌⊎◌, inl, inr, ℕ, Li
 use Rattle.std.specs.Prelude.{Option, Some, None, Ok, Err, true, false, filter, not, if◌then◌else◌}
 use Rattle.std.specs.Str.{bytes_eq}
 use Rattle.std.proofs.lemmas.Slice.Eq.{bytes_eq-Decides}
-use Rattle.node_model.specs.History.{StatementNumber, Entry}
-use Rattle.node_model.specs.Tables.{Table, first_shard, table_of}
-use Rattle.node_model.specs.Verdicts.{Sent, fits, shard_is_old, router_is_old, sent_by, verdict_of}
-use Rattle.node_model.specs.Versions.{Version}
-use Rattle.node_model.specs.Exchanges.{RequestId}
-use Rattle.node_model.specs.Outcomes.{Done}
-use Rattle.node_model.specs.Letters.{Statement, half_overflow, half_excess, Body, table_ask, table_told, write_ask, write_done, read_ask, half_ask, read_rows}
-use Rattle.node_model.specs.Letters.{stale, time_ask, time_told, Letter, letter_input, Effect}
+use Rattle.history_model.specs.History.{StatementNumber, Entry}
+use Rattle.chunk_model.specs.Tables.{Table, first_shard, table_of}
+use Rattle.chunk_model.specs.Verdicts.{Sent, fits, shard_is_old, router_is_old, sent_by, verdict_of}
+use Rattle.chunk_model.specs.Versions.{Version}
+use Rattle.reply_model.specs.Exchanges.{RequestId}
+use Rattle.reply_model.specs.Outcomes.{Done}
+use Rattle.node_model.specs.Letters.{Statement, half_overflow, half_excess, Body, table_ask, table_told, write_ask, write_done, read_ask, half_ask, read_rows, stale, time_ask, time_told, Letter, letter_input, Effect}
 use Rattle.node_model.specs.States.{Shard, Router, Open}
 use Rattle.node_model.specs.Service.{seen_before, Serves, serves_again, serves_new, ends_again, ends_new, Repeats, repeats, ends_repeat, documents_at}
-use Rattle.node_model.specs.ShardRows.{Ask, is_parked, ask_in, wants_table, tries, says, heard, AsksNothing, IsNoNews, is_news, asks_table as asks_for_table}
-use Rattle.node_model.specs.ShardRows.{ShardRow, shard_write, shard_repeat, shard_empty, shard_park, shard_waits, shard_stale, shard_read, shard_rows}
-use Rattle.node_model.specs.ShardRows.{shard_excess, shard_overflow, shard_time, shard_learn, shard_known, shard_skip}
+use Rattle.node_model.specs.ShardRows.{Ask, is_parked, ask_in, wants_table, tries, says, heard, AsksNothing, IsNoNews, is_news, asks_table as asks_for_table, ShardRow, shard_write, shard_repeat, shard_empty, shard_park, shard_waits, shard_stale, shard_read, shard_rows, shard_excess, shard_overflow, shard_time, shard_learn, shard_known, shard_skip}
 use Rattle.chunk_model.proofs.OwnTables.{own_table as table_fits}
 use Rattle.node_laws.proofs.SeenStatements.{IsFound, found_entry, found_older, seen_found}
 use Rattle.node_progress.proofs.Leads.{IsNext, HasSent, IsAskOf, HasTable, LeadsBody, Fetches, Leads, Parks, Passes}

@@ -1,15 +1,14 @@
 -- One request is under way, or none is; a delivery keeps that.
-use Rattle.std.proofs.Common.{◌≡◌, ◌≢◌, ◌⊎◌, inl, inr, ℕ, zero, suc, ◌+◌, ◌<◌, List, [], ◌∷◌, ◌++◌, length, refl, sym, ap, subst, ◌∙◌, arith, append-nil}
-use Rattle.std.proofs.Common.{length-append, Bool}
+use Rattle.std.proofs.Common.{◌≡◌, ◌≢◌, ◌⊎◌, inl, inr, ℕ, zero, suc, ◌+◌, ◌<◌, List, [], ◌∷◌, ◌++◌, length, refl, sym, ap, subst, ◌∙◌, arith, append-nil, length-append, Bool}
 use Rattle.std.specs.Prelude.{Some}
 use Rattle.std.specs.List.{AllByRecursion, slice_get, slice_set}
 use Rattle.std.proofs.lemmas.Option.{slice_get_within}
 use Rattle.history_model.proofs.Lists.{all_weaken, all_at, in_first, in_back}
-use Rattle.node_model.specs.Catalogue.{Creation}
-use Rattle.node_model.specs.Tables.{Table, first_table, table_of}
-use Rattle.node_model.specs.History.{IsIn}
-use Rattle.node_model.specs.Exchanges.{Asked, Answered}
-use Rattle.node_model.specs.OneHistory.{ids_told}
+use Rattle.chunk_model.specs.Catalogue.{Creation}
+use Rattle.chunk_model.specs.Tables.{Table, first_table, table_of}
+use Rattle.history_model.specs.History.{IsIn}
+use Rattle.reply_model.specs.Exchanges.{Asked, Answered}
+use Rattle.reply_model.specs.OneHistory.{ids_told}
 use Rattle.node_model.specs.Journal.{Kept, creations_kept}
 use Rattle.node_model.specs.Letters.{At, table_told, Letter, Input, letter_input, Reply, Effect}
 use Rattle.node_model.specs.States.{Catalogue, Shard, Router, Work, writing, reading, Open, NodeState, catalogue_state, shard_state, router_state}

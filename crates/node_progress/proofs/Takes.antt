@@ -1,25 +1,22 @@
 -- A request that comes is answered at once, or is under way.
-use Rattle.std.proofs.Common.{◌≡◌, ◌≢◌, ◌⊎◌, inl, inr, ℕ, ℤ, ◌+◌, List, [], ◌∷◌, ◌++◌, length, refl, sym, ap, subst, ◌∙◌, arith, append-nil, length-append}
-use Rattle.std.proofs.Common.{Bool}
+use Rattle.std.proofs.Common.{◌≡◌, ◌≢◌, ◌⊎◌, inl, inr, ℕ, ℤ, ◌+◌, List, [], ◌∷◌, ◌++◌, length, refl, sym, ap, subst, ◌∙◌, arith, append-nil, length-append, Bool}
 use Rattle.std.specs.Prelude.{Option, Some, None, Result, Ok, Err, true, false, max, ◌||◌}
 use Rattle.std.specs.List.{AllByRecursion, slice_get}
 use Rattle.std.specs.Option.{unwrap_or}
 use Rattle.history_model.proofs.Lists.{all_weaken, all_append, in_first, in_back}
-use Rattle.node_model.specs.Requests.{Request}
-use Rattle.node_model.specs.Refusals.{Refusal}
-use Rattle.node_model.specs.Command.{Command, hello_command, legacy_command, ping_command, end_sessions_command, write_command, find_command, count_command}
-use Rattle.node_model.specs.Command.{more_command, kill_command, command_of}
-use Rattle.node_model.specs.Reading.{Reading}
-use Rattle.node_model.specs.Right.{usual_size}
-use Rattle.node_model.specs.Writes.{ClientNumber, WriteKind}
-use Rattle.node_model.specs.History.{Operation, IsIn}
-use Rattle.node_model.specs.Exchanges.{RequestId, Asked, Answered}
-use Rattle.node_model.specs.OneHistory.{ids_told}
+use Rattle.opmsg_model.specs.Requests.{Request}
+use Rattle.base_model.specs.Refusals.{Refusal}
+use Rattle.command_model.specs.Command.{Command, hello_command, legacy_command, ping_command, end_sessions_command, write_command, find_command, count_command, more_command, kill_command, command_of}
+use Rattle.command_model.specs.Reading.{Reading}
+use Rattle.reply_model.specs.Right.{usual_size}
+use Rattle.command_model.specs.Writes.{ClientNumber, WriteKind}
+use Rattle.history_model.specs.History.{Operation, IsIn}
+use Rattle.reply_model.specs.Exchanges.{RequestId, Asked, Answered}
+use Rattle.reply_model.specs.OneHistory.{ids_told}
 use Rattle.node_model.specs.Journal.{Kept, kept_life}
 use Rattle.node_model.specs.Letters.{Letter, Input, client_input, Taken, Reply, Effect, writes, both}
 use Rattle.node_model.specs.States.{Telling, in_batches, as_number, Router, Work, writing, reading, Open, NodeState, catalogue_state, shard_state, router_state}
-use Rattle.node_model.specs.RouterRows.{needs, plan_of, statements_from, opened_request, taken_now, takes, id_of, begins as in_life, RouterRow, router_plain}
-use Rattle.node_model.specs.RouterRows.{router_more, router_no_cursor, router_kill, router_take}
+use Rattle.node_model.specs.RouterRows.{needs, plan_of, statements_from, opened_request, taken_now, takes, id_of, begins as in_life, RouterRow, router_plain, router_more, router_no_cursor, router_kill, router_take}
 use Rattle.node_model.specs.Steps.{Step, catalogue_step, shard_step, router_step, begin_step}
 use Rattle.node_model.specs.World.{Held, World, asked_by, answered_by, after, is_given, tick, IsRouter, Happens, comes, client_event}
 use Rattle.command_model.proofs.Taken.{some_operations, operations_with_keys}

@@ -1,14 +1,14 @@
 -- What it means that whatever was asked is answered.
 use Rattle.std.specs.Prelude.{◌≡◌, List, [], None, Ok}
 use Rattle.std.specs.List.{AllByRecursion}
-use Rattle.node_model.specs.Writes.{WriteCommand}
-use Rattle.node_model.specs.Command.{write_command, command_of}
-use Rattle.node_model.specs.Tables.{first_shard}
-use Rattle.node_model.specs.History.{Entry, IsIn}
-use Rattle.node_model.specs.Exchanges.{Asked, Answered}
-use Rattle.node_model.specs.Right.{AreTold, IsWhole}
-use Rattle.node_model.specs.Outcomes.{Done}
-use Rattle.node_model.specs.OneHistory.{ids_told}
+use Rattle.command_model.specs.Writes.{WriteCommand}
+use Rattle.command_model.specs.Command.{write_command, command_of}
+use Rattle.chunk_model.specs.Tables.{first_shard}
+use Rattle.history_model.specs.History.{Entry, IsIn}
+use Rattle.reply_model.specs.Exchanges.{Asked, Answered}
+use Rattle.reply_model.specs.Right.{AreTold, IsWhole}
+use Rattle.reply_model.specs.Outcomes.{Done}
+use Rattle.reply_model.specs.OneHistory.{ids_told}
 use Rattle.node_model.specs.Journal.{entries_kept}
 use Rattle.node_model.specs.States.{NodeState, catalogue_state, shard_state, router_state}
 use Rattle.node_model.specs.World.{Held, World, journal_at}

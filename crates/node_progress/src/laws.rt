@@ -2,7 +2,7 @@
 
 ghost use Rattle.std.specs.Prelude.{ℕ, List};
 ghost use Rattle.std.specs.List.{AllByRecursion};
-ghost use Rattle.node_model.specs.Tables.{first_shard};
+ghost use Rattle.chunk_model.specs.Tables.{first_shard};
 ghost use Rattle.node_model.specs.Journal.{entries_kept};
 ghost use Rattle.node_model.specs.World.{Event, Run, World, journal_at, start};
 ghost use Rattle.node_model.specs.Schedule.{Pipes, Round};

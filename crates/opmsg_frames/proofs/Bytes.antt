@@ -4,7 +4,7 @@ use Rattle.std.specs.Int.{w32, from_le_bytes}
 use Rattle.std.proofs.lemmas.List.{take-append-drop, drop-drop, length-take-le, length-take}
 use Rattle.std.proofs.lemmas.Nat.{le_bytes_4}
 use Rattle.opmsg_model.specs.Messages.{int32, number_at}
-use Rattle.opmsg_model.specs.Grammar.{AreBytes}
+use Rattle.bson_model.specs.Grammar.{AreBytes}
 use Rattle.bson_values.proofs.Leaves.{AreBytes-take, AreBytes-drop}
 
 -- four bytes are a number below 2 ^ 32

@@ -13,7 +13,7 @@ use Rattle.opmsg_frames.specs.RequestMeanings.{IsMeant}
 use Rattle.opmsg_frames.specs.FramerViews.{FramerView}
 use Rattle.opmsg_frames.specs.Framers.{Given, Told}
 use Rattle.opmsg_frames.specs.Conversations.{Step, took, refused, answered, IsStep, IsConversation, new_framer, piece_of, fed, request_of, given, AreMeant, IsToldAgain, OnlyTell}
-use Rattle.opmsg_model.specs.Grammar.{AreBytes}
+use Rattle.bson_model.specs.Grammar.{AreBytes}
 use Rattle.opmsg_frames.proofs.Stays.{whole_stays, fault_stays}
 use Rattle.opmsg_frames.proofs.OneReading.{first_once, behind_bytes}
 

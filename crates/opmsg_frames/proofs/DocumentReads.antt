@@ -5,8 +5,8 @@ use Rattle.std.specs.Int.{w32, from_le_bytes}
 use Rattle.std.specs.List.{AllByRecursion, concat}
 use Rattle.std.proofs.lemmas.List.{append-nil, take-append-le, take_at, drop_at}
 use Rattle.std.proofs.lemmas.Bool.Decides.{nat_tests}
-use Rattle.opmsg_model.specs.Tree.{Fields}
-use Rattle.opmsg_model.specs.Faults.{Fault, HasFirstFault}
+use Rattle.bson_model.specs.Tree.{Fields}
+use Rattle.bson_model.specs.Faults.{Fault, HasFirstFault}
 use Rattle.opmsg_model.specs.Messages.{number_at}
 use Rattle.opmsg_model.specs.Sections.{IsStated}
 use Rattle.opmsg_model.specs.Requests.{IsKept, AreKept, FirstFaulty}

@@ -10,7 +10,7 @@ use Rattle.opmsg_model.specs.Requests.{msg_form, Body, IsMsg, is_more, low_flags
 use Rattle.opmsg_model.specs.Outline.{FrameFault, bad_flags, msg_fault, sections_fault, takes_flags}
 use Rattle.opmsg_frames.proofs.Bytes.{number_fits, number_prefix}
 use Rattle.bson_values.proofs.Leaves.{AreBytes-drop}
-use Rattle.opmsg_model.specs.Grammar.{AreBytes}
+use Rattle.bson_model.specs.Grammar.{AreBytes}
 use Rattle.opmsg_frames.proofs.Spellings.{sections_exist}
 
 -- its flags are taken, and its sections are right

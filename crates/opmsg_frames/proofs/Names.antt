@@ -5,7 +5,7 @@ use Rattle.std.proofs.lemmas.List.{append-nil}
 use Rattle.std.proofs.lemmas.Bool.Decides.{nat_tests}
 use Rattle.std.proofs.lemmas.Grind.{common_steps}
 use Rattle.std.proofs.Math.Seq.{take-suc}
-use Rattle.opmsg_model.specs.Faults.{before_zero}
+use Rattle.bson_model.specs.Faults.{before_zero}
 
 -- what was passed before, and what is still found
 abbrev pub after : List ℕ → Option (List ℕ) → Option (List ℕ)

@@ -3,9 +3,9 @@ use Rattle.std.proofs.Common.{◌≡◌, ℕ, suc, ◌+◌, inl, inr, List, [], 
 use Rattle.std.specs.List.{AllByRecursion, concat, flat_map}
 use Rattle.std.proofs.lemmas.List.{take_at, drop_at}
 use Rattle.std.proofs.Math.Seq.{take-length}
-use Rattle.opmsg_model.specs.Tree.{Fields}
-use Rattle.opmsg_model.specs.Grammar.{ReadsAs, AreBytes}
-use Rattle.opmsg_model.specs.Faults.{Fault, HasFirstFault}
+use Rattle.bson_model.specs.Tree.{Fields}
+use Rattle.bson_model.specs.Grammar.{ReadsAs, AreBytes}
+use Rattle.bson_model.specs.Faults.{Fault, HasFirstFault}
 use Rattle.bson_values.specs.declared.fault.BsonFault.{BsonFault}
 use Rattle.bson_values.specs.ReadFaults.{fault_from}
 use Rattle.bson_values.proofs.FirstFault.{is_faulty, one_fault}

@@ -5,7 +5,7 @@ use Rattle.opmsg_model.specs.Requests.{Request}
 use Rattle.opmsg_model.specs.Frames.{IsFirst, FramesFrom, ends, fails, goes_on}
 use Rattle.opmsg_model.specs.Outline.{FrameFault, partial_outline, message_outline, faulty_outline, outline}
 use Rattle.bson_values.proofs.Leaves.{AreBytes-take, AreBytes-drop}
-use Rattle.opmsg_model.specs.Grammar.{AreBytes}
+use Rattle.bson_model.specs.Grammar.{AreBytes}
 use Rattle.opmsg_frames.proofs.OneRequest.{one_request}
 
 -- one request stands first

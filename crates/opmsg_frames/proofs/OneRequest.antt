@@ -10,7 +10,7 @@ use Rattle.opmsg_model.specs.Requests.{Request, Form, msg_form, query_form, Body
 use Rattle.opmsg_model.specs.Outline.{no_section, next_body, next_sequence, next_section}
 use Rattle.opmsg_frames.specs.Outlines.{sequence_parts}
 use Rattle.bson_values.proofs.Leaves.{AreBytes-drop}
-use Rattle.opmsg_model.specs.Grammar.{AreBytes}
+use Rattle.bson_model.specs.Grammar.{AreBytes}
 use Rattle.opmsg_frames.proofs.DocumentReads.{first_number}
 use Rattle.opmsg_frames.proofs.SectionPrefixes.{next_of, next_is, parts_are}
 use Rattle.opmsg_frames.proofs.MessageParts.{msg_parts, query_parts}

@@ -6,12 +6,12 @@ use Rattle.std.specs.Str.{bytes_eq}
 use Rattle.std.proofs.lemmas.Bool.Decides.{nat_tests}
 use Rattle.std.proofs.lemmas.Slice.Eq.{bytes_eq-Decides}
 use Rattle.std.proofs.lemmas.List.{take-append-drop, drop-drop}
-use Rattle.opmsg_model.specs.Faults.{before_zero}
+use Rattle.bson_model.specs.Faults.{before_zero}
 use Rattle.opmsg_model.specs.Messages.{int32, header, number_at, opcode, op_query, most_bytes}
 use Rattle.opmsg_model.specs.Requests.{query_form, Body, IsQuery, IsGreeting, admin_command}
 use Rattle.opmsg_model.specs.Outline.{is_query, greets}
 use Rattle.opmsg_frames.proofs.Bytes.{number_fits, number_prefix}
-use Rattle.opmsg_model.specs.Grammar.{AreBytes}
+use Rattle.bson_model.specs.Grammar.{AreBytes}
 use Rattle.opmsg_frames.proofs.Spellings.{zero_splits}
 
 same : (a b : List ℕ) → bytes_eq a b ≡ true → a ≡ b

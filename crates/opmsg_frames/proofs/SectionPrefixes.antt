@@ -6,8 +6,8 @@ use Rattle.std.proofs.lemmas.Bool.Decides.{nat_tests}
 use Rattle.std.proofs.lemmas.List.{take_at, drop_at}
 use Rattle.std.proofs.lemmas.Nat.{from_le_bytes-to_le_bytes_4}
 use Rattle.std.proofs.lemmas.Str.{is_utf8-from_IsUtf8}
-use Rattle.opmsg_model.specs.Faults.{before_zero}
-use Rattle.opmsg_model.specs.Grammar.{HasNoZero}
+use Rattle.bson_model.specs.Faults.{before_zero}
+use Rattle.bson_model.specs.Grammar.{HasNoZero}
 use Rattle.opmsg_model.specs.Messages.{int32}
 use Rattle.opmsg_model.specs.Sections.{Section, body_section, sequence_section, sequence_bytes, section_bytes, IsStated, IsSection}
 use Rattle.opmsg_model.specs.Outline.{Next, no_section, next_body, next_sequence, next_section}

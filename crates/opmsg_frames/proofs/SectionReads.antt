@@ -2,8 +2,8 @@
 use Rattle.std.proofs.Common.{◌≡◌, ℕ, ◌<◌, ◌^◌, ◌⊎◌, inl, inr, List, [], ◌∷◌, ◌++◌, length, refl, arith, length-append, append_assoc}
 use Rattle.std.specs.List.{AllByRecursion, flat_map}
 use Rattle.std.proofs.lemmas.List.{append-nil}
-use Rattle.opmsg_model.specs.Tree.{Fields}
-use Rattle.opmsg_model.specs.Faults.{Fault, HasFirstFault}
+use Rattle.bson_model.specs.Tree.{Fields}
+use Rattle.bson_model.specs.Faults.{Fault, HasFirstFault}
 use Rattle.opmsg_model.specs.Sections.{Section, body_section, sequence_section, sequence_bytes, section_bytes, IsStated, IsSection, bodies, documents_in}
 use Rattle.opmsg_model.specs.Requests.{IsKept, AreKept, FirstFaulty, Hold}
 use Rattle.opmsg_model.specs.Outline.{no_section, unknown_kind, bad_size, next_body, next_sequence, next_section}

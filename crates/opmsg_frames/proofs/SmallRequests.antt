@@ -1,8 +1,8 @@
 -- The documents of a request are small, and its fault stands within the message.
 use Rattle.std.proofs.Common.{◌≡◌, ℕ, ◌-◌, ◌≤◌, inl, inr, List, [], ◌∷◌, length, sym, ap, subst, ◌∙◌, arith, length-append, length-drop}
 use Rattle.std.specs.List.{AllByRecursion, concat, flat_map}
-use Rattle.opmsg_model.specs.Tree.{Fields}
-use Rattle.opmsg_model.specs.Faults.{Fault}
+use Rattle.bson_model.specs.Tree.{Fields}
+use Rattle.bson_model.specs.Faults.{Fault}
 use Rattle.opmsg_model.specs.Sections.{Section, body_section, sequence_section, section_bytes, documents_in}
 use Rattle.opmsg_model.specs.Requests.{Request, Form, msg_form, query_form, Body, read_body, faulty_body, AreKept, FirstFaulty, Hold, HasBody, IsForm, IsRequest}
 use Rattle.opmsg_model.specs.MessageSizes.{IsSmall, IsSmallBody}

@@ -3,10 +3,10 @@ use Rattle.std.proofs.Common.{◌≡◌, ℕ, ◌+◌, ◌*◌, ◌<◌, ◌≤�
 use Rattle.std.specs.Fmt.{decimal}
 use Rattle.std.proofs.lemmas.Fmt.{length-decimal-le}
 use Rattle.std.proofs.lemmas.List.{length-take-le}
-use Rattle.opmsg_model.specs.Tree.{Datum, string_value, document_value, array_value, binary_value, object_id_value, boolean_value, date_value, null_value, int32_value, timestamp_value, int64_value, min_key_value, max_key_value, Items, no_items, item, Fields, no_fields, field}
-use Rattle.opmsg_model.specs.Spelling.{type_byte_of, framed, element, written, written_value, written_items, written_fields}
-use Rattle.opmsg_model.specs.Grammar.{ReadsValue, ReadsItems, ReadsFields, ReadsAs, IsWithinDepth}
-use Rattle.opmsg_model.proofs.Lengths.{length-framed, length-element}
+use Rattle.bson_model.specs.Tree.{Datum, string_value, document_value, array_value, binary_value, object_id_value, boolean_value, date_value, null_value, int32_value, timestamp_value, int64_value, min_key_value, max_key_value, Items, no_items, item, Fields, no_fields, field}
+use Rattle.bson_model.specs.Spelling.{type_byte_of, framed, element, written, written_value, written_items, written_fields}
+use Rattle.bson_model.specs.Grammar.{ReadsValue, ReadsItems, ReadsFields, ReadsAs, IsWithinDepth}
+use Rattle.bson_model.proofs.Lengths.{length-framed, length-element}
 use Rattle.opmsg_model.specs.Requests.{IsKept}
 use Rattle.opmsg_model.specs.MessageSizes.{IsSmall}
 

@@ -3,15 +3,15 @@ use Rattle.std.proofs.Common.{◌≡◌, ℕ, zero, suc, ◌+◌, ◌<◌, ◌�
 use Rattle.std.specs.Int.{w32, cast_signed}
 use Rattle.std.specs.List.{AllByRecursion, flat_map}
 use Rattle.std.proofs.lemmas.List.{length-take-le}
-use Rattle.opmsg_model.specs.Tree.{Fields}
-use Rattle.opmsg_model.specs.Faults.{Fault, short_fault}
+use Rattle.bson_model.specs.Tree.{Fields}
+use Rattle.bson_model.specs.Faults.{Fault, short_fault}
 use Rattle.opmsg_model.specs.Messages.{number_at, opcode, op_msg, op_query, most_bytes}
 use Rattle.opmsg_model.specs.Sections.{Section, body_section, sequence_section, section_bytes, IsStated, IsSection, bodies, documents_in}
 use Rattle.opmsg_model.specs.Requests.{Request, Body, read_body, faulty_body, msg_form, query_form, is_more, AreKept, FirstFaulty, Hold, HasBody, IsReadable, IsRequest}
 use Rattle.opmsg_model.specs.Outline.{FrameFault, Outline, partial_outline, message_outline, faulty_outline, outline, message_fault}
 use Rattle.opmsg_model.specs.Frames.{IsFirst, FramesFrom, ends, fails, goes_on}
 use Rattle.bson_values.proofs.Leaves.{AreBytes-take, AreBytes-drop}
-use Rattle.opmsg_model.specs.Grammar.{AreBytes}
+use Rattle.bson_model.specs.Grammar.{AreBytes}
 use Rattle.opmsg_frames.proofs.OneBody.{backs, prefixes, named, section_documents}
 use Rattle.opmsg_frames.proofs.OneRequest.{lone_bytes}
 use Rattle.opmsg_frames.proofs.Msgs.{is_msg}

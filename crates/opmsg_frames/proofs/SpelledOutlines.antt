@@ -7,7 +7,7 @@ use Rattle.std.proofs.lemmas.Bool.Decides.{nat_tests}
 use Rattle.std.proofs.lemmas.List.{drop_at}
 use Rattle.std.proofs.lemmas.Str.{is_utf8-from_IsUtf8}
 use Rattle.std.proofs.Math.Seq.{take-length}
-use Rattle.opmsg_model.specs.Faults.{before_zero}
+use Rattle.bson_model.specs.Faults.{before_zero}
 use Rattle.opmsg_model.specs.Messages.{int32, number_at, stated_length, opcode, op_msg, op_query, most_bytes}
 use Rattle.opmsg_model.specs.Sections.{Section, body_section, sequence_section, sequence_bytes, section_bytes, IsStated, IsSection, bodies}
 use Rattle.opmsg_model.specs.Requests.{Request, Form, msg_form, query_form, IsForm, IsRequest, IsMsg, IsQuery, IsGreeting, low_flags, admin_command}

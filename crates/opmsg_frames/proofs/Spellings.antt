@@ -8,8 +8,8 @@ use Rattle.std.specs.Str.{is_utf8}
 use Rattle.std.proofs.lemmas.Bool.Decides.{nat_tests}
 use Rattle.std.proofs.lemmas.List.{length-take-le, take-append-drop, take-take}
 use Rattle.std.proofs.lemmas.Str.{IsUtf8-from_is_utf8}
-use Rattle.opmsg_model.specs.Faults.{before_zero}
-use Rattle.opmsg_model.specs.Grammar.{HasNoZero, AreBytes}
+use Rattle.bson_model.specs.Faults.{before_zero}
+use Rattle.bson_model.specs.Grammar.{HasNoZero, AreBytes}
 use Rattle.opmsg_model.specs.Messages.{int32, number_at}
 use Rattle.opmsg_model.specs.Sections.{Section, body_section, sequence_section, sequence_bytes, section_bytes, IsStated, IsSection, bodies}
 use Rattle.opmsg_model.specs.Outline.{Next, no_section, unknown_kind, bad_size, next_body, next_sequence, next_section, has_stated, are_documents, is_named, is_sequence, ended_fault, behind_fault, sections_fault, bad_kind, bad_section, no_body, two_bodies}

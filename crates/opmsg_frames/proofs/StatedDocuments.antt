@@ -5,7 +5,7 @@ use Rattle.std.specs.Bool.{Decides}
 use Rattle.std.proofs.lemmas.Bool.Decides.{Decides-and, nat_tests}
 use Rattle.opmsg_model.specs.Messages.{number_at}
 use Rattle.std.specs.Str.{is_utf8}
-use Rattle.opmsg_model.specs.Faults.{before_zero}
+use Rattle.bson_model.specs.Faults.{before_zero}
 use Rattle.opmsg_model.specs.Outline.{has_stated, are_documents, is_named, is_sequence}
 use Rattle.opmsg_frames.specs.Outlines.{parts_by, parts_if, sequence_parts}
 

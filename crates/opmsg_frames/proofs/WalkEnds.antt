@@ -1,7 +1,7 @@
 -- A document is read, or it has a first fault: a walk ends behind the document's first byte.
 use Rattle.std.proofs.Common.{◌≡◌, ℕ, ◌-◌, ◌⊎◌, inl, inr, List, Result, Ok, Err, refl}
-use Rattle.opmsg_model.specs.Tree.{Fields}
-use Rattle.opmsg_model.specs.Faults.{Fault, HasFirstFault}
+use Rattle.bson_model.specs.Tree.{Fields}
+use Rattle.bson_model.specs.Faults.{Fault, HasFirstFault}
 use Rattle.bson_values.specs.declared.fault.BsonFault.{BsonFault}
 use Rattle.bson_values.specs.declared.fault.BsonFault.TheVariants.{Short, BadLength, BadType, BadText, BadBool, Deep, Trailing, Memory}
 use Rattle.bson_values.specs.Readers.{whole_at}
@@ -9,7 +9,7 @@ use Rattle.bson_values.proofs.FirstFault.{is_first, never_memory}
 use Rattle.bson_values.proofs.Whole.{whole_takes}
 use Rattle.opmsg_model.specs.Sections.{IsStated}
 use Rattle.opmsg_model.specs.Requests.{IsReadable}
-use Rattle.opmsg_model.specs.Grammar.{AreBytes}
+use Rattle.bson_model.specs.Grammar.{AreBytes}
 use Rattle.opmsg_frames.proofs.Wholes.{is_whole}
 
 abbrev pub HasFault : List ℕ → Type 0

@@ -5,7 +5,7 @@ use Rattle.std.specs.Int.{w32, from_le_bytes}
 use Rattle.std.specs.Str.{is_utf8}
 use Rattle.std.proofs.lemmas.List.{length-take}
 use Rattle.std.proofs.lemmas.Bool.Decides.{nat_tests}
-use Rattle.opmsg_model.specs.Faults.{Fault, length_fault, string_fault, boolean_fault, depth_fault, trailing_fault, Holder, last, Step, goes_on, ends_at, faulty, Form, fixed_form, string_form, holder_form, binary_form, boolean_form, form_of, before_zero, closed, short, fixed_step, boolean_step, stated_step, length_step, string_step, binary_step, holder_step, value_step, named_step, typed_step, element_step, first_step, Walks, walks_to_end, walks_to_fault, walks_on, HasFirstFault}
+use Rattle.bson_model.specs.Faults.{Fault, length_fault, string_fault, boolean_fault, depth_fault, trailing_fault, Holder, last, Step, goes_on, ends_at, faulty, Form, fixed_form, string_form, holder_form, binary_form, boolean_form, form_of, before_zero, closed, short, fixed_step, boolean_step, stated_step, length_step, string_step, binary_step, holder_step, value_step, named_step, typed_step, element_step, first_step, Walks, walks_to_end, walks_to_fault, walks_on, HasFirstFault}
 use Rattle.opmsg_frames.proofs.Spellings.{zero_splits}
 
 -- the offset of a step that does not end

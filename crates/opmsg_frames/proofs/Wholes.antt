@@ -4,13 +4,13 @@ use Rattle.std.specs.Int.{w32, from_le_bytes}
 use Rattle.std.proofs.lemmas.List.{length-take-le, take-take}
 use Rattle.std.proofs.Math.Seq.{take-length}
 use Rattle.std.proofs.lemmas.Nat.{from_le_bytes-to_le_bytes_4}
-use Rattle.opmsg_model.specs.Tree.{Fields}
-use Rattle.opmsg_model.specs.Spelling.{framed}
-use Rattle.opmsg_model.specs.Grammar.{ReadsAs, IsWithinDepth}
+use Rattle.bson_model.specs.Tree.{Fields}
+use Rattle.bson_model.specs.Spelling.{framed}
+use Rattle.bson_model.specs.Grammar.{ReadsAs, IsWithinDepth}
 use Rattle.opmsg_model.specs.Messages.{number_at}
 use Rattle.opmsg_model.specs.Sections.{IsStated}
 use Rattle.opmsg_model.specs.Requests.{IsKept}
-use Rattle.opmsg_model.proofs.Lengths.{length-framed}
+use Rattle.bson_model.proofs.Lengths.{length-framed}
 
 -- a spelling states its length
 framed_states : (body : List ℕ) → length body + 5 < 2 ^ 31 → number_at 0 (framed body) ≡ length body + 5

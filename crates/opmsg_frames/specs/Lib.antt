@@ -7,6 +7,4 @@ pub mod Readings
 pub mod Conversations
 pub use Rattle.opmsg_model.specs.Frames
 pub use Rattle.opmsg_model.specs.Outline
-pub use Rattle.opmsg_model.specs.Replies
 pub use Rattle.opmsg_model.specs.Requests
-pub use Rattle.opmsg_model.specs.Sections

@@ -1,7 +1,7 @@
 -- What the program's outlines are by the definitions.
 use Rattle.std.specs.Prelude.{ℕ, ◌+◌, List, length, drop, Bool, true, false, Option, Some, None}
 use Rattle.std.specs.Str.{is_utf8}
-use Rattle.opmsg_model.specs.Faults.{before_zero}
+use Rattle.bson_model.specs.Faults.{before_zero}
 use Rattle.opmsg_model.specs.Outline as wire
 use Rattle.opmsg_frames.specs.declared.fault.Malformed.{Malformed}
 use Rattle.opmsg_frames.specs.declared.fault.Malformed.TheVariants.{BadLength, TooLong, BadOpcode, BadFlags, BadKind, BadSection, TwoBodies, NoBody, BadQuery}

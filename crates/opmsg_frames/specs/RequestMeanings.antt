@@ -1,6 +1,6 @@
 -- What the program's requests are by the definitions.
 use Rattle.std.specs.Prelude.{◌≡◌, ◌≢◌, ℕ, Result, Ok, Err}
-use Rattle.opmsg_model.specs.Faults.{Fault}
+use Rattle.bson_model.specs.Faults.{Fault}
 use Rattle.bson_values.specs.declared.fault.BsonFault.{BsonFault}
 use Rattle.bson_values.specs.declared.fault.BsonFault.TheVariants.{Memory}
 use Rattle.bson_values.specs.ReadFaults.{fault_from}

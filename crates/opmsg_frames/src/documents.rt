@@ -2,10 +2,10 @@
 
 ghost use Rattle.std.specs.Prelude.{◌≡◌, ◌≤◌, ◌++◌, ◌∷◌, [], ℕ, IfOk, List, length};
 ghost use Rattle.std.specs.List.{AllByRecursion, concat, flat_map};
-ghost use Rattle.opmsg_model.specs.Faults.{HasFirstFault};
+ghost use Rattle.bson_model.specs.Faults.{HasFirstFault};
 ghost use Rattle.opmsg_model.specs.MessageSizes.{IsSmall};
 ghost use Rattle.opmsg_model.specs.Messages.{most_bytes};
-ghost use Rattle.opmsg_model.specs.Tree.{Fields};
+ghost use Rattle.bson_model.specs.Tree.{Fields};
 ghost use Rattle.opmsg_model.specs.Requests.{AreKept, FirstFaulty, Hold, IsKept};
 ghost use Rattle.opmsg_model.specs.Sections.{IsSection, IsStated, Section, bodies, documents_in, section_bytes, sequence_bytes, sequence_section};
 ghost use Rattle.opmsg_frames.specs.RequestMeanings.{ReadOutcome};

@@ -9,7 +9,7 @@ ghost use Rattle.opmsg_frames.specs.Conversations.{AreMeant, IsConversation, Onl
 ghost use Rattle.opmsg_frames.specs.FramerViews.{FramerView};
 ghost use Rattle.opmsg_frames.specs.Outlines.{fault_view};
 ghost use Rattle.opmsg_frames.specs.Readings.{PlacedFault};
-ghost use Rattle.opmsg_model.specs.Grammar.{AreBytes};
+ghost use Rattle.bson_model.specs.Grammar.{AreBytes};
 ghost use Rattle.opmsg_model.specs.MessageSizes.{IsSmallBody};
 
 use crate::fault::{FrameFault, Malformed};

@@ -18,7 +18,7 @@ pub struct DocList {
 impl Model for DocList {
     ghost use Rattle.std.specs.Prelude.{List};
     ghost use Rattle.std.specs.Coded.{coded_list};
-    ghost use Rattle.opmsg_model.specs.Tree.{Fields};
+    ghost use Rattle.bson_model.specs.Tree.{Fields};
     ghost use Rattle.bson_values.specs.Code.{fields_code};
 
     ghost Value = { List Fields };
@@ -86,7 +86,7 @@ pub struct SequenceList {
 impl Model for SequenceList {
     ghost use Rattle.std.specs.Prelude.{List, ℕ};
     ghost use Rattle.std.specs.Coded.{coded_list, coded×, coded_ℕ};
-    ghost use Rattle.opmsg_model.specs.Tree.{Fields};
+    ghost use Rattle.bson_model.specs.Tree.{Fields};
     ghost use Rattle.bson_values.specs.Code.{fields_code};
 
     ghost Value = { List (List ℕ × List Fields) };

@@ -2,13 +2,13 @@
 
 ghost use Rattle.std.specs.Prelude.{◌≡◌, ◌≤◌, ◌++◌, length, take, OnErr, OnOk};
 ghost use Rattle.std.specs.Int.{w32, cast_unsigned};
-ghost use Rattle.opmsg_model.specs.Spelling.{written};
-ghost use Rattle.opmsg_model.specs.Tree.{document_depth};
+ghost use Rattle.bson_model.specs.Spelling.{written};
+ghost use Rattle.bson_model.specs.Tree.{document_depth};
 ghost use Rattle.opmsg_model.specs.Messages.{header, int32};
 ghost use Rattle.opmsg_model.specs.Replies.{reply_bytes, reply_head};
 ghost use Rattle.opmsg_model.specs.Requests.{msg_form, query_form};
 ghost use Rattle.opmsg_frames.specs.RequestMeanings.{form_view};
-ghost use Rattle.opmsg_model.specs.Limits.{most_bytes_written, most_depth_written};
+ghost use Rattle.bson_model.specs.Limits.{most_bytes_written, most_depth_written};
 
 use crate::request::Form;
 use bson_values::{Document, Memory, write};

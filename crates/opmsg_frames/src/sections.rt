@@ -3,7 +3,7 @@
 ghost use Rattle.std.specs.Prelude.{◌≡◌, ◌+◌, ◌<◌, ◌≤◌, ℕ, length, IfSome, false};
 ghost use Rattle.std.specs.Option.{option_map};
 ghost use Rattle.std.specs.Str.{is_utf8};
-ghost use Rattle.opmsg_model.specs.Faults.{before_zero};
+ghost use Rattle.bson_model.specs.Faults.{before_zero};
 ghost use Rattle.opmsg_model.specs.Messages.{number_at};
 ghost use Rattle.opmsg_model.specs.Outline.{are_documents, ended_fault, has_stated, is_sequence, next_section, sections_fault};
 ghost use Rattle.opmsg_frames.specs.Outlines.{IfBehind, fault_view, next_view, sequence_parts, text_if};

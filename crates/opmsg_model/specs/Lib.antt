@@ -6,9 +6,3 @@ pub mod Frames
 pub mod Replies
 pub mod SampleMessages
 pub mod MessageSizes
-pub use Rattle.bson_model.specs.Faults
-pub use Rattle.bson_model.specs.Grammar
-pub use Rattle.bson_model.specs.Limits
-pub use Rattle.bson_model.specs.SampleDocuments
-pub use Rattle.bson_model.specs.Spelling
-pub use Rattle.bson_model.specs.Tree

@@ -9,7 +9,7 @@ use Rattle.bson_values.specs.declared.value.Field.{Field}
 use Rattle.bson_values.specs.declared.value.Value.{Value}
 use Rattle.bson_values.specs.Names.{has_no_zero}
 use Rattle.bson_values.specs.Sizes.{items_count}
-use Rattle.bson_values.specs.Tree.{Items, no_items, item, document_value}
+use Rattle.bson_model.specs.Tree.{Items, no_items, item, document_value}
 use Rattle.bson_values.specs.View.{datum_of, fields_of, items_of}
 use Rattle.field_paths.proofs.FieldLists.{next_one, nothing_before, nothing_left, with_front}
 use Rattle.query_model.specs.Paths.{begins_with_dollar, elements}

@@ -1,7 +1,7 @@
 -- What stages are as plain data, and how they are read step by step.
 use Rattle.std.specs.Prelude.{ℕ, List, Result, Ok, Err, ok_or, nat_lt, if◌then◌else◌}
 use Rattle.std.specs.Arc.{arc_value}
-use Rattle.bson_values.specs.Tree.{Datum}
+use Rattle.bson_model.specs.Tree.{Datum}
 use Rattle.query_model.specs.Queries.{QueryFault, bad_operand, named, unknown_operator}
 use Rattle.query_model.specs.Reading.{◌>>=◌}
 use Rattle.pipeline_model.specs.Stages as model

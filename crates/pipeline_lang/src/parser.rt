@@ -3,7 +3,7 @@
 ghost use Rattle.std.specs.Prelude.{◌≡◌, ◌<◌, ℤ, ◌||◌, ◌==◌, length, map, option_map};
 ghost use Rattle.std.specs.List.{list_any};
 ghost use Rattle.std.specs.Str.{byte};
-ghost use Rattle.bson_values.specs.Tree.{string_value};
+ghost use Rattle.bson_model.specs.Tree.{string_value};
 ghost use Rattle.bson_values.specs.View.{datum_of};
 ghost use Rattle.field_paths.specs.ReadFaults.{Gives};
 ghost use Rattle.query_model.specs.Paths.{begins_with_dollar, elements};

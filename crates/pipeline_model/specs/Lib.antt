@@ -9,13 +9,3 @@ pub mod Halves
 pub mod Split
 pub mod Lengths
 pub mod Batches
-pub mod SamplePipelines
-pub use Rattle.query_model.specs.Paths
-pub use Rattle.query_model.specs.Queries
-pub use Rattle.query_model.specs.Reading
-pub use Rattle.query_model.specs.Holds
-pub use Rattle.query_model.specs.KeySpans
-pub use Rattle.query_model.specs.SampleQueries
-pub use Rattle.value_model.specs.Keys
-pub use Rattle.value_model.specs.Order
-pub use Rattle.value_model.specs.Tree

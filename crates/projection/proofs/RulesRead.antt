@@ -2,7 +2,7 @@
 use Rattle.std.proofs.Common.{◌≡◌, ◌≢◌, ℕ, List, [], ◌∷◌, length, Result, Ok, Err, refl, sym, ap, ◌∙◌, arith, ne_eqb}
 use Rattle.std.specs.Prelude.{None}
 use Rattle.std.specs.Result.{result_map_both}
-use Rattle.bson_values.specs.Tree.{Datum, string_value, Fields, no_fields, field}
+use Rattle.bson_model.specs.Tree.{Datum, string_value, Fields, no_fields, field}
 use Rattle.field_paths.proofs.FieldLists.{read_each}
 use Rattle.query_model.specs.Paths.{Path, PathFault, read_path}
 use Rattle.query_model.specs.Queries.{QueryFault, bad_operand, path_fault}

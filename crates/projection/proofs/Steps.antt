@@ -2,7 +2,7 @@
 use Rattle.std.proofs.Common.{◌≡◌, ℕ, ◌<◌, ◌≤◌, ◌+◌, List, length, get_or, drop, sym, ap, ◌∙◌}
 use Rattle.std.proofs.lemmas.List.{drop_all}
 use Rattle.bson_model.proofs.Joined.{joined_none, joined_items_none}
-use Rattle.bson_values.specs.Tree.{Fields, no_fields, joined, field, document_depth, Items, no_items, item, joined_items}
+use Rattle.bson_model.specs.Tree.{Fields, no_fields, joined, field, document_depth, Items, no_items, item, joined_items}
 use Rattle.bson_values.specs.View.{datum_of, fields_of, items_of}
 use Rattle.bson_values.specs.declared.value.Field.{Field}
 use Rattle.bson_values.specs.declared.value.Value.{Value}

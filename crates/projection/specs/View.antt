@@ -1,11 +1,10 @@
 -- What the rules of the program are as plain data.
 use Rattle.std.specs.Prelude.{List, map, filter_map, Bool, Option, option_and_then}
-use Rattle.bson_values.specs.Tree.{Items}
+use Rattle.bson_model.specs.Tree.{Items, document_value}
 use Rattle.query_model.specs.Paths.{Path, as_document, elements}
 use Rattle.pipeline_model.specs.Operands.{items_of, value_from}
 use Rattle.pipeline_model.specs.Projections as model
 use Rattle.pipeline_model.specs.Projections.{include_it, exclude_it, compute_it, includes, excludes, computes}
-use Rattle.bson_values.specs.Tree.{document_value}
 use Rattle.projection.specs.declared.rules.Kind.{Kind}
 use Rattle.projection.specs.declared.rules.Kind.TheVariants as kinds
 use Rattle.projection.specs.declared.rules.NameRule.{NameRule}

@@ -2,7 +2,7 @@
 
 ghost use Rattle.std.specs.Prelude.{◌≡◌, ◌||◌, List, codes};
 ghost use Rattle.std.specs.List.{list_all};
-ghost use Rattle.bson_values.specs.Tree.{string_value};
+ghost use Rattle.bson_model.specs.Tree.{string_value};
 ghost use Rattle.bson_values.specs.View.{datum_of};
 ghost use Rattle.field_paths.specs.ReadFaults.{Gives};
 ghost use Rattle.pipeline_model.specs.Projections as model;

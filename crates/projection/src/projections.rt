@@ -2,7 +2,7 @@
 
 ghost use Rattle.std.specs.Prelude.{◌≡◌, ◌≤◌, ◌∷◌, IfErr, IfOk, List, Ok, OnOk};
 ghost use Rattle.field_paths.specs.ReadFaults.{Fails};
-ghost use Rattle.bson_values.specs.Tree.{Fields, document_depth, field, joined};
+ghost use Rattle.bson_model.specs.Tree.{Fields, document_depth, field, joined};
 ghost use Rattle.bson_values.specs.View.{datum_of};
 ghost use Rattle.pipeline_model.specs.Projections as model;
 ghost use Rattle.pipeline_model.specs.Projections.{computed_fields, fields_named, project, read_projection, stays};

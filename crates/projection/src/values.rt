@@ -1,7 +1,7 @@
 //! The value at a path, as an expression takes it (MongoDB manual, "Field Path").
 
 ghost use Rattle.std.specs.Prelude.{◌≡◌, ◌∷◌, IfOk, OnOk, option_map};
-ghost use Rattle.bson_values.specs.Tree.{Items, array_value, document_value, item, joined_items};
+ghost use Rattle.bson_model.specs.Tree.{Items, array_value, document_value, item, joined_items};
 ghost use Rattle.bson_values.specs.View.{datum_of};
 ghost use Rattle.pipeline_model.specs.Operands.{value_at, value_from};
 ghost use Rattle.projection.specs.View.{values_in};

@@ -10,9 +10,8 @@ use Rattle.pipeline_model.specs.Halves as halves
 use Rattle.pipeline_lang.specs.Halves.{half_of}
 use Rattle.pipeline_eval.specs.Rows.{rows_of}
 use Rattle.pipeline_eval.specs.declared.rows.Rows.{Rows}
-use Rattle.node_traits.specs.Letters as letters
-use Rattle.node_traits.specs.Letters.{no_time, at_time, half_overflow, half_excess}
-use Rattle.node_traits.specs.Letters.{table_ask, table_told, write_ask, write_done, read_ask, half_ask, read_rows, stale, time_ask, time_told}
+use Rattle.node_model.specs.Letters as letters
+use Rattle.node_model.specs.Letters.{no_time, at_time, half_overflow, half_excess, table_ask, table_told, write_ask, write_done, read_ask, half_ask, read_rows, stale, time_ask, time_told}
 use Rattle.protocol_model.specs.declared.tables.At.{At}
 use Rattle.protocol_model.specs.declared.tables.At.TheVariants.{NoTime, Time}
 use Rattle.protocol_model.specs.declared.tables.TableAsk.{TableAsk}

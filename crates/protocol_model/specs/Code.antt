@@ -2,8 +2,8 @@
 use Rattle.std.specs.Prelude.{◌≡◌, ℕ, Bool, false, ◌==◌, if◌then◌else◌, refl}
 use Rattle.std.specs.Coded.{Coded, code_by, coded×, coded_ℕ, coded_bool}
 use Rattle.bson_values.specs.Code.{fields_code}
-use Rattle.bson_values.specs.Tree.{Fields, no_fields}
-use Rattle.node_traits.specs.History.{Operation, insert_operation, update_operation, delete_operation}
+use Rattle.bson_model.specs.Tree.{Fields, no_fields}
+use Rattle.history_model.specs.History.{Operation, insert_operation, update_operation, delete_operation}
 
 abbrev pub OperationParts : Type 0
 OperationParts = (ℕ × Bool) × (Fields × Fields)

@@ -1,7 +1,7 @@
 -- The requests of the definitions whose heads are kept.
 use Rattle.std.specs.Prelude.{ℕ, List, [], ◌∷◌}
-use Rattle.bson_values.specs.Tree.{no_fields}
-use Rattle.opmsg_frames.specs.Requests as wire
+use Rattle.bson_model.specs.Tree.{no_fields}
+use Rattle.opmsg_model.specs.Requests as wire
 use Rattle.opmsg_frames.specs.RequestMeanings.{form_view}
 use Rattle.opmsg_frames.specs.declared.request.Request.{Request}
 use Rattle.protocol_model.specs.Requests.{body_of}

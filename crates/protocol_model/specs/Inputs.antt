@@ -1,6 +1,6 @@
 -- The inputs of the definitions that those of the program are.
-use Rattle.node_traits.specs.Letters as letters
-use Rattle.node_traits.specs.Letters.{client_input, letter_input, moment_input, opened_input}
+use Rattle.node_model.specs.Letters as letters
+use Rattle.node_model.specs.Letters.{client_input, letter_input, moment_input, opened_input}
 use Rattle.protocol_model.specs.declared.input.Input.{Input}
 use Rattle.protocol_model.specs.declared.input.Input.TheVariants.{Client, Deliver, Moment, Opened}
 use Rattle.protocol_model.specs.Messages.{letter_of}

@@ -1,5 +1,5 @@
 -- The messages of the definitions that those of the program are.
-use Rattle.node_traits.specs.Letters as letters
+use Rattle.node_model.specs.Letters as letters
 use Rattle.protocol_model.specs.declared.message.Message.{Message}
 use Rattle.protocol_model.specs.Bodies.{body_view}
 

@@ -1,6 +1,6 @@
 -- The requests of the definitions that those of the program are, as a function.
-use Rattle.bson_values.specs.Faults.{short_fault, length_fault, type_fault, string_fault, boolean_fault, depth_fault, trailing_fault}
-use Rattle.opmsg_frames.specs.Requests as wire
+use Rattle.bson_model.specs.Faults.{short_fault, length_fault, type_fault, string_fault, boolean_fault, depth_fault, trailing_fault}
+use Rattle.opmsg_model.specs.Requests as wire
 use Rattle.bson_values.specs.declared.fault.BsonFault.{BsonFault}
 use Rattle.bson_values.specs.declared.fault.BsonFault.TheVariants.{Short, BadLength, BadType, BadText, BadBool, Deep, Trailing, Memory}
 use Rattle.opmsg_frames.specs.declared.request.Body.{Body}

@@ -3,13 +3,13 @@ use Rattle.std.specs.Arc.{arc_value}
 use Rattle.std.specs.Prelude.{Option}
 use Rattle.std.specs.Option.{option_map}
 use Rattle.cluster_base.specs.Codes.{meaning_of}
-use Rattle.node_traits.specs.Exchanges.{RequestId, number_for}
-use Rattle.node_traits.specs.History as history
-use Rattle.node_traits.specs.History.{insert_operation}
-use Rattle.node_traits.specs.Letters as letters
+use Rattle.reply_model.specs.Exchanges.{RequestId, number_for}
+use Rattle.history_model.specs.History as history
+use Rattle.history_model.specs.History.{insert_operation}
+use Rattle.node_model.specs.Letters as letters
 use Rattle.command_model.specs.Writes.{ClientNumber}
-use Rattle.node_traits.specs.Outcomes as outcomes
-use Rattle.node_traits.specs.Outcomes.{is_older, was_done}
+use Rattle.reply_model.specs.Outcomes as outcomes
+use Rattle.reply_model.specs.Outcomes.{is_older, was_done}
 use Rattle.protocol_model.specs.declared.statement.Operation.{Operation}
 use Rattle.protocol_model.specs.declared.statement.Operation.TheVariants.{Insert, Change}
 use Rattle.protocol_model.specs.declared.statement.Statement.{Statement}

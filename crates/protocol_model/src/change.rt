@@ -3,7 +3,7 @@
 ghost use Rattle.std.specs.Prelude.{◌≡◌, IfOk};
 ghost use Rattle.std.specs.Arc.{arc_value};
 ghost use Rattle.command_model.specs.CommandSizes.{IsKeepable};
-ghost use Rattle.shard_records.specs.Meanings.{operation_view};
+ghost use Rattle.statement_views.specs.Views.{operation_view};
 
 use bson_values::Memory;
 use std::alloc::Global;
@@ -19,7 +19,7 @@ pub struct NewChange {
 }
 
 impl Model for NewChange {
-    ghost use Rattle.node_traits.specs.History.{Operation};
+    ghost use Rattle.history_model.specs.History.{Operation};
     ghost use Rattle.protocol_model.specs.Code.{operation_code};
 
     ghost Value = { Operation };
@@ -28,7 +28,7 @@ impl Model for NewChange {
 
     ghost use Rattle.std.specs.Arc.{arc_value};
     ghost use Rattle.command_model.specs.CommandSizes.{IsKeepable};
-    ghost use Rattle.shard_records.specs.Meanings.{operation_view};
+    ghost use Rattle.statement_views.specs.Views.{operation_view};
 
     ghost view = { λ c. operation_view (arc_value c.words) };
 

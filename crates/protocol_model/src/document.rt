@@ -3,7 +3,7 @@
 ghost use Rattle.std.specs.Prelude.{◌≡◌, IfOk};
 ghost use Rattle.std.specs.Arc.{arc_value};
 ghost use Rattle.command_model.specs.CommandSizes.{IsKeepable};
-ghost use Rattle.node_traits.specs.History.{insert_operation};
+ghost use Rattle.history_model.specs.History.{insert_operation};
 
 use bson_values::{Document, Memory};
 use std::alloc::Global;
@@ -18,7 +18,7 @@ pub struct NewDocument {
 }
 
 impl Model for NewDocument {
-    ghost use Rattle.bson_values.specs.Tree.{Fields};
+    ghost use Rattle.bson_model.specs.Tree.{Fields};
     ghost use Rattle.bson_values.specs.Code.{fields_code};
 
     ghost Value = { Fields };
@@ -27,7 +27,7 @@ impl Model for NewDocument {
 
     ghost use Rattle.std.specs.Arc.{arc_value};
     ghost use Rattle.command_model.specs.CommandSizes.{IsKeepable};
-    ghost use Rattle.node_traits.specs.History.{insert_operation};
+    ghost use Rattle.history_model.specs.History.{insert_operation};
 
     ghost view = { λ d. arc_value d.document };
 

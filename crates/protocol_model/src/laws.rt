@@ -1,6 +1,6 @@
 //! The law of requests.
 ghost use Rattle.std.specs.Prelude.{◌≡◌};
-ghost use Rattle.opmsg_frames.specs.Requests as wire;
+ghost use Rattle.opmsg_model.specs.Requests as wire;
 ghost use Rattle.opmsg_frames.specs.RequestMeanings.{IsMeant};
 ghost use Rattle.opmsg_frames.specs.declared.request.Request.{Request};
 ghost use Rattle.protocol_model.specs.Requests.{request_of};

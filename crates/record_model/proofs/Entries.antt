@@ -2,12 +2,12 @@
 use Rattle.std.proofs.Common.{◌≡◌, ℕ, List, [], ◌∷◌, ◌++◌, map, refl, sym, ap, ◌∙◌}
 use Rattle.std.specs.Prelude.{Option, Some, None, Result, Ok, Err}
 use Rattle.std.specs.List.{AllByRecursion}
-use Rattle.chunk_model.specs.Tree.{Fields}
+use Rattle.bson_model.specs.Tree.{Fields}
 use Rattle.history_model.specs.History.{Operation, read_operation, outcome_of, effect_read, effect, Entry}
-use Rattle.history_model.specs.Edits.{WriteFault, duplicate_fault, immutable_fault, overflow_fault, too_large_fault, not_number_fault, not_document_fault}
-use Rattle.history_model.specs.Effects.{Effect, effect_of}
-use Rattle.history_model.specs.Writes.{Write}
-use Rattle.history_model.specs.Queries.{QueryFault}
+use Rattle.query_model.specs.Edits.{WriteFault, duplicate_fault, immutable_fault, overflow_fault, too_large_fault, not_number_fault, not_document_fault}
+use Rattle.query_model.specs.Effects.{Effect, effect_of}
+use Rattle.query_model.specs.Writes.{Write}
+use Rattle.query_model.specs.Queries.{QueryFault}
 use Rattle.record_model.specs.Records.{EntryWords, Record, entry_record, record_of}
 use Rattle.record_model.specs.RecordContents.{IsKnown, Keeps, KeepEntries}
 

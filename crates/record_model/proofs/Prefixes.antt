@@ -5,17 +5,17 @@ use Rattle.std.specs.Int.{w32, w64, from_le_bytes, cast_unsigned, cast_signed}
 use Rattle.std.proofs.lemmas.Nat.{from_le_bytes-to_le_bytes_4, from_le_bytes-to_le_bytes_8}
 use Rattle.std.proofs.lemmas.Int.{to_z-of_z}
 use Rattle.std.proofs.Math.Facts.{Fits-of_z}
-use Rattle.chunk_model.specs.Tree.{Datum, Fields}
-use Rattle.chunk_model.specs.Spelling.{framed, written, written_fields, boolean_byte}
-use Rattle.chunk_model.specs.Grammar.{ReadsAs}
-use Rattle.chunk_model.specs.Names.{IsNamespace, full_name}
-use Rattle.chunk_model.proofs.OneDocument.{one_document}
+use Rattle.bson_model.specs.Tree.{Datum, Fields}
+use Rattle.bson_model.specs.Spelling.{framed, written, written_fields, boolean_byte}
+use Rattle.bson_model.specs.Grammar.{ReadsAs}
+use Rattle.base_model.specs.Names.{IsNamespace, full_name}
+use Rattle.bson_model.proofs.OneDocument.{one_document}
 use Rattle.history_model.specs.History.{Session, client_session, router_session, StatementNumber, Operation, insert_operation, update_operation, delete_operation}
 use Rattle.chunk_model.specs.Catalogue.{Creation}
 use Rattle.record_model.specs.Records.{OutcomeWords, EntryWords, Record, entry_record, create_record}
 use Rattle.record_model.specs.RecordFormat.{four, eight, spelled_string, key_document, spelled_key, spelled_session, spelled_number, spelled_operation, spelled_outcome, spelled_entry, spelled_creation, spelled, IsSpellable, IsSoundDocument, IsSoundKeyValue, IsSoundKey, IsSoundSession, IsSoundNumber, IsSoundOperation, IsSoundOutcome, IsSoundEntry, IsSoundCreation, IsSound}
-use Rattle.chunk_model.proofs.Lengths.{length-framed}
-use Rattle.chunk_model.proofs.Parts.{same_prefix, same_boolean}
+use Rattle.bson_model.proofs.Lengths.{length-framed}
+use Rattle.bson_model.proofs.Parts.{same_prefix, same_boolean}
 
 pub first_byte : (b c : ℕ) (xs ys : List ℕ) → b ∷ xs ≡ c ∷ ys → b ≡ c
 first_byte b c xs ys e = cc

@@ -4,13 +4,12 @@
 use Rattle.std.specs.Prelude.{◌≡◌, ℕ, ◌<◌, ◌^◌, List, [], ◌∷◌, ◌++◌, length, codes, true, Option, Some, None, FitsSigned}
 use Rattle.std.specs.Int.{w32, w64, to_le_bytes, cast_unsigned}
 use Rattle.std.specs.List.{AllByRecursion, flat_map}
-use Rattle.chunk_model.specs.Tree.{Datum, Fields, no_fields, field}
-use Rattle.chunk_model.specs.Spelling.{written, boolean_byte}
-use Rattle.chunk_model.specs.Grammar.{ReadsAs, IsWithinDepth}
-use Rattle.chunk_model.specs.Names.{IsNamespace}
-use Rattle.history_model.specs.Keys.{is_key}
+use Rattle.bson_model.specs.Tree.{Datum, Fields, no_fields, field}
+use Rattle.bson_model.specs.Spelling.{written, boolean_byte}
+use Rattle.bson_model.specs.Grammar.{ReadsAs, IsWithinDepth}
+use Rattle.base_model.specs.Names.{IsNamespace}
+use Rattle.value_model.specs.Keys.{is_key, Bound, min_bound, key_bound, max_bound, Range}
 use Rattle.history_model.specs.History.{Session, client_session, router_session, StatementNumber, Operation, insert_operation, update_operation, delete_operation}
-use Rattle.value_model.specs.Keys.{Bound, min_bound, key_bound, max_bound, Range}
 use Rattle.chunk_model.specs.Catalogue.{Creation}
 use Rattle.chunk_model.specs.Versions.{Version}
 use Rattle.chunk_model.specs.Tables.{Owned, Chunk, Table}

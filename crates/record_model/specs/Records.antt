@@ -1,8 +1,8 @@
 -- What a node keeps in its journal. The records are own; an entry's words are those of the client (MongoDB manual, "insert",
 -- "update" and "delete").
 use Rattle.std.specs.Prelude.{ℕ, ℤ, pos, List, Option, Some, None}
-use Rattle.chunk_model.specs.Tree.{Datum}
-use Rattle.chunk_model.specs.Errors.{ErrorCode}
+use Rattle.bson_model.specs.Tree.{Datum}
+use Rattle.base_model.specs.Errors.{ErrorCode}
 use Rattle.history_model.specs.History.{StatementNumber, Operation, Outcome, Entry}
 use Rattle.chunk_model.specs.Catalogue.{Creation}
 use Rattle.chunk_model.specs.Tables.{Table}

@@ -1,8 +1,8 @@
 -- Records to try the definitions on.
 use Rattle.std.specs.Prelude.{ℕ, List, [], ◌∷◌, codes, true, None, pos}
-use Rattle.chunk_model.specs.Times.{timestamp}
+use Rattle.base_model.specs.Times.{timestamp}
 use Rattle.history_model.specs.History.{update_operation, delete_operation, Entry}
-use Rattle.chunk_model.specs.SampleDocuments.{id_document}
+use Rattle.bson_model.specs.SampleDocuments.{id_document}
 use Rattle.history_model.specs.SampleEntries.{first_entry}
 use Rattle.chunk_model.specs.SampleCollections.{creation}
 use Rattle.chunk_model.specs.Tables.{first_table}

@@ -2,7 +2,7 @@
 
 ghost use Rattle.std.specs.Prelude.{◌≡◌, ◌++◌, ℕ, List, Option, map};
 ghost use Rattle.std.specs.List.{AllByRecursion};
-ghost use Rattle.chunk_model.specs.Tree.{Fields};
+ghost use Rattle.bson_model.specs.Tree.{Fields};
 ghost use Rattle.history_model.specs.History.{effect, Entry, Operation};
 ghost use Rattle.record_model.specs.RecordContents.{IsKnown, KeepEntries};
 ghost use Rattle.record_model.specs.Records.{Record, record_of};

@@ -7,15 +7,15 @@ use Rattle.std.proofs.lemmas.List.{take_at, drop_at, append-nil}
 use Rattle.std.proofs.lemmas.Nat.{from_le_bytes-to_le_bytes_4, from_le_bytes-to_le_bytes_8}
 use Rattle.std.proofs.lemmas.Int.{to_z-of_z}
 use Rattle.std.proofs.Math.Facts.{Fits-of_z}
-use Rattle.bson_values.specs.Grammar.{ReadsAs}
-use Rattle.bson_values.specs.Limits.{IsWritable, most_bytes_written}
-use Rattle.bson_values.specs.Spelling.{written, boolean_byte}
-use Rattle.bson_values.specs.Tree.{Datum, Fields, value_depth, document_depth}
+use Rattle.bson_model.specs.Grammar.{ReadsAs}
+use Rattle.bson_model.specs.Limits.{IsWritable, most_bytes_written}
+use Rattle.bson_model.specs.Spelling.{written, boolean_byte}
+use Rattle.bson_model.specs.Tree.{Datum, Fields, value_depth, document_depth}
 use Rattle.bson_values.specs.Readers.{whole_at}
-use Rattle.value_compare.specs.Keys.{valid_key}
-use Rattle.record_model.specs.Catalogue.{Creation}
-use Rattle.record_model.specs.History.{Session, client_session, router_session, StatementNumber, Operation, insert_operation, update_operation, delete_operation}
-use Rattle.record_model.specs.Names.{IsNamespace}
+use Rattle.value_model.specs.Keys.{valid_key}
+use Rattle.chunk_model.specs.Catalogue.{Creation}
+use Rattle.history_model.specs.History.{Session, client_session, router_session, StatementNumber, Operation, insert_operation, update_operation, delete_operation}
+use Rattle.base_model.specs.Names.{IsNamespace}
 use Rattle.record_model.specs.Records.{OutcomeWords, EntryWords, entry_record, create_record}
 use Rattle.record_model.specs.RecordFormat.{four, eight, spelled_string, key_document, spelled_key, spelled_session, spelled_number, spelled_operation, spelled_outcome, spelled_entry, spelled_creation, IsSoundDocument, IsSoundKeyValue, IsSoundKey, IsSoundSession, IsSoundNumber, IsSoundOperation, IsSoundOutcome, IsSoundEntry, IsSoundCreation}
 use Rattle.record_model.proofs.Prefixes.{short_name}

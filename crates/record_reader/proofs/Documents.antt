@@ -3,19 +3,19 @@ use Rattle.std.proofs.Common.{◌≡◌, ◌≢◌, ℕ, ◌+◌, ◌≤◌, Lis
 use Rattle.std.specs.Prelude.{nat_lt, nat_eq, IfOk, IfErr, if◌then◌else◌}
 use Rattle.std.specs.Str.{bytes_eq}
 use Rattle.std.proofs.lemmas.Slice.Eq.{bytes_eq-Decides}
-use Rattle.bson_values.specs.Faults.{Fault, HasFirstFault}
-use Rattle.bson_values.specs.Grammar.{AreBytes, ReadsAs, IsWithinDepth}
-use Rattle.bson_values.specs.Limits.{IsWritable}
-use Rattle.bson_values.specs.Spelling.{type_byte_of, framed, element, written, written_value, written_fields}
-use Rattle.bson_values.specs.Tree.{Datum, document_value, array_value, min_key_value, max_key_value, Fields, no_fields, field, get, value_depth, document_depth}
-use Rattle.chunk_model.proofs.Lengths.{length-framed}
+use Rattle.bson_model.specs.Faults.{Fault, HasFirstFault}
+use Rattle.bson_model.specs.Grammar.{AreBytes, ReadsAs, IsWithinDepth}
+use Rattle.bson_model.specs.Limits.{IsWritable}
+use Rattle.bson_model.specs.Spelling.{type_byte_of, framed, element, written, written_value, written_fields}
+use Rattle.bson_model.specs.Tree.{Datum, document_value, array_value, min_key_value, max_key_value, Fields, no_fields, field, get, value_depth, document_depth}
+use Rattle.bson_model.proofs.Lengths.{length-framed}
 use Rattle.bson_values.specs.declared.fault.BsonFault.{BsonFault}
 use Rattle.bson_values.specs.declared.fault.BsonFault.TheVariants.{Short, BadLength, BadType, BadText, BadBool, Deep, Trailing, Memory}
 use Rattle.bson_values.specs.ReadFaults.{fault_from}
 use Rattle.bson_values.specs.Readers.{whole_at}
 use Rattle.bson_values.proofs.FirstFault.{never_both, TellsFirst}
 use Rattle.bson_values.proofs.Whole.{whole_takes, whole_again}
-use Rattle.value_compare.specs.Keys.{is_key, key_of, KeyFault, absent_key, wrong_kind, valid_key}
+use Rattle.value_model.specs.Keys.{is_key, key_of, KeyFault, absent_key, wrong_kind, valid_key}
 use Rattle.record_model.specs.RecordFormat.{key_document}
 use Rattle.shard_records.specs.Sizes.{FitsRecord}
 use Rattle.record_reader.specs.declared.fault.RecordFault.{RecordFault}

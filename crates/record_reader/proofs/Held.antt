@@ -2,10 +2,10 @@
 use Rattle.std.proofs.Common.{◌≡◌, ◌<◌, ◌^◌, List, [], ◌∷◌, length, true}
 use Rattle.std.specs.List.{AllByRecursion}
 use Rattle.std.specs.Str.{IsUtf8}
-use Rattle.value_compare.specs.Keys.{IsRange, min_bound}
-use Rattle.chunk_table.specs.Tables.{Chunk, Table}
+use Rattle.value_model.specs.Keys.{IsRange, min_bound}
+use Rattle.chunk_model.specs.Tables.{Chunk, Table}
 use Rattle.chunk_table.specs.Whole.{IsWritableBound, IsWritableChunk, follow_from}
-use Rattle.shard_records.specs.Records.{Record, table_record, entry_record, create_record, life_record, block_record}
+use Rattle.record_model.specs.Records.{Record, table_record, entry_record, create_record, life_record, block_record}
 use Rattle.shard_records.specs.Sizes.{IsWritableRecord}
 use Rattle.record_reader.specs.SoundRecords.{IsHeld, IsHeldChunk, IsHeldTable}
 

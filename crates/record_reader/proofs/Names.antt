@@ -4,8 +4,8 @@ use Rattle.std.specs.Prelude.{Option, Some, None, nat_le, nat_lt, if◌then◌el
 use Rattle.std.specs.List.{AllByRecursion}
 use Rattle.std.specs.Str.{IsUtf8, is_utf8}
 use Rattle.std.proofs.lemmas.Str.{IsUtf8-from_is_utf8, is_utf8-from_IsUtf8}
-use Rattle.record_model.specs.Names.{IsDatabaseByte, MakeNamespace, IsNamespace, full_name, is_collection_name, is_database_name}
-use Rattle.chunk_model.proofs.OpenNames.{collection_name, database_name, is_collection_name_of, is_database_name_of}
+use Rattle.base_model.specs.Names.{IsDatabaseByte, MakeNamespace, IsNamespace, full_name, is_collection_name, is_database_name}
+use Rattle.base_model.proofs.OpenNames.{collection_name, database_name, is_collection_name_of, is_database_name_of}
 use Rattle.record_reader.specs.Readers.{◌>>=◌, cut_at_dot, make_name, are_names, is_name, name_in}
 use Rattle.bson_model.proofs.Booleans.{both, is_false}
 

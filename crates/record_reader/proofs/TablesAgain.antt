@@ -5,9 +5,9 @@ use Rattle.std.specs.Int.{w64}
 use Rattle.std.specs.Ordering.{is_lt}
 use Rattle.std.specs.List.{AllByRecursion}
 use Rattle.std.specs.Str.{IsUtf8}
-use Rattle.value_compare.specs.Keys.{Bound, min_bound, key_bound, max_bound, Range, IsRange, order_bounds}
-use Rattle.chunk_table.specs.Versions.{Version}
-use Rattle.chunk_table.specs.Tables.{Owned, Chunk, Table}
+use Rattle.value_model.specs.Keys.{Bound, min_bound, key_bound, max_bound, Range, IsRange, order_bounds}
+use Rattle.chunk_model.specs.Versions.{Version}
+use Rattle.chunk_model.specs.Tables.{Owned, Chunk, Table}
 use Rattle.chunk_table.specs.Whole.{IsWritableBound, IsWritableChunk, follow_from}
 use Rattle.record_model.specs.Records.{Record, table_record, entry_record, create_record, life_record, block_record}
 use Rattle.record_model.specs.RecordFormat.{four, eight, spelled_string, spelled_list, spelled_bound, spelled_version, spelled_owned, spelled_chunk, spelled_table, spelled, IsSoundBound, IsSoundVersion, IsSoundOwned, IsSoundChunk, IsSoundTable, IsSound}

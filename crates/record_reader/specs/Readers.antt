@@ -4,17 +4,17 @@ use Rattle.std.specs.Prelude.{ℕ, zero, suc, List, [], ◌∷◌, length, take,
 use Rattle.std.specs.Int.{w32, w64, from_le_bytes, cast_signed}
 use Rattle.std.specs.Str.{is_utf8}
 use Rattle.std.specs.Ordering.{is_lt}
-use Rattle.bson_values.specs.Limits.{most_bytes_written}
+use Rattle.bson_model.specs.Limits.{most_bytes_written}
 use Rattle.bson_values.specs.Readers.{whole_at}
-use Rattle.bson_values.specs.Spelling.{written}
-use Rattle.bson_values.specs.Tree.{Datum, Fields}
+use Rattle.bson_model.specs.Spelling.{written}
+use Rattle.bson_model.specs.Tree.{Datum, Fields}
 use Rattle.bson_values.specs.declared.fault.BsonFault.{BsonFault}
-use Rattle.value_compare.specs.Keys.{Bound, min_bound, key_bound, max_bound, Range, KeyFault, valid_key, order_bounds}
-use Rattle.chunk_table.specs.Tables.{Owned, Chunk}
-use Rattle.chunk_table.specs.Versions.{Version}
+use Rattle.value_model.specs.Keys.{Bound, min_bound, key_bound, max_bound, Range, KeyFault, valid_key, order_bounds}
+use Rattle.chunk_model.specs.Tables.{Owned, Chunk}
+use Rattle.chunk_model.specs.Versions.{Version}
 use Rattle.chunk_table.specs.Whole.{follow_from}
-use Rattle.record_model.specs.History.{Session, client_session, router_session, StatementNumber, Operation, insert_operation, update_operation, delete_operation}
-use Rattle.record_model.specs.Names.{is_database_name, is_collection_name, full_name}
+use Rattle.history_model.specs.History.{Session, client_session, router_session, StatementNumber, Operation, insert_operation, update_operation, delete_operation}
+use Rattle.base_model.specs.Names.{is_database_name, is_collection_name, full_name}
 use Rattle.record_model.specs.Records.{OutcomeWords, Record, table_record, entry_record, create_record, life_record, block_record}
 
 infixl 10 ◌>>=◌

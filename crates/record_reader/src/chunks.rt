@@ -8,7 +8,7 @@ ghost use Rattle.shard_records.specs.Meanings.{record_view};
 ghost use Rattle.record_reader.specs.SoundRecords.{Finds, IsHeld, IsHeldChunk};
 ghost use Rattle.record_reader.specs.Readers.{bound_at, chunk_at, items_at, key_bound_at, list_at, owned_at, range_at, range_in, table_at, version_at};
 ghost use Rattle.value_compare.specs.Bounds.{bound_of};
-ghost use Rattle.value_compare.specs.Keys.{IsRange};
+ghost use Rattle.value_model.specs.Keys.{IsRange};
 
 use crate::fault::RecordFault;
 use crate::parts::{read_byte, read_key, read_namespace, read_u32, read_u64};

@@ -1,7 +1,8 @@
 //! Reading the record of an entry.
 
 ghost use Rattle.std.specs.Prelude.{IfOk};
-ghost use Rattle.shard_records.specs.Meanings.{number_view, operation_view, outcome_view, record_view, session_view};
+ghost use Rattle.statement_views.specs.Views.{number_view, operation_view, session_view};
+ghost use Rattle.shard_records.specs.Meanings.{outcome_view, record_view};
 ghost use Rattle.record_reader.specs.SoundRecords.{Finds, IsHeld};
 ghost use Rattle.record_reader.specs.Readers.{client_at, delete_at, entry_at, insert_at, operation_at, option_key_at, outcome_at, router_at, session_at, some_key_at, statement_at, update_at};
 ghost use Rattle.shard_records.specs.Sizes.{IsWritableKey, IsWritableOperation};

@@ -4,14 +4,14 @@
 
 ghost use Rattle.std.specs.Prelude.{◌≡◌, ◌≤◌, Ok, length, IfOk};
 ghost use Rattle.std.specs.Str.{IsUtf8};
-ghost use Rattle.bson_values.specs.Limits.{IsWritable};
+ghost use Rattle.bson_model.specs.Limits.{IsWritable};
 ghost use Rattle.bson_values.specs.Readers.{whole_at};
-ghost use Rattle.value_compare.specs.Keys.{valid_key};
+ghost use Rattle.value_model.specs.Keys.{valid_key};
 ghost use Rattle.record_model.specs.RecordFormat.{key_document};
 ghost use Rattle.record_reader.specs.SoundRecords.{Finds, fault_view};
 ghost use Rattle.record_reader.specs.Readers.{byte_at, bytes_at, document_at, eight_at, four_at, key_at, key_in, name_in, namespace_at, whole_in};
 ghost use Rattle.shard_records.specs.Sizes.{FitsRecord};
-ghost use Rattle.bson_values.specs.Grammar.{IsWithinDepth};
+ghost use Rattle.bson_model.specs.Grammar.{IsWithinDepth};
 
 use crate::fault::RecordFault;
 use bson_values::{BsonFault, Document, read};

@@ -4,7 +4,7 @@ use Rattle.std.specs.Prelude.{◌≡◌, ◌≢◌, ◌⊎◌, ℕ, ℤ, pos, �
 use Rattle.std.specs.List.{AllByRecursion}
 use Rattle.std.specs.Ordering.{int_eq}
 use Rattle.std.specs.Str.{bytes_eq}
-use Rattle.command_model.specs.Tree.{Fields}
+use Rattle.bson_model.specs.Tree.{Fields}
 use Rattle.pipeline_model.specs.Batches.{IsBatch}
 use Rattle.command_model.specs.Cursors.{Batch}
 use Rattle.reply_model.specs.Exchanges.{RequestId}

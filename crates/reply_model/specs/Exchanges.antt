@@ -1,8 +1,8 @@
 -- The requests that routers took, and what each was told.
 use Rattle.std.specs.Prelude.{ℕ, ℤ, List, [], ◌∷◌, Bool, false, ◌==◌, ◌&&◌, Option, Some, None, pos, if◌then◌else◌}
-use Rattle.command_model.specs.Tree.{Fields}
-use Rattle.command_model.specs.Requests.{Request}
-use Rattle.command_model.specs.Replies.{reply_bytes}
+use Rattle.bson_model.specs.Tree.{Fields}
+use Rattle.opmsg_model.specs.Requests.{Request}
+use Rattle.opmsg_model.specs.Replies.{reply_bytes}
 use Rattle.command_model.specs.Writes.{ClientNumber}
 use Rattle.history_model.specs.History.{Session, client_session, router_session, StatementNumber, Entry}
 

@@ -1,9 +1,9 @@
 -- What it means that whatever clients were told is one history of an unsharded collection, over any number of routers.
 use Rattle.std.specs.Prelude.{◌≡◌, ◌≢◌, ◌⊎◌, ℕ, ◌<◌, ◌≤◌, List, [], ◌∷◌, map, Some, None, Ok, true, false, ◌==◌, ◌&&◌, nat_lt, int_lt, if◌then◌else◌}
 use Rattle.std.specs.List.{AllByRecursion}
-use Rattle.command_model.specs.Tree.{Datum}
-use Rattle.command_model.specs.Times.{time_of_moment}
-use Rattle.command_model.specs.ReplyParts.{operation_time}
+use Rattle.bson_model.specs.Tree.{Datum}
+use Rattle.base_model.specs.Times.{time_of_moment}
+use Rattle.base_model.specs.ReplyParts.{operation_time}
 use Rattle.command_model.specs.Writes.{WriteCommand}
 use Rattle.command_model.specs.Command.{write_command, command_of}
 use Rattle.chunk_model.specs.Catalogue.{Creation}

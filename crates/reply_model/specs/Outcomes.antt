@@ -2,8 +2,8 @@
 use Rattle.std.specs.Prelude.{ℕ, ℤ, ◌+◌, List, [], ◌∷◌, Option, Some, None, Bool, max, is_some}
 use Rattle.std.specs.Option.{unwrap_or}
 use Rattle.history_model.specs.History.{Outcome, Entry}
-use Rattle.command_model.specs.Errors.{transaction_too_old}
-use Rattle.command_model.specs.Refusals.{Refusal, number_evidence, without_evidence}
+use Rattle.base_model.specs.Errors.{transaction_too_old}
+use Rattle.base_model.specs.Refusals.{Refusal, number_evidence, without_evidence}
 use Rattle.command_model.specs.Writes.{Upserted, WriteError, WriteKind, WriteSummary}
 use Rattle.command_model.specs.Answers.{Answer, write_answer}
 

@@ -1,15 +1,15 @@
 -- What a read may be told, by one history (MongoDB manual, "Read Concern", "Read Isolation, Consistency, and Recency").
 use Rattle.std.specs.Prelude.{◌≡◌, ℕ, ◌<◌, ◌≤◌, List, [], ◌∷◌, Bool, false, ◌==◌, filter, Option, Some, None, Ok, IsPermutation, if◌then◌else◌}
 use Rattle.std.specs.Str.{bytes_eq}
-use Rattle.command_model.specs.Tree.{Fields}
-use Rattle.command_model.specs.Keys.{key_of}
+use Rattle.bson_model.specs.Tree.{Fields}
+use Rattle.value_model.specs.Keys.{key_of}
 use Rattle.chunk_model.specs.Catalogue.{Creation}
 use Rattle.chunk_model.specs.Tables.{first_table, owner_at}
 use Rattle.pipeline_model.specs.Runs.{Outcome, listed, Allows}
 use Rattle.pipeline_model.specs.Halves.{Rows, IsHalf}
 use Rattle.pipeline_model.specs.Split.{split}
 use Rattle.pipeline_model.specs.Lengths.{excess_of_answer, excess_of_half}
-use Rattle.command_model.specs.ReplyParts.{operation_time}
+use Rattle.base_model.specs.ReplyParts.{operation_time}
 use Rattle.command_model.specs.Writes.{WriteCommand}
 use Rattle.command_model.specs.Command.{write_command, command_of}
 use Rattle.command_model.specs.Reading.{Reading}

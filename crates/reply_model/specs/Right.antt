@@ -1,10 +1,10 @@
 -- Which replies are right by one history, and by what their routers knew.
 use Rattle.std.specs.Prelude.{◌≡◌, ℕ, ℤ, ◌+◌, ◌≤◌, List, [], ◌∷◌, ◌++◌, length, map, int_lt, Option, Some, None, Result, Ok, Err, Bool, true, false, ◌&&◌, ◌||◌, codes, if◌then◌else◌}
 use Rattle.std.specs.Option.{unwrap_or}
-use Rattle.command_model.specs.Tree.{Fields}
-use Rattle.command_model.specs.Requests.{Request}
-use Rattle.command_model.specs.Errors.{cursor_not_found, overflow, query_exceeded_memory}
-use Rattle.command_model.specs.Refusals.{Refusal, bytes_evidence, cursor_evidence, time_ahead, without_evidence}
+use Rattle.bson_model.specs.Tree.{Fields}
+use Rattle.opmsg_model.specs.Requests.{Request}
+use Rattle.base_model.specs.Errors.{cursor_not_found, overflow, query_exceeded_memory}
+use Rattle.base_model.specs.Refusals.{Refusal, bytes_evidence, cursor_evidence, time_ahead, without_evidence}
 use Rattle.command_model.specs.Writes.{ClientNumber, WriteCommand}
 use Rattle.command_model.specs.Reading.{Reading, Batches}
 use Rattle.command_model.specs.Find.{Find}

@@ -11,8 +11,8 @@ use Rattle.cursor_shelf.specs.declared.shelf.Batch as shelves
 use Rattle.cursor_shelf.specs.declared.shelf.Shelf.{Shelf}
 use Rattle.cursor_shelf.specs.declared.shelf.ShelfFault.{ShelfFault}
 use Rattle.cursor_shelf.specs.declared.shelf.ShelfFault.TheVariants.{NotFound}
-use Rattle.node_model.specs.Tree.{Fields}
-use Rattle.node_model.specs.Cursors.{Cursor, ShowsNext, number_left, open_cursor, with_remaining}
+use Rattle.bson_model.specs.Tree.{Fields}
+use Rattle.reply_model.specs.Cursors.{Cursor, ShowsNext, number_left, open_cursor, with_remaining}
 use Rattle.pipeline_model.specs.Batches.{IsBatch}
 use Rattle.router_cursors.specs.CursorLists.{advanced, batch_of}
 use Rattle.router_cursors.specs.Marks.{Marked, rises, left_in, AreKept, cursor_by}

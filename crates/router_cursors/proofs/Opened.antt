@@ -7,7 +7,7 @@ use Rattle.std.proofs.lemmas.Bool.Decides.{Decides-int_eq}
 use Rattle.std.proofs.lemmas.Bool.{ltb-true, leb-true, leb-false, lt-ltb, le-leb}
 use Rattle.bson_model.proofs.Booleans.{both}
 use Rattle.cursor_shelf.specs.Cursors.{OpenCursor}
-use Rattle.node_model.specs.Tree.{Fields}
+use Rattle.bson_model.specs.Tree.{Fields}
 use Rattle.router_cursors.specs.Marks.{Marked, mark_of, rises, is_left, AreKept}
 
 pub same_number : (m n : ℤ) → int_eq m n ≡ true → m ≡ n

@@ -4,7 +4,7 @@ use Rattle.std.specs.Prelude.{Some, pos}
 use Rattle.cursor_shelf.specs.Cursors.{OpenCursor}
 use Rattle.cursor_shelf.specs.Shelves.{cursor_in}
 use Rattle.cursor_shelf.specs.declared.shelf.Shelf.{Shelf}
-use Rattle.node_model.specs.Tree.{Fields}
+use Rattle.bson_model.specs.Tree.{Fields}
 
 abbrev opened_on : (namespace : List ℕ) → (time : ℕ) → List Fields → OpenCursor
 opened_on namespace time rest = record { namespace = namespace; time = time; remaining = rest }

@@ -2,8 +2,8 @@
 use Rattle.std.specs.Prelude.{◌≡◌, ℕ, ℤ, pos, List, [], ◌∷◌, Bool, true, false, ◌&&◌, Option, Some, None, int_le, nat_le, nat_lt, if◌then◌else◌}
 use Rattle.std.specs.Ordering.{int_eq}
 use Rattle.cursor_shelf.specs.Cursors.{OpenCursor}
-use Rattle.node_model.specs.Tree.{Fields}
-use Rattle.node_model.specs.Cursors.{Cursor}
+use Rattle.bson_model.specs.Tree.{Fields}
+use Rattle.reply_model.specs.Cursors.{Cursor}
 use Rattle.router_cursors.specs.declared.mark.Mark.{Mark}
 
 abbrev pub Marked : Type 0

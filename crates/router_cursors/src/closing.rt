@@ -18,7 +18,7 @@ impl CursorList {
     ghost use Rattle.std.specs.Prelude.{◌≡◌, [], ◌∷◌, ◌&&◌, ◌||◌, ℕ, ℤ, List, IfOk, OnOk, is_some, not};
     ghost use Rattle.std.specs.BTreeSet.{contains};
     ghost use Rattle.std.specs.Ordering.{int_cmp, int_eq};
-    ghost use Rattle.node_model.specs.Cursors.{Kills, open_cursor, with_remaining};
+    ghost use Rattle.reply_model.specs.Cursors.{Kills, open_cursor, with_remaining};
     ghost use Rattle.router_cursors.specs.Closing.{CloseSoFar, Has};
     ghost use Rattle.router_cursors.specs.CursorLists.{blocks_of, closed_all, cursors_of, gave_of};
 

@@ -35,7 +35,7 @@ impl CursorList {
     ghost use Rattle.std.specs.Prelude.{◌≡◌, ◌+◌, ◌*◌, ◌^◌, ◌<◌, ◌≤◌, ◌++◌, ◌∷◌, [], ℕ, ℤ, pos, IfErr, IfNone, IfOk, IfSome, OnOk, None, Some, int_le, length, map, true};
     ghost use Rattle.std.specs.Arc.{arc_value};
     ghost use Rattle.cursor_shelf.specs.declared.shelf.ShelfFault.TheVariants.{NotFound};
-    ghost use Rattle.node_model.specs.Cursors.{Cursor, ShowsNext, open_cursor};
+    ghost use Rattle.reply_model.specs.Cursors.{Cursor, ShowsNext, open_cursor};
     ghost use Rattle.router_cursors.specs.CursorLists.{HasRoomFor, advanced, batch_of, blocks_of, cursors_of, gave_of};
     ghost use Rattle.router_cursors.specs.Marks.{is_left};
     ghost use Rattle.router_cursors.specs.Numbers.{block_given, blocks_then, number_given};

@@ -3,7 +3,7 @@ use Rattle.std.proofs.Common.{◌≡◌, ap, ◌∙◌, ℕ, [], ◌∷◌}
 use Rattle.std.specs.Prelude.{Option, None, Some}
 use Rattle.node_model.specs.RouterRows.{asks_again, asks_shards, asks_table, asks_times, id_of}
 use Rattle.node_model.specs.States.{Router, Wait, Open, for_time, for_table, for_shards}
-use Rattle.node_model.specs.Tables.{Table, table_of}
+use Rattle.chunk_model.specs.Tables.{Table, table_of}
 
 -- one that waits for shards asks them by the table that is known
 pub shards_again : (r : Router) (time : ℕ) (q : Open) (t : Table) → q.wait ≡ for_shards → table_of q.namespace r.tables ≡ Some t

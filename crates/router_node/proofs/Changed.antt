@@ -2,13 +2,13 @@
 use Rattle.std.proofs.Common.{◌≡◌, refl, sym, subst, ℕ, List, Bool, Global, map}
 use Rattle.std.specs.Prelude.{Option, Some, None}
 use Rattle.std.specs.declared.vec.Vec.{Vec}
-use Rattle.node_model.specs.Cursors.{Cursor}
+use Rattle.reply_model.specs.Cursors.{Cursor}
 use Rattle.node_model.specs.Letters.{Statement}
-use Rattle.node_model.specs.Outcomes.{Done}
+use Rattle.reply_model.specs.Outcomes.{Done}
 use Rattle.node_model.specs.RouterRows.{reached, with_work}
 use Rattle.node_model.specs.States.{Open, Router, Work, writing, reading, open_with, replaced}
-use Rattle.node_model.specs.Tables.{Table}
-use Rattle.node_model.specs.Writes.{WriteKind}
+use Rattle.chunk_model.specs.Tables.{Table}
+use Rattle.command_model.specs.Writes.{WriteKind}
 use Rattle.router_requests.specs.Works.{wait_view}
 use Rattle.router_requests.specs.declared.work.Wait.{Wait}
 use Rattle.protocol_model.specs.Statements.{done_view}

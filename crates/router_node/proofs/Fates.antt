@@ -1,17 +1,17 @@
 -- The rows of letters that tell something to an open request.
 use Rattle.std.proofs.Common.{◌≡◌, ◌≢◌, refl, sym, subst, ℕ, ◌<◌, ◌≤◌, List, [], ◌∷◌, Bool, true, false}
 use Rattle.std.specs.Prelude.{Some, None, Result}
-use Rattle.node_model.specs.Answers.{refusal_answer}
-use Rattle.node_model.specs.Exchanges.{RequestId}
+use Rattle.command_model.specs.Answers.{refusal_answer}
+use Rattle.reply_model.specs.Exchanges.{RequestId}
 use Rattle.node_model.specs.Letters as letters
 use Rattle.node_model.specs.Letters.{Letter, HalfFault, letter_input, write_done, read_rows, time_told, sends}
-use Rattle.node_model.specs.Outcomes.{Done, answer_of}
-use Rattle.node_model.specs.Refusals.{time_ahead}
+use Rattle.reply_model.specs.Outcomes.{Done, answer_of}
+use Rattle.base_model.specs.Refusals.{time_ahead}
 use Rattle.node_model.specs.RouterRows.{router_reach, router_ahead, router_note, router_wrote, heard, knows, open_of, reply_to, noted, is_answered, reached, asks_for, going_on, answers_now, IsLate, IsNoRead, IsNotAwaited, AreNoNews}
 use Rattle.node_model.specs.States.{Telling, Open, Router, for_time, reading, writing, without, replaced}
-use Rattle.node_model.specs.Halves.{Rows}
-use Rattle.node_model.specs.Stages.{Stage}
-use Rattle.node_model.specs.Writes.{WriteKind}
+use Rattle.pipeline_model.specs.Halves.{Rows}
+use Rattle.pipeline_model.specs.Stages.{Stage}
+use Rattle.command_model.specs.Writes.{WriteKind}
 use Rattle.node_traits.specs.Effects.{puts_of}
 use Rattle.node_traits.specs.declared.outputs.ToLink.{ToLink}
 use Rattle.router_node.specs.Rows.{TookRow}

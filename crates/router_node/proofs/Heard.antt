@@ -1,13 +1,13 @@
 -- What is heard of a message is a row.
 use Rattle.std.proofs.Common.{Global, ◌≡◌, refl, ap, sym, subst, ◌∙◌, ℕ, List, [], map, Bool, true, false, if◌then◌else◌}
 use Rattle.std.specs.Prelude.{Option, Some, None}
-use Rattle.node_model.specs.Exchanges.{RequestId, same_request}
+use Rattle.reply_model.specs.Exchanges.{RequestId, same_request}
 use Rattle.node_model.specs.Letters as letters
 use Rattle.node_model.specs.Letters.{Letter, Input, letter_input, nothing, Effect}
-use Rattle.node_model.specs.Outcomes.{Done}
+use Rattle.reply_model.specs.Outcomes.{Done}
 use Rattle.node_model.specs.RouterRows.{heard, knows, open_of, id_of, reached, with_work, router_late, IsLate, RouterRow}
 use Rattle.node_model.specs.States.{Open, Router, Work, writing, reading, open_with, replaced}
-use Rattle.node_model.specs.Writes.{WriteKind}
+use Rattle.command_model.specs.Writes.{WriteKind}
 use Rattle.node_traits.specs.Effects.{AreSound, puts_of, spellings}
 use Rattle.node_traits.specs.declared.outputs.ToLink.{ToLink}
 use Rattle.router_requests.specs.Works.{wait_view}

@@ -3,7 +3,7 @@ use Rattle.std.proofs.Common.{◌≡◌, refl, ap, sym, subst, ◌∙◌, ℕ, L
 use Rattle.std.proofs.lemmas.Slice.Eq.{bytes_eq-Decides}
 use Rattle.std.specs.Prelude.{Option, Some, None}
 use Rattle.std.specs.Str.{bytes_eq}
-use Rattle.node_model.specs.Tables.{Table, is_longer, table_of, with_table}
+use Rattle.chunk_model.specs.Tables.{Table, is_longer, table_of, with_table}
 
 -- the longer of two
 abbrev pub longer : Table → Table → Table

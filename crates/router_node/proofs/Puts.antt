@@ -3,9 +3,9 @@ use Rattle.std.proofs.Common.{◌≡◌, refl, ap, sym, subst, ◌∙◌, ℕ, s
 use Rattle.std.proofs.lemmas.List.{append_assoc}
 use Rattle.std.specs.List.{flat_map}
 use Rattle.node_model.specs.Letters.{Reply}
-use Rattle.node_model.specs.Exchanges.{RequestId}
-use Rattle.node_model.specs.Requests.{Request}
-use Rattle.node_model.specs.Tree.{Fields}
+use Rattle.reply_model.specs.Exchanges.{RequestId}
+use Rattle.opmsg_model.specs.Requests.{Request}
+use Rattle.bson_model.specs.Tree.{Fields}
 use Rattle.node_traits.specs.Effects.{puts_of, put_by}
 use Rattle.std.proofs.lemmas.Int.{to_z-of_z}
 use Rattle.std.specs.Prelude.{Some}

@@ -6,7 +6,7 @@ use Rattle.cluster_base.specs.declared.time.Time.{Time}
 use Rattle.node_model.specs.Letters.{Letter}
 use Rattle.node_model.specs.RouterRows.{asks_by, asks_for, asks_times, id_of, reached, table_for, wait_by, wait_of}
 use Rattle.node_model.specs.States.{Router, Wait, Work, for_time}
-use Rattle.node_model.specs.Tables.{Table}
+use Rattle.chunk_model.specs.Tables.{Table}
 use Rattle.router_requests.proofs.Askers.{asked_alike}
 use Rattle.router_requests.specs.Askers.{asking}
 use Rattle.router_requests.specs.Works.{read_at, read_view}

@@ -3,11 +3,11 @@ use Rattle.std.proofs.Common.{◌≡◌, ◌≢◌, refl, ap, sym, ◌∙◌, �
 use Rattle.std.proofs.lemmas.List.{length-map}
 use Rattle.std.specs.Prelude.{Option, Some, None}
 use Rattle.node_model.specs.Letters.{Letter, Statement}
-use Rattle.node_model.specs.Outcomes.{Done}
+use Rattle.reply_model.specs.Outcomes.{Done}
 use Rattle.node_model.specs.RouterRows.{asks_by, asks_for, enough_of, wait_by, wait_of}
 use Rattle.node_model.specs.States.{Router, Wait, writing}
-use Rattle.node_model.specs.Tables.{Table, table_of}
-use Rattle.node_model.specs.Writes.{WriteKind}
+use Rattle.chunk_model.specs.Tables.{Table, table_of}
+use Rattle.command_model.specs.Writes.{WriteKind}
 use Rattle.router_requests.proofs.Askers.{asked_alike}
 use Rattle.router_requests.specs.Askers.{asking}
 

@@ -6,15 +6,15 @@ use Rattle.std.specs.declared.vec.Vec.{Vec}
 use Rattle.command_model.specs.Cursors.{Batch}
 use Rattle.command_model.specs.GetMore.{GetMore}
 use Rattle.command_model.specs.KillCursors.{KillCursors}
-use Rattle.node_model.specs.Answers.{Answer, answer_document, next_answer, killed_answer, refusal_answer}
-use Rattle.node_model.specs.Command.{command_of}
-use Rattle.node_model.specs.Cursors.{Cursor, Kills, ShowsNext, open_cursor}
-use Rattle.node_model.specs.Errors.{cursor_not_found}
-use Rattle.node_model.specs.Exchanges.{RequestId}
+use Rattle.command_model.specs.Answers.{Answer, answer_document, next_answer, killed_answer, refusal_answer}
+use Rattle.command_model.specs.Command.{command_of}
+use Rattle.reply_model.specs.Cursors.{Cursor, Kills, ShowsNext, open_cursor}
+use Rattle.base_model.specs.Errors.{cursor_not_found}
+use Rattle.reply_model.specs.Exchanges.{RequestId}
 use Rattle.node_model.specs.Journal.{kept_block}
 use Rattle.node_model.specs.Letters.{Letter, client_input}
-use Rattle.node_model.specs.Refusals.{cursor_evidence}
-use Rattle.node_model.specs.Requests.{Request}
+use Rattle.base_model.specs.Refusals.{cursor_evidence}
+use Rattle.opmsg_model.specs.Requests.{Request}
 use Rattle.node_model.specs.RouterRows.{RouterRow, Opened, router_more, router_no_cursor, router_kill, answers_at_once, as_before, gives_number, heard, id_of, needs_batch, needs_end, next_number, plan_of, reply_to}
 use Rattle.node_model.specs.States.{Open, Router}
 use Rattle.node_traits.specs.Effects.{AreSound, puts_of}

@@ -2,15 +2,15 @@
 use Rattle.std.proofs.Common.{◌≡◌, refl, ap, sym, subst, ◌∙◌, ℕ, ℤ, ◌+◌, List, [], ◌∷◌, ◌++◌, Bool, true, false, append-nil, if◌then◌else◌}
 use Rattle.std.specs.Prelude.{max, Result, Ok, Err, IfOk}
 use Rattle.std.specs.List.{flat_map}
-use Rattle.node_model.specs.Answers.{Answer, answer_document}
-use Rattle.node_model.specs.Command.{command_of}
+use Rattle.command_model.specs.Answers.{Answer, answer_document}
+use Rattle.command_model.specs.Command.{command_of}
 use Rattle.node_model.specs.Journal.{kept_life}
 use Rattle.node_model.specs.Letters.{Letter, Input, client_input, letter_input, moment_input, opened_input, Effect, nothing, sends, writes}
-use Rattle.node_model.specs.Requests.{Request}
+use Rattle.opmsg_model.specs.Requests.{Request}
 use Rattle.node_model.specs.RouterRows.{RouterRow, router_begin, router_opened, router_plain, router_take, router_moment, router_skip, TellsNothing, begins, takes, plan_of, at_once, needs, id_of, asks_for, asks_times, asks_again, wait_of, opened_request, is_ahead, table_for, taken_now}
 use Rattle.node_model.specs.States.{Router, Work, Wait, Open, router_state}
 use Rattle.node_model.specs.Steps.{Step, IsFor, BeginsBefore, router_step, begin_step, other_step}
-use Rattle.node_model.specs.Times.{time_of_moment}
+use Rattle.base_model.specs.Times.{time_of_moment}
 use Rattle.node_traits.specs.Effects.{AreSound, puts_of, spellings}
 use Rattle.node_traits.specs.declared.outputs.ToLink.{ToLink}
 use Rattle.router_requests.proofs.Askers.{asked_alike}

@@ -2,20 +2,20 @@
 use Rattle.std.proofs.Common.{◌≡◌, ◌≢◌, ap, sym, subst, ◌∙◌, ℕ, ◌<◌, ◌-◌, ◌^◌, ◌⊎◌, inl, inr, ⊎_elim, List, [], ◌∷◌, ◌++◌, drop, length, Bool, true, false, arith}
 use Rattle.std.specs.Prelude.{codes, min, option_map, Option, Some, None, Ok, Err, pos}
 use Rattle.group_accum.specs.Sizes.{capped}
-use Rattle.node_model.specs.Answers.{Answer, count_answer, first_answer, refusal_answer}
+use Rattle.command_model.specs.Answers.{Answer, count_answer, first_answer, refusal_answer}
 use Rattle.pipeline_model.specs.Batches.{IsBatch}
-use Rattle.node_model.specs.Errors.{overflow}
-use Rattle.node_model.specs.Exchanges.{RequestId}
-use Rattle.node_model.specs.Halves.{Merge, Rows, MergesInTurn}
-use Rattle.node_model.specs.Lengths.{excess_of_answer}
+use Rattle.base_model.specs.Errors.{overflow}
+use Rattle.reply_model.specs.Exchanges.{RequestId}
+use Rattle.pipeline_model.specs.Halves.{Merge, Rows, MergesInTurn}
+use Rattle.pipeline_model.specs.Lengths.{excess_of_answer}
 use Rattle.node_model.specs.Letters.{Letter, half_excess, half_overflow, read_rows}
-use Rattle.node_model.specs.Refusals.{without_evidence}
+use Rattle.base_model.specs.Refusals.{without_evidence}
 use Rattle.node_model.specs.RouterRows.{as_before, batch_of, gives_number, new_cursor, next_number, open_of, router_excess, router_overflow, router_read, tells_batch, tells_cursor, tells_excess, tells_number, tells_overflow, too_much}
-use Rattle.node_model.specs.Runs.{Outcome, count_documents, listed, overflowed}
-use Rattle.node_model.specs.Split.{split}
-use Rattle.node_model.specs.Stages.{Stage}
+use Rattle.pipeline_model.specs.Runs.{Outcome, count_documents, listed, overflowed}
+use Rattle.pipeline_model.specs.Split.{split}
+use Rattle.pipeline_model.specs.Stages.{Stage}
 use Rattle.node_model.specs.States.{Telling, as_number, in_batches, Open, Router, reading}
-use Rattle.node_model.specs.Tree.{Fields}
+use Rattle.bson_model.specs.Tree.{Fields}
 use Rattle.router_cursors.specs.Marks.{is_left}
 use Rattle.router_node.specs.Tellings.{MayTell, MayTellOf}
 

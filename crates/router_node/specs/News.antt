@@ -1,11 +1,11 @@
 -- Outcomes that are news to an open write.
 use Rattle.std.specs.Prelude.{◌≡◌, ◌≢◌, Bool, List, Some}
-use Rattle.node_model.specs.Exchanges.{RequestId}
+use Rattle.reply_model.specs.Exchanges.{RequestId}
 use Rattle.node_model.specs.Letters.{Letter, Statement, write_done}
-use Rattle.node_model.specs.Outcomes.{Done}
+use Rattle.reply_model.specs.Outcomes.{Done}
 use Rattle.node_model.specs.RouterRows.{noted, open_of}
 use Rattle.node_model.specs.States.{Open, Router, writing}
-use Rattle.node_model.specs.Writes.{WriteKind}
+use Rattle.command_model.specs.Writes.{WriteKind}
 
 -- the letter tells an open write, of these statements, outcomes with which its answers are these, which are more than it had
 pub record IsNews (r : Router) (m : Letter) (id : RequestId) (q : Open) (kind : WriteKind) (ordered : Bool)

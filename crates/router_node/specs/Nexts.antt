@@ -4,7 +4,7 @@ use Rattle.std.specs.Arc.{arc_value}
 use Rattle.std.specs.Option.{option_map}
 use Rattle.node_model.specs.RouterRows.{Next, adopted, next_of}
 use Rattle.node_model.specs.States.{Open, Router}
-use Rattle.node_model.specs.Tables.{Table}
+use Rattle.chunk_model.specs.Tables.{Table}
 use Rattle.protocol_model.specs.Bodies.{at_view}
 use Rattle.protocol_model.specs.declared.tables.TableTold.{TableTold}
 

@@ -3,14 +3,14 @@ use Rattle.std.specs.Prelude.{◌≡◌, ◌<◌, ◌≤◌, ◌-◌, ◌^◌, �
 use Rattle.std.specs.Arc.{arc_value}
 use Rattle.std.specs.List.{flat_map}
 use Rattle.std.specs.Option.{option_map}
-use Rattle.node_model.specs.Cursors.{Cursor}
+use Rattle.reply_model.specs.Cursors.{Cursor}
 use Rattle.node_model.specs.Journal.{Kept}
 use Rattle.node_model.specs.Letters.{Letter, Statement, Input, letter_input, Effect}
-use Rattle.node_model.specs.Outcomes.{Done}
+use Rattle.reply_model.specs.Outcomes.{Done}
 use Rattle.node_model.specs.RouterRows.{RouterRow, adopted, id_of, next_number, reached, with_work, stay_in, next_of}
 use Rattle.node_model.specs.States.{Open, Router, router_state, writing, reading, open_with, without, replaced}
-use Rattle.node_model.specs.Tables.{Table}
-use Rattle.node_model.specs.Writes.{WriteKind}
+use Rattle.chunk_model.specs.Tables.{Table}
+use Rattle.command_model.specs.Writes.{WriteKind}
 use Rattle.node_traits.specs.Effects.{AreSound, StepPlanned, puts_of, spellings}
 use Rattle.node_traits.specs.declared.outputs.ToLink.{ToLink}
 use Rattle.router_requests.specs.Lists.{has_room}

@@ -1,9 +1,9 @@
 -- What an open read may be told, by a letter.
 use Rattle.std.specs.Prelude.{ℕ, [], ◌∷◌}
-use Rattle.node_model.specs.Answers.{Answer}
+use Rattle.command_model.specs.Answers.{Answer}
 use Rattle.node_model.specs.Letters.{Letter, letter_input}
 use Rattle.node_model.specs.RouterRows.{RouterRow, Opened, Tells, opens, heard, knows, reply_to}
-use Rattle.node_model.specs.Runs.{Outcome}
+use Rattle.pipeline_model.specs.Runs.{Outcome}
 use Rattle.node_model.specs.States.{Telling, Open, Router, without}
 
 -- it may be told this, and the cursors are these then

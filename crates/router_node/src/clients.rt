@@ -23,7 +23,7 @@ pub(crate) struct Asked {
 impl RouterNode {
     ghost use Rattle.std.specs.Prelude.{◌≡◌, ◌<◌, ◌+◌, ◌-◌, ◌^◌, IfOk};
     ghost use Rattle.command_replies.specs.AnswerMeanings.{answer_view};
-    ghost use Rattle.command_words.specs.Command.{command_of};
+    ghost use Rattle.command_model.specs.Command.{command_of};
     ghost use Rattle.node_model.specs.Letters.{client_input};
     ghost use Rattle.node_model.specs.RouterRows as rows;
     ghost use Rattle.router_requests.specs.Lists.{taken_of};

@@ -12,9 +12,9 @@ use router_replies::{next_answer, not_open, reply_to};
 
 impl RouterNode {
     ghost use Rattle.std.specs.Prelude.{◌≡◌, ◌<◌, ◌+◌, ◌-◌, ◌^◌, IfOk, None, Some, length};
-    ghost use Rattle.command_words.specs.Command.{command_of};
+    ghost use Rattle.command_model.specs.Command.{command_of};
     ghost use Rattle.command_words.specs.Commands.{kill_view, more_view};
-    ghost use Rattle.node_model.specs.Cursors.{Cursor, ShowsNext, open_cursor};
+    ghost use Rattle.reply_model.specs.Cursors.{Cursor, ShowsNext, open_cursor};
     ghost use Rattle.node_model.specs.Letters.{client_input};
     ghost use Rattle.node_model.specs.RouterRows as rows;
     ghost use Rattle.router_requests.specs.Lists.{taken_of};

@@ -1,7 +1,7 @@
 //! What is told of tables.
 
 ghost use Rattle.std.specs.Prelude.{◌≡◌, if◌then◌else◌};
-ghost use Rattle.node_model.specs.Tables.{is_longer};
+ghost use Rattle.chunk_model.specs.Tables.{is_longer};
 
 use crate::node::RouterNode;
 use crate::step_plan::{Change, StepPlan};
@@ -30,7 +30,7 @@ impl RouterNode {
     ghost use Rattle.std.specs.Option.{option_map};
     ghost use Rattle.node_model.specs.Letters.{Letter};
     ghost use Rattle.node_model.specs.RouterRows as rows;
-    ghost use Rattle.node_model.specs.Tables.{table_of};
+    ghost use Rattle.chunk_model.specs.Tables.{table_of};
     ghost use Rattle.node_traits.specs.Effects.{puts_of};
     ghost use Rattle.node_traits.specs.Lists.{listed};
     ghost use Rattle.router_requests.specs.Askers.{letters_of};

@@ -2,7 +2,7 @@
 
 ghost use Rattle.std.specs.Prelude.{◌≡◌, false};
 ghost use Rattle.std.specs.Option.{option_map};
-ghost use Rattle.known_tables.specs.Tables.{table_of};
+ghost use Rattle.chunk_model.specs.Tables.{table_of};
 ghost use Rattle.node_model.specs.RouterRows as rows;
 ghost use Rattle.router_requests.specs.Lists.{taken_of};
 ghost use Rattle.router_requests.specs.Works.{wait_view};
@@ -49,8 +49,8 @@ pub struct RouterNode {
 impl RouterNode {
     ghost use Rattle.std.specs.Prelude.{◌≡◌, IfOk, Some, false};
     ghost use Rattle.std.specs.Option.{option_map};
-    ghost use Rattle.known_tables.specs.Tables.{table_of};
-    ghost use Rattle.node_model.specs.Exchanges as asked;
+    ghost use Rattle.chunk_model.specs.Tables.{table_of};
+    ghost use Rattle.reply_model.specs.Exchanges as asked;
     ghost use Rattle.node_model.specs.RouterRows as rows;
     ghost use Rattle.node_model.specs.States.{new_router};
     ghost use Rattle.node_traits.specs.Ids.{id_view};

@@ -3,9 +3,9 @@
 ghost use Rattle.std.specs.Prelude.{◌≡◌, ◌≢◌, Option, length, map, true, false, IfOk};
 ghost use Rattle.command_replies.specs.AnswerMeanings.{answer_view};
 ghost use Rattle.command_replies.specs.Kinds.{kind_view};
-ghost use Rattle.node_model.specs.Exchanges as asked;
-ghost use Rattle.node_model.specs.Writes as writes;
-ghost use Rattle.node_model.specs.Outcomes as outcomes;
+ghost use Rattle.reply_model.specs.Exchanges as asked;
+ghost use Rattle.command_model.specs.Writes as writes;
+ghost use Rattle.reply_model.specs.Outcomes as outcomes;
 ghost use Rattle.node_model.specs.RouterRows as rows;
 ghost use Rattle.protocol_model.specs.Statements.{done_view, statement_view};
 
@@ -62,7 +62,7 @@ impl RouterNode {
     ghost use Rattle.node_model.specs.Letters as letters;
     ghost use Rattle.node_model.specs.RouterRows as rows;
     ghost use Rattle.node_model.specs.States as states;
-    ghost use Rattle.node_model.specs.Writes as writes;
+    ghost use Rattle.command_model.specs.Writes as writes;
     ghost use Rattle.command_replies.specs.Kinds.{given_view, kind_view};
     ghost use Rattle.router_requests.specs.Askers.{asking, letters_of};
     ghost use Rattle.router_requests.specs.Works.{open_view};

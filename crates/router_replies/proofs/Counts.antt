@@ -2,8 +2,8 @@
 use Rattle.std.proofs.Common.{◌≡◌, refl, ap, ◌∙◌, ℕ, zero, suc, ℤ, ◌<◌, ◌≤◌, ◌^◌, List, [], ◌∷◌, Bool, true, false, arith, if◌then◌else◌}
 use Rattle.std.specs.Prelude.{codes, pos}
 use Rattle.std.proofs.lemmas.Bool.{lt-ltb, le-ltb}
-use Rattle.node_model.specs.Tree.{Datum, int32_value, int64_value, Fields, no_fields, field}
-use Rattle.node_model.specs.Runs.{count_documents}
+use Rattle.bson_model.specs.Tree.{Datum, int32_value, int64_value, Fields, no_fields, field}
+use Rattle.pipeline_model.specs.Runs.{count_documents}
 use Rattle.pipeline_model.specs.Groups.{count_value, fits_in}
 
 pub count_short : (z : ℤ) (n : ℕ) → z ≡ pos n → n < 2 ^ 31 → int32_value z ≡ count_value n

@@ -1,19 +1,19 @@
 -- The bodies of requests of the program that say something of the definitions, and are small.
 use Rattle.std.proofs.Common.{◌≡◌, refl, ap, ◌∙◌, sym, subst, ℕ, suc, ◌+◌, ◌<◌, ◌≤◌, List, [], ◌∷◌, drop, length, get_or, true, false, add-one, drop-cons}
 use Rattle.std.specs.Prelude.{is_some, pos, Option, Some, Result, Ok}
-use Rattle.bson_values.specs.Faults.{short_fault, length_fault, type_fault, string_fault, boolean_fault, depth_fault, trailing_fault}
+use Rattle.bson_model.specs.Faults.{short_fault, length_fault, type_fault, string_fault, boolean_fault, depth_fault, trailing_fault}
 use Rattle.bson_values.specs.ReadFaults.{fault_offset}
 use Rattle.bson_values.specs.declared.fault.BsonFault.{BsonFault}
 use Rattle.bson_values.specs.declared.fault.BsonFault.TheVariants.{Short, BadLength, BadType, BadText, BadBool, Deep, Trailing, Memory}
 use Rattle.command_model.proofs.Taken.{command_taken}
 use Rattle.command_model.specs.Command.{Command, command_in}
 use Rattle.command_model.specs.CommandSizes.{IsSmallCommand, IsTaken}
-use Rattle.command_model.specs.MessageSizes.{IsSmall, IsSmallBody}
-use Rattle.node_model.specs.Refusals.{Refusal}
-use Rattle.node_model.specs.Tree.{Fields}
+use Rattle.opmsg_model.specs.MessageSizes.{IsSmall, IsSmallBody}
+use Rattle.base_model.specs.Refusals.{Refusal}
+use Rattle.bson_model.specs.Tree.{Fields}
 use Rattle.opmsg_frames.specs.Lists.{pairs_of}
 use Rattle.opmsg_frames.specs.RequestMeanings.{IsBody}
-use Rattle.opmsg_frames.specs.Requests as wire
+use Rattle.opmsg_model.specs.Requests as wire
 use Rattle.opmsg_frames.specs.declared.lists.Sequence.{Sequence}
 use Rattle.opmsg_frames.specs.declared.request.Body.{Body}
 use Rattle.opmsg_frames.specs.declared.request.Body.TheVariants.{Read, Faulty}

@@ -1,8 +1,8 @@
 -- Bodies that are as small as a message has them.
 use Rattle.std.specs.Prelude.{ℕ, List}
 use Rattle.std.specs.List.{AllByRecursion}
-use Rattle.command_model.specs.MessageSizes.{IsSmall, IsSmallBody}
-use Rattle.node_model.specs.Tree.{Fields}
+use Rattle.opmsg_model.specs.MessageSizes.{IsSmall, IsSmallBody}
+use Rattle.bson_model.specs.Tree.{Fields}
 use Rattle.opmsg_frames.specs.RequestMeanings.{IsBody}
 use Rattle.opmsg_frames.specs.declared.request.Body.{Body}
 use Rattle.protocol_model.specs.Requests.{body_of}

@@ -1,5 +1,5 @@
 -- What a request that comes is answered, or has to do.
-use Rattle.node_model.specs.Exchanges as asked
+use Rattle.reply_model.specs.Exchanges as asked
 use Rattle.node_model.specs.RouterRows as rows
 use Rattle.node_model.specs.RouterRows.{at_once, needs, needs_batch, needs_end}
 use Rattle.command_replies.specs.AnswerMeanings.{answer_view}

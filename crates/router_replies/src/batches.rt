@@ -3,7 +3,7 @@
 ghost use Rattle.std.specs.Prelude.{◌≡◌, ◌≤◌, ◌^◌, ◌⊎◌, [], pos, IfOk, map, true, false, if◌then◌else◌};
 ghost use Rattle.std.specs.Arc.{arc_value};
 ghost use Rattle.command_replies.specs.AnswerMeanings.{answer_view};
-ghost use Rattle.node_model.specs.Answers as model;
+ghost use Rattle.command_model.specs.Answers as model;
 ghost use Rattle.node_model.specs.RouterRows as rows;
 ghost use Rattle.node_model.specs.States as states;
 ghost use Rattle.router_requests.specs.Works.{telling_view};

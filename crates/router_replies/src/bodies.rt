@@ -2,7 +2,7 @@
 
 ghost use Rattle.std.specs.Prelude.{◌≡◌, ◌≤◌, ℕ, IsTrue, Some};
 ghost use Rattle.bson_values.specs.ReadFaults.{fault_offset};
-ghost use Rattle.command_model.specs.MessageSizes.{IsSmall};
+ghost use Rattle.opmsg_model.specs.MessageSizes.{IsSmall};
 ghost use Rattle.opmsg_frames.specs.Lists.{pairs_of};
 ghost use Rattle.opmsg_model.specs.Messages.{most_bytes};
 ghost use Rattle.router_replies.specs.Bodies.{AreSmallSequences, IsTakenBody};

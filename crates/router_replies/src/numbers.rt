@@ -3,7 +3,7 @@
 ghost use Rattle.std.specs.Prelude.{◌≡◌, ◌<◌, ◌≤◌, ◌^◌, ◌∷◌, [], pos, codes, IfSome, map};
 ghost use Rattle.std.specs.Arc.{arc_value};
 ghost use Rattle.bson_values.specs.View.{datum_of};
-ghost use Rattle.node_model.specs.Runs.{count_documents};
+ghost use Rattle.pipeline_model.specs.Runs.{count_documents};
 ghost use Rattle.pipeline_model.specs.Groups.{count_value};
 
 use crate::batches::DocumentList;

@@ -5,12 +5,12 @@ ghost use Rattle.std.specs.Option.{unwrap_or};
 ghost use Rattle.command_replies.specs.Kinds.{given_view, kind_view};
 ghost use Rattle.command_model.specs.CommandSizes.{IsSmallWrite};
 ghost use Rattle.command_words.specs.Commands.{write_view};
-ghost use Rattle.node_model.specs.Exchanges as asked;
-ghost use Rattle.node_model.specs.Right.{usual_size};
+ghost use Rattle.reply_model.specs.Exchanges as asked;
+ghost use Rattle.reply_model.specs.Right.{usual_size};
 ghost use Rattle.node_model.specs.RouterRows as rows;
 ghost use Rattle.node_model.specs.States as states;
 ghost use Rattle.router_requests.specs.Works.{stages_of, telling_view};
-ghost use Rattle.shard_records.specs.Meanings.{operation_view};
+ghost use Rattle.statement_views.specs.Views.{operation_view};
 ghost use Rattle.router_replies.specs.Plans.{plan_view};
 
 use crate::statements::statements_of;

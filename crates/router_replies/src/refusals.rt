@@ -3,9 +3,9 @@
 ghost use Rattle.std.specs.Prelude.{◌≡◌};
 ghost use Rattle.command_replies.specs.Refusals.{refusal_view};
 ghost use Rattle.command_replies.specs.AnswerMeanings.{answer_view};
-ghost use Rattle.node_model.specs.Answers as model;
-ghost use Rattle.node_model.specs.Errors.{cursor_not_found, overflow};
-ghost use Rattle.node_model.specs.Refusals as refusals;
+ghost use Rattle.command_model.specs.Answers as model;
+ghost use Rattle.base_model.specs.Errors.{cursor_not_found, overflow};
+ghost use Rattle.base_model.specs.Refusals as refusals;
 ghost use Rattle.node_model.specs.RouterRows as rows;
 
 use cluster_base::{Code, Time};

@@ -1,12 +1,12 @@
 //! Replies.
 
 ghost use Rattle.std.specs.Prelude.{◌≡◌, ◌∷◌, [], ℕ, IfOk};
-ghost use Rattle.command_replies.specs.Answers.{answer_document};
+ghost use Rattle.command_model.specs.Answers.{answer_document};
 ghost use Rattle.command_replies.specs.AnswerMeanings.{answer_view};
-ghost use Rattle.node_model.specs.Exchanges as asked;
+ghost use Rattle.reply_model.specs.Exchanges as asked;
 ghost use Rattle.node_traits.specs.Effects.{puts_of};
 ghost use Rattle.node_traits.specs.Lists.{listed};
-ghost use Rattle.opmsg_frames.specs.Replies as wire;
+ghost use Rattle.opmsg_model.specs.Replies as wire;
 ghost use Rattle.opmsg_frames.specs.RequestMeanings.{form_view};
 ghost use Rattle.protocol_model.specs.Heads.{head_request};
 

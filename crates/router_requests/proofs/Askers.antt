@@ -1,11 +1,11 @@
 -- What a router asks for by a table does not hang on what else it knows.
 use Rattle.std.proofs.Common.{◌≡◌, refl, ap, ℕ, List, [], ◌∷◌, Bool}
 use Rattle.std.specs.Prelude.{Option, Some, None}
-use Rattle.node_model.specs.Exchanges.{RequestId}
+use Rattle.reply_model.specs.Exchanges.{RequestId}
 use Rattle.node_model.specs.Letters.{Statement}
 use Rattle.node_model.specs.RouterRows.{asks_to_write, asks_shards, asks_table, asks_by, id_of, unanswered}
 use Rattle.node_model.specs.States.{Router, Work, writing, reading}
-use Rattle.node_model.specs.Tables.{Table}
+use Rattle.chunk_model.specs.Tables.{Table}
 use Rattle.router_requests.specs.Askers.{asking}
 
 module _ (r : Router) (time count : ℕ) (namespace : List ℕ) where

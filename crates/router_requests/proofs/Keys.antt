@@ -6,13 +6,13 @@ use Rattle.command_model.proofs.Judged.{key_of_write}
 use Rattle.command_model.specs.CommandSizes.{IsKeepable}
 use Rattle.command_model.specs.Statements.{key_asked_by}
 use Rattle.command_model.specs.Writes.{ClientNumber}
-use Rattle.node_model.specs.Tree.{Datum, Fields}
-use Rattle.node_model.specs.History.{Operation, insert_operation, key_read, key_written}
-use Rattle.node_model.specs.Tables.{Table, owner_now}
-use Rattle.node_model.specs.Exchanges.{RequestId, number_for}
+use Rattle.bson_model.specs.Tree.{Datum, Fields}
+use Rattle.history_model.specs.History.{Operation, insert_operation, key_read, key_written}
+use Rattle.chunk_model.specs.Tables.{Table, owner_now}
+use Rattle.reply_model.specs.Exchanges.{RequestId, number_for}
 use Rattle.node_model.specs.RouterRows.{owner_of_statement}
 use Rattle.history_model.proofs.Keyed.{written_is_key}
-use Rattle.value_compare.specs.Keys.{is_key, valid_key}
+use Rattle.value_model.specs.Keys.{is_key, valid_key}
 
 pub key_by_document : (document : Fields) (key : Datum) → valid_key document ≡ Ok key → key_written (insert_operation document) ≡ Some key
 key_by_document document key valid = insert_key document key valid

@@ -4,13 +4,13 @@ use Rattle.std.proofs.lemmas.Slice.Eq.{bytes_eq-Decides}
 use Rattle.std.specs.Prelude.{Option, Some, None, is_some}
 use Rattle.std.specs.Str.{bytes_eq}
 use Rattle.bson_model.proofs.Booleans.{both}
-use Rattle.node_model.specs.Halves.{Half}
+use Rattle.pipeline_model.specs.Halves.{Half}
 use Rattle.node_model.specs.Letters.{At}
-use Rattle.node_model.specs.Split.{split}
-use Rattle.node_model.specs.Stages.{Stage}
+use Rattle.pipeline_model.specs.Split.{split}
+use Rattle.pipeline_model.specs.Stages.{Stage}
 use Rattle.node_model.specs.RouterRows.{Next, owner_of_span, stays, next_of, next_waiting, next_without, enough_of, is_enough, is_for_table, with_work, asks_shards}
 use Rattle.node_model.specs.States.{Telling, Open, Router, Work, for_shards, reading}
-use Rattle.node_model.specs.Tables.{Table, table_of}
+use Rattle.chunk_model.specs.Tables.{Table, table_of}
 use Rattle.router_requests.specs.Nexts.{IsNext}
 use Rattle.router_requests.specs.declared.tables.Next as becomes
 use Rattle.router_requests.specs.declared.tables.Next.TheVariants.{Stays, GoesOn, IsTold}

@@ -5,5 +5,3 @@ pub mod Lists
 pub mod Order
 pub mod Nexts
 pub mod Turns
-pub use Rattle.node_model.specs.RouterRows
-pub use Rattle.node_model.specs.States

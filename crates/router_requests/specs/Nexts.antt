@@ -2,7 +2,7 @@
 use Rattle.std.specs.Prelude.{◌≡◌, ℕ, [], Option, Some}
 use Rattle.node_model.specs.RouterRows.{Next as Fate, stays, is_told, with_work, asks_shards, reply_to, empty_answer}
 use Rattle.node_model.specs.States.{Open, Router, for_shards}
-use Rattle.node_model.specs.Tables.{Table}
+use Rattle.chunk_model.specs.Tables.{Table}
 use Rattle.router_requests.specs.Works.{telling_view}
 use Rattle.router_requests.specs.declared.tables.Next.{Next}
 use Rattle.router_requests.specs.declared.tables.Next.TheVariants.{Stays, GoesOn, IsTold}

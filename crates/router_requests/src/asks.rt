@@ -3,10 +3,10 @@
 ghost use Rattle.std.specs.Prelude.{◌≡◌, ◌∷◌, [], IfOk, Option, Some, map};
 ghost use Rattle.std.specs.Option.{option_map};
 ghost use Rattle.command_replies.specs.Kinds.{given_view};
-ghost use Rattle.node_model.specs.Exchanges as asked;
+ghost use Rattle.reply_model.specs.Exchanges as asked;
 ghost use Rattle.node_model.specs.RouterRows as rows;
 ghost use Rattle.node_model.specs.States as states;
-ghost use Rattle.node_model.specs.Writes as writes;
+ghost use Rattle.command_model.specs.Writes as writes;
 ghost use Rattle.pipeline_lang.specs.Halves.{half_of};
 ghost use Rattle.std.specs.Arc.{arc_value};
 ghost use Rattle.protocol_model.specs.Statements.{done_view, statement_view};

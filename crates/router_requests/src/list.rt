@@ -25,11 +25,11 @@ impl OpenList {
     ghost use Rattle.std.specs.List.{flat_map};
     ghost use Rattle.std.specs.Option.{option_map};
     ghost use Rattle.node_model.specs.Letters as letters;
-    ghost use Rattle.node_model.specs.Outcomes as outcomes;
+    ghost use Rattle.reply_model.specs.Outcomes as outcomes;
     ghost use Rattle.node_model.specs.RouterRows as rows;
     ghost use Rattle.node_model.specs.States as states;
-    ghost use Rattle.node_model.specs.Tables as tables;
-    ghost use Rattle.node_model.specs.Writes as writes;
+    ghost use Rattle.chunk_model.specs.Tables as tables;
+    ghost use Rattle.command_model.specs.Writes as writes;
     ghost use Rattle.protocol_model.specs.Bodies.{at_view};
     ghost use Rattle.protocol_model.specs.Statements.{done_view};
     ghost use Rattle.router_requests.specs.Lists.{has_room, opens_of, taken_of};

@@ -2,18 +2,18 @@
 
 ghost use Rattle.std.specs.Prelude.{◌≡◌, Option, Some, IfOk, true};
 ghost use Rattle.std.specs.Option.{option_map, is_some};
-ghost use Rattle.bson_values.specs.Tree.{Datum};
+ghost use Rattle.bson_model.specs.Tree.{Datum};
 ghost use Rattle.bson_values.specs.View.{datum_of};
 ghost use Rattle.command_model.specs.Statements.{key_asked_by};
 ghost use Rattle.command_model.specs.Writes.{ClientNumber};
-ghost use Rattle.node_model.specs.Exchanges as asked;
-ghost use Rattle.node_model.specs.History.{key_written};
+ghost use Rattle.reply_model.specs.Exchanges as asked;
+ghost use Rattle.history_model.specs.History.{key_written};
 ghost use Rattle.node_model.specs.RouterRows as rows;
 ghost use Rattle.pipeline_lang.specs.Halves.{half_of};
 ghost use Rattle.protocol_model.specs.Statements as protocol;
 ghost use Rattle.protocol_model.specs.Statements.{statement_view};
-ghost use Rattle.shard_records.specs.Meanings.{operation_view};
-ghost use Rattle.value_compare.specs.Keys.{is_key};
+ghost use Rattle.statement_views.specs.Views.{operation_view};
+ghost use Rattle.value_model.specs.Keys.{is_key};
 
 use bson_values::{Memory, Value};
 use chunk_table::Table;

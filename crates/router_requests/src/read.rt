@@ -3,7 +3,7 @@
 ghost use Rattle.std.specs.Prelude.{◌≡◌};
 ghost use Rattle.std.specs.Arc.{arc_value};
 ghost use Rattle.std.specs.Coded.{Coded-set};
-ghost use Rattle.node_model.specs.Split.{split};
+ghost use Rattle.pipeline_model.specs.Split.{split};
 ghost use Rattle.router_requests.specs.Code.{half_code, merge_code};
 ghost use Rattle.pipeline_lang.specs.Halves.{half_of, merge_of};
 
@@ -27,7 +27,7 @@ pub struct Parts {
 impl Parts {
     ghost use Rattle.std.specs.Prelude.{◌≡◌, IfOk};
     ghost use Rattle.std.specs.Arc.{arc_value};
-    ghost use Rattle.node_model.specs.Split.{split};
+    ghost use Rattle.pipeline_model.specs.Split.{split};
     ghost use Rattle.pipeline_lang.specs.Halves.{half_of, merge_of};
     ghost use Rattle.router_requests.specs.Works.{stages_of};
 

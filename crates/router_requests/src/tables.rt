@@ -3,10 +3,10 @@
 ghost use Rattle.std.specs.Prelude.{◌≡◌, ◌&&◌, ℕ, List, None};
 ghost use Rattle.std.specs.Option.{is_some, option_map};
 ghost use Rattle.std.specs.Str.{bytes_eq};
-ghost use Rattle.node_model.specs.Exchanges as asked;
+ghost use Rattle.reply_model.specs.Exchanges as asked;
 ghost use Rattle.node_model.specs.RouterRows as rows;
 ghost use Rattle.node_model.specs.States as states;
-ghost use Rattle.node_model.specs.Tables as tables;
+ghost use Rattle.chunk_model.specs.Tables as tables;
 ghost use Rattle.protocol_model.specs.Bodies.{at_view};
 ghost use Rattle.router_requests.specs.Nexts.{IsNext};
 ghost use Rattle.router_requests.specs.Works.{open_view, wait_view, work_view};

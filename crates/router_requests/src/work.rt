@@ -52,10 +52,10 @@ pub struct OpenRequest {
 impl OpenRequest {
     ghost use Rattle.std.specs.Prelude.{◌≡◌, ℕ, List, Bool, map};
     ghost use Rattle.node_model.specs.Letters as letters;
-    ghost use Rattle.node_model.specs.Outcomes as outcomes;
+    ghost use Rattle.reply_model.specs.Outcomes as outcomes;
     ghost use Rattle.node_model.specs.RouterRows as rows;
     ghost use Rattle.node_model.specs.States as states;
-    ghost use Rattle.node_model.specs.Writes as writes;
+    ghost use Rattle.command_model.specs.Writes as writes;
     ghost use Rattle.protocol_model.specs.Statements.{done_view};
     ghost use Rattle.router_requests.specs.Works.{open_view, wait_view};
 

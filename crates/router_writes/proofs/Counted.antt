@@ -11,12 +11,12 @@ use Rattle.command_replies.specs.Errors.{errors_view, error_view}
 use Rattle.command_replies.specs.Upserts.{upserted_view, key_view}
 use Rattle.command_model.specs.CommandSizes.{keys_length}
 use Rattle.command_model.specs.Writes.{ClientNumber}
-use Rattle.node_model.specs.Exchanges.{RequestId}
-use Rattle.node_model.specs.Tree.{Datum}
-use Rattle.node_model.specs.Writes as writes
-use Rattle.node_model.specs.Outcomes.{Done, errors_of, outcome_in, refusal_in, upserted_by}
-use Rattle.node_model.specs.Refusals.{Refusal}
-use Rattle.node_model.specs.Right.{ends}
+use Rattle.reply_model.specs.Exchanges.{RequestId}
+use Rattle.bson_model.specs.Tree.{Datum}
+use Rattle.command_model.specs.Writes as writes
+use Rattle.reply_model.specs.Outcomes.{Done, errors_of, outcome_in, refusal_in, upserted_by}
+use Rattle.base_model.specs.Refusals.{Refusal}
+use Rattle.reply_model.specs.Right.{ends}
 use Rattle.node_model.specs.RouterRows.{is_answered}
 use Rattle.protocol_model.specs.Statements.{statement_view, done_view}
 use Rattle.protocol_model.specs.declared.statement.Done as program

@@ -3,7 +3,7 @@ use Rattle.std.proofs.Common.{◌≡◌, refl, ap, ℕ, List, ◌∷◌, max, ar
 use Rattle.std.specs.Prelude.{Option, Some, None}
 use Rattle.std.specs.Option.{option_map, unwrap_or}
 use Rattle.cluster_base.specs.declared.time.Time.{Time}
-use Rattle.node_model.specs.Outcomes.{Done, StatementOutcome, was_done, was_refused, later, time_of}
+use Rattle.reply_model.specs.Outcomes.{Done, StatementOutcome, was_done, was_refused, later, time_of}
 use Rattle.router_writes.specs.Counts.{greatest}
 
 -- the greatest of both, as far as they are there

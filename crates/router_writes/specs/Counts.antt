@@ -1,7 +1,7 @@
 -- Whether a write is answered, by how many statements it has; and the greatest time so far.
 use Rattle.std.specs.Prelude.{ℕ, ◌-◌, List, [], ◌∷◌, Bool, true, ◌==◌, Option, Some, if◌then◌else◌}
-use Rattle.node_model.specs.Outcomes.{Done, StatementOutcome, was_done, was_refused, later}
-use Rattle.node_model.specs.Right.{ends}
+use Rattle.reply_model.specs.Outcomes.{Done, StatementOutcome, was_done, was_refused, later}
+use Rattle.reply_model.specs.Right.{ends}
 
 abbrev pub are_all : (ordered : Bool) → (count : ℕ) → List Done → Bool
 are_all ordered count [] = count == 0

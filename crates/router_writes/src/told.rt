@@ -8,7 +8,7 @@ ghost use Rattle.command_replies.specs.Refusals.{refusal_view};
 ghost use Rattle.command_replies.specs.Upserts.{upserted_view};
 ghost use Rattle.command_model.specs.CommandLimits.{most_bytes_upserted};
 ghost use Rattle.command_model.specs.CommandSizes.{keys_length};
-ghost use Rattle.node_model.specs.Outcomes as outcomes;
+ghost use Rattle.reply_model.specs.Outcomes as outcomes;
 ghost use Rattle.protocol_model.specs.Statements.{answer_view, done_view};
 
 use bson_values::Memory;

@@ -9,7 +9,7 @@ use Rattle.history_model.proofs.Noted.{same_session_is}
 use Rattle.cluster_base.specs.declared.identity.Stmt.{Stmt}
 use Rattle.cluster_base.specs.declared.time.Time.{Time}
 use Rattle.value_compare.specs.declared.words.Reply.{Reply}
-use Rattle.session_book.specs.Meanings.{session_view}
+use Rattle.statement_views.specs.Views.{session_view}
 use Rattle.session_book.specs.Statements.{Statements, seen_among, seen_after}
 use Rattle.session_book.specs.Books.{seen_of, room_of, note_view}
 

@@ -13,7 +13,7 @@ use Rattle.cluster_base.specs.contracts.identity.SessionOrd.TheImpl as session_o
 use Rattle.history_model.specs.History as history
 use Rattle.history_model.specs.History.{client_session, router_session}
 use Rattle.history_model.specs.Notes.{same_session}
-use Rattle.session_book.specs.Meanings.{session_view}
+use Rattle.statement_views.specs.Views.{session_view}
 use Rattle.session_book.specs.Places.{place_of}
 
 abbrev pub session_order : Session → Session → Ordering

@@ -8,7 +8,7 @@ use Rattle.history_model.specs.History as history
 use Rattle.history_model.specs.History.{StatementNumber}
 use Rattle.history_model.specs.Notes as notes
 use Rattle.history_model.specs.Notes.{Note, new_statement, done_before, older_than, seen}
-use Rattle.session_book.specs.Meanings.{session_view, number_view}
+use Rattle.statement_views.specs.Views.{session_view, number_view}
 use Rattle.session_book.specs.Statements.{Statements, seen_among}
 use Rattle.session_book.specs.Places.{place_of, statements_at}
 use Rattle.session_book.specs.declared.book.Seen.{Seen}

@@ -2,7 +2,7 @@
 use Rattle.std.specs.Prelude.{ℕ, ℤ, List, Option, refl}
 use Rattle.std.specs.Coded.{Coded, code_by, coded×, coded_ℕ, coded_ℤ, coded_list, coded_option}
 use Rattle.value_compare.specs.Code.{datum_code}
-use Rattle.bson_values.specs.Tree.{Datum}
+use Rattle.bson_model.specs.Tree.{Datum}
 use Rattle.value_compare.specs.declared.words.Reply.{Reply}
 use Rattle.session_book.specs.declared.session.Noted.{Noted}
 use Rattle.session_book.specs.Statements.{Statements}

@@ -5,7 +5,7 @@ use Rattle.std.specs.Map.{lookup}
 use Rattle.cluster_base.specs.declared.identity.Session.{Session}
 use Rattle.history_model.specs.History as history
 use Rattle.history_model.specs.Notes.{same_session}
-use Rattle.session_book.specs.Meanings.{session_view}
+use Rattle.statement_views.specs.Views.{session_view}
 use Rattle.session_book.specs.Statements.{Statements}
 
 -- the place of a session, if it has one

@@ -8,7 +8,7 @@ ghost use Rattle.history_model.specs.History.{StatementNumber};
 ghost use Rattle.history_model.specs.Notes.{Note, new_statement, same_session, seen_with};
 ghost use Rattle.cluster_base.specs.declared.identity.Session.{Session};
 ghost use Rattle.value_compare.specs.declared.words.Reply.{Reply};
-ghost use Rattle.session_book.specs.Meanings.{number_view, session_view};
+ghost use Rattle.statement_views.specs.Views.{number_view, session_view};
 ghost use Rattle.session_book.specs.Places.{AreApart, place_of};
 
 use crate::session::{Kept, Noted};

@@ -13,7 +13,7 @@ use Rattle.node_traits.specs.Ids.{id_view}
 use Rattle.node_traits.specs.Letters.{Statement}
 use Rattle.node_traits.specs.Lists.{listed}
 use Rattle.protocol_model.specs.Statements as protocol
-use Rattle.shard_records.specs.Meanings as words
+use Rattle.statement_views.specs.Views as words
 use Rattle.shard_records.specs.Records.{Record, entry_record, outcome_words, record_of}
 use Rattle.shard_records.specs.RecordFormat.{spelled, IsSound}
 use Rattle.shard_records.specs.Sizes.{IsWritableKey}

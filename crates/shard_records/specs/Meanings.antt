@@ -1,33 +1,17 @@
 -- What a record of the program is.
 use Rattle.std.specs.Prelude.{List, ℕ}
-use Rattle.cluster_base.specs.declared.identity.Session.{Session}
-use Rattle.cluster_base.specs.declared.identity.Session.TheVariants.{Client, Router}
 use Rattle.cluster_base.specs.declared.identity.Stmt.{Stmt}
 use Rattle.cluster_base.specs.declared.time.Time.{Time}
-use Rattle.value_compare.specs.declared.words.OpWords.{OpWords}
-use Rattle.value_compare.specs.declared.words.OpWords.TheVariants.{Insert, Update, Delete}
 use Rattle.value_compare.specs.declared.words.Reply.{Reply}
-use Rattle.record_model.specs.History as history
-use Rattle.record_model.specs.History.{client_session, router_session, StatementNumber, Operation, insert_operation, update_operation, delete_operation}
+use Rattle.statement_views.specs.Views.{number_view, operation_view}
+use Rattle.history_model.specs.History.{Operation, insert_operation, update_operation, delete_operation}
 use Rattle.record_model.specs.Records as records
-use Rattle.record_model.specs.Catalogue.{Creation}
+use Rattle.chunk_model.specs.Catalogue.{Creation}
 use Rattle.record_model.specs.Records.{OutcomeWords, EntryWords, table_record, entry_record, create_record, life_record, block_record}
 use Rattle.shard_records.specs.declared.record.Record.{Record}
 use Rattle.shard_records.specs.declared.record.Record.TheVariants.{Table, Entry, Create, Life, Block}
 use Rattle.shard_records.specs.declared.record.WordsRef.{WordsRef}
 use Rattle.shard_records.specs.declared.record.WordsRef.TheVariants.{Insert as Lent_insert, Update as Lent_update, Delete as Lent_delete}
-
-abbrev pub session_view : Session → history.Session
-session_view (Client id) = client_session id
-session_view (Router node life request) = router_session node.0 life request
-
-abbrev pub number_view : Stmt → StatementNumber
-number_view s = record { session = session_view s.session; transaction = s.txn; index = s.index }
-
-abbrev pub operation_view : OpWords → Operation
-operation_view (Insert document) = insert_operation document
-operation_view (Update filter change upsert) = update_operation filter change upsert
-operation_view (Delete filter) = delete_operation filter
 
 abbrev pub operation_lent : WordsRef → Operation
 operation_lent (Lent_insert document) = insert_operation document.now

@@ -1,11 +1,11 @@
 -- Which records are written: each document in them has at most 100 levels and 300,000,000 bytes.
 use Rattle.std.specs.Prelude.{◌≤◌, length, Option, Some, None}
-use Rattle.bson_values.specs.Tree.{Datum, Fields, document_depth}
-use Rattle.bson_values.specs.Spelling.{written}
-use Rattle.record_model.specs.History.{Operation, insert_operation, update_operation, delete_operation}
+use Rattle.bson_model.specs.Tree.{Datum, Fields, document_depth}
+use Rattle.bson_model.specs.Spelling.{written}
+use Rattle.history_model.specs.History.{Operation, insert_operation, update_operation, delete_operation}
 use Rattle.record_model.specs.Records.{Record, table_record, entry_record, create_record, life_record, block_record}
 use Rattle.record_model.specs.RecordFormat.{key_document}
-use Rattle.bson_values.specs.Limits.{IsWritable, most_depth_kept, most_bytes_written}
+use Rattle.bson_model.specs.Limits.{IsWritable, most_depth_kept, most_bytes_written}
 
 -- a document that a record may hold
 abbrev pub FitsRecord : Fields → Type 0

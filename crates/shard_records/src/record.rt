@@ -1,7 +1,8 @@
 //! The records of a journal as values.
 
 ghost use Rattle.std.specs.Prelude.{◌≡◌};
-ghost use Rattle.shard_records.specs.Meanings.{operation_lent, operation_view};
+ghost use Rattle.statement_views.specs.Views.{operation_view};
+ghost use Rattle.shard_records.specs.Meanings.{operation_lent};
 
 use bson_values::Document;
 use chunk_table::Table;

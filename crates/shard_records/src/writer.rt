@@ -4,13 +4,14 @@
 
 ghost use Rattle.std.specs.Prelude.{◌≡◌, ◌<◌, ◌^◌, ◌++◌, ◌∷◌, [], length, take, FitsSigned, OnErr, OnOk};
 ghost use Rattle.std.specs.Int.{cast_unsigned, w64};
-ghost use Rattle.record_model.specs.Names.{IsNamespace};
-ghost use Rattle.bson_values.specs.Spelling.{written};
+ghost use Rattle.base_model.specs.Names.{IsNamespace};
+ghost use Rattle.bson_model.specs.Spelling.{written};
 ghost use Rattle.record_model.specs.RecordFormat.{IsSoundOperation, IsSound, IsSoundKey, IsSoundNumber, IsSoundOutcome, IsSoundSession, IsSoundDocument, IsSoundKeyValue, eight, four, key_document, spelled, spelled_creation, spelled_entry, spelled_key, spelled_number, spelled_outcome, spelled_session, spelled_string, spelled_operation};
 ghost use Rattle.record_model.specs.Records.{create_record, entry_record};
-ghost use Rattle.shard_records.specs.Meanings.{entry_view, number_view, outcome_view, record_view, session_view, operation_lent};
+ghost use Rattle.statement_views.specs.Views.{number_view, session_view};
+ghost use Rattle.shard_records.specs.Meanings.{entry_view, outcome_view, record_view, operation_lent};
 ghost use Rattle.shard_records.specs.Sizes.{FitsRecord, IsWritableOperation, IsWritableKey, IsWritableRecord};
-ghost use Rattle.bson_values.specs.Limits.{IsWritable};
+ghost use Rattle.bson_model.specs.Limits.{IsWritable};
 
 use crate::record::{Record, WordsRef};
 use crate::tables::put_table;

@@ -1,7 +1,7 @@
 -- Messages and their letters.
 use Rattle.std.proofs.Common.{◌≡◌, List, [], ◌∷◌, refl, ap}
 use Rattle.std.specs.Prelude.{map, filter, Bool, true, false, if◌then◌else◌}
-use Rattle.node_traits.specs.Letters.{Letter}
+use Rattle.node_model.specs.Letters.{Letter}
 use Rattle.protocol_model.specs.Messages.{letter_of}
 use Rattle.protocol_model.specs.declared.message.Message.{Message}
 

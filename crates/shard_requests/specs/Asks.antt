@@ -1,6 +1,6 @@
 -- The asks of the definitions that those of the program are.
 use Rattle.chunk_table.specs.VerdictMeanings.{sent_view}
-use Rattle.node_traits.specs.ShardRows as rows
+use Rattle.node_model.specs.ShardRows as rows
 use Rattle.node_traits.specs.Ids.{id_view}
 use Rattle.shard_requests.specs.declared.asks.Ask.{Ask}
 

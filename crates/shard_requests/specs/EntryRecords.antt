@@ -1,9 +1,9 @@
 -- The records of entries.
 use Rattle.std.specs.Prelude.{ℕ, List}
 use Rattle.cluster_base.specs.declared.identity.Stmt.{Stmt}
-use Rattle.node_traits.specs.History.{Operation}
-use Rattle.shard_records.specs.Meanings.{number_view}
-use Rattle.shard_records.specs.Records.{Record, entry_record, outcome_words}
+use Rattle.history_model.specs.History.{Operation}
+use Rattle.statement_views.specs.Views.{number_view}
+use Rattle.record_model.specs.Records.{Record, entry_record, outcome_words}
 use Rattle.shard_store.specs.Outcomes.{outcome_view}
 use Rattle.shard_store.specs.declared.outcome.EntryResult.{EntryResult}
 

@@ -1,8 +1,8 @@
 -- What is told of a half.
 use Rattle.std.specs.Prelude.{◌≡◌, ℕ, List, Result, Ok, Err, Some, None}
-use Rattle.node_traits.specs.Tree.{Fields}
-use Rattle.node_traits.specs.Letters.{HalfFault, half_overflow, half_excess}
-use Rattle.node_traits.specs.ShardRows.{IsTold}
+use Rattle.bson_model.specs.Tree.{Fields}
+use Rattle.node_model.specs.Letters.{HalfFault, half_overflow, half_excess}
+use Rattle.node_model.specs.ShardRows.{IsTold}
 use Rattle.pipeline_model.specs.Halves.{Half, IsHalf, Rows}
 use Rattle.pipeline_model.specs.Lengths.{excess_of_half}
 use Rattle.pipeline_model.specs.Runs.{Runs, overflowed}

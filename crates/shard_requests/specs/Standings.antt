@@ -1,10 +1,10 @@
 -- How messages stand to the tables that a shard knows.
 use Rattle.std.specs.Prelude.{◌≡◌, ℕ, List, Some, None}
 use Rattle.chunk_table.specs.Meanings.{version_view}
-use Rattle.chunk_table.specs.Tables.{Table, table_of}
-use Rattle.chunk_table.specs.Verdicts.{Verdict, fits, router_is_old, shard_is_old, verdict_of}
-use Rattle.node_traits.specs.Letters.{Body}
-use Rattle.node_traits.specs.ShardRows.{Ask, ask_in}
+use Rattle.chunk_model.specs.Tables.{Table, table_of}
+use Rattle.chunk_model.specs.Verdicts.{Verdict, fits, router_is_old, shard_is_old, verdict_of}
+use Rattle.node_model.specs.Letters.{Body}
+use Rattle.node_model.specs.ShardRows.{Ask, ask_in}
 use Rattle.shard_requests.specs.declared.standings.Standing.{Standing}
 use Rattle.shard_requests.specs.declared.standings.Standing.TheVariants.{NoAsk, Fits, ShardOld, RouterOld}
 

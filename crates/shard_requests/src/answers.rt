@@ -3,7 +3,7 @@
 ghost use Rattle.std.specs.Prelude.{◌≡◌, ◌++◌, ◌∷◌, [], IfOk, OnOk, Some};
 ghost use Rattle.std.specs.Arc.{arc_value};
 ghost use Rattle.std.specs.Option.{option_map};
-ghost use Rattle.node_model.specs.Right.{ends};
+ghost use Rattle.reply_model.specs.Right.{ends};
 ghost use Rattle.protocol_model.specs.Statements as messages;
 ghost use Rattle.protocol_model.specs.Statements.{answer_view, done_view};
 ghost use Rattle.shard_requests.specs.Results.{record_in};

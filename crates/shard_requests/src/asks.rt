@@ -2,7 +2,7 @@
 
 ghost use Rattle.std.specs.Prelude.{◌≡◌, filter, map, not};
 ghost use Rattle.std.specs.Option.{option_map};
-ghost use Rattle.node_traits.specs.ShardRows.{ask_in, is_ask, is_parked, same_ask, same_index, wants_table};
+ghost use Rattle.node_model.specs.ShardRows.{ask_in, is_ask, is_parked, same_ask, same_index, wants_table};
 ghost use Rattle.protocol_model.specs.Bodies.{body_view};
 ghost use Rattle.protocol_model.specs.Messages.{letter_of};
 ghost use Rattle.shard_requests.specs.Asks.{ask_view};

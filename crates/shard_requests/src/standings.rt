@@ -1,10 +1,10 @@
 //! How asks and tables stand to the tables and the time of a shard.
 
 ghost use Rattle.std.specs.Prelude.{◌≡◌, max};
-ghost use Rattle.chunk_table.specs.Tables.{table_of};
+ghost use Rattle.chunk_model.specs.Tables.{table_of};
 ghost use Rattle.chunk_table.specs.VerdictMeanings.{sent_view, verdict_view};
-ghost use Rattle.chunk_table.specs.Verdicts.{verdict_of};
-ghost use Rattle.node_traits.specs.ShardRows.{is_news};
+ghost use Rattle.chunk_model.specs.Verdicts.{verdict_of};
+ghost use Rattle.node_model.specs.ShardRows.{is_news};
 ghost use Rattle.protocol_model.specs.Bodies.{body_view};
 ghost use Rattle.shard_requests.specs.Standings.{Stands};
 

@@ -22,7 +22,7 @@ use Rattle.update_ops.specs.ApplyFaults.{Fails}
 use Rattle.update_ops.specs.Ops.{effect_shown, read_words}
 use Rattle.update_ops.specs.declared.effect.Applied.{Applied}
 use Rattle.update_ops.specs.declared.fault.ApplyFault.{ApplyFault}
-use Rattle.shard_records.specs.Meanings.{operation_view}
+use Rattle.statement_views.specs.Views.{operation_view}
 use Rattle.shard_store.specs.Effects.{Does}
 use Rattle.shard_store.specs.Entries.{left_behind}
 use Rattle.shard_store.specs.Faults.{IsFault, applied_as, error_view}

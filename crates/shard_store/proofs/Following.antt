@@ -16,7 +16,7 @@ use Rattle.history_model.specs.Notes.{Seen, same_number}
 use Rattle.history_model.proofs.LegalHistories.{others_untouched}
 use Rattle.history_model.proofs.Lists.{all_both}
 use Rattle.history_model.proofs.Noted.{same_number_is}
-use Rattle.session_book.specs.Meanings.{number_view}
+use Rattle.statement_views.specs.Views.{number_view}
 use Rattle.node_traits.specs.Ids.{id_view}
 use Rattle.shard_store.specs.Entries.{entry_view, left_behind, operation_of}
 use Rattle.shard_store.specs.Outcomes.{outcome_view, done_view, statement_of}

@@ -17,7 +17,7 @@ use Rattle.node_model.specs.Service.{seen_by, told_again, seen_before}
 use Rattle.node_traits.specs.Ids.{id_view}
 use Rattle.history_model.specs.Notes.{Note, Seen, new_statement, done_before, older_than, same_session, same_number, greatest_of, noted, seen_beside, seen, notes_of}
 use Rattle.history_model.proofs.Noted.{one_more_note, same_number_is}
-use Rattle.session_book.specs.Meanings.{session_view, number_view}
+use Rattle.statement_views.specs.Views.{session_view, number_view}
 use Rattle.shard_store.specs.declared.outcome.EntryResult.{EntryResult}
 use Rattle.shard_store.specs.declared.outcome.StatementOutcome.TheVariants.{WasDone, Older}
 use Rattle.shard_store.specs.Outcomes.{outcome_view, reply_view, done_view, statement_of}

@@ -9,8 +9,8 @@ use Rattle.node_model.specs.History.{Operation, insert_operation, Entry}
 use Rattle.history_model.specs.Notes.{Note}
 use Rattle.history_model.specs.Versions.{Put}
 use Rattle.session_book.specs.Books.{note_view}
-use Rattle.session_book.specs.Meanings.{number_view}
-use Rattle.shard_records.specs.Meanings.{operation_view}
+use Rattle.statement_views.specs.Views.{number_view}
+use Rattle.statement_views.specs.Views.{operation_view}
 use Rattle.shard_store.specs.declared.entry.Words.{Words}
 use Rattle.shard_store.specs.declared.entry.Words.TheVariants.{Insert, Change}
 use Rattle.shard_store.specs.declared.entry.LentWords.{LentWords}

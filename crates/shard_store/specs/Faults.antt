@@ -3,7 +3,7 @@ use Rattle.std.specs.Prelude.{◌≡◌, ℤ, pos, Option, Some, None, if◌then
 use Rattle.std.specs.Option.{option_map}
 use Rattle.std.specs.Ordering.{int_eq}
 use Rattle.node_model.specs.Errors.{ErrorCode, bad_value, type_mismatch, path_not_viable, immutable_field, object_too_large, duplicate_key}
-use Rattle.shard_records.specs.Records.{code_of}
+use Rattle.record_model.specs.Records.{code_of}
 use Rattle.update_ops.specs.declared.fault.ApplyFault.{ApplyFault}
 use Rattle.update_ops.specs.declared.fault.ApplyFault.TheVariants as applied
 use Rattle.shard_store.specs.declared.fault.WriteFault.{WriteFault}

@@ -9,7 +9,7 @@ use Rattle.node_model.specs.History as history
 use Rattle.node_model.specs.Outcomes as answers
 use Rattle.node_model.specs.Outcomes.{Done, is_older, was_done}
 use Rattle.command_replies.specs.declared.answer.ClientNumber.{ClientNumber}
-use Rattle.shard_records.specs.Records.{code_of}
+use Rattle.record_model.specs.Records.{code_of}
 use Rattle.shard_store.specs.Faults.{error_view}
 use Rattle.shard_store.specs.declared.outcome.EntryOutcome.{EntryOutcome}
 use Rattle.shard_store.specs.declared.outcome.StatementOutcome.{StatementOutcome}

@@ -10,7 +10,7 @@ use Rattle.node_model.specs.History.{Operation, key_written, effect, Entry, docu
 use Rattle.node_model.specs.Letters.{Statement}
 use Rattle.node_model.specs.Outcomes.{Done, done_of}
 use Rattle.node_model.specs.Service.{seen_before, entry_for}
-use Rattle.session_book.specs.Meanings.{number_view}
+use Rattle.statement_views.specs.Views.{number_view}
 use Rattle.shard_store.specs.Entries.{entry_view, left_behind, operation_of}
 use Rattle.shard_store.specs.Outcomes.{outcome_view, statement_of}
 use Rattle.shard_store.specs.declared.plan.EntryPlan.{EntryPlan}

@@ -16,7 +16,7 @@ ghost use Rattle.command_replies.specs.Kinds.{given_view};
 ghost use Rattle.command_model.specs.CommandSizes.{IsKeepable};
 ghost use Rattle.session_book.specs.Books.{NotesAre, room_in};
 ghost use Rattle.node_traits.specs.Ids.{id_view};
-ghost use Rattle.shard_records.specs.Meanings.{operation_view};
+ghost use Rattle.statement_views.specs.Views.{operation_view};
 ghost use Rattle.shard_store.specs.Outcomes.{done_view};
 ghost use Rattle.shard_store.specs.Entries.{Kept, entries_kept, entry_view, notes_kept, operation_in};
 ghost use Rattle.shard_store.specs.Codes.{AreShown, noted-prop, shown-prop};

@@ -3,7 +3,7 @@ use Rattle.std.proofs.Common.{◌≡◌, ℕ, ◌<◌, ◌≤◌, List, ◌∷�
 use Rattle.std.specs.Prelude.{nat_lt, if◌then◌else◌}
 use Rattle.std.proofs.lemmas.Bool.Decides.{nat_tests}
 use Rattle.bson_values.specs.Sizes.{fields_count}
-use Rattle.bson_values.specs.Tree.{Datum, Fields, no_fields, field}
+use Rattle.bson_model.specs.Tree.{Datum, Fields, no_fields, field}
 use Rattle.field_paths.proofs.FieldLists.{read_each}
 use Rattle.query_model.specs.Paths.{Path}
 use Rattle.query_model.specs.Queries.{QueryFault, bad_operand}

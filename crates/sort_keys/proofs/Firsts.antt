@@ -4,7 +4,7 @@ use Rattle.std.specs.Prelude.{Bool, true, false, ◌==◌, Option, Some, None, m
 use Rattle.std.specs.Ordering.{is_lt}
 use denote.Ref.{Bor}
 use Rattle.bson_values.specs.Sizes.{items_count}
-use Rattle.bson_values.specs.Tree.{Datum, array_value, null_value, Items, no_items, item}
+use Rattle.bson_model.specs.Tree.{Datum, array_value, null_value, Items, no_items, item}
 use Rattle.bson_values.specs.View.{datum_of, items_of}
 use Rattle.bson_values.specs.declared.value.Value.{Value}
 use Rattle.field_paths.specs.References.{seen}

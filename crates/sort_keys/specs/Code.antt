@@ -1,7 +1,7 @@
 -- How specifications and keys are told from others: a direction by a number, a part by a number and its value.
 use Rattle.std.specs.Prelude.{◌≡◌, ℕ, List, refl, ◌==◌, if◌then◌else◌}
 use Rattle.std.specs.Coded.{Coded, code_by, coded_list, coded×, coded_ℕ}
-use Rattle.bson_values.specs.Tree.{Datum, null_value}
+use Rattle.bson_model.specs.Tree.{Datum, null_value}
 use Rattle.value_compare.specs.Code.{datum_code}
 use Rattle.query_model.specs.Paths.{Path}
 use Rattle.pipeline_model.specs.SortKeys.{Direction, ascending, descending, SortField, KeyPart, empty_array, value_part}

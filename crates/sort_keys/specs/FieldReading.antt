@@ -1,6 +1,6 @@
 -- The path and direction that one field of a sort is.
 use Rattle.std.specs.Prelude.{ℕ, List, Result, Ok}
-use Rattle.bson_values.specs.Tree.{Datum}
+use Rattle.bson_model.specs.Tree.{Datum}
 use Rattle.query_model.specs.Queries.{QueryFault}
 use Rattle.query_model.specs.Reading.{◌>>=◌}
 use Rattle.pipeline_model.specs.Operands.{read_name}

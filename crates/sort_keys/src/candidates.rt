@@ -1,7 +1,7 @@
 //! The part that comes first of all that a document has at a path.
 
 ghost use Rattle.std.specs.Prelude.{◌≡◌, ◌∷◌, [], IfOk, None, Some, flat_map, map, unwrap_or};
-ghost use Rattle.bson_values.specs.Tree.{null_value};
+ghost use Rattle.bson_model.specs.Tree.{null_value};
 ghost use Rattle.bson_values.specs.View.{datum_of};
 ghost use Rattle.field_paths.specs.References.{seen};
 ghost use Rattle.pipeline_model.specs.SortKeys.{directed, key_part, null_if, order_parts, parts_of_value, value_part};

@@ -3,7 +3,7 @@
 ghost use Rattle.std.specs.Prelude.{◌≡◌};
 ghost use Rattle.pipeline_model.specs.SortKeys.{directed, order_parts, part_rank, part_value};
 ghost use Rattle.sort_keys.specs.View.{direction_of, part_of, part_seen};
-ghost use Rattle.value_compare.specs.Order.{order};
+ghost use Rattle.value_model.specs.Order.{order};
 
 use crate::parser::Direction;
 use bson_values::Value;

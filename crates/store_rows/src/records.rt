@@ -1,7 +1,8 @@
 //! The bytes of records.
 
 ghost use Rattle.std.specs.Prelude.{IfOk};
-ghost use Rattle.shard_records.specs.Meanings.{outcome_view, record_view, operation_view};
+ghost use Rattle.statement_views.specs.Views.{operation_view};
+ghost use Rattle.shard_records.specs.Meanings.{outcome_view, record_view};
 ghost use Rattle.shard_records.specs.Sizes.{FitsRecord, IsWritableOperation, IsWritableKey, IsWritableRecord};
 
 use bson_values::{Aligned, Document, Name, Value};

@@ -1,6 +1,6 @@
 use Rattle.std.proofs.Common.{◌≡◌, drop, map}
 use Rattle.value_compare.specs.Bounds.{bound_of}
-use Rattle.value_compare.specs.Keys.{min_bound}
+use Rattle.value_model.specs.Keys.{min_bound}
 use Rattle.chunk_table.specs.Meanings.{chunk_view}
 use Rattle.chunk_table.specs.Whole.{follow_from}
 use Rattle.chunk_table.proofs.chunk.follow.Given as goal

@@ -6,7 +6,7 @@ use Rattle.chunk_table.specs.Meanings.{chunk_view, owned_view, version_view}
 use Rattle.chunk_table.specs.Whole.{follow_from}
 use Rattle.std.specs.Ordering.{is_eq}
 use Rattle.value_compare.specs.Bounds.{bound_of}
-use Rattle.value_compare.specs.Keys.{min_bound, order_bounds}
+use Rattle.value_model.specs.Keys.{min_bound, order_bounds}
 use Rattle.chunk_table.proofs.chunk.owner_among.Goals as goal
 
 -- src/chunk.rt:105:5

@@ -1,6 +1,6 @@
 use Rattle.std.proofs.Common.{◌≡◌}
 use Rattle.std.specs.Vec.Iter.{into_iter_items}
-use Rattle.bson_values.specs.Tree.{get}
+use Rattle.bson_model.specs.Tree.{get}
 use Rattle.bson_values.specs.View.{fields_of}
 use Rattle.command_fields.proofs.documents.value_named.Given as goal
 

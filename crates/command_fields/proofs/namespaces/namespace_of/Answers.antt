@@ -1,6 +1,6 @@
 use Rattle.std.proofs.Common.{◌≡◌, refl, sym, true, false, ◌∙◌, ap, Err}
-use Rattle.command_model.specs.Names.{is_reserved}
-use Rattle.command_model.proofs.OpenNames.{no_namespace, open_namespace, reserved_namespace}
+use Rattle.base_model.specs.Names.{is_reserved}
+use Rattle.base_model.proofs.OpenNames.{no_namespace, open_namespace, reserved_namespace}
 use Rattle.command_fields.proofs.namespaces.namespace_of.Goals as goal
 
 pub returns-then-is_reserved_database : goal.returns-then-is_reserved_database

@@ -1,7 +1,7 @@
 use Rattle.std.proofs.Common.{◌≡◌, codes}
 use Rattle.std.specs.Option.{option_map}
 use Rattle.std.specs.Vec.Iter.{into_iter_items}
-use Rattle.bson_values.specs.Tree.{get}
+use Rattle.bson_model.specs.Tree.{get}
 use Rattle.bson_values.specs.View.{datum_of, fields_of}
 use Rattle.command_fields.proofs.Named.{found_or_left}
 use Rattle.command_fields.proofs.statements.filter_and_change.Given as goal

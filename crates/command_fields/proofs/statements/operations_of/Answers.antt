@@ -1,11 +1,11 @@
 use Rattle.std.proofs.Common.{◌≡◌, ◌∷◌, ◌++◌, ◌∙◌, List, ap, sym}
 use Rattle.std.specs.Prelude.{map}
 use Rattle.std.specs.Vec.Iter.{into_iter_items}
-use Rattle.bson_values.specs.Tree.{Fields}
+use Rattle.bson_model.specs.Tree.{Fields}
 use Rattle.command_replies.specs.Kinds.{kind_view}
 use Rattle.command_model.specs.Statements.{check_statements}
 use Rattle.command_model.specs.Writes.{statement_form}
-use Rattle.shard_records.specs.Meanings.{operation_view}
+use Rattle.statement_views.specs.Views.{operation_view}
 use Rattle.value_compare.specs.declared.words.OpWords.{OpWords}
 use Rattle.command_fields.proofs.Judged.{one_put, others_decide, refused_decides}
 use Rattle.command_fields.proofs.statements.operations_of.Goals as goal

@@ -4,7 +4,7 @@ use Rattle.std.specs.Vec.Iter.{into_iter_items}
 use Rattle.command_replies.specs.Kinds.{kind_view}
 use Rattle.command_model.specs.Statements.{check_statements}
 use Rattle.command_model.specs.Writes.{statement_form}
-use Rattle.shard_records.specs.Meanings.{operation_view}
+use Rattle.statement_views.specs.Views.{operation_view}
 use Rattle.command_fields.proofs.statements.operations_of.Given as goal
 
 abbrev pub invariant-loop-statement : goal.invariant-loop-statement

@@ -2,7 +2,7 @@ use Rattle.std.proofs.Common.{◌≡◌, ◌∙◌, sym, rules, Some, codes}
 use Rattle.std.proofs.lemmas.Int.{to_z-of_z}
 use mir.Syntax.{w64}
 use mir.Val.{SFits}
-use Rattle.bson_values.specs.Tree.{get}
+use Rattle.bson_model.specs.Tree.{get}
 use Rattle.bson_values.specs.View.{datum_of}
 use Rattle.command_fields.proofs.Sessions.{number_is, sixteen_bytes}
 use Rattle.command_fields.proofs.write_fields.client_number.Goals as goal

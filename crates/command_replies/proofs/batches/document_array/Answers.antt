@@ -1,7 +1,7 @@
 use Rattle.std.proofs.Common.{refl}
 use Rattle.std.specs.Prelude.{map}
 use Rattle.std.specs.Arc.{arc_value}
-use Rattle.bson_values.specs.Tree.{document_value}
+use Rattle.bson_model.specs.Tree.{document_value}
 use Rattle.command_model.specs.AnswerParts.{document_items}
 use Rattle.command_replies.proofs.Arrays.{all_made, one_more}
 use Rattle.command_replies.proofs.batches.document_array.Goals as goal

@@ -1,7 +1,7 @@
 use Rattle.std.proofs.Common.{◌≡◌, drop}
 use Rattle.std.specs.Prelude.{map}
 use Rattle.std.specs.Arc.{arc_value}
-use Rattle.bson_values.specs.Tree.{joined_items}
+use Rattle.bson_model.specs.Tree.{joined_items}
 use Rattle.command_model.specs.AnswerParts.{document_items}
 use Rattle.command_replies.proofs.batches.document_array.Given as goal
 

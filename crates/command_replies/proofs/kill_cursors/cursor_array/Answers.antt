@@ -1,6 +1,6 @@
 use Rattle.std.proofs.Common.{refl, rules, ℤ, pos, get_or, w64, SFits}
 use Rattle.std.proofs.lemmas.Int.{to_z-of_z}
-use Rattle.bson_values.specs.Tree.{int64_value}
+use Rattle.bson_model.specs.Tree.{int64_value}
 use Rattle.command_model.specs.KillCursors.{number_items}
 use Rattle.command_replies.proofs.Arrays.{all_made, one_more}
 use Rattle.command_replies.proofs.kill_cursors.cursor_array.Goals as goal

@@ -1,5 +1,5 @@
 use Rattle.std.proofs.Common.{◌≡◌, drop}
-use Rattle.bson_values.specs.Tree.{joined_items}
+use Rattle.bson_model.specs.Tree.{joined_items}
 use Rattle.command_model.specs.KillCursors.{number_items}
 use Rattle.command_replies.proofs.kill_cursors.cursor_array.Given as goal
 

@@ -1,4 +1,4 @@
-use Rattle.bson_values.proofs.Joined.{joined_one}
+use Rattle.bson_model.proofs.Joined.{joined_one}
 use Rattle.command_replies.proofs.parts.add_end.Goals as goal
 
 pub returns : goal.returns

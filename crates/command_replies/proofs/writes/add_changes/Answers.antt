@@ -1,6 +1,6 @@
 use Rattle.std.proofs.Common.{codes, sym}
-use Rattle.bson_values.proofs.Joined.{joined_none, joined_one}
-use Rattle.bson_values.specs.Tree.{no_fields}
+use Rattle.bson_model.proofs.Joined.{joined_none, joined_one}
+use Rattle.bson_model.specs.Tree.{no_fields}
 use Rattle.command_replies.specs.Upserts.{upserted_view}
 use Rattle.command_model.specs.AnswerParts.{count}
 use Rattle.command_model.specs.Writes.{upserted_shown}

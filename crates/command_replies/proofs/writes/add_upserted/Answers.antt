@@ -1,6 +1,6 @@
 use Rattle.std.proofs.Common.{◌≡◌, ◌∙◌, length, arith, ap, sym}
-use Rattle.bson_values.proofs.Joined.{joined_none}
-use Rattle.bson_values.specs.Tree.{Fields, joined, no_fields}
+use Rattle.bson_model.proofs.Joined.{joined_none}
+use Rattle.bson_model.specs.Tree.{Fields, joined, no_fields}
 use Rattle.command_replies.proofs.Arrays.{keys_shown, no_keys_shown}
 use Rattle.command_replies.proofs.writes.add_upserted.Goals as goal
 

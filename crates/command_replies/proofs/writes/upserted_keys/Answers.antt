@@ -1,5 +1,5 @@
 use Rattle.std.proofs.Common.{refl}
-use Rattle.bson_values.specs.Tree.{document_value}
+use Rattle.bson_model.specs.Tree.{document_value}
 use Rattle.command_model.specs.Writes.{upserted_items}
 use Rattle.command_replies.specs.Upserts.{upserted_view}
 use Rattle.command_replies.proofs.Arrays.{all_made, key_shown, one_more}

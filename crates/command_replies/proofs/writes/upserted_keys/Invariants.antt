@@ -1,5 +1,5 @@
 use Rattle.std.proofs.Common.{◌≡◌, drop}
-use Rattle.bson_values.specs.Tree.{joined_items}
+use Rattle.bson_model.specs.Tree.{joined_items}
 use Rattle.command_model.specs.Writes.{upserted_items}
 use Rattle.command_replies.specs.Upserts.{upserted_view}
 use Rattle.command_replies.proofs.writes.upserted_keys.Given as goal

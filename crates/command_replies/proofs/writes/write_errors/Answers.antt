@@ -1,6 +1,6 @@
 use Rattle.std.proofs.Common.{refl}
-use Rattle.bson_values.specs.Tree.{document_value}
-use Rattle.command_model.specs.ReplyParts.{write_error}
+use Rattle.bson_model.specs.Tree.{document_value}
+use Rattle.base_model.specs.ReplyParts.{write_error}
 use Rattle.command_model.specs.Writes.{write_error_items}
 use Rattle.command_replies.specs.Errors.{errors_view}
 use Rattle.command_replies.specs.Refusals.{refusal_view}

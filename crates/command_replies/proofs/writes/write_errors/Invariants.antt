@@ -1,5 +1,5 @@
 use Rattle.std.proofs.Common.{◌≡◌, drop}
-use Rattle.bson_values.specs.Tree.{joined_items}
+use Rattle.bson_model.specs.Tree.{joined_items}
 use Rattle.command_model.specs.Writes.{write_error_items}
 use Rattle.command_replies.specs.Errors.{errors_view}
 use Rattle.command_replies.proofs.writes.write_errors.Given as goal

@@ -1,5 +1,5 @@
 use Rattle.std.proofs.Common.{◌≡◌, sym, ◌∙◌, None, codes}
-use Rattle.bson_values.specs.Tree.{get}
+use Rattle.bson_model.specs.Tree.{get}
 use Rattle.bson_values.specs.View.{datum_of}
 use Rattle.command_model.specs.Fields.{names_of}
 use Rattle.command_model.specs.Forms.{check_database, check_sequences}

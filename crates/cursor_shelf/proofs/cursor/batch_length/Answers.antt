@@ -4,7 +4,7 @@ use Rattle.std.specs.Arc.{arc_value}
 use Rattle.std.proofs.lemmas.Grind.{common_steps}
 use Rattle.std.proofs.lemmas.List.{length-map}
 use Rattle.std.proofs.Math.ListN.{get_or-map}
-use Rattle.bson_values.specs.Tree.{Fields}
+use Rattle.bson_model.specs.Tree.{Fields}
 use Rattle.pipeline_model.specs.Lengths.{document_length}
 use Rattle.cursor_shelf.proofs.Longest.{may_go_on, is_longest, stops_by_size, more_bytes, none_yet}
 use Rattle.cursor_shelf.proofs.cursor.batch_length.Goals as goal

@@ -1,6 +1,6 @@
 use Rattle.std.proofs.Common.{◌≡◌, ap, sym, subst, ◌∙◌, List, map, rules}
 use Rattle.std.specs.Arc.{arc_value}
-use Rattle.bson_values.specs.Tree.{Fields}
+use Rattle.bson_model.specs.Tree.{Fields}
 use Rattle.pipeline_model.specs.Batches.{IsBatch}
 use Rattle.cursor_shelf.proofs.Longest.{taken_batch, taken_rest}
 use Rattle.cursor_shelf.proofs.cursor.first_batch.Goals as goal

@@ -3,7 +3,7 @@ use Rattle.std.proofs.Common.{◌≡◌, ◌∷◌, ◌++◌, ◌+◌, ◌*◌, 
 use Rattle.bson_values.specs.View.{items_of}
 use Rattle.field_paths.specs.References.{seen}
 use Rattle.query_model.specs.Paths.{values_from}
-use Rattle.bson_values.specs.Tree.{array_value}
+use Rattle.bson_model.specs.Tree.{array_value}
 use Rattle.field_paths.proofs.values.+push.Given as goal
 
 abbrev pub decreases-push_from : goal.decreases-push_from

@@ -3,7 +3,7 @@ use Rattle.std.proofs.Common.{◌≡◌, ◌∷◌, ◌+◌, ◌*◌, length, dr
 use Rattle.std.specs.List.{list_any}
 use Rattle.bson_values.specs.View.{items_of}
 use Rattle.query_model.specs.Paths.{values_from}
-use Rattle.bson_values.specs.Tree.{array_value}
+use Rattle.bson_model.specs.Tree.{array_value}
 use Rattle.field_paths.proofs.walk.+any.Given as goal
 
 abbrev pub decreases-any_from : goal.decreases-any_from

@@ -2,7 +2,7 @@
 use Rattle.std.proofs.Common.{◌≡◌, ◌∷◌, ◌+◌, ◌*◌, length, drop}
 use Rattle.bson_values.specs.View.{items_of}
 use Rattle.query_model.specs.Paths.{gap_from}
-use Rattle.bson_values.specs.Tree.{array_value}
+use Rattle.bson_model.specs.Tree.{array_value}
 use Rattle.field_paths.proofs.walk.+gap.Given as goal
 
 abbrev pub decreases-gap_from : goal.decreases-gap_from

@@ -1,6 +1,6 @@
 use Rattle.std.proofs.Common.{inl, inr, ℕ, List, ap, ◌∙◌, map, arith}
 use Rattle.std.proofs.lemmas.List.{drop_all}
-use Rattle.bson_values.specs.Tree.{no_fields, field, joined}
+use Rattle.bson_model.specs.Tree.{no_fields, field, joined}
 use Rattle.bson_values.specs.View.{datum_of}
 use Rattle.group_accum.specs.declared.spec.GroupField.{GroupField}
 use Rattle.group_accum.specs.View.{cell_of, group_field_of}

@@ -1,7 +1,7 @@
 -- What there is, and what the cells that are left show, is what all show.
 use Rattle.std.proofs.Common.{◌≡◌, drop, map}
 use Rattle.std.specs.Prelude.{option_map}
-use Rattle.bson_values.specs.Tree.{joined}
+use Rattle.bson_model.specs.Tree.{joined}
 use Rattle.pipeline_model.specs.Groups.{shown_fields}
 use Rattle.group_accum.specs.View.{cell_of, group_field_of}
 use Rattle.group_accum.proofs.documents.shown_fields.Given as goal

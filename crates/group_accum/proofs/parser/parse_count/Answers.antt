@@ -1,6 +1,6 @@
 use Rattle.std.proofs.Common.{◌≡◌, Err, ap, ◌∙◌, subst, arith}
 use Rattle.bson_values.specs.declared.value.Value.{Value}
-use Rattle.bson_values.specs.Tree.{Fields, document_value}
+use Rattle.bson_model.specs.Tree.{Fields, document_value}
 use Rattle.bson_values.specs.View.{datum_of}
 use Rattle.query_model.specs.Queries.{bad_operand}
 use Rattle.pipeline_model.specs.GroupSpecs.{accumulate, count_name}

@@ -1,5 +1,5 @@
 use Rattle.std.proofs.Common.{ℕ, List, Ok, ap, ◌∙◌, sym, arith}
-use Rattle.bson_values.specs.Tree.{string_value}
+use Rattle.bson_model.specs.Tree.{string_value}
 use Rattle.std.proofs.lemmas.Str.Pattern.{strip_prefix_char}
 use Rattle.pipeline_model.specs.Operands.{constant_operand}
 use Rattle.group_accum.proofs.PartsRead.{plain_text}

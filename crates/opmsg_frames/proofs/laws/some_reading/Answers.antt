@@ -1,6 +1,6 @@
 use Rattle.std.proofs.Common.{◌≡◌, ℕ, List}
 use Rattle.opmsg_model.specs.Outline.{message_outline, outline}
-use Rattle.opmsg_model.specs.Grammar.{AreBytes}
+use Rattle.bson_model.specs.Grammar.{AreBytes}
 use Rattle.opmsg_frames.proofs.SomeReading as some
 use Rattle.opmsg_frames.proofs.laws.some_reading.Goals as goal
 

@@ -1,5 +1,5 @@
 use Rattle.std.proofs.Common.{arith, refl}
-use Rattle.opmsg_model.specs.Faults.{short_fault}
+use Rattle.bson_model.specs.Faults.{short_fault}
 use Rattle.opmsg_model.specs.Messages.{number_at}
 use Rattle.opmsg_model.specs.Requests.{faulty_body}
 use Rattle.opmsg_frames.proofs.Bodies.{signed_back}

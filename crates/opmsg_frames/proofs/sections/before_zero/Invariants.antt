@@ -1,5 +1,5 @@
 use Rattle.std.proofs.Common.{◌≡◌, take, drop}
-use Rattle.opmsg_model.specs.Faults.{before_zero}
+use Rattle.bson_model.specs.Faults.{before_zero}
 use Rattle.opmsg_frames.proofs.Names.{after}
 use Rattle.opmsg_frames.proofs.sections.before_zero.Given as goal
 

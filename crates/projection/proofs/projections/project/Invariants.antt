@@ -1,6 +1,6 @@
 -- What was put, and what the rules that are left compute, is the whole.
 use Rattle.std.proofs.Common.{◌≡◌, drop}
-use Rattle.bson_values.specs.Tree.{joined}
+use Rattle.bson_model.specs.Tree.{joined}
 use Rattle.pipeline_model.specs.Projections.{computed_fields, project}
 use Rattle.projection.specs.View.{rules_of}
 use Rattle.projection.proofs.projections.project.Given as goal

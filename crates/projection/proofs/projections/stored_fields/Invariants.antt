@@ -1,6 +1,6 @@
 -- What was put, and what stays of the fields that are left, is what stays of the whole.
 use Rattle.std.proofs.Common.{◌≡◌, drop}
-use Rattle.bson_values.specs.Tree.{joined}
+use Rattle.bson_model.specs.Tree.{joined}
 use Rattle.bson_values.specs.View.{fields_of}
 use Rattle.pipeline_model.specs.Projections.{fields_named, stays}
 use Rattle.projection.proofs.projections.stored_fields.Given as goal

@@ -1,6 +1,6 @@
 -- The parts that are left fall. What was found, and what is left of the array, is what the whole has.
 use Rattle.std.proofs.Common.{◌≡◌, ◌∷◌, ◌+◌, ◌*◌, length, drop}
-use Rattle.bson_values.specs.Tree.{joined_items}
+use Rattle.bson_model.specs.Tree.{joined_items}
 use Rattle.bson_values.specs.View.{items_of}
 use Rattle.projection.specs.View.{values_in}
 use Rattle.projection.proofs.values.+value.Given as goal

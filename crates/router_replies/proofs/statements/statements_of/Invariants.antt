@@ -3,10 +3,10 @@ use Rattle.std.specs.List.{AllByRecursion}
 use Rattle.std.specs.Vec.Iter.{into_iter_items}
 use Rattle.command_model.specs.Writes.{ClientNumber}
 use Rattle.command_model.specs.CommandSizes.{IsKeepable}
-use Rattle.node_model.specs.Exchanges as asked
+use Rattle.reply_model.specs.Exchanges as asked
 use Rattle.node_model.specs.RouterRows as rows
 use Rattle.protocol_model.specs.Statements.{statement_view}
-use Rattle.shard_records.specs.Meanings.{operation_view}
+use Rattle.statement_views.specs.Views.{operation_view}
 use Rattle.router_replies.proofs.statements.statements_of.Given as goal
 
 abbrev pub invariant-loop-words : goal.invariant-loop-words

@@ -1,7 +1,7 @@
 use Rattle.std.proofs.Common.{ap, sym, ◌∙◌, List}
 use Rattle.std.specs.Arc.{arc_value}
 use Rattle.std.specs.Option.{option_map}
-use Rattle.known_tables.specs.Tables.{Table, table_of}
+use Rattle.chunk_model.specs.Tables.{Table, table_of}
 use Rattle.node_model.specs.RouterRows.{adopted}
 use Rattle.router_replies.proofs.tables.learn.Goals as goal
 

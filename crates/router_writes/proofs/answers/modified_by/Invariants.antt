@@ -1,5 +1,5 @@
 use Rattle.std.proofs.Common.{◌≡◌, ◌+◌, ◌<◌, ◌^◌, drop, map}
-use Rattle.node_model.specs.Outcomes.{modified_by}
+use Rattle.reply_model.specs.Outcomes.{modified_by}
 use Rattle.protocol_model.specs.Statements.{done_view}
 use Rattle.router_writes.proofs.answers.modified_by.Given as goal
 

@@ -1,5 +1,5 @@
 use Rattle.std.proofs.Common.{◌≡◌, ◌+◌, ◌<◌, ◌^◌, drop, map}
-use Rattle.node_model.specs.Outcomes.{sum_of}
+use Rattle.reply_model.specs.Outcomes.{sum_of}
 use Rattle.protocol_model.specs.Statements.{done_view}
 use Rattle.router_writes.proofs.answers.sum_of.Given as goal
 

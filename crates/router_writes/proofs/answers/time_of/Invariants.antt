@@ -1,6 +1,6 @@
 use Rattle.std.proofs.Common.{◌≡◌, drop, map}
 use Rattle.std.specs.Option.{option_map}
-use Rattle.node_model.specs.Outcomes.{time_of}
+use Rattle.reply_model.specs.Outcomes.{time_of}
 use Rattle.protocol_model.specs.Statements.{done_view}
 use Rattle.router_writes.proofs.Times.{latest}
 use Rattle.router_writes.proofs.answers.time_of.Given as goal

@@ -1,5 +1,5 @@
 use Rattle.command_replies.specs.Errors.{errors_view}
-use Rattle.node_model.specs.Outcomes.{errors_of}
+use Rattle.reply_model.specs.Outcomes.{errors_of}
 use Rattle.protocol_model.specs.Statements.{done_view}
 use Rattle.std.proofs.Common.{map}
 use Rattle.router_writes.proofs.Counted.{goes_on, errors_both}

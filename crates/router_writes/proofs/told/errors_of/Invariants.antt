@@ -1,5 +1,5 @@
 use Rattle.std.proofs.Common.{◌≡◌, ◌++◌, drop, map}
-use Rattle.node_model.specs.Outcomes.{errors_of}
+use Rattle.reply_model.specs.Outcomes.{errors_of}
 use Rattle.command_replies.specs.Errors.{errors_view}
 use Rattle.protocol_model.specs.Statements.{done_view}
 use Rattle.router_writes.proofs.told.errors_of.Given as goal

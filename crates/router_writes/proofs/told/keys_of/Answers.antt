@@ -1,5 +1,5 @@
 use Rattle.command_replies.specs.Upserts.{upserted_view}
-use Rattle.node_model.specs.Outcomes.{upserted_by}
+use Rattle.reply_model.specs.Outcomes.{upserted_by}
 use Rattle.protocol_model.specs.Statements.{done_view}
 use Rattle.std.proofs.Common.{map}
 use Rattle.router_writes.proofs.Counted.{goes_on, keys_both}

@@ -1,5 +1,5 @@
 use Rattle.std.proofs.Common.{◌≡◌, ◌++◌, drop, map}
-use Rattle.node_model.specs.Outcomes.{upserted_by}
+use Rattle.reply_model.specs.Outcomes.{upserted_by}
 use Rattle.command_replies.specs.Upserts.{upserted_view}
 use Rattle.protocol_model.specs.Statements.{done_view}
 use Rattle.router_writes.proofs.told.keys_of.Given as goal

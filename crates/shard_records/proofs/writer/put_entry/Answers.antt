@@ -1,7 +1,8 @@
 use Rattle.std.specs.Prelude.{[], ◌∷◌, ◌++◌}
 use Rattle.std.proofs.lemmas.Result.{on_ok_weaker}
 use Rattle.record_model.specs.RecordFormat.{eight, spelled_string, spelled_number, spelled_operation, spelled_outcome}
-use Rattle.shard_records.specs.Meanings.{number_view, operation_lent, outcome_view}
+use Rattle.statement_views.specs.Views.{number_view}
+use Rattle.shard_records.specs.Meanings.{operation_lent, outcome_view}
 use Rattle.shard_records.proofs.Puts.{then}
 use Rattle.shard_records.proofs.writer.put_entry.Goals as goal
 

@@ -2,7 +2,7 @@ use Rattle.std.specs.Prelude.{◌++◌}
 use Rattle.std.specs.Int.{w64, cast_unsigned}
 use Rattle.std.proofs.lemmas.Result.{on_ok_weaker}
 use Rattle.record_model.specs.RecordFormat.{four, eight, spelled_session}
-use Rattle.shard_records.specs.Meanings.{session_view}
+use Rattle.statement_views.specs.Views.{session_view}
 use Rattle.shard_records.proofs.Puts.{then}
 use Rattle.shard_records.proofs.writer.put_statement.Goals as goal
 

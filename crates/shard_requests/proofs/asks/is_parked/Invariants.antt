@@ -1,7 +1,7 @@
 use Rattle.std.proofs.Common.{◌≡◌, drop}
 use Rattle.std.specs.Prelude.{map}
 use Rattle.std.specs.List.{list_any}
-use Rattle.node_traits.specs.ShardRows.{is_ask}
+use Rattle.node_model.specs.ShardRows.{is_ask}
 use Rattle.protocol_model.specs.Messages.{letter_of}
 use Rattle.shard_requests.specs.Asks.{ask_view}
 use Rattle.shard_requests.proofs.asks.is_parked.Given as goal

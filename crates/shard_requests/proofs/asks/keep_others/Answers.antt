@@ -1,7 +1,7 @@
 use Rattle.std.proofs.Common.{ap, rules, ◌∙◌}
 use Rattle.std.specs.Prelude.{List, map, not}
 use Rattle.std.proofs.lemmas.Fn.{filter_same}
-use Rattle.node_traits.specs.ShardRows.{wants_table}
+use Rattle.node_model.specs.ShardRows.{wants_table}
 use Rattle.protocol_model.specs.Messages.{letter_of}
 use Rattle.protocol_model.specs.declared.message.Message.{Message}
 use Rattle.shard_requests.proofs.Messages.{filter_view}

@@ -4,7 +4,7 @@ use Rattle.std.specs.Option.{option_map}
 use Rattle.chunk_model.specs.Tables.{collection_version, first_table, is_longer, owner_at, owner_now, shard_version}
 use Rattle.chunk_table.specs.Meanings.{chunk_view, table_of_parts, version_view}
 use Rattle.chunk_table.specs.Whole.{IsWritableChunk, follow_from}
-use Rattle.value_compare.specs.Keys.{min_bound}
+use Rattle.value_model.specs.Keys.{min_bound}
 use Rattle.chunk_table.proofs.table.Table.longer_than.Goals as goal
 
 -- src/table.rt:205:5

@@ -1,7 +1,7 @@
 use Rattle.std.proofs.Common.{◌≡◌}
 use Rattle.std.specs.Prelude.{true, map}
 use Rattle.std.proofs.lemmas.List.{length-map}
-use Rattle.value_compare.specs.Keys.{min_bound}
+use Rattle.value_model.specs.Keys.{min_bound}
 use Rattle.chunk_table.specs.Meanings.{chunk_view, table_of_parts}
 use Rattle.chunk_table.specs.Whole.{follow_from}
 use Rattle.chunk_table.proofs.Covers.{every_key}

@@ -1,5 +1,5 @@
 use Rattle.std.proofs.Common.{◌∙◌, sym, Ok, Err, codes}
-use Rattle.bson_values.specs.Tree.{get}
+use Rattle.bson_model.specs.Tree.{get}
 use Rattle.command_words.specs.Held.{IsCollection}
 use Rattle.command_words.proofs.MoreRules.{more_behind, none_refused}
 use Rattle.command_words.proofs.get_more.MoreFormCommandForm.read_fields.Goals as goal

@@ -2,8 +2,8 @@ use Rattle.std.proofs.Common.{◌≡◌, ap, rules, [], map}
 use Rattle.std.specs.Prelude.{max, None}
 use Rattle.std.specs.Arc.{arc_value}
 use Rattle.std.specs.Option.{option_map}
-use Rattle.node_traits.specs.CatalogueRows.{catalogue_client, catalogue_opened}
-use Rattle.node_traits.specs.Letters.{client_input, opened_input}
+use Rattle.node_model.specs.CatalogueRows.{catalogue_client, catalogue_opened}
+use Rattle.node_model.specs.Letters.{client_input, opened_input}
 use Rattle.protocol_model.specs.Inputs.{input_of}
 use Rattle.protocol_model.specs.Requests.{request_of}
 use Rattle.config_node.proofs.Plans.{at_moment, stays}

@@ -1,7 +1,7 @@
 use Rattle.std.proofs.Common.{◌≡◌, ap, rules, [], map, refl}
 use Rattle.std.specs.Prelude.{None}
-use Rattle.node_traits.specs.CatalogueRows.{catalogue_skip}
-use Rattle.node_traits.specs.Letters.{letter_input}
+use Rattle.node_model.specs.CatalogueRows.{catalogue_skip}
+use Rattle.node_model.specs.Letters.{letter_input}
 use Rattle.protocol_model.specs.Messages.{letter_of}
 use Rattle.config_node.proofs.Plans.{stays, stays_other}
 use Rattle.config_node.proofs.node.ConfigNode.plan_message.Goals as goal

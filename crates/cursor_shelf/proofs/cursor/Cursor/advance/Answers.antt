@@ -1,7 +1,7 @@
 use Rattle.std.proofs.Common.{ap, sym, ◌∙◌, List, map}
 use Rattle.std.proofs.lemmas.List.{drop-map}
 use Rattle.std.specs.Arc.{arc_value}
-use Rattle.bson_values.specs.Tree.{Fields}
+use Rattle.bson_model.specs.Tree.{Fields}
 use Rattle.cursor_shelf.specs.Cursors.{OpenCursor}
 use Rattle.cursor_shelf.proofs.cursor.Cursor.advance.Goals as goal
 

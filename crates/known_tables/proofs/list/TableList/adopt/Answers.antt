@@ -1,6 +1,6 @@
 use Rattle.std.proofs.Common.{◌≡◌, ◌<◌, length, subst, map, arith, rules, false}
 use Rattle.std.specs.Arc.{arc_value}
-use Rattle.chunk_table.specs.Tables.{is_longer, with_table}
+use Rattle.chunk_model.specs.Tables.{is_longer, with_table}
 use Rattle.known_tables.specs.Places.{place_of}
 use Rattle.known_tables.proofs.Places.{kept_longer, within_map}
 use Rattle.known_tables.proofs.list.TableList.adopt.Goals as goal

@@ -4,7 +4,7 @@ use Rattle.std.specs.Prelude.{is_some}
 use Rattle.std.specs.BTreeSet.{contains}
 use Rattle.std.specs.Ordering.{int_cmp}
 use Rattle.std.proofs.lemmas.Int.{to_z-of_z}
-use Rattle.node_model.specs.Cursors.{open_cursor}
+use Rattle.reply_model.specs.Cursors.{open_cursor}
 use Rattle.router_cursors.specs.CursorLists.{cursors_of}
 use Rattle.router_cursors.proofs.list.CursorList.is_new.Goals as goal
 

@@ -6,7 +6,7 @@ use Rattle.std.specs.Arc.{arc_value}
 use Rattle.std.proofs.lemmas.Int.{to_z-of_z}
 use Rattle.cursor_shelf.specs.Cursors.{OpenCursor}
 use Rattle.cursor_shelf.specs.Shelves.{cursor_in}
-use Rattle.node_model.specs.Cursors.{Cursor}
+use Rattle.reply_model.specs.Cursors.{Cursor}
 use Rattle.router_cursors.specs.Marks.{Marked, AreKept, cursor_by, rises}
 use Rattle.router_cursors.proofs.Looks.{kept_opened, opened_last}
 use Rattle.router_cursors.proofs.Opened.{rises_pushed}

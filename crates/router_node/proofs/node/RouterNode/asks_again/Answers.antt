@@ -4,7 +4,7 @@ use Rattle.std.specs.Option.{option_map}
 use Rattle.node_model.specs.Letters.{Letter}
 use Rattle.node_model.specs.RouterRows as rows
 use Rattle.node_model.specs.States as states
-use Rattle.node_model.specs.Tables.{table_of}
+use Rattle.chunk_model.specs.Tables.{table_of}
 use Rattle.router_requests.proofs.Askers.{shards_alike}
 use Rattle.router_requests.specs.Askers.{letters_of}
 use Rattle.router_requests.specs.Works.{open_view, wait_view, work_view}

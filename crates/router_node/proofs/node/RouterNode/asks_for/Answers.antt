@@ -3,7 +3,7 @@ use Rattle.std.specs.Prelude.{Option}
 use Rattle.std.specs.Option.{option_map}
 use Rattle.node_model.specs.RouterRows as rows
 use Rattle.node_model.specs.States as states
-use Rattle.node_model.specs.Tables.{Table}
+use Rattle.chunk_model.specs.Tables.{Table}
 use Rattle.router_requests.proofs.Askers.{asked_alike}
 use Rattle.router_requests.specs.Askers.{letters_of}
 use Rattle.router_requests.specs.Works.{work_view}

@@ -8,7 +8,7 @@ use Rattle.router_node.specs.RouterStates.{router_of}
 use Rattle.router_node.proofs.Puts.{some_same}
 use Rattle.std.specs.Prelude.{IfOk}
 use Rattle.std.specs.Option.{option_map}
-use Rattle.node_model.specs.Tables.{Table}
+use Rattle.chunk_model.specs.Tables.{Table}
 use Rattle.router_requests.proofs.Askers.{shards_alike}
 use Rattle.router_node.specs.Nexts.{tables_told}
 use Rattle.router_node.proofs.node.RouterNode.asks_next.Goals as goal

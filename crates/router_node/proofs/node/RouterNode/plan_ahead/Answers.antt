@@ -1,16 +1,14 @@
-use Rattle.std.proofs.Common.{ap, ◌∙◌, ℕ, [], ◌∷◌, arith, rules}
-use Rattle.node_model.specs.Answers.{refusal_answer}
+use Rattle.std.proofs.Common.{ap, ◌∙◌, ℕ, [], ◌∷◌, arith, rules, w32}
+use Rattle.command_model.specs.Answers.{refusal_answer, answer_document}
 use Rattle.node_model.specs.RouterRows as rows
 use Rattle.node_traits.specs.Effects.{puts_of}
 use Rattle.node_traits.specs.Ids.{id_view}
 use Rattle.router_requests.specs.Works.{open_view, stages_of, telling_view}
 use Rattle.router_node.specs.RouterStates.{router_of}
 use Rattle.router_node.proofs.Heard.{heard_by}
-use Rattle.node_model.specs.Answers.{answer_document}
 use Rattle.command_replies.specs.Refusals.{refusal_view}
-use Rattle.std.proofs.Common.{w32}
 use mir.Val.{SFits}
-use Rattle.node_model.specs.Refusals.{Refusal, time_ahead}
+use Rattle.base_model.specs.Refusals.{Refusal, time_ahead}
 use Rattle.router_node.proofs.Puts.{told_as}
 use Rattle.router_node.proofs.Fates.{time_ahead_told}
 use Rattle.router_node.proofs.node.RouterNode.plan_ahead.Goals as goal

@@ -1,5 +1,5 @@
-use Rattle.std.proofs.Common.{◌≡◌, ap, sym, subst, ◌∙◌, List, [], ◌∷◌, ℕ, map, rules, true}
-use Rattle.node_model.specs.Answers.{Answer}
+use Rattle.std.proofs.Common.{◌≡◌, ap, sym, subst, ◌∙◌, List, [], ◌∷◌, ℕ, map, rules, true, w32}
+use Rattle.command_model.specs.Answers.{Answer, answer_document}
 use Rattle.node_model.specs.RouterRows as rows
 use Rattle.node_traits.specs.Effects.{puts_of}
 use Rattle.command_replies.specs.AnswerMeanings.{answer_view}
@@ -9,11 +9,9 @@ use Rattle.router_requests.specs.Works.{open_view}
 use Rattle.protocol_model.specs.Statements.{done_view}
 use Rattle.router_node.specs.RouterStates.{router_of}
 use Rattle.router_node.proofs.Heard.{heard_by}
-use Rattle.node_model.specs.Answers.{answer_document}
-use Rattle.std.proofs.Common.{w32}
 use mir.Val.{SFits}
 use Rattle.router_node.proofs.Puts.{told_as}
-use Rattle.node_model.specs.Outcomes.{Done, answer_of}
+use Rattle.reply_model.specs.Outcomes.{Done, answer_of}
 use Rattle.router_node.proofs.Fates.{dones_wrote}
 use Rattle.router_node.proofs.node.RouterNode.plan_all.Goals as goal
 

@@ -1,7 +1,7 @@
 use Rattle.std.proofs.Common.{rules, w32}
 use mir.Val.{SFits}
 use Rattle.command_replies.specs.AnswerMeanings.{answer_view}
-use Rattle.node_model.specs.Answers.{answer_document}
+use Rattle.command_model.specs.Answers.{answer_document}
 use Rattle.node_model.specs.RouterRows as rows
 use Rattle.node_traits.specs.Lists.{listed}
 use Rattle.router_requests.specs.Works.{open_view}

@@ -3,7 +3,7 @@ use mir.Val.{SFits}
 use Rattle.std.specs.Prelude.{Option, pos}
 use Rattle.std.specs.Arc.{arc_value}
 use Rattle.command_replies.specs.AnswerMeanings.{answer_view}
-use Rattle.node_model.specs.Answers.{Answer, answer_document, first_answer}
+use Rattle.command_model.specs.Answers.{Answer, answer_document, first_answer}
 use Rattle.node_model.specs.RouterRows as rows
 use Rattle.node_traits.specs.Effects.{AreSound, spellings}
 use Rattle.node_traits.specs.Lists.{listed}

@@ -1,6 +1,6 @@
 use Rattle.std.proofs.Common.{ap, subst, map}
 use Rattle.std.specs.Arc.{arc_value}
-use Rattle.node_model.specs.Runs.{listed}
+use Rattle.pipeline_model.specs.Runs.{listed}
 use Rattle.node_model.specs.States as states
 use Rattle.router_requests.specs.Works.{open_view, telling_view}
 use Rattle.router_node.specs.RouterStates.{router_of}

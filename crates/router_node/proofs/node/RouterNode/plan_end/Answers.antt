@@ -1,6 +1,6 @@
 use Rattle.std.proofs.Common.{ap, sym, subst, List, ℤ, refl, map, rules, true, ◌+◌, w32}
 use mir.Val.{SFits}
-use Rattle.node_model.specs.Answers.{answer_document}
+use Rattle.command_model.specs.Answers.{answer_document, killed_answer}
 use Rattle.node_model.specs.Letters.{Letter, client_input}
 use Rattle.node_model.specs.RouterRows as rows
 use Rattle.node_traits.specs.Lists.{listed}
@@ -15,8 +15,7 @@ use Rattle.router_node.proofs.Puts.{told_as}
 use Rattle.router_node.proofs.Started.{ok_starts}
 use Rattle.router_node.specs.declared.step_plan.Change.TheVariants.{Ends}
 use Rattle.command_words.specs.Commands.{kill_view}
-use Rattle.node_model.specs.Answers.{killed_answer}
-use Rattle.node_model.specs.Cursors.{Kills}
+use Rattle.reply_model.specs.Cursors.{Kills}
 use Rattle.router_cursors.specs.CursorLists.{closed_all}
 use Rattle.router_node.proofs.Shown.{took_end}
 use Rattle.router_node.proofs.node.RouterNode.plan_end.Goals as goal

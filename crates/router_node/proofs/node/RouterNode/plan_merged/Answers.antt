@@ -1,8 +1,8 @@
 use Rattle.std.proofs.Common.{ap, ◌∙◌, List, [], ◌∷◌, ◌++◌, map}
 use Rattle.std.specs.Arc.{arc_value}
 use Rattle.command_replies.specs.AnswerMeanings.{answer_view}
-use Rattle.node_model.specs.Runs.{listed, overflowed}
-use Rattle.node_model.specs.Split.{split}
+use Rattle.pipeline_model.specs.Runs.{listed, overflowed}
+use Rattle.pipeline_model.specs.Split.{split}
 use Rattle.router_requests.specs.Works.{open_view, stages_of, telling_view}
 use Rattle.pipeline_eval.specs.Rows.{rows_of}
 use Rattle.pipeline_eval.specs.declared.rows.Rows.{Rows}

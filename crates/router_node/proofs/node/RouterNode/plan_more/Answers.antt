@@ -2,7 +2,7 @@ use mir.Val.{SFits}
 use Rattle.std.proofs.Common.{◌≡◌, subst, ℤ, ◌+◌, length, rules, w64}
 use Rattle.std.proofs.lemmas.Int.{to_z-of_z}
 use Rattle.std.specs.Prelude.{Some, None}
-use Rattle.node_model.specs.Cursors.{Cursor, ShowsNext, open_cursor}
+use Rattle.reply_model.specs.Cursors.{Cursor, ShowsNext, open_cursor}
 use Rattle.node_model.specs.RouterRows as rows
 use Rattle.router_cursors.specs.CursorLists.{advanced, batch_of}
 use Rattle.router_node.specs.RouterStates.{router_of}

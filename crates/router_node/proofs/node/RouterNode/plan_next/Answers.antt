@@ -2,8 +2,8 @@ use Rattle.std.proofs.Common.{◌≡◌, ap, sym, subst, ◌∙◌, List, ℕ, �
 use Rattle.std.proofs.lemmas.Int.{to_z-of_z}
 use mir.Val.{SFits, of_z, to_z}
 use Rattle.command_replies.specs.AnswerMeanings.{answer_view}
-use Rattle.node_model.specs.Answers.{Answer, answer_document}
-use Rattle.node_model.specs.Cursors.{ShowsNext}
+use Rattle.command_model.specs.Answers.{Answer, answer_document}
+use Rattle.reply_model.specs.Cursors.{ShowsNext}
 use Rattle.node_model.specs.Letters.{Letter, client_input}
 use Rattle.node_model.specs.RouterRows as rows
 use Rattle.node_traits.specs.Effects.{puts_of}

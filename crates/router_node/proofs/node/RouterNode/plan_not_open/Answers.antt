@@ -1,6 +1,6 @@
 use Rattle.std.proofs.Common.{ap, sym, subst, ◌∙◌, List, ℤ, [], ◌∷◌, refl, map, rules, true, ◌+◌, w32, w64}
 use mir.Val.{SFits}
-use Rattle.node_model.specs.Answers.{Answer, answer_document}
+use Rattle.command_model.specs.Answers.{Answer, answer_document, refusal_answer}
 use Rattle.node_model.specs.Letters.{Letter, client_input}
 use Rattle.node_model.specs.RouterRows as rows
 use Rattle.node_traits.specs.Effects.{puts_of}
@@ -17,9 +17,8 @@ use Rattle.router_node.proofs.Started.{ok_starts}
 use Rattle.router_node.specs.declared.step_plan.Change.TheVariants.{Counts}
 use Rattle.command_replies.specs.Refusals.{refusal_view}
 use Rattle.command_words.specs.Commands.{more_view}
-use Rattle.node_model.specs.Answers.{refusal_answer}
-use Rattle.node_model.specs.Errors.{cursor_not_found}
-use Rattle.node_model.specs.Refusals.{Refusal, cursor_evidence}
+use Rattle.base_model.specs.Errors.{cursor_not_found}
+use Rattle.base_model.specs.Refusals.{Refusal, cursor_evidence}
 use Rattle.std.proofs.lemmas.Int.{to_z-of_z}
 use Rattle.router_node.proofs.Shown.{took_not_open}
 use Rattle.router_node.proofs.node.RouterNode.plan_not_open.Goals as goal

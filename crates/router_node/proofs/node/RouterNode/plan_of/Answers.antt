@@ -1,10 +1,9 @@
 use Rattle.std.proofs.Common.{◌≡◌, sym, ap, subst, rules}
 use Rattle.std.specs.Prelude.{Result, Err, IfOk}
-use Rattle.command_words.specs.Command.{command_in}
+use Rattle.command_model.specs.Command.{command_in, Command}
 use Rattle.command_words.specs.Commands.{Answers, command_view}
 use Rattle.command_words.specs.declared.fault.CommandFault.{CommandFault}
-use Rattle.node_model.specs.Command.{Command}
-use Rattle.node_model.specs.Refusals.{Refusal}
+use Rattle.base_model.specs.Refusals.{Refusal}
 use Rattle.node_model.specs.RouterRows as rows
 use Rattle.opmsg_frames.specs.RequestMeanings.{form_view}
 use Rattle.protocol_model.specs.Requests.{body_of}

@@ -1,4 +1,4 @@
-use Rattle.std.proofs.Common.{ap, sym, subst, List, refl, map, rules, true, ◌+◌}
+use Rattle.std.proofs.Common.{ap, sym, subst, List, refl, map, rules, true, ◌+◌, w32}
 use Rattle.node_model.specs.Letters.{Letter, client_input}
 use Rattle.node_model.specs.RouterRows as rows
 use Rattle.node_traits.specs.Lists.{listed}
@@ -10,8 +10,7 @@ use Rattle.router_node.specs.Rows.{TookRow, started}
 use Rattle.router_node.specs.RouterStates.{router_of}
 use Rattle.router_node.specs.StepPlans.{changed}
 use Rattle.router_node.specs.declared.step_plan.Change.TheVariants.{Counts}
-use Rattle.node_model.specs.Answers.{answer_document}
-use Rattle.std.proofs.Common.{w32}
+use Rattle.command_model.specs.Answers.{answer_document}
 use mir.Val.{SFits}
 use Rattle.router_node.proofs.Puts.{told_as}
 use Rattle.router_node.proofs.Started.{ok_starts, took_plain}

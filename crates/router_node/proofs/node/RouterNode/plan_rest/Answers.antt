@@ -9,7 +9,7 @@ use Rattle.router_requests.specs.Works.{open_view, wait_view}
 use Rattle.protocol_model.specs.Statements.{done_view, statement_view}
 use Rattle.router_node.specs.RouterStates.{router_of}
 use Rattle.router_node.proofs.Heard.{heard_by, notes_so, found}
-use Rattle.node_model.specs.Outcomes.{Done}
+use Rattle.reply_model.specs.Outcomes.{Done}
 use Rattle.router_node.proofs.Fates.{dones_noted}
 use Rattle.router_node.specs.Rows.{TookRow}
 use Rattle.router_node.proofs.Rest.{rest_asked, rest_waits}

@@ -1,13 +1,11 @@
-use Rattle.std.proofs.Common.{◌≡◌, refl, ap, sym, subst, ◌∙◌, List, [], ◌∷◌, rules}
-use Rattle.node_model.specs.Answers.{Answer}
+use Rattle.std.proofs.Common.{◌≡◌, refl, ap, sym, subst, ◌∙◌, List, [], ◌∷◌, rules, w32, ℤ}
+use Rattle.command_model.specs.Answers.{Answer, answer_document}
 use Rattle.node_model.specs.RouterRows as rows
 use Rattle.node_traits.specs.Effects.{puts_of}
 use Rattle.node_traits.specs.Lists.{listed}
 use Rattle.command_replies.specs.AnswerMeanings.{answer_view}
 use Rattle.router_requests.specs.Works.{open_view}
 use Rattle.router_node.specs.RouterStates.{router_of}
-use Rattle.node_model.specs.Answers.{answer_document}
-use Rattle.std.proofs.Common.{w32, ℤ}
 use Rattle.std.proofs.lemmas.Int.{to_z-of_z}
 use mir.Val.{SFits}
 use Rattle.std.specs.Prelude.{IfOk}

@@ -3,7 +3,7 @@ use Rattle.std.specs.List.{flat_map}
 use Rattle.std.specs.Option.{option_map}
 use Rattle.node_model.specs.RouterRows as rows
 use Rattle.node_model.specs.States as states
-use Rattle.node_model.specs.Tables as tables
+use Rattle.chunk_model.specs.Tables as tables
 use Rattle.protocol_model.specs.Bodies.{at_view}
 use Rattle.router_requests.specs.Lists.{opens_of, taken_of}
 use Rattle.router_requests.specs.Turns.{settled}

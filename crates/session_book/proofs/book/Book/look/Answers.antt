@@ -2,7 +2,7 @@ use Rattle.std.proofs.Common.{◌≡◌, Some, None, refl, sym, ap, rules}
 use Rattle.std.specs.Prelude.{FitsSigned}
 use Rattle.std.specs.Int.{w64}
 use Rattle.std.proofs.Math.Facts.{to_z-of_z}
-use Rattle.session_book.specs.Meanings.{session_view, number_view}
+use Rattle.statement_views.specs.Views.{session_view, number_view}
 use Rattle.session_book.specs.Places.{place_of, statements_at}
 use Rattle.session_book.specs.Books.{kept_of, seen_of, seen_in}
 use Rattle.session_book.proofs.Places.{kept_there}

@@ -4,7 +4,7 @@ use Rattle.std.specs.Int.{w64}
 use Rattle.std.specs.List.{slice_set}
 use Rattle.std.proofs.Math.Facts.{to_z-of_z}
 use Rattle.history_model.specs.Notes.{seen_with}
-use Rattle.session_book.specs.Meanings.{session_view, number_view}
+use Rattle.statement_views.specs.Views.{session_view, number_view}
 use Rattle.session_book.specs.Places.{place_of, statements_at}
 use Rattle.session_book.specs.Books.{kept_of, room_of, seen_in, room_in, note_view}
 use Rattle.session_book.proofs.Places.{kept_by, kept_there, changes_there}

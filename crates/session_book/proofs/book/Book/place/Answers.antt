@@ -1,5 +1,5 @@
 use Rattle.std.proofs.Common.{rules, ◌≡◌, sym, ap, ◌∙◌}
-use Rattle.session_book.specs.Meanings.{session_view}
+use Rattle.statement_views.specs.Views.{session_view}
 use Rattle.session_book.specs.Places.{place_of}
 use Rattle.session_book.proofs.Sessions.{place_at}
 use Rattle.session_book.proofs.book.Book.place.Goals as goal

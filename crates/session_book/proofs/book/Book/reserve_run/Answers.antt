@@ -1,7 +1,7 @@
 use Rattle.std.proofs.Common.{◌≡◌, Some, None, refl, sym, arith}
 use Rattle.std.specs.List.{slice_set}
 use Rattle.std.proofs.lemmas.Result.{on_ok_weaker}
-use Rattle.session_book.specs.Meanings.{session_view}
+use Rattle.statement_views.specs.Views.{session_view}
 use Rattle.session_book.specs.Places.{place_of}
 use Rattle.session_book.specs.Books.{kept_of, seen_in, room_in}
 use Rattle.session_book.proofs.Places.{kept_by, changes_there, now_there}

@@ -3,7 +3,7 @@ use Rattle.std.specs.Prelude.{IfOk, Ok, Option, Some}
 use Rattle.std.specs.Arc.{arc_value}
 use Rattle.bson_values.specs.Tree.{Fields}
 use Rattle.node_model.specs.History.{read_operation}
-use Rattle.shard_records.specs.Meanings.{operation_view}
+use Rattle.statement_views.specs.Views.{operation_view}
 use Rattle.update_ops.specs.Ops.{read_words, write_of}
 use Rattle.shard_store.proofs.Effects.{ok_effect, read_same}
 use Rattle.shard_store.specs.Effects.{Does}

@@ -3,7 +3,7 @@ use Rattle.std.specs.Prelude.{◌++◌, ◌∷◌, []}
 use Rattle.node_model.specs.History.{document_at}
 use Rattle.history_model.specs.Notes.{seen}
 use Rattle.session_book.specs.Books.{note_view}
-use Rattle.session_book.specs.Meanings.{number_view}
+use Rattle.statement_views.specs.Views.{number_view}
 use Rattle.shard_store.proofs.Facts.{entries_grown, notes_grown, past_grown, versions_grown}
 use Rattle.shard_store.proofs.Pushed.{shown_after}
 use Rattle.shard_store.proofs.Seen.{new_kept}

@@ -4,7 +4,7 @@ use Rattle.node_model.specs.Exchanges.{number_for}
 use Rattle.node_model.specs.Service.{seen_before}
 use Rattle.node_traits.specs.Ids.{id_view}
 use Rattle.history_model.specs.Notes.{new_statement, done_before, older_than, seen}
-use Rattle.session_book.specs.Meanings.{number_view}
+use Rattle.statement_views.specs.Views.{number_view}
 use Rattle.std.specs.Prelude.{Some}
 use Rattle.shard_store.proofs.Seen.{index_from, look_new, look_done, look_older, seen_number}
 use Rattle.shard_store.specs.Outcomes.{done_view}

@@ -1,0 +1,4 @@
+pub mod SampleCommands
+pub mod SampleRequests
+pub mod SampleNumbers
+pub mod SampleReads

@@ -1,2 +1,0 @@
-pub use Rattle.bson_model.proofs.Lengths
-pub use Rattle.bson_model.proofs.WalkEnds

@@ -1,0 +1,9 @@
+pub mod KeptAtHead
+pub mod MergedHalves
+pub mod OneBatch
+pub mod OutsideSpan
+pub mod PartRows
+pub mod PlainConstants
+pub mod RunDepths
+pub mod SampleRuns
+pub mod SomeOutcome

@@ -1,5 +1,0 @@
-use Rattle.pipeline_model.proofs.OutsideSpan.{split_half_lists}
-use Rattle.pipeline_model.proofs.laws.halves_never_overflow.Goals as goal
-
-pub returns : goal.returns
-returns c = split_half_lists

@@ -1,5 +1,0 @@
-use Rattle.pipeline_model.proofs.Depths.{project_within}
-use Rattle.pipeline_model.proofs.laws.projections_never_deepen.Goals as goal
-
-pub returns : goal.returns
-returns c = project_within

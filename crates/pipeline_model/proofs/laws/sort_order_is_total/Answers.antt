@@ -1,5 +1,0 @@
-use Rattle.pipeline_model.proofs.SortOrder.{keys_total}
-use Rattle.pipeline_model.proofs.laws.sort_order_is_total.Goals as goal
-
-pub returns : goal.returns
-returns c = keys_total

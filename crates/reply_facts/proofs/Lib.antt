@@ -1,0 +1,6 @@
+pub mod Requests
+pub mod RightAnswers
+pub mod Statements
+pub mod ReadTimes
+pub mod Freshness
+pub mod ToldRefusals

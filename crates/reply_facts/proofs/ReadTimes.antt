@@ -1,0 +1,144 @@
+-- The times that reads are told.
+use Rattle.std.proofs.Common.{◌≡◌, ℕ, ◌≤◌, ◌⊎◌, inl, inr, List, refl, sym, ap, subst, ◌∙◌, arith}
+use Rattle.std.specs.Prelude.{Option, Some, None, Result, Ok, Err}
+use Rattle.bson_model.specs.Tree.{Fields}
+use Rattle.base_model.specs.Errors.{overflow, query_exceeded_memory}
+use Rattle.base_model.specs.Refusals.{Refusal, bytes_evidence, time_ahead, without_evidence}
+use Rattle.base_model.specs.ReplyParts.{operation_time}
+use Rattle.command_model.specs.Writes.{WriteKind, insert_kind, update_kind, delete_kind}
+use Rattle.command_model.specs.Reading.{Reading}
+use Rattle.command_model.specs.Cursors.{Batch}
+use Rattle.command_model.specs.Command.{Command, hello_command, legacy_command, ping_command, end_sessions_command, write_command, find_command, count_command, more_command, kill_command, command_of}
+use Rattle.command_model.specs.Answers.{first_answer, count_answer, refusal_answer, answer_document}
+use Rattle.command_model.proofs.AnswerTimes.{time_refused}
+use Rattle.reply_facts.proofs.ToldRefusals.{never_ahead}
+use Rattle.chunk_model.specs.Catalogue.{Creation}
+use Rattle.history_model.specs.History.{Entry}
+use Rattle.reply_model.specs.Exchanges.{Asked, Answered}
+use Rattle.reply_model.specs.Outcomes.{Done, answer_of}
+use Rattle.reply_model.specs.Cursors.{Cursor}
+use Rattle.reply_model.specs.Reads.{IsTimeRead, named_time, own_time, later_time, IfReached, IsAhead, time_wanted}
+use Rattle.reply_model.specs.Right.{Reads, find_reads, count_reads, IsReadRefused, refused_overflow, refused_excess, refused_ahead, IsRight}
+use Rattle.reply_facts.proofs.RightAnswers.{RightBy, right_by}
+
+-- a read that names no time is of none before its router's
+pub not_before : (a : Asked) (t : Answered) (reading : Reading) (time : ℕ) → IsTimeRead a t reading time → reading.at ≡ None → a.time ≤ time
+not_before a t reading time (named_time named at risen) none = absurd (let both : None ≡ Some named = sym none ∙ at in cc)
+not_before a t reading time (own_time at reached) none = omega arith
+not_before a t reading time (later_time later after at wants less reached risen) none = omega arith
+
+-- nor before the one that it is to reach
+pub not_before_after : (a : Asked) (t : Answered) (reading : Reading) (time after : ℕ) → IsTimeRead a t reading time → reading.at ≡ None → reading.after
+    ≡ Some after
+    → after ≤ time
+not_before_after a t reading time after (named_time named at risen) none wants = absurd (let both : None ≡ Some named = sym none ∙ at in cc)
+not_before_after a t reading time after (own_time at reached) none wants = subst (λ (o : Option ℕ). IfReached o a.time) wants reached
+not_before_after a t reading time after (later_time later other at are less reached risen) none wants =
+    let same : other ≡ after = (let both : Some other ≡ Some after = sym are ∙ wants in cc) in
+    omega (arith, same)
+
+module _ (creations : List Creation) (history : List Entry) (asked : List Asked) (answered : List Answered) (cursors : List Cursor) (a : Asked)
+    (t : Answered) where
+  -- a read that is refused shows no time
+  timeless : (reading : Reading) (now : ℕ) → IsReadRefused creations history answered a t reading → operation_time (Some t.document) ≡ Some now → ⊥
+  timeless reading now (refused_overflow time read gives says) shown = none_shown (without_evidence overflow) says
+    where
+      none_shown : (refusal : Refusal) → t.document ≡ answer_document (refusal_answer refusal) → ⊥
+      none_shown refusal says = let both : None ≡ Some now = sym (time_refused refusal) ∙ ap (λ (d : Fields). operation_time (Some d)) (sym says) ∙ shown in cc
+  timeless reading now (refused_excess time n read excess says) shown =
+      let both : None ≡ Some now = sym (time_refused (record { error = query_exceeded_memory; evidence = bytes_evidence n }))
+      ∙ ap (λ (d : Fields). operation_time (Some d)) (sym says) ∙ shown in cc
+  timeless reading now (refused_ahead ahead says) shown =
+      let both : None ≡ Some now = sym (time_refused (time_ahead t.time)) ∙ ap (λ (d : Fields). operation_time (Some d)) (sym says) ∙ shown in cc
+
+  shown_by : (r : Result Command Refusal) (next : List Cursor) (reading : Reading) (now : ℕ) → Reads r reading
+      → RightBy creations history asked answered cursors a t r next
+      → operation_time (Some t.document) ≡ Some now → IsTimeRead a t reading now
+  shown_by r next reading now (find_reads find) (inl first) shown =
+      let both : Some first.batch.time ≡ Some now = ap (λ (d : Fields). operation_time (Some d)) (sym first.says) ∙ shown in
+      let same : first.batch.time ≡ now = cc in
+      subst (λ n. IsTimeRead a t find.reading n) same first.time
+  shown_by r next reading now (find_reads find) (inr refused) shown = absurd (timeless find.reading now refused.0 shown)
+  shown_by r next reading now (count_reads other) (inl counted) shown =
+      let both : Some counted.0.time ≡ Some now = ap (λ (d : Fields). operation_time (Some d)) (sym counted.0.says) ∙ shown in
+      let same : counted.0.time ≡ now = cc in
+      subst (λ n. IsTimeRead a t other n) same counted.0.read
+  shown_by r next reading now (count_reads other) (inr refused) shown = absurd (timeless other now refused.0 shown)
+
+  -- the time that an answer to a read shows is one that the read may be of
+  pub shown_time : (next : List Cursor) (reading : Reading) (now : ℕ) → Reads (command_of a.request) reading
+      → IsRight creations history asked answered cursors a t next
+      → operation_time (Some t.document) ≡ Some now → IsTimeRead a t reading now
+  shown_time next reading now asks right shown =
+      shown_by (command_of a.request) next reading now asks (right_by creations history asked answered cursors a t next right) shown
+
+  -- A TIME THAT IS AHEAD
+
+  write_not_ahead : (kind : WriteKind) (dones : List Done) (s : ℕ)
+      → answer_document (answer_of kind t.time dones) ≡ answer_document (refusal_answer (time_ahead s)) → ⊥
+  write_not_ahead insert_kind dones s same = cc
+  write_not_ahead update_kind dones s same = cc
+  write_not_ahead delete_kind dones s same = cc
+
+  refused_so : (reading : Reading) (s : ℕ) → IsReadRefused creations history answered a t reading → t.document
+      ≡ answer_document (refusal_answer (time_ahead s))
+      → (s ≡ t.time) × IsAhead history answered a t reading
+  refused_so reading s (refused_overflow time read gives says) told = absurd (let e = sym says ∙ told in cc)
+  refused_so reading s (refused_excess time n read excess says) told = absurd (let e = sym says ∙ told in cc)
+  refused_so reading s (refused_ahead ahead says) told =
+      (let e : answer_document (refusal_answer (time_ahead t.time)) ≡ answer_document (refusal_answer (time_ahead s)) = sym says ∙ told in cc, ahead)
+
+  first_not_ahead : (batch : Batch) (s : ℕ) → answer_document (first_answer batch) ≡ answer_document (refusal_answer (time_ahead s)) → ⊥
+  first_not_ahead batch s same = cc
+
+  count_not_ahead : (n time s : ℕ) → answer_document (count_answer n time) ≡ answer_document (refusal_answer (time_ahead s)) → ⊥
+  count_not_ahead n time s same = cc
+
+  ahead_by : (r : Result Command Refusal) (next : List Cursor) (s : ℕ) → command_of a.request ≡ r → RightBy creations history asked answered cursors a t r next
+      → t.document ≡ answer_document (refusal_answer (time_ahead s)) → s ≡ t.time
+  ahead_by (Ok hello_command) next s asks right told = absurd (let e = sym right.0 ∙ told in cc)
+  ahead_by (Ok (legacy_command legacy)) next s asks right told = absurd (let e = sym right.0 ∙ told in cc)
+  ahead_by (Ok ping_command) next s asks right told = absurd (let e = sym right.0 ∙ told in cc)
+  ahead_by (Ok end_sessions_command) next s asks right told = absurd (let e = sym right.0 ∙ told in cc)
+  ahead_by (Ok (write_command write)) next s asks right told = absurd (write_not_ahead write.kind right.0.dones s (sym right.0.says ∙ told))
+  ahead_by (Ok (find_command find)) next s asks (inl first) told = absurd (first_not_ahead first.batch s (sym first.says ∙ told))
+  ahead_by (Ok (find_command find)) next s asks (inr refused) told = (refused_so find.reading s refused.0 told).0
+  ahead_by (Ok (count_command reading)) next s asks (inl counted) told = absurd (count_not_ahead counted.0.number counted.0.time s (sym counted.0.says ∙ told))
+  ahead_by (Ok (count_command reading)) next s asks (inr refused) told = (refused_so reading s refused.0 told).0
+  ahead_by (Ok (more_command more)) next s asks (inl shown) told = absurd (let e = sym shown.says ∙ told in cc)
+  ahead_by (Ok (more_command more)) next s asks (inr none) told = absurd (let e = sym none.0.says ∙ told in cc)
+  ahead_by (Ok (kill_command kill)) next s asks right told = absurd (let e = sym right.says ∙ told in cc)
+  ahead_by (Err refusal) next s asks right told = absurd (never_ahead a.request refusal s asks (sym right.0 ∙ told))
+
+  -- a greatest time that is told is the router's
+  pub ahead_time : (next : List Cursor) (s : ℕ) → IsRight creations history asked answered cursors a t next
+      → t.document ≡ answer_document (refusal_answer (time_ahead s))
+      → s ≡ t.time
+  ahead_time next s right told = ahead_by (command_of a.request) next s refl (right_by creations history asked answered cursors a t next right) told
+
+  read_ahead_by : (r : Result Command Refusal) (next : List Cursor) (reading : Reading) (s : ℕ) → Reads r reading
+      → RightBy creations history asked answered cursors a t r next
+      → t.document ≡ answer_document (refusal_answer (time_ahead s)) → IsAhead history answered a t reading
+  read_ahead_by r next reading s (find_reads find) (inl first) told = absurd (first_not_ahead first.batch s (sym first.says ∙ told))
+  read_ahead_by r next reading s (find_reads find) (inr refused) told = (refused_so find.reading s refused.0 told).1
+  read_ahead_by r next reading s (count_reads other) (inl counted) told = absurd
+      (count_not_ahead counted.0.number counted.0.time s (sym counted.0.says ∙ told))
+  read_ahead_by r next reading s (count_reads other) (inr refused) told = (refused_so other s refused.0 told).1
+
+  -- a read that is told one is ahead
+  pub is_ahead : (next : List Cursor) (reading : Reading) (s : ℕ) → Reads (command_of a.request) reading
+      → IsRight creations history asked answered cursors a t next
+      → t.document ≡ answer_document (refusal_answer (time_ahead s)) → IsAhead history answered a t reading
+  is_ahead next reading s asks right told =
+      read_ahead_by (command_of a.request) next reading s asks (right_by creations history asked answered cursors a t next right) told
+
+-- the time that is wanted
+pub wanted_is : (reading : Reading) (wanted time : ℕ) → time_wanted reading ≡ Some wanted → (reading.at ≡ Some time)
+    ⊎ ((reading.at ≡ None) × (reading.after ≡ Some time))
+    → wanted ≡ time
+wanted_is reading wanted time is (inl at) =
+    let both : Some wanted ≡ Some time = sym is ∙ ap (λ (o : Option ℕ). elim o as
+    (λ (p : Option ℕ). Option ℕ) [ None ↦ reading.after | Some named ↦ Some named ]) at in cc
+wanted_is reading wanted time is (inr after) =
+    let both : Some wanted ≡ Some time = sym is ∙ ap (λ (o : Option ℕ). elim o as
+    (λ (p : Option ℕ). Option ℕ) [ None ↦ reading.after | Some named ↦ Some named ]) after.0 ∙ after.1 in cc

@@ -1,0 +1,15 @@
+pub mod FilteredOrders
+pub mod SpanDocuments
+pub mod FoundDocuments
+pub mod SpanReads
+pub mod SortedOrders
+pub mod KeyFinds
+pub mod SortedFinds
+pub mod TimedReads
+pub mod LongAnswers
+pub mod SumReads
+pub mod OwnWrites
+pub mod NumberedWrites
+pub mod StandingCursors
+pub mod CursorBatches
+pub mod StandingDocuments

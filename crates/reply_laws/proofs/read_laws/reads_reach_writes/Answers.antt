@@ -1,0 +1,7 @@
+-- A router knew the times of all that it had told.
+use Rattle.reply_facts.proofs.Freshness.{reaches}
+use Rattle.reply_laws.proofs.read_laws.reads_reach_writes.Goals as goal
+
+pub returns : goal.returns
+returns c given creations history asked answered a s t write dones d before time outcome reading one told w says i is asks none shown =
+    reaches given creations history asked answered one a s t write dones d before time outcome reading told w says i is asks none shown

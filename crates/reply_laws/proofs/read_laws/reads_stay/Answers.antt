@@ -1,0 +1,6 @@
+-- What stands in a span at a time stands until an entry that touches it.
+use Rattle.reply_laws.proofs.SpanReads.{gives_before}
+use Rattle.reply_laws.proofs.read_laws.reads_stay.Goals as goal
+
+pub returns : goal.returns
+returns c given creations history asked answered reading before time out one gives less none = gives_before history reading before time out gives less none

@@ -1,7 +1,0 @@
--- A write has a statement at least.
-use Rattle.reply_model.proofs.Freshness.{later_told}
-use Rattle.reply_model.proofs.laws.later_writes_tell_later.Goals as goal
-
-pub returns : goal.returns
-returns c given creations history asked answered a s t write before now one told w asks none shows shown =
-    later_told given creations history asked answered one a s t write before now told w asks none shows shown
