@@ -125,7 +125,7 @@ class Closure:
     """The files and definitions that some names reach."""
 
     def __init__(self):
-        self.files, self.reached, self.lost, self.todo = {}, set(), set(), []
+        self.files, self.reached, self.lost, self.pending = {}, set(), set(), []
 
     def open(self, file):
         if file not in self.files:
@@ -136,13 +136,13 @@ class Closure:
     def want(self, file, name):
         opened = self.open(file)
         if name in opened.block_of:
-            self.todo.append((file, opened.block_of[name]))
+            self.pending.append((file, opened.block_of[name]))
         elif name in opened.names:
             self.want(opened.names[name], name)
 
     def follow(self):
-        while self.todo:
-            file, number = self.todo.pop()
+        while self.pending:
+            file, number = self.pending.pop()
             if (file, number) in self.reached:
                 continue
             self.reached.add((file, number))
@@ -171,7 +171,7 @@ def floors_of(closure):
     return {"history": history, "language": language, "run": closure.reached - history - language, "all": closure.reached}
 
 
-def tell(closure, options):
+def report(closure, options):
     counts = {}
     for floor, reached in floors_of(closure).items():
         files = {}
@@ -180,14 +180,14 @@ def tell(closure, options):
         counts[floor] = [len(files), sum(closure.files[file].lines for file in files), sum(closure.files[file].blocks[number][2] for file, number in reached)]
         if options and floor != "all":
             for file in sorted(files):
-                tell_file(closure.files[file], sorted(files[file]), floor, options)
+                report_file(closure.files[file], sorted(files[file]), floor, options)
     print(f"{'floor':9} {'files':>6} {'lines':>6} {'of definitions that are reached':>32}")
     for floor, (files, lines, reached) in counts.items():
         print(f"{floor:9} {files:6} {lines:6} {reached:32}")
     return counts
 
 
-def tell_file(opened, numbers, floor, options):
+def report_file(opened, numbers, floor, options):
     lines = sum(opened.blocks[number][2] for number in numbers)
     print(f"{floor:9} {opened.lines:5} {lines:5}  {path_of(opened.file).relative_to(TOP)}")
     if "--definitions" in options:
@@ -201,7 +201,7 @@ def main():
         sys.exit(__doc__)
     names, _, lost = imports_of(CLAUSES.read_text())
     closure = reach([(file, name) for name, file in names.items()])
-    counts = tell(closure, options)
+    counts = report(closure, options)
     for place in sorted(closure.lost | set(lost)):
         print(f"leads nowhere: {place}")
     if closure.lost or lost or counts["history"][2] > MOST_OF_HISTORY:
