@@ -1,7 +1,7 @@
 //! The bytes of records.
 
 ghost use Rattle.std.specs.Prelude.{IfOk};
-ghost use Rattle.shard_records.specs.Meanings.{outcome_meant, record_meant, operation_meant};
+ghost use Rattle.shard_records.specs.Meanings.{outcome_view, record_view, operation_view};
 ghost use Rattle.shard_records.specs.Sizes.{FitsRecord, IsWritableOperation, IsWritableKey, IsWritableRecord};
 
 use bson_values::{Aligned, Document, Name, Value};
@@ -85,7 +85,7 @@ fn document_of(alloc: Global, word: &str) -> Result<Document, RowFault>
 }
 
 fn operation_of(alloc: Global, words: &str) -> Result<OpWords, RowFault>
-    ensures { IfOk result (λ o. IsWritableOperation (operation_meant o)) }
+    ensures { IfOk result (λ o. IsWritableOperation (operation_view o)) }
 {
     let Some((verb, rest)) = words.split_once(' ') else {
         return Err(RowFault::Form);
@@ -100,13 +100,13 @@ fn operation_of(alloc: Global, words: &str) -> Result<OpWords, RowFault>
 }
 
 fn insert_of(alloc: Global, words: &str) -> Result<OpWords, RowFault>
-    ensures { IfOk result (λ o. IsWritableOperation (operation_meant o)) }
+    ensures { IfOk result (λ o. IsWritableOperation (operation_view o)) }
 {
     Ok(OpWords::Insert(document_of(alloc, words)?))
 }
 
 fn update_of(alloc: Global, words: &str, upsert: bool) -> Result<OpWords, RowFault>
-    ensures { IfOk result (λ o. IsWritableOperation (operation_meant o)) }
+    ensures { IfOk result (λ o. IsWritableOperation (operation_view o)) }
 {
     let Some((filter, change)) = words.split_once(' ') else {
         return Err(RowFault::Form);
@@ -121,7 +121,7 @@ fn update_of(alloc: Global, words: &str, upsert: bool) -> Result<OpWords, RowFau
 }
 
 fn delete_of(alloc: Global, words: &str) -> Result<OpWords, RowFault>
-    ensures { IfOk result (λ o. IsWritableOperation (operation_meant o)) }
+    ensures { IfOk result (λ o. IsWritableOperation (operation_view o)) }
 {
     let filter = document_of(alloc, words)?;
     Ok(OpWords::Delete { filter })
@@ -142,9 +142,9 @@ fn entry_of(
     op: OpWords,
     reply: Reply,
 ) -> Result<Record, RowFault>
-    requires op { IsWritableOperation (operation_meant op) }
-    requires reply { IsWritableKey (outcome_meant reply).upserted }
-    ensures { IfOk result (λ r. IsWritableRecord (record_meant r)) }
+    requires op { IsWritableOperation (operation_view op) }
+    requires reply { IsWritableKey (outcome_view reply).upserted }
+    ensures { IfOk result (λ r. IsWritableRecord (record_view r)) }
 {
     let namespace = namespace(alloc)?;
     Ok(Record::Entry {
@@ -158,7 +158,7 @@ fn entry_of(
 
 // Whether the record's bytes are put behind those that were there.
 fn is_spelled(alloc: Global, kept: &Record, wanted: &str) -> Result<bool, RowFault>
-    requires { IsWritableRecord (record_meant kept.now) }
+    requires { IsWritableRecord (record_view kept.now) }
 {
     let wanted = bytes_of(alloc, wanted)?;
     let mut out = Vec::from_slice(alloc, &[0xaa])?;

@@ -1,7 +1,7 @@
 //! Tables, and which chunks make one.
 
 ghost use Rattle.std.specs.Prelude.{◌≡◌, ◌<◌, ◌^◌, IfOk, length};
-ghost use Rattle.chunk_table.specs.Meanings.{chunk_meant};
+ghost use Rattle.chunk_table.specs.Meanings.{chunk_view};
 ghost use Rattle.chunk_table.specs.Whole.{IsWritableBound, IsWritableChunk};
 ghost use Rattle.value_compare.specs.Bounds.{bound_of};
 
@@ -59,7 +59,7 @@ fn moved(alloc: Global) -> Result<Table, RowFault> {
 
 // The keys below 5: shard 1's since 10.
 fn lower(alloc: Global) -> Result<Chunk, RowFault>
-    ensures { IfOk result (λ c. IsWritableChunk (chunk_meant c)) }
+    ensures { IfOk result (λ c. IsWritableChunk (chunk_view c)) }
 {
     let owners = Vec::from_slice(alloc, &[owned(10, 1)])?;
     chunk_of(Bound::MinKey, at(5)?, version(2, 1), owners)
@@ -67,7 +67,7 @@ fn lower(alloc: Global) -> Result<Chunk, RowFault>
 
 // The keys from 5 on: shard 2's since 20, and shard 1's since 10.
 fn upper(alloc: Global) -> Result<Chunk, RowFault>
-    ensures { IfOk result (λ c. IsWritableChunk (chunk_meant c)) }
+    ensures { IfOk result (λ c. IsWritableChunk (chunk_view c)) }
 {
     let owners = Vec::from_slice(alloc, &[owned(20, 2), owned(10, 1)])?;
     chunk_of(at(5)?, Bound::MaxKey, version(2, 0), owners)
@@ -90,7 +90,7 @@ fn version(major: u64, minor: u64) -> Version {
 
 // A chunk of two bounds, which is shard 1's since 10.
 fn chunk_between(alloc: Global, bounds: &str) -> Result<Chunk, RowFault>
-    ensures { IfOk result (λ c. IsWritableChunk (chunk_meant c)) }
+    ensures { IfOk result (λ c. IsWritableChunk (chunk_view c)) }
 {
     let Some((min, max)) = bounds.split_once(' ') else {
         return Err(RowFault::Form);
@@ -123,7 +123,7 @@ fn chunk_of(min: Bound, max: Bound, version: Version, owners: Vec<Owned>) -> Res
     requires min { IsWritableBound (bound_of min) }
     requires max { IsWritableBound (bound_of max) }
     requires count { length owners.items < 2 ^ 32 }
-    ensures { IfOk result (λ c. IsWritableChunk (chunk_meant c)) }
+    ensures { IfOk result (λ c. IsWritableChunk (chunk_view c)) }
 {
     match KeyRange::new(min, max) {
         Some(range) => Ok(Chunk {
@@ -137,8 +137,8 @@ fn chunk_of(min: Bound, max: Bound, version: Version, owners: Vec<Owned>) -> Res
 
 // The table of two chunks after three changes, if they make one.
 fn two_chunks(alloc: Global, lower: Chunk, upper: Chunk) -> Result<Option<Table>, RowFault>
-    requires lower { IsWritableChunk (chunk_meant lower) }
-    requires upper { IsWritableChunk (chunk_meant upper) }
+    requires lower { IsWritableChunk (chunk_view lower) }
+    requires upper { IsWritableChunk (chunk_view upper) }
 {
     let mut chunks = Vec::new(alloc);
     chunks.push(lower)?;

@@ -5,7 +5,7 @@ use Rattle.bson_values.specs.Tree.{Datum}
 use Rattle.value_compare.specs.Keys.{range_span, inside}
 use Rattle.chunk_model.specs.Tables.{chunk_of}
 use Rattle.chunk_table.specs.declared.chunk.Chunk.{Chunk}
-use Rattle.chunk_table.specs.Meanings.{chunk_meant}
+use Rattle.chunk_table.specs.Meanings.{chunk_view}
 
-pub found_here : (key : Datum) (chunks : List Chunk) (i : ℕ) (chunk : Chunk) → i < length chunks → chunk ≡ get_or chunks i chunk → inside (range_span chunk.range) key ≡ true → chunk_of key (map chunk_meant (drop i chunks)) ≡ Some (chunk_meant chunk)
+pub found_here : (key : Datum) (chunks : List Chunk) (i : ℕ) (chunk : Chunk) → i < length chunks → chunk ≡ get_or chunks i chunk → inside (range_span chunk.range) key ≡ true → chunk_of key (map chunk_view (drop i chunks)) ≡ Some (chunk_view chunk)
 found_here key chunks i chunk within is has = rw (drop-cons chunks i chunk within, ← is, has) refl

@@ -7,15 +7,15 @@ use Rattle.chunk_table.specs.declared.version.Version.{Version}
 use Rattle.chunk_table.specs.declared.chunk.Owned.{Owned}
 use Rattle.chunk_table.specs.declared.chunk.Chunk.{Chunk}
 
-abbrev pub version_meant : Version → versions.Version
-version_meant v = record { epoch = v.epoch; major = v.major; minor = v.minor }
+abbrev pub version_view : Version → versions.Version
+version_view v = record { epoch = v.epoch; major = v.major; minor = v.minor }
 
-abbrev pub owned_meant : Owned → tables.Owned
-owned_meant o = record { since = o.valid_after.0; shard = o.shard.0 }
+abbrev pub owned_view : Owned → tables.Owned
+owned_view o = record { since = o.valid_after.0; shard = o.shard.0 }
 
-abbrev pub chunk_meant : Chunk → tables.Chunk
-chunk_meant c = record { range = c.range; version = version_meant c.version; owners = c.history }
+abbrev pub chunk_view : Chunk → tables.Chunk
+chunk_view c = record { range = c.range; version = version_view c.version; owners = c.history }
 
 abbrev pub table_of_parts : List ℕ → ℕ → ℕ → Time → List Chunk → tables.Table
 table_of_parts namespace epoch changes oldest chunks =
-    record { namespace = namespace; epoch = epoch; changes = changes; oldest = oldest.0; chunks = map chunk_meant chunks }
+    record { namespace = namespace; epoch = epoch; changes = changes; oldest = oldest.0; chunks = map chunk_view chunks }

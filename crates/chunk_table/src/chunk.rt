@@ -4,7 +4,7 @@
 ghost use Rattle.std.specs.Prelude.{◌≡◌, IfOk, map};
 ghost use Rattle.std.specs.Option.{option_map};
 ghost use Rattle.chunk_model.specs.Tables.{chunk_of, chunks_on, greatest_version, is_owner, newest, owner_among};
-ghost use Rattle.chunk_table.specs.Meanings.{chunk_meant, owned_meant, version_meant};
+ghost use Rattle.chunk_table.specs.Meanings.{chunk_view, owned_view, version_view};
 ghost use Rattle.chunk_table.specs.Whole.{follow_from};
 ghost use Rattle.std.specs.Ordering.{is_eq};
 ghost use Rattle.bson_values.specs.View.{datum_of};
@@ -43,22 +43,22 @@ impl Model for OwnedList {
 
     ghost coded = { owners_code };
 
-    ghost use Rattle.chunk_table.specs.Meanings.{owned_meant};
+    ghost use Rattle.chunk_table.specs.Meanings.{owned_view};
 
-    ghost view = { λ list. map owned_meant list.owners.items };
+    ghost view = { λ list. map owned_view list.owners.items };
 }
 
 impl OwnedList {
     /// These owners, newest first.
     pub fn of(owners: Vec<Owned>) -> OwnedList
-        ensures { result ≡ map owned_meant owners.items }
+        ensures { result ≡ map owned_view owners.items }
     {
         OwnedList { owners }
     }
 
     /// The owners, newest first.
     pub fn as_slice(&self) -> &[Owned]
-        ensures { map owned_meant result.now ≡ self.now }
+        ensures { map owned_view result.now ≡ self.now }
     {
         &self.owners
     }
@@ -101,7 +101,7 @@ impl OwnedList {
 
 // The first of the owners that is not later than the time.
 fn owner_among(owners: &[Owned], time: Time) -> Option<NodeId>
-    ensures { option_map (λ shard. shard.0) result ≡ owner_among time.0 (map owned_meant owners.now) }
+    ensures { option_map (λ shard. shard.0) result ≡ owner_among time.0 (map owned_view owners.now) }
 {
     for owned in owners {
         if owned.valid_after.0 <= time.0 {
@@ -125,7 +125,7 @@ pub struct Chunk {
 impl Chunk {
     /// The same chunk once more. Fails for want of memory.
     pub(crate) fn copy(&self, alloc: Global) -> Result<Chunk, Memory>
-        ensures { IfOk result (λ chunk. chunk_meant chunk ≡ chunk_meant self.now) }
+        ensures { IfOk result (λ chunk. chunk_view chunk ≡ chunk_view self.now) }
     {
         let range = self.range.copy()?;
         let history = self.history.copy(alloc)?;
@@ -139,7 +139,7 @@ impl Chunk {
 
 /// The first of the chunks between whose bounds the value is, if it is of one.
 pub(crate) fn chunk_of<'a>(chunks: &'a [Chunk], value: &Value) -> Option<&'a Chunk>
-    ensures { option_map (λ chunk. chunk_meant chunk.now) result ≡ chunk_of (datum_of value.now) (map chunk_meant chunks.now) }
+    ensures { option_map (λ chunk. chunk_view chunk.now) result ≡ chunk_of (datum_of value.now) (map chunk_view chunks.now) }
 {
     for chunk in chunks {
         if chunk.range.contains_value(value) {
@@ -151,7 +151,7 @@ pub(crate) fn chunk_of<'a>(chunks: &'a [Chunk], value: &Value) -> Option<&'a Chu
 
 /// The greatest of the version and those of the chunks.
 pub(crate) fn greatest_version(so_far: Version, chunks: &[Chunk]) -> Version
-    ensures { version_meant result ≡ greatest_version (version_meant so_far) (map chunk_meant chunks.now) }
+    ensures { version_view result ≡ greatest_version (version_view so_far) (map chunk_view chunks.now) }
 {
     let mut greatest = so_far;
     for chunk in chunks {
@@ -162,7 +162,7 @@ pub(crate) fn greatest_version(so_far: Version, chunks: &[Chunk]) -> Version
 
 /// The greatest of the version and those of the chunks that the shard has now.
 pub(crate) fn greatest_on(shard: NodeId, so_far: Version, chunks: &[Chunk]) -> Version
-    ensures { version_meant result ≡ greatest_version (version_meant so_far) (chunks_on shard.0 (map chunk_meant chunks.now)) }
+    ensures { version_view result ≡ greatest_version (version_view so_far) (chunks_on shard.0 (map chunk_view chunks.now)) }
 {
     let mut greatest = so_far;
     for chunk in chunks {
@@ -175,7 +175,7 @@ pub(crate) fn greatest_on(shard: NodeId, so_far: Version, chunks: &[Chunk]) -> V
 
 /// The same chunks once more. Fails for want of memory.
 pub(crate) fn copy_all(alloc: Global, chunks: &[Chunk]) -> Result<Vec<Chunk>, Memory>
-    ensures { IfOk result (λ copy. map chunk_meant copy.items ≡ map chunk_meant chunks.now) }
+    ensures { IfOk result (λ copy. map chunk_view copy.items ≡ map chunk_view chunks.now) }
 {
     let mut copy = Vec::with_capacity(alloc, chunks.len())?;
     for chunk in chunks {
@@ -193,7 +193,7 @@ fn is_at(bound: &Bound, other: &Bound) -> bool
 
 /// Whether the chunks follow one another from below all keys to above them, and each has an owner.
 pub(crate) fn follow(chunks: &[Chunk]) -> bool
-    ensures { result ≡ follow_from min_bound (map chunk_meant chunks.now) }
+    ensures { result ≡ follow_from min_bound (map chunk_view chunks.now) }
 {
     let least = Bound::MinKey;
     let mut start = &least;

@@ -6,7 +6,7 @@ ghost use Rattle.std.specs.Option.{option_map};
 ghost use Rattle.bson_values.specs.Tree.{Datum};
 ghost use Rattle.bson_values.specs.View.{datum_of};
 ghost use Rattle.chunk_model.specs.Tables.{collection_version, first_table, is_longer, owner_at, owner_now, shard_version};
-ghost use Rattle.chunk_table.specs.Meanings.{chunk_meant, table_of_parts, version_meant};
+ghost use Rattle.chunk_table.specs.Meanings.{chunk_view, table_of_parts, version_view};
 ghost use Rattle.chunk_table.specs.Whole.{IsWritableChunk, follow_from};
 ghost use Rattle.value_compare.specs.Keys.{is_key, min_bound};
 
@@ -95,9 +95,9 @@ impl Table {
         chunks: Vec<Chunk>,
     ) -> Option<Table>
         requires count { length chunks.items < 2 ^ 32 }
-        requires writable { AllByRecursion IsWritableChunk (map chunk_meant chunks.items) }
+        requires writable { AllByRecursion IsWritableChunk (map chunk_view chunks.items) }
         ensures some { IfSome result (λ table. table ≡ table_of_parts namespace epoch changes oldest chunks.items) }
-        ensures none { (result ≡ None) ↔ (follow_from min_bound (map chunk_meant chunks.items) ≡ false) }
+        ensures none { (result ≡ None) ↔ (follow_from min_bound (map chunk_view chunks.items) ≡ false) }
     {
         if follow(&chunks) {
             Some(Table {
@@ -157,7 +157,7 @@ impl Table {
 
     /// The chunks. A journal can spell each, and their number.
     pub fn chunks(&self) -> &[Chunk]
-        ensures chunks { map chunk_meant result.now ≡ self.now.chunks }
+        ensures chunks { map chunk_view result.now ≡ self.now.chunks }
         ensures count { length self.now.chunks < 2 ^ 32 }
         ensures writable { AllByRecursion IsWritableChunk self.now.chunks }
     {
@@ -208,14 +208,14 @@ impl Table {
 
     /// The version of the whole table: the greatest of its chunks.
     pub fn version(&self) -> Version
-        ensures { version_meant result ≡ collection_version self.now }
+        ensures { version_view result ≡ collection_version self.now }
     {
         greatest_version(Version::no_chunk(self.epoch), &self.chunks)
     }
 
     /// The version of a shard: the greatest of the chunks that it has now; major number 0 where it has none.
     pub fn shard_version(&self, shard: NodeId) -> Version
-        ensures { version_meant result ≡ shard_version self.now shard.0 }
+        ensures { version_view result ≡ shard_version self.now shard.0 }
     {
         greatest_on(shard, Version::no_chunk(self.epoch), &self.chunks)
     }

@@ -4,7 +4,7 @@
 ghost use Rattle.std.specs.Prelude.{◌≡◌};
 ghost use Rattle.std.specs.Option.{option_map};
 ghost use Rattle.chunk_model.specs.Verdicts.{sent_by, verdict_of};
-ghost use Rattle.chunk_table.specs.VerdictMeanings.{sent_meant, verdict_meant};
+ghost use Rattle.chunk_table.specs.VerdictMeanings.{sent_view, verdict_view};
 
 use crate::table::Table;
 use crate::version::Version;
@@ -22,7 +22,7 @@ pub struct Sent {
 impl Sent {
     /// What a router with the table sends to the shard.
     pub fn of(table: &Table, shard: NodeId) -> Sent
-        ensures { sent_meant result ≡ sent_by table.now shard.0 }
+        ensures { sent_view result ≡ sent_by table.now shard.0 }
     {
         Sent {
             shard: table.shard_version(shard),
@@ -44,7 +44,7 @@ pub enum Verdict {
 
 /// What a shard with this table, if it has one, finds in what a router sent along.
 pub fn check(sent: &Sent, me: NodeId, table: Option<&Table>) -> Verdict
-    ensures { verdict_meant result ≡ verdict_of (sent_meant sent.now) me.0 (option_map (λ t. t.now) table.entry) }
+    ensures { verdict_view result ≡ verdict_of (sent_view sent.now) me.0 (option_map (λ t. t.now) table.entry) }
 {
     let Some(table) = table else {
         return Verdict::ShardOld;

@@ -2,7 +2,7 @@
 
 ghost use Rattle.std.specs.Prelude.{◌≡◌};
 ghost use Rattle.chunk_model.specs.Versions.{agrees, greater, is_later, is_greater, no_chunk};
-ghost use Rattle.chunk_table.specs.Meanings.{version_meant};
+ghost use Rattle.chunk_table.specs.Meanings.{version_view};
 
 /// How much of its collection's changes a chunk has seen.
 #[derive(Clone, Copy, Debug, PartialEq, Eq)]
@@ -18,7 +18,7 @@ pub struct Version {
 impl Version {
     /// Below every version of a chunk of the collection.
     pub(crate) fn no_chunk(epoch: u64) -> Version
-        ensures { version_meant result ≡ no_chunk epoch }
+        ensures { version_view result ≡ no_chunk epoch }
     {
         Version {
             epoch,
@@ -29,28 +29,28 @@ impl Version {
 
     /// Whether both give each shard the same keys.
     pub(crate) fn agrees(self, other: Version) -> bool
-        ensures { result ≡ agrees (version_meant self) (version_meant other) }
+        ensures { result ≡ agrees (version_view self) (version_view other) }
     {
         self.epoch == other.epoch && self.major == other.major
     }
 
     /// Whether this one comes behind the other: a later collection of the name, or more moves.
     pub(crate) fn is_later(self, other: Version) -> bool
-        ensures { result ≡ is_later (version_meant self) (version_meant other) }
+        ensures { result ≡ is_later (version_view self) (version_view other) }
     {
         self.epoch > other.epoch || (self.epoch == other.epoch && self.major > other.major)
     }
 
     /// Whether this one is the greater.
     fn is_greater(self, other: Version) -> bool
-        ensures { result ≡ is_greater (version_meant self) (version_meant other) }
+        ensures { result ≡ is_greater (version_view self) (version_view other) }
     {
         self.is_later(other) || (self.agrees(other) && self.minor > other.minor)
     }
 
     /// The greater of the two.
     pub(crate) fn greater(self, other: Version) -> Version
-        ensures { version_meant result ≡ greater (version_meant self) (version_meant other) }
+        ensures { version_view result ≡ greater (version_view self) (version_view other) }
     {
         if other.is_greater(self) { other } else { self }
     }

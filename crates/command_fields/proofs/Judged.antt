@@ -9,7 +9,7 @@ use Rattle.command_fields.specs.Verdicts.{ReadsBy}
 use Rattle.command_fields.specs.declared.fault.CheckFault.{CheckFault}
 use Rattle.command_fields.specs.declared.fault.CheckFault.TheVariants.{Refused, Memory}
 use Rattle.history_model.specs.History.{Operation}
-use Rattle.shard_records.specs.Meanings.{operation_meant}
+use Rattle.shard_records.specs.Meanings.{operation_view}
 use Rattle.value_compare.specs.declared.words.OpWords.{OpWords}
 
 -- behind a statement that passes the others are told of
@@ -28,7 +28,7 @@ refused_decides reads others form statement rest whole fault is told =
     subst (λ (v : Verdict). ReadsBy others (Err fault) v) is (first_decides reads others fault (check_statement form statement) (check_statements form rest) told)
 
 -- one more statement's words are put behind the others
-pub one_put : (form : StatementForm) (made : List OpWords) (words : OpWords) (statement : Fields) (rest : List Fields) → operation_meant words ≡ form.operation statement →
-    map operation_meant (made ++ words ∷ []) ++ map form.operation rest ≡ map operation_meant made ++ map form.operation (statement ∷ rest)
+pub one_put : (form : StatementForm) (made : List OpWords) (words : OpWords) (statement : Fields) (rest : List Fields) → operation_view words ≡ form.operation statement →
+    map operation_view (made ++ words ∷ []) ++ map form.operation rest ≡ map operation_view made ++ map form.operation (statement ∷ rest)
 one_put form [] words statement rest is = ap (λ (o : Operation). o ∷ map form.operation rest) is
-one_put form (first ∷ made) words statement rest is = ap (λ (more : List Operation). operation_meant first ∷ more) (one_put form made words statement rest is)
+one_put form (first ∷ made) words statement rest is = ap (λ (more : List Operation). operation_view first ∷ more) (one_put form made words statement rest is)

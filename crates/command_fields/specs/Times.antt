@@ -3,5 +3,5 @@ use Rattle.std.specs.Prelude.{ℕ, Option}
 use Rattle.std.specs.Option.{option_map}
 use Rattle.cluster_base.specs.declared.time.Time.{Time}
 
-abbrev pub time_meant : Option Time → Option ℕ
-time_meant time = option_map (λ (t : Time). t.0) time
+abbrev pub time_view : Option Time → Option ℕ
+time_view time = option_map (λ (t : Time). t.0) time

@@ -7,12 +7,12 @@ use Rattle.command_model.specs.Checks.{Verdict}
 use Rattle.command_fields.specs.declared.fault.CheckFault.{CheckFault}
 use Rattle.command_fields.specs.declared.fault.CheckFault.TheVariants.{Refused, Memory}
 
-abbrev pub verdict_meant : Option Code → Verdict
-verdict_meant verdict = option_map meaning_of verdict
+abbrev pub verdict_view : Option Code → Verdict
+verdict_view verdict = option_map meaning_of verdict
 
 -- what a rule tells, if there is one
-abbrev pub ruling_meant : Option (Option Code) → Option Verdict
-ruling_meant ruling = option_map verdict_meant ruling
+abbrev pub ruling_view : Option (Option Code) → Option Verdict
+ruling_view ruling = option_map verdict_view ruling
 
 -- something so read, where the check passes, or its error; want of memory is free
 abbrev pub ReadsBy : {X : Type 0} → (X → Type 0) → Result X CheckFault → Verdict → Type 0

@@ -39,17 +39,17 @@ or_bad_value (Err fault) = Err bad_value
 abbrev pub word_read : WordKind → Option Datum → Result (List Stage) ErrorCode
 word_read kind value = elim (words_given value) [ None ↦ Ok [] | Some ms ↦ or_bad_value (read_words kind ms) ]
 
-abbrev pub word_meant : Result (Option program.Stage) Code → Result (List Stage) ErrorCode
-word_meant (Ok stage) = Ok (stage_list stage)
-word_meant (Err code) = Err (meaning_of code)
+abbrev pub word_view : Result (Option program.Stage) Code → Result (List Stage) ErrorCode
+word_view (Ok stage) = Ok (stage_list stage)
+word_view (Err code) = Err (meaning_of code)
 
 abbrev pub pipeline_read : Option Datum → Result (List Stage) ErrorCode
 pipeline_read (Some (array_value stages)) = or_bad_value (read_pipeline stages)
 pipeline_read value = Ok []
 
-abbrev pub pipeline_meant : Result Pipeline Code → Result (List Stage) ErrorCode
-pipeline_meant (Ok pipeline) = Ok pipeline
-pipeline_meant (Err code) = Err (meaning_of code)
+abbrev pub pipeline_view : Result Pipeline Code → Result (List Stage) ErrorCode
+pipeline_view (Ok pipeline) = Ok pipeline
+pipeline_view (Err code) = Err (meaning_of code)
 
 -- the error of what is not read
 abbrev pub told : {X : Type 0} → Result X ErrorCode → Verdict

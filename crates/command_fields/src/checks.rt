@@ -11,7 +11,7 @@ ghost use Rattle.command_model.specs.Reading as reading;
 ghost use Rattle.pipeline_model.specs.Operands.{whole_number};
 ghost use Rattle.pipeline_model.specs.Stages.{as_natural, read_natural};
 ghost use Rattle.command_fields.specs.Numbers.{if_read};
-ghost use Rattle.command_fields.specs.Verdicts.{ReadsBy, verdict_meant};
+ghost use Rattle.command_fields.specs.Verdicts.{ReadsBy, verdict_view};
 
 use crate::fault::CheckFault;
 use bson_values::{Document, Value};
@@ -22,14 +22,14 @@ const UUID: u8 = 4;
 
 /// Gives the error, unless the test passes.
 pub fn unless_passes(passes: bool, code: Code) -> Option<Code>
-    ensures { verdict_meant result ≡ checks.unless_passes passes (meaning_of code) }
+    ensures { verdict_view result ≡ checks.unless_passes passes (meaning_of code) }
 {
     if passes { None } else { Some(code) }
 }
 
 /// Fails with the error that a check tells, if any.
 pub fn passed(verdict: Option<Code>) -> Result<(), CheckFault>
-    ensures { ReadsBy (λ read. Unit {0}) result (verdict_meant verdict) }
+    ensures { ReadsBy (λ read. Unit {0}) result (verdict_view verdict) }
 {
     match verdict {
         Some(code) => Err(CheckFault::Refused(code)),
@@ -39,7 +39,7 @@ pub fn passed(verdict: Option<Code>) -> Result<(), CheckFault>
 
 /// Takes a boolean; of another value it gives `TypeMismatch`.
 pub fn boolean_needed(value: &Value) -> Option<Code>
-    ensures { verdict_meant result ≡ fields.boolean_needed (datum_of value.now) }
+    ensures { verdict_view result ≡ fields.boolean_needed (datum_of value.now) }
 {
     match value {
         Value::Bool(_) => None,
@@ -49,7 +49,7 @@ pub fn boolean_needed(value: &Value) -> Option<Code>
 
 /// Takes a string; of another value it gives `TypeMismatch`.
 pub fn string_needed(value: &Value) -> Option<Code>
-    ensures { verdict_meant result ≡ fields.string_needed (datum_of value.now) }
+    ensures { verdict_view result ≡ fields.string_needed (datum_of value.now) }
 {
     match value {
         Value::Text(_) => None,
@@ -59,7 +59,7 @@ pub fn string_needed(value: &Value) -> Option<Code>
 
 /// Takes a document, whatever is in it; of another value it gives `TypeMismatch`.
 pub fn document_needed(value: &Value) -> Option<Code>
-    ensures { verdict_meant result ≡ fields.document_needed (λ ms. None) (datum_of value.now) }
+    ensures { verdict_view result ≡ fields.document_needed (λ ms. None) (datum_of value.now) }
 {
     match value {
         Value::Doc(_) => None,
@@ -69,7 +69,7 @@ pub fn document_needed(value: &Value) -> Option<Code>
 
 /// A field that must be there; else it gives `FailedToParse`.
 pub fn check_required(name: &str, document: &Document) -> Option<Code>
-    ensures { verdict_meant result ≡ fields.check_required name.now document.now }
+    ensures { verdict_view result ≡ fields.check_required name.now document.now }
 {
     match document.get(name) {
         Some(_) => None,
@@ -79,7 +79,7 @@ pub fn check_required(name: &str, document: &Document) -> Option<Code>
 
 /// The identifier of a session: a UUID.
 pub(crate) fn session_id(value: &Value) -> Option<Code>
-    ensures { verdict_meant result ≡ fields.session_id (datum_of value.now) }
+    ensures { verdict_view result ≡ fields.session_id (datum_of value.now) }
 {
     match value {
         Value::Binary { subtype, bytes } => unless_passes(
@@ -114,7 +114,7 @@ pub fn boolean_or(other: bool, document: &Document, name: &str) -> bool
 }
 
 pub(crate) fn timestamp_needed(value: &Value) -> Option<Code>
-    ensures { verdict_meant result ≡ fields.timestamp_needed (datum_of value.now) }
+    ensures { verdict_view result ≡ fields.timestamp_needed (datum_of value.now) }
 {
     match value {
         Value::Timestamp(_) => None,
@@ -146,7 +146,7 @@ fn natural_of(number: i64) -> Option<u64>
 
 /// Takes a whole number that is not negative; of a negative one it gives `BadValue`, of another value `TypeMismatch`.
 pub fn natural_needed(value: &Value) -> Option<Code>
-    ensures { verdict_meant result ≡ reading.natural_needed (datum_of value.now) }
+    ensures { verdict_view result ≡ reading.natural_needed (datum_of value.now) }
 {
     match whole_number(value) {
         Some(number) => unless_passes(natural_of(number).is_some(), Code::BadValue),

@@ -8,8 +8,8 @@ ghost use Rattle.command_model.specs.Errors.{failed_to_parse};
 ghost use Rattle.command_model.specs.Fields as fields;
 ghost use Rattle.command_model.specs.Reading as model;
 ghost use Rattle.command_model.specs.Reading.{concern_rules};
-ghost use Rattle.command_fields.specs.Times.{time_meant};
-ghost use Rattle.command_fields.specs.Verdicts.{verdict_meant};
+ghost use Rattle.command_fields.specs.Times.{time_view};
+ghost use Rattle.command_fields.specs.Verdicts.{verdict_view};
 
 use crate::checks::{timestamp_needed, unless_passes};
 use crate::rules::{Rules, check_fields};
@@ -25,7 +25,7 @@ fn is_level(level: &str) -> bool
 
 // The level of a read.
 fn check_level(value: &Value) -> Option<Code>
-    ensures { verdict_meant result ≡ model.check_level (datum_of value.now) }
+    ensures { verdict_view result ≡ model.check_level (datum_of value.now) }
 {
     match value {
         Value::Text(level) => unless_passes(is_level(level.as_str()), Code::BadValue),
@@ -78,7 +78,7 @@ fn may_name_time(concern: &Document) -> bool
 }
 
 fn check_concern(concern: &Document) -> Option<Code>
-    ensures { verdict_meant result ≡ model.check_concern concern.now }
+    ensures { verdict_view result ≡ model.check_concern concern.now }
 {
     if let Some(code) = check_fields(&ConcernRules, concern.fields(), 0) {
         return Some(code);
@@ -91,7 +91,7 @@ fn check_concern(concern: &Document) -> Option<Code>
 
 /// Takes a read concern; of another value it gives `TypeMismatch`, and of another document the first error of its fields.
 pub fn concern_needed(value: &Value) -> Option<Code>
-    ensures { verdict_meant result ≡ fields.document_needed model.check_concern (datum_of value.now) }
+    ensures { verdict_view result ≡ fields.document_needed model.check_concern (datum_of value.now) }
 {
     match value {
         Value::Doc(concern) => check_concern(concern),
@@ -101,7 +101,7 @@ pub fn concern_needed(value: &Value) -> Option<Code>
 
 // The time that a field of a read concern gives.
 fn time_in(concern: &Document, name: &str) -> Option<Time>
-    ensures { time_meant result ≡ model.time_given name.now (Some (document_value concern.now)) }
+    ensures { time_view result ≡ model.time_given name.now (Some (document_value concern.now)) }
 {
     match concern.get(name) {
         Some(value) => match value {
@@ -114,7 +114,7 @@ fn time_in(concern: &Document, name: &str) -> Option<Time>
 
 /// The time that the field of that name of a command's read concern gives, if any.
 pub fn time_given(document: &Document, name: &str) -> Option<Time>
-    ensures { time_meant result ≡ model.time_given name.now (get (codes "readConcern") document.now) }
+    ensures { time_view result ≡ model.time_given name.now (get (codes "readConcern") document.now) }
 {
     match document.get("readConcern") {
         Some(value) => match value {

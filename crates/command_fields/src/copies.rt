@@ -3,14 +3,14 @@
 ghost use Rattle.std.specs.Prelude.{◌≡◌, IfOk};
 ghost use Rattle.std.specs.Option.{option_map};
 ghost use Rattle.bson_values.specs.View.{datum_of, items_of};
-ghost use Rattle.command_answers.specs.Kinds.{kind_meant};
+ghost use Rattle.command_replies.specs.Kinds.{kind_view};
 ghost use Rattle.command_model.specs.Writes as model;
 ghost use Rattle.command_model.specs.Writes.{statement_form};
 ghost use Rattle.opmsg_frames.specs.Lists.{pairs_of};
 
 use crate::write_fields::statements_name;
 use bson_values::{Document, Memory, Value};
-use command_answers::WriteKind;
+use command_replies::WriteKind;
 use opmsg_frames::Sequence;
 use std::alloc::Global;
 
@@ -56,7 +56,7 @@ fn documents_asked(
     document: &Document,
     sequences: &[Sequence],
 ) -> Result<Option<Vec<Document>>, Memory>
-    ensures { IfOk result (λ o. option_map (λ v. v.items) o ≡ model.documents_asked (statement_form (kind_meant kind)) document.now (pairs_of sequences.now)) }
+    ensures { IfOk result (λ o. option_map (λ v. v.items) o ≡ model.documents_asked (statement_form (kind_view kind)) document.now (pairs_of sequences.now)) }
 {
     match document.get(statements_name(kind)) {
         Some(value) => documents_of_value(alloc, value),
@@ -78,7 +78,7 @@ pub fn documents_or_none(
     document: &Document,
     sequences: &[Sequence],
 ) -> Result<Vec<Document>, Memory>
-    ensures { IfOk result (λ v. v.items ≡ model.or_documents (model.documents_asked (statement_form (kind_meant kind)) document.now (pairs_of sequences.now))) }
+    ensures { IfOk result (λ v. v.items ≡ model.or_documents (model.documents_asked (statement_form (kind_view kind)) document.now (pairs_of sequences.now))) }
 {
     match documents_asked(alloc, kind, document, sequences)? {
         Some(documents) => Ok(documents),

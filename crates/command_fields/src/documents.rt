@@ -5,14 +5,14 @@ ghost use Rattle.std.specs.Option.{option_map};
 ghost use Rattle.bson_values.specs.Tree.{get};
 ghost use Rattle.bson_values.specs.View.{datum_of, fields_of, items_of};
 ghost use Rattle.opmsg_frames.specs.Lists.{pairs_of};
-ghost use Rattle.command_answers.specs.Kinds.{kind_meant};
+ghost use Rattle.command_replies.specs.Kinds.{kind_view};
 ghost use Rattle.command_model.specs.Writes as model;
 ghost use Rattle.command_model.specs.Writes.{statement_form};
 ghost use Rattle.command_fields.specs.FirstDocuments.{first_documents};
 
 use crate::write_fields::statements_name;
 use bson_values::{Document, Field, Memory, Value};
-use command_answers::WriteKind;
+use command_replies::WriteKind;
 use opmsg_frames::{Sequence, SequenceList};
 use std::alloc::Global;
 
@@ -70,7 +70,7 @@ fn documents_asked(
     document: Document,
     sequences: SequenceList,
 ) -> Result<Option<Vec<Document>>, Memory>
-    ensures { IfOk result (λ o. option_map (λ v. v.items) o ≡ model.documents_asked (statement_form (kind_meant kind)) document sequences) }
+    ensures { IfOk result (λ o. option_map (λ v. v.items) o ≡ model.documents_asked (statement_form (kind_view kind)) document sequences) }
 {
     match value_named(document.into_fields(), statements_name(kind)) {
         Some(value) => documents_of_value(alloc, value),
@@ -86,7 +86,7 @@ pub fn documents_moved(
     document: Document,
     sequences: SequenceList,
 ) -> Result<Vec<Document>, Memory>
-    ensures { IfOk result (λ v. v.items ≡ model.or_documents (model.documents_asked (statement_form (kind_meant kind)) document sequences)) }
+    ensures { IfOk result (λ v. v.items ≡ model.or_documents (model.documents_asked (statement_form (kind_view kind)) document sequences)) }
 {
     match documents_asked(alloc, kind, document, sequences)? {
         Some(documents) => Ok(documents),

@@ -7,9 +7,9 @@ ghost use Rattle.command_model.specs.Checks.{unless_passes};
 ghost use Rattle.command_model.specs.Errors.{invalid_namespace};
 ghost use Rattle.command_model.specs.Forms as model;
 ghost use Rattle.command_model.specs.Names.{full_name, is_open_namespace};
-ghost use Rattle.opmsg_frames.specs.RequestMeanings.{form_meant};
+ghost use Rattle.opmsg_frames.specs.RequestMeanings.{form_view};
 ghost use Rattle.command_fields.specs.FieldNames.{NamesCollection};
-ghost use Rattle.command_fields.specs.Verdicts.{ReadsBy, verdict_meant};
+ghost use Rattle.command_fields.specs.Verdicts.{ReadsBy, verdict_view};
 
 use crate::checks::{string_needed, text_in};
 use crate::fault::CheckFault;
@@ -20,7 +20,7 @@ use std::alloc::Global;
 
 /// The database has to be named by a string, but in OP_QUERY: else `FailedToParse`, and `TypeMismatch` of another value.
 pub fn check_database(sent: Form, document: &Document) -> Option<Code>
-    ensures { verdict_meant result ≡ model.check_database (form_meant sent) (get (codes "$db") document.now) }
+    ensures { verdict_view result ≡ model.check_database (form_view sent) (get (codes "$db") document.now) }
 {
     match document.get("$db") {
         Some(value) => string_needed(value),
@@ -33,7 +33,7 @@ pub fn check_database(sent: Form, document: &Document) -> Option<Code>
 
 /// The database that a request names; of OP_QUERY it is `admin`.
 pub fn database_of(sent: Form, document: &Document) -> &str
-    ensures { result.now ≡ model.database_of (form_meant sent) document.now }
+    ensures { result.now ≡ model.database_of (form_view sent) document.now }
 {
     match sent {
         Form::Query => "admin",

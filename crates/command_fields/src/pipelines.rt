@@ -5,8 +5,8 @@ ghost use Rattle.bson_values.specs.Tree.{get};
 ghost use Rattle.bson_values.specs.View.{datum_of};
 ghost use Rattle.command_model.specs.Reading.{unless_faulty};
 ghost use Rattle.pipeline_model.specs.Stages.{read_pipeline};
-ghost use Rattle.command_fields.specs.Verdicts.{ReadsBy, verdict_meant};
-ghost use Rattle.command_fields.specs.Words.{array_needed, pipeline_meant, pipeline_read, told};
+ghost use Rattle.command_fields.specs.Verdicts.{ReadsBy, verdict_view};
+ghost use Rattle.command_fields.specs.Words.{array_needed, pipeline_view, pipeline_read, told};
 
 use crate::fault::CheckFault;
 use crate::words::held;
@@ -27,7 +27,7 @@ fn read_stages(alloc: Global, array: &Array) -> Result<Pipeline, CheckFault>
 
 /// The pipeline of an aggregate's document, read; none where none is given. Fails for want of memory.
 pub fn pipeline_in(alloc: Global, document: &Document) -> Result<PipelineWord, Memory>
-    ensures { IfOk result (λ word. pipeline_meant word ≡ pipeline_read (get (codes "pipeline") document.now)) }
+    ensures { IfOk result (λ word. pipeline_view word ≡ pipeline_read (get (codes "pipeline") document.now)) }
 {
     match document.get("pipeline") {
         Some(value) => match value {
@@ -40,7 +40,7 @@ pub fn pipeline_in(alloc: Global, document: &Document) -> Result<PipelineWord, M
 
 /// What the rule of the pipeline tells of a value, where the first one was read: its error, or `TypeMismatch` of a value that is no array.
 pub fn pipeline_told(word: &PipelineWord, value: &Value) -> Option<Code>
-    ensures { verdict_meant result ≡ array_needed (told (pipeline_meant word.now)) (datum_of value.now) }
+    ensures { verdict_view result ≡ array_needed (told (pipeline_view word.now)) (datum_of value.now) }
 {
     match value {
         Value::Array(_) => match word {

@@ -10,7 +10,7 @@ ghost use Rattle.bson_values.specs.View.{datum_of, fields_of};
 ghost use Rattle.command_model.specs.Checks.{Verdict};
 ghost use Rattle.command_model.specs.Fields as model;
 ghost use Rattle.command_model.specs.Fields.{Rule, by_rule, common_rules, find_rule, session_rules};
-ghost use Rattle.command_fields.specs.Verdicts.{ruling_meant, verdict_meant};
+ghost use Rattle.command_fields.specs.Verdicts.{ruling_view, verdict_view};
 ghost use Rattle.command_fields.specs.FieldNames.{names_given};
 
 use crate::checks::{boolean_needed, check_required, session_id, string_needed};
@@ -27,11 +27,11 @@ pub trait Rules {
 
     /// What the rule of that name tells of a value, if there is one.
     fn ruling(&self, name: &str, value: &Value) -> Option<Option<Code>>
-        ensures { ruling_meant result ≡ option_map (λ r. r.check (datum_of value.now)) (find_rule name.now (rules self.now)) };
+        ensures { ruling_view result ≡ option_map (λ r. r.check (datum_of value.now)) (find_rule name.now (rules self.now)) };
 
     /// What is told of a field without a rule.
     fn unlisted(&self) -> Option<Code>
-        ensures { verdict_meant result ≡ unlisted_verdict self.now };
+        ensures { verdict_view result ≡ unlisted_verdict self.now };
 }
 
 // Whether a field of that name is among these.
@@ -48,7 +48,7 @@ fn is_given(given: &[Field], name: &str) -> bool
 
 // One field, behind those that are given.
 fn check_field<R: Rules>(rules: &R, given: &[Field], field: &Field) -> Option<Code>
-    ensures { verdict_meant result ≡ by_rule (R.unlisted_verdict rules.now) (find_rule field.now.name (R.rules rules.now))
+    ensures { verdict_view result ≡ by_rule (R.unlisted_verdict rules.now) (find_rule field.now.name (R.rules rules.now))
         (list_any (λ m. bytes_eq m.name field.now.name) given.now) (datum_of field.now.value) }
 {
     let name = field.name.as_str();
@@ -67,7 +67,7 @@ fn check_field<R: Rules>(rules: &R, given: &[Field], field: &Field) -> Option<Co
 /// The first error of the fields from an index on, behind those before it: what the rule of a field tells, `FailedToParse` of one that is
 /// given before, or what is told of one without a rule.
 pub fn check_fields<R: Rules>(rules: &R, fields: &[Field], from: usize) -> Option<Code>
-    ensures { verdict_meant result ≡ model.check_fields (R.unlisted_verdict rules.now) (R.rules rules.now)
+    ensures { verdict_view result ≡ model.check_fields (R.unlisted_verdict rules.now) (R.rules rules.now)
         (names_given [] (take from fields.now)) (fields_of (drop from fields.now)) }
 {
     for i in from..fields.len() {
@@ -81,7 +81,7 @@ pub fn check_fields<R: Rules>(rules: &R, fields: &[Field], from: usize) -> Optio
 /// The same of the fields of a command behind its own.
 pub fn check_behind_own<R: Rules>(rules: &R, document: &Document) -> Option<Code>
     ensures { (own : List ℕ) (value : Datum) (others : Fields) → document.now ≡ field own value others →
-        verdict_meant result ≡ model.check_fields (R.unlisted_verdict rules.now) (R.rules rules.now) (own ∷ []) others }
+        verdict_view result ≡ model.check_fields (R.unlisted_verdict rules.now) (R.rules rules.now) (own ∷ []) others }
 {
     check_fields(rules, document.fields(), 1)
 }
@@ -109,7 +109,7 @@ impl Rules for SessionRules {
 }
 
 fn check_session(session: &Document) -> Option<Code>
-    ensures { verdict_meant result ≡ model.check_session session.now }
+    ensures { verdict_view result ≡ model.check_session session.now }
 {
     if let Some(code) = check_fields(&SessionRules, session.fields(), 0) {
         return Some(code);
@@ -118,7 +118,7 @@ fn check_session(session: &Document) -> Option<Code>
 }
 
 fn session_needed(value: &Value) -> Option<Code>
-    ensures { verdict_meant result ≡ model.document_needed model.check_session (datum_of value.now) }
+    ensures { verdict_view result ≡ model.document_needed model.check_session (datum_of value.now) }
 {
     match value {
         Value::Doc(session) => check_session(session),
@@ -128,7 +128,7 @@ fn session_needed(value: &Value) -> Option<Code>
 
 /// What the rules that all commands have tell of a value, if there is one of that name.
 pub fn common_ruling(name: &str, value: &Value) -> Option<Option<Code>>
-    ensures { ruling_meant result ≡ option_map (λ r. r.check (datum_of value.now)) (find_rule name.now common_rules) }
+    ensures { ruling_view result ≡ option_map (λ r. r.check (datum_of value.now)) (find_rule name.now common_rules) }
 {
     if "$db" == name {
         Some(string_needed(value))

@@ -4,7 +4,7 @@ ghost use Rattle.std.specs.Prelude.{◌≡◌, map, None, Some, codes};
 ghost use Rattle.std.specs.Option.{option_map, option_or};
 ghost use Rattle.bson_values.specs.Tree.{get};
 ghost use Rattle.bson_values.specs.View.{datum_of, fields_of};
-ghost use Rattle.command_answers.specs.Kinds.{kind_meant};
+ghost use Rattle.command_replies.specs.Kinds.{kind_view};
 ghost use Rattle.command_model.specs.Delete as deletes;
 ghost use Rattle.command_model.specs.Errors.{failed_to_parse};
 ghost use Rattle.command_model.specs.Fields.{check_inner_fields};
@@ -12,8 +12,8 @@ ghost use Rattle.command_model.specs.Keys as keys;
 ghost use Rattle.command_model.specs.Statements as model;
 ghost use Rattle.command_model.specs.Update as updates;
 ghost use Rattle.command_model.specs.Writes.{statement_form};
-ghost use Rattle.command_fields.specs.Verdicts.{ReadsBy, verdict_meant};
-ghost use Rattle.shard_records.specs.Meanings.{operation_meant};
+ghost use Rattle.command_fields.specs.Verdicts.{ReadsBy, verdict_view};
+ghost use Rattle.shard_records.specs.Meanings.{operation_view};
 
 use crate::checks::{boolean_needed, boolean_or, check_required, document_needed, unless_passes};
 use crate::documents::value_named;
@@ -21,7 +21,7 @@ use crate::fault::CheckFault;
 use crate::rules::{Rules, check_fields};
 use bson_values::{Document, Field, Value};
 use cluster_base::Code;
-use command_answers::WriteKind;
+use command_replies::WriteKind;
 use match_expr::key_asked_in;
 use std::alloc::Global;
 use update_ops::Op;
@@ -53,7 +53,7 @@ impl Rules for UpdateRules {
 
 // A delete's limit, which is 0 or 1.
 fn limit_needed(value: &Value) -> Option<Code>
-    ensures { verdict_meant result ≡ deletes.limit_needed (datum_of value.now) }
+    ensures { verdict_view result ≡ deletes.limit_needed (datum_of value.now) }
 {
     match value {
         Value::Int32(limit) => unless_passes(
@@ -91,7 +91,7 @@ impl Rules for DeleteRules {
 
 // The fields of an update's statement.
 fn check_update(statement: &Document) -> Option<Code>
-    ensures { verdict_meant result ≡ updates.check_update statement.now }
+    ensures { verdict_view result ≡ updates.check_update statement.now }
 {
     if let Some(code) = check_fields(&UpdateRules, statement.fields(), 0) {
         return Some(code);
@@ -104,7 +104,7 @@ fn check_update(statement: &Document) -> Option<Code>
 
 // The fields of a delete's statement.
 fn check_delete(statement: &Document) -> Option<Code>
-    ensures { verdict_meant result ≡ deletes.check_delete statement.now }
+    ensures { verdict_view result ≡ deletes.check_delete statement.now }
 {
     if let Some(code) = check_fields(&DeleteRules, statement.fields(), 0) {
         return Some(code);
@@ -117,7 +117,7 @@ fn check_delete(statement: &Document) -> Option<Code>
 
 // The fields of a statement.
 fn check_form(kind: WriteKind, statement: &Document) -> Option<Code>
-    ensures { verdict_meant result ≡ (statement_form (kind_meant kind)).check statement.now }
+    ensures { verdict_view result ≡ (statement_form (kind_view kind)).check statement.now }
 {
     match kind {
         WriteKind::Insert => None,
@@ -168,7 +168,7 @@ fn filter_and_change(fields: Vec<Field>) -> (Option<Value>, Option<Value>)
 
 // The words of an update, moved out of its statement.
 fn update_of(alloc: Global, statement: Document) -> OpWords
-    ensures { operation_meant result ≡ updates.update_of statement }
+    ensures { operation_view result ≡ updates.update_of statement }
 {
     let upsert = boolean_or(false, &statement, "upsert");
     let (filter, change) = filter_and_change(statement.into_fields());
@@ -181,7 +181,7 @@ fn update_of(alloc: Global, statement: Document) -> OpWords
 
 // The words of a delete, moved out of its statement.
 fn delete_of(alloc: Global, statement: Document) -> OpWords
-    ensures { operation_meant result ≡ deletes.delete_of statement }
+    ensures { operation_view result ≡ deletes.delete_of statement }
 {
     let filter = value_named(statement.into_fields(), "q");
     OpWords::Delete {
@@ -191,7 +191,7 @@ fn delete_of(alloc: Global, statement: Document) -> OpWords
 
 // The words of a statement.
 fn words_of(alloc: Global, kind: WriteKind, statement: Document) -> OpWords
-    ensures { operation_meant result ≡ (statement_form (kind_meant kind)).operation statement }
+    ensures { operation_view result ≡ (statement_form (kind_view kind)).operation statement }
 {
     match kind {
         WriteKind::Insert => OpWords::Insert(statement),
@@ -212,7 +212,7 @@ fn is_key(value: &Value) -> bool
 
 // The key that words ask for, before they are read.
 fn key_asked_by(words: &OpWords) -> Option<&Value>
-    ensures { option_map (λ v. datum_of v.now) result ≡ model.key_asked_by (operation_meant words.now) }
+    ensures { option_map (λ v. datum_of v.now) result ≡ model.key_asked_by (operation_view words.now) }
 {
     match words {
         OpWords::Insert(document) => document.get("_id"),
@@ -223,7 +223,7 @@ fn key_asked_by(words: &OpWords) -> Option<&Value>
 
 // The key that words ask for.
 fn check_key(words: &OpWords) -> Option<Code>
-    ensures { verdict_meant result ≡ model.check_key (model.key_asked_by (operation_meant words.now)) }
+    ensures { verdict_view result ≡ model.check_key (model.key_asked_by (operation_view words.now)) }
 {
     match key_asked_by(words) {
         Some(key) => unless_passes(is_key(key), Code::BadValue),
@@ -233,7 +233,7 @@ fn check_key(words: &OpWords) -> Option<Code>
 
 // The words as they are read. Fails with their first fault, and for want of memory.
 fn read_words(alloc: Global, words: &OpWords) -> Result<(), CheckFault>
-    ensures { ReadsBy (λ read. Unit {0}) result (model.check_words (operation_meant words.now)) }
+    ensures { ReadsBy (λ read. Unit {0}) result (model.check_words (operation_view words.now)) }
 {
     let _op = Op::read(alloc, words)?;
     Ok(())
@@ -242,8 +242,8 @@ fn read_words(alloc: Global, words: &OpWords) -> Result<(), CheckFault>
 // The words of a statement whose key passes, of which an insert need not be read. Fails with their first fault, and for want of
 // memory.
 fn check_words(alloc: Global, words: &OpWords) -> Result<(), CheckFault>
-    requires { model.check_key (model.key_asked_by (operation_meant words.now)) ≡ None }
-    ensures { ReadsBy (λ read. Unit {0}) result (model.check_words (operation_meant words.now)) }
+    requires { model.check_key (model.key_asked_by (operation_view words.now)) ≡ None }
+    ensures { ReadsBy (λ read. Unit {0}) result (model.check_words (operation_view words.now)) }
 {
     match words {
         OpWords::Insert(_) => Ok(()),
@@ -253,8 +253,8 @@ fn check_words(alloc: Global, words: &OpWords) -> Result<(), CheckFault>
 
 // The words of a statement that passes. Fails with its first error, and for want of memory.
 fn statement_of(alloc: Global, kind: WriteKind, statement: Document) -> Result<OpWords, CheckFault>
-    ensures { ReadsBy (λ words. operation_meant words ≡ (statement_form (kind_meant kind)).operation statement) result
-        (model.check_statement (statement_form (kind_meant kind)) statement) }
+    ensures { ReadsBy (λ words. operation_view words ≡ (statement_form (kind_view kind)).operation statement) result
+        (model.check_statement (statement_form (kind_view kind)) statement) }
 {
     if let Some(code) = check_form(kind, &statement) {
         return Err(CheckFault::Refused(code));
@@ -276,8 +276,8 @@ pub fn operations_of(
     kind: WriteKind,
     statements: Vec<Document>,
 ) -> Result<Vec<OpWords>, CheckFault>
-    ensures { ReadsBy (λ operations. map operation_meant operations.items ≡ map (statement_form (kind_meant kind)).operation statements.items) result
-        (model.check_statements (statement_form (kind_meant kind)) statements.items) }
+    ensures { ReadsBy (λ operations. map operation_view operations.items ≡ map (statement_form (kind_view kind)).operation statements.items) result
+        (model.check_statements (statement_form (kind_view kind)) statements.items) }
 {
     let mut operations = Vec::new(alloc);
     for statement in statements {

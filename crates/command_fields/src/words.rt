@@ -11,8 +11,8 @@ ghost use Rattle.command_model.specs.Reading.{number_given, unless_faulty, unles
 ghost use Rattle.pipeline_lang.specs.View.{stage_of};
 ghost use Rattle.pipeline_model.specs.Stages as model;
 ghost use Rattle.command_fields.specs.Held.{Held};
-ghost use Rattle.command_fields.specs.Verdicts.{ReadsBy, verdict_meant};
-ghost use Rattle.command_fields.specs.Words.{or_no_stages, read_words, stage_list, told, word_meant, word_read, words_given};
+ghost use Rattle.command_fields.specs.Verdicts.{ReadsBy, verdict_view};
+ghost use Rattle.command_fields.specs.Words.{or_no_stages, read_words, stage_list, told, word_view, word_read, words_given};
 ghost use Rattle.command_fields.specs.declared.words.WordKind.TheVariants.{Filter, Projection as Shown, Sort};
 
 use crate::checks::number_given;
@@ -107,7 +107,7 @@ pub fn word_in(
     document: &Document,
     name: &str,
 ) -> Result<Word, Memory>
-    ensures { IfOk result (λ word. word_meant word ≡ word_read kind (get name.now document.now)) }
+    ensures { IfOk result (λ word. word_view word ≡ word_read kind (get name.now document.now)) }
 {
     match words_in(document, name) {
         Some(words) => held(read_stage(alloc, kind, words)),
@@ -118,7 +118,7 @@ pub fn word_in(
 /// What the rule of a field tells of a value, where the words of its first value were read: their error, or `TypeMismatch` of a value that
 /// is no document.
 pub fn word_told(word: &Word, value: &Value) -> Option<Code>
-    ensures { verdict_meant result ≡ fields.document_needed (λ ms. told (word_meant word.now)) (datum_of value.now) }
+    ensures { verdict_view result ≡ fields.document_needed (λ ms. told (word_view word.now)) (datum_of value.now) }
 {
     match value {
         Value::Doc(_) => match word {
@@ -141,7 +141,7 @@ pub(crate) fn put(stages: &mut Vec<Stage>, stage: Option<Stage>) -> Result<(), M
 
 /// Puts the stage of words behind the others, if they are given. Fails for want of memory.
 pub fn put_word(stages: &mut Vec<Stage>, word: Word) -> Result<(), Memory>
-    ensures { OnOk result (map stage_of stages.new.items ≡ map stage_of stages.old.items ++ or_no_stages (word_meant word)) }
+    ensures { OnOk result (map stage_of stages.new.items ≡ map stage_of stages.old.items ++ or_no_stages (word_view word)) }
 {
     match word {
         Ok(stage) => put(stages, stage),

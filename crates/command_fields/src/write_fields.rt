@@ -4,7 +4,7 @@ ghost use Rattle.std.specs.Prelude.{◌≡◌, None, Some, codes, length, pos};
 ghost use Rattle.std.specs.Option.{is_some, unwrap_or};
 ghost use Rattle.bson_values.specs.Tree.{get};
 ghost use Rattle.bson_values.specs.View.{datum_of, items_of};
-ghost use Rattle.command_answers.specs.Kinds.{given_meant, kind_meant};
+ghost use Rattle.command_replies.specs.Kinds.{given_view, kind_view};
 ghost use Rattle.command_model.specs.Checks.{unless_passes};
 ghost use Rattle.command_model.specs.Errors.{bad_value};
 ghost use Rattle.command_model.specs.Writes as model;
@@ -12,17 +12,17 @@ ghost use Rattle.command_model.specs.Writes.{statement_form};
 ghost use Rattle.opmsg_frames.specs.Lists.{pairs_of};
 ghost use Rattle.pipeline_model.specs.Operands.{whole_number};
 ghost use Rattle.command_fields.specs.Sessions.{HasSession};
-ghost use Rattle.command_fields.specs.Verdicts.{verdict_meant};
+ghost use Rattle.command_fields.specs.Verdicts.{verdict_view};
 
 use crate::checks::{check_required, unless_passes, whole_number};
 use bson_values::{Document, Value};
 use cluster_base::Code;
-use command_answers::{ClientNumber, MOST_STATEMENTS, WriteKind};
+use command_replies::{ClientNumber, MOST_STATEMENTS, WriteKind};
 use opmsg_frames::Sequence;
 
 /// The field, or document sequence, that has a command's statements.
 pub fn statements_name(kind: WriteKind) -> &'static str
-    ensures { result.now ≡ (statement_form (kind_meant kind)).identifier }
+    ensures { result.now ≡ (statement_form (kind_view kind)).identifier }
 {
     match kind {
         WriteKind::Insert => "documents",
@@ -45,7 +45,7 @@ fn are_documents(values: &[Value]) -> bool
 
 /// Takes a count of statements that a command may have; else it gives `BadValue`.
 pub fn check_count(count: usize) -> Option<Code>
-    ensures { verdict_meant result ≡ unless_passes (model.is_statement_count count) bad_value }
+    ensures { verdict_view result ≡ unless_passes (model.is_statement_count count) bad_value }
 {
     unless_passes(
         1 <= count && count <= MOST_STATEMENTS as usize,
@@ -56,7 +56,7 @@ pub fn check_count(count: usize) -> Option<Code>
 /// Takes the statements of a command, by their field: an array of documents, else `TypeMismatch`, of so many as there may be, else
 /// `BadValue`.
 pub fn documents_needed(value: &Value) -> Option<Code>
-    ensures { verdict_meant result ≡ model.documents_needed (datum_of value.now) }
+    ensures { verdict_view result ≡ model.documents_needed (datum_of value.now) }
 {
     match value {
         Value::Array(array) => {
@@ -73,7 +73,7 @@ pub fn documents_needed(value: &Value) -> Option<Code>
 
 /// Takes a whole number, also below 0; of another value it gives `TypeMismatch`.
 pub fn whole_needed(value: &Value) -> Option<Code>
-    ensures { verdict_meant result ≡ model.whole_needed (datum_of value.now) }
+    ensures { verdict_view result ≡ model.whole_needed (datum_of value.now) }
 {
     match whole_number(value) {
         Some(_) => None,
@@ -83,7 +83,7 @@ pub fn whole_needed(value: &Value) -> Option<Code>
 
 /// A transaction's number is one of a session: where there is none it gives `FailedToParse`.
 pub fn session_needed(document: &Document) -> Option<Code>
-    ensures { verdict_meant result ≡ model.session_needed document.now }
+    ensures { verdict_view result ≡ model.session_needed document.now }
 {
     match document.get("txnNumber") {
         Some(_) => check_required("lsid", document),
@@ -147,7 +147,7 @@ fn whole_or_zero(value: &Value) -> i64
 
 /// The number that a client gives its statements, if it gives one, of a document whose session passes.
 pub fn client_number(document: &Document) -> Option<ClientNumber>
-    ensures { HasSession document.now → model.session_needed document.now ≡ None → given_meant result ≡ model.number_given document.now }
+    ensures { HasSession document.now → model.session_needed document.now ≡ None → given_view result ≡ model.number_given document.now }
 {
     match document.get("txnNumber") {
         Some(value) => Some(ClientNumber {
@@ -160,7 +160,7 @@ pub fn client_number(document: &Document) -> Option<ClientNumber>
 
 /// Whether there are statements, in the field or in a sequence.
 pub fn has_documents(kind: WriteKind, document: &Document, sequences: &[Sequence]) -> bool
-    ensures { result ≡ is_some (model.documents_asked (statement_form (kind_meant kind)) document.now (pairs_of sequences.now)) }
+    ensures { result ≡ is_some (model.documents_asked (statement_form (kind_view kind)) document.now (pairs_of sequences.now)) }
 {
     match document.get(statements_name(kind)) {
         Some(value) => match value {

@@ -16,7 +16,7 @@ use Rattle.query_model.specs.Queries.{Query, QueryFault}
 use Rattle.query_model.specs.Reading.{◌>>=◌, read_query}
 use Rattle.command_words.specs.FindWords.{AreFindWords, rules_with}
 use Rattle.command_words.specs.HeldRules.{aggregate_rules_held, count_rules_held}
-use Rattle.command_fields.specs.Words.{array_needed, or_bad_value, or_no_stages, pipeline_read, read_words, told, word_meant, word_read}
+use Rattle.command_fields.specs.Words.{array_needed, or_bad_value, or_no_stages, pipeline_read, read_words, told, word_view, word_read}
 use Rattle.command_words.specs.declared.find.FindWords.{FindWords}
 use Rattle.command_fields.specs.declared.words.WordKind.{WordKind}
 use Rattle.command_fields.specs.declared.words.WordKind.TheVariants.{Filter, Sort, Projection as Shown}
@@ -59,9 +59,9 @@ told_of_word kind word found value read is = refl
 find_alike : (words : FindWords) (document : Fields) → AreFindWords words document →
     TellAlike document (rules_with words) find_rules
 find_alike words document are =
-    let filter = λ (value : Datum) (is : get (codes "filter") document ≡ Some value). told_of_word Filter (word_meant words.filter) (get (codes "filter") document) value are.filter is in
-    let sort = λ (value : Datum) (is : get (codes "sort") document ≡ Some value). told_of_word Sort (word_meant words.sort) (get (codes "sort") document) value are.sort is in
-    let shown = λ (value : Datum) (is : get (codes "projection") document ≡ Some value). told_of_word Shown (word_meant words.projection) (get (codes "projection") document) value are.projection is in
+    let filter = λ (value : Datum) (is : get (codes "filter") document ≡ Some value). told_of_word Filter (word_view words.filter) (get (codes "filter") document) value are.filter is in
+    let sort = λ (value : Datum) (is : get (codes "sort") document ≡ Some value). told_of_word Sort (word_view words.sort) (get (codes "sort") document) value are.sort is in
+    let shown = λ (value : Datum) (is : get (codes "projection") document ≡ Some value). told_of_word Shown (word_view words.projection) (get (codes "projection") document) value are.projection is in
     (refl, (filter, (refl, (sort, (refl, (shown, alike_self document (drop 3 find_rules)))))))
 
 count_alike : (word : Result (List Stage) ErrorCode) (document : Fields) → word ≡ word_read Filter (get (codes "query") document) → TellAlike document (count_rules_held (told word)) count_rules
@@ -138,17 +138,17 @@ pipeline_stages None = refl
 
 -- the stages of a find and of a count, a part behind the other
 pub find_parts : (words : FindWords) (document : Fields) → AreFindWords words document →
-    ((((or_no_stages (word_meant words.filter) ++ or_no_stages (word_meant words.sort)) ++ stage_counted skip_stage (codes "skip") document) ++ stage_counted limit_stage (codes "limit") document)
-    ++ or_no_stages (word_meant words.projection)) ≡ find_stages document
+    ((((or_no_stages (word_view words.filter) ++ or_no_stages (word_view words.sort)) ++ stage_counted skip_stage (codes "skip") document) ++ stage_counted limit_stage (codes "limit") document)
+    ++ or_no_stages (word_view words.projection)) ≡ find_stages document
 find_parts words document are =
     let a : List Stage = stage_given read_query match_stage (codes "filter") document in
     let b : List Stage = stage_given read_sort sort_stage (codes "sort") document in
     let c : List Stage = stage_counted skip_stage (codes "skip") document in
     let d : List Stage = stage_counted limit_stage (codes "limit") document in
     let e : List Stage = shown_stages (get (codes "projection") document) in
-    let first : or_no_stages (word_meant words.filter) ≡ a = ap or_no_stages are.filter ∙ filter_stages (codes "filter") document in
-    let second : or_no_stages (word_meant words.sort) ≡ b = ap or_no_stages are.sort ∙ sort_stages (codes "sort") document in
-    let last : or_no_stages (word_meant words.projection) ≡ e = ap or_no_stages are.projection ∙ projection_stages (get (codes "projection") document) in
+    let first : or_no_stages (word_view words.filter) ≡ a = ap or_no_stages are.filter ∙ filter_stages (codes "filter") document in
+    let second : or_no_stages (word_view words.sort) ≡ b = ap or_no_stages are.sort ∙ sort_stages (codes "sort") document in
+    let last : or_no_stages (word_view words.projection) ≡ e = ap or_no_stages are.projection ∙ projection_stages (get (codes "projection") document) in
     rw (first, second, last) (append_assoc ((a ++ b) ++ c) d e ∙ append_assoc (a ++ b) c (d ++ e) ∙ append_assoc a b (c ++ (d ++ e)))
 
 pub count_parts : (word : Result (List Stage) ErrorCode) (document : Fields) → word ≡ word_read Filter (get (codes "query") document) →

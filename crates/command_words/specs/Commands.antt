@@ -20,56 +20,56 @@ use Rattle.command_words.specs.declared.command.Command.{Command}
 use Rattle.command_words.specs.declared.command.Command.TheVariants.{Hello, Legacy, Ping, EndSessions, Write, Find, Count, GetMore, KillCursors}
 use Rattle.command_words.specs.declared.fault.CommandFault.{CommandFault}
 use Rattle.command_words.specs.declared.fault.CommandFault.TheVariants as faults
-use Rattle.command_fields.specs.Times.{time_meant}
+use Rattle.command_fields.specs.Times.{time_view}
 use Rattle.command_fields.specs.declared.fault.CheckFault.{CheckFault}
 use Rattle.command_fields.specs.declared.fault.CheckFault.TheVariants.{Refused, Memory}
-use Rattle.command_answers.specs.Kinds.{given_meant, kind_meant}
-use Rattle.command_answers.specs.Refusals.{refusal_meant}
-use Rattle.shard_records.specs.Meanings.{operation_meant}
+use Rattle.command_replies.specs.Kinds.{given_view, kind_view}
+use Rattle.command_replies.specs.Refusals.{refusal_view}
+use Rattle.shard_records.specs.Meanings.{operation_view}
 
-abbrev pub legacy_meant : program_legacies.Legacy → legacies.Legacy
-legacy_meant legacy = record { shows_hello_ok = legacy.shows_hello_ok }
+abbrev pub legacy_view : program_legacies.Legacy → legacies.Legacy
+legacy_view legacy = record { shows_hello_ok = legacy.shows_hello_ok }
 
-abbrev pub write_meant : program_writes.WriteCommand → writes.WriteCommand
-write_meant write = record {
-  kind = kind_meant write.kind;
+abbrev pub write_view : program_writes.WriteCommand → writes.WriteCommand
+write_view write = record {
+  kind = kind_view write.kind;
   namespace = write.namespace;
-  operations = map operation_meant write.operations.items;
+  operations = map operation_view write.operations.items;
   ordered = write.ordered;
-  number = given_meant write.number;
+  number = given_view write.number;
 }
 
-abbrev pub reading_meant : program_readings.Reading → readings.Reading
-reading_meant reading = record { namespace = reading.namespace; stages = reading.pipeline; at = time_meant reading.at; after = time_meant reading.after }
+abbrev pub reading_view : program_readings.Reading → readings.Reading
+reading_view reading = record { namespace = reading.namespace; stages = reading.pipeline; at = time_view reading.at; after = time_view reading.after }
 
-abbrev pub find_meant : program_finds.Find → finds.Find
-find_meant find = record { reading = reading_meant find.reading; batches = record { size = find.batches.size; single = find.batches.single } }
+abbrev pub find_view : program_finds.Find → finds.Find
+find_view find = record { reading = reading_view find.reading; batches = record { size = find.batches.size; single = find.batches.single } }
 
-abbrev pub more_meant : program_mores.GetMore → mores.GetMore
-more_meant more = record { namespace = more.namespace; cursor = more.cursor; size = more.size }
+abbrev pub more_view : program_mores.GetMore → mores.GetMore
+more_view more = record { namespace = more.namespace; cursor = more.cursor; size = more.size }
 
-abbrev pub kill_meant : program_kills.KillCursors → kills.KillCursors
-kill_meant kill = record { namespace = kill.namespace; cursors = kill.cursors.items }
+abbrev pub kill_view : program_kills.KillCursors → kills.KillCursors
+kill_view kill = record { namespace = kill.namespace; cursors = kill.cursors.items }
 
-abbrev pub command_meant : Command → model.Command
-command_meant Hello = model.hello_command
-command_meant (Legacy legacy) = model.legacy_command (legacy_meant legacy)
-command_meant Ping = model.ping_command
-command_meant EndSessions = model.end_sessions_command
-command_meant (Write write) = model.write_command (write_meant write)
-command_meant (Find find) = model.find_command (find_meant find)
-command_meant (Count reading) = model.count_command (reading_meant reading)
-command_meant (GetMore more) = model.more_command (more_meant more)
-command_meant (KillCursors kill) = model.kill_command (kill_meant kill)
+abbrev pub command_view : Command → model.Command
+command_view Hello = model.hello_command
+command_view (Legacy legacy) = model.legacy_command (legacy_view legacy)
+command_view Ping = model.ping_command
+command_view EndSessions = model.end_sessions_command
+command_view (Write write) = model.write_command (write_view write)
+command_view (Find find) = model.find_command (find_view find)
+command_view (Count reading) = model.count_command (reading_view reading)
+command_view (GetMore more) = model.more_command (more_view more)
+command_view (KillCursors kill) = model.kill_command (kill_view kill)
 
 -- the program gives the command or the error that the checks tell; want of memory is free
 abbrev pub Tells : Result Command CheckFault → Result model.Command ErrorCode → Type 0
-Tells (Ok command) told = told ≡ Ok (command_meant command)
+Tells (Ok command) told = told ≡ Ok (command_view command)
 Tells (Err (Refused code)) told = told ≡ Err (meaning_of code)
 Tells (Err Memory) told = Unit {0}
 
 -- the program answers the command or the refusal that the definitions tell; want of memory is free
 abbrev pub Answers : Result Command CommandFault → Result model.Command history.Refusal → Type 0
-Answers (Ok command) told = told ≡ Ok (command_meant command)
-Answers (Err (faults.Refused refusal)) told = told ≡ Err (refusal_meant refusal)
+Answers (Ok command) told = told ≡ Ok (command_view command)
+Answers (Err (faults.Refused refusal)) told = told ≡ Err (refusal_view refusal)
 Answers (Err faults.Memory) told = Unit {0}

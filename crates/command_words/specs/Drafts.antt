@@ -6,9 +6,9 @@ use Rattle.cluster_base.specs.Codes.{meaning_of}
 use Rattle.command_model.specs.Forms.{Sequences}
 use Rattle.command_model.specs.Statements.{check_statements}
 use Rattle.command_model.specs.Writes.{ClientNumber, WriteKind, documents_asked, or_documents, statement_form}
-use Rattle.command_answers.specs.Kinds.{given_meant, kind_meant}
+use Rattle.command_replies.specs.Kinds.{given_view, kind_view}
 use Rattle.command_model.specs.Command as model
-use Rattle.command_words.specs.Commands.{command_meant}
+use Rattle.command_words.specs.Commands.{command_view}
 use Rattle.command_words.specs.declared.draft.Draft.{Draft}
 use Rattle.command_words.specs.declared.draft.Draft.TheVariants.{Whole, Write}
 use Rattle.command_fields.specs.declared.fault.CheckFault.{CheckFault}
@@ -28,9 +28,9 @@ judged kind namespace ordered number statements =
 
 -- the program gives what the checks tell, but that the statements of a write are still to be put in and judged
 abbrev pub Drafts : Fields → Sequences → Result Draft CheckFault → Result model.Command ErrorCode → Type 0
-Drafts document sequences (Ok (Whole command)) told = told ≡ Ok (command_meant command)
+Drafts document sequences (Ok (Whole command)) told = told ≡ Ok (command_view command)
 Drafts document sequences (Ok (Write draft)) told =
-    told ≡ judged (kind_meant draft.kind) draft.namespace draft.ordered (given_meant draft.number)
-    (or_documents (documents_asked (statement_form (kind_meant draft.kind)) document sequences))
+    told ≡ judged (kind_view draft.kind) draft.namespace draft.ordered (given_view draft.number)
+    (or_documents (documents_asked (statement_form (kind_view draft.kind)) document sequences))
 Drafts document sequences (Err (Refused code)) told = told ≡ Err (meaning_of code)
 Drafts document sequences (Err Memory) told = Unit {0}

@@ -6,7 +6,7 @@ use Rattle.command_model.specs.IsMaster.{legacy_form}
 use Rattle.command_model.specs.Ping.{ping_form}
 use Rattle.command_model.specs.EndSessions.{end_sessions_form}
 use Rattle.command_model.specs.Writes.{write_form}
-use Rattle.command_answers.specs.Kinds.{kind_meant}
+use Rattle.command_replies.specs.Kinds.{kind_view}
 use Rattle.command_model.specs.Find.{find_form}
 use Rattle.command_model.specs.Aggregate.{aggregate_form}
 use Rattle.command_model.specs.Count.{count_form}
@@ -15,22 +15,22 @@ use Rattle.command_model.specs.KillCursors.{kill_form}
 use Rattle.command_model.specs.Command.{Command, hello_command, legacy_command, ping_command, end_sessions_command, write_command, find_command, count_command, more_command, kill_command}
 use Rattle.command_words.specs.declared.command.AnyForm.{AnyForm}
 use Rattle.command_words.specs.declared.command.AnyForm.TheVariants.{Hello, IsMaster, Ping, EndSessions, Write, Find, Aggregate, Count, GetMore, KillCursors}
-use Rattle.command_words.specs.WriteNames.{name_meant}
+use Rattle.command_words.specs.WriteNames.{name_view}
 
-abbrev pub row_meant : AnyForm → CommandForm Command
-row_meant (Hello form) = made_into (λ hello. hello_command) hello_form
-row_meant (IsMaster form) = made_into legacy_command legacy_form
-row_meant (Ping form) = made_into (λ ping. ping_command) ping_form
-row_meant (EndSessions form) = made_into (λ end_sessions. end_sessions_command) end_sessions_form
-row_meant (Write form) = made_into write_command (write_form (kind_meant form.kind))
-row_meant (Find form) = made_into find_command find_form
-row_meant (Aggregate form) = made_into find_command aggregate_form
-row_meant (Count form) = made_into count_command count_form
-row_meant (GetMore form) = made_into more_command more_form
-row_meant (KillCursors form) = made_into kill_command kill_form
+abbrev pub row_view : AnyForm → CommandForm Command
+row_view (Hello form) = made_into (λ hello. hello_command) hello_form
+row_view (IsMaster form) = made_into legacy_command legacy_form
+row_view (Ping form) = made_into (λ ping. ping_command) ping_form
+row_view (EndSessions form) = made_into (λ end_sessions. end_sessions_command) end_sessions_form
+row_view (Write form) = made_into write_command (write_form (kind_view form.kind))
+row_view (Find form) = made_into find_command find_form
+row_view (Aggregate form) = made_into find_command aggregate_form
+row_view (Count form) = made_into count_command count_form
+row_view (GetMore form) = made_into more_command more_form
+row_view (KillCursors form) = made_into kill_command kill_form
 
 -- the name of a row, where it is looked at
 abbrev pub IsRowNamed : Option AnyForm → List ℕ → Type 0
-IsRowNamed (Some (Write form)) name = name ≡ name_meant form.kind
+IsRowNamed (Some (Write form)) name = name ≡ name_view form.kind
 IsRowNamed (Some (GetMore form)) name = name ≡ codes "getMore"
 IsRowNamed form name = Unit {0}

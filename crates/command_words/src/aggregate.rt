@@ -12,8 +12,8 @@ ghost use Rattle.command_model.specs.Reading as readings;
 ghost use Rattle.command_model.specs.Statements.{document_or_none};
 ghost use Rattle.command_fields.specs.FieldNames.{NamesCollection};
 ghost use Rattle.command_words.specs.HeldRules.{aggregate_rules_held};
-ghost use Rattle.command_fields.specs.Verdicts.{verdict_meant};
-ghost use Rattle.command_fields.specs.Words.{pipeline_meant, pipeline_read, told};
+ghost use Rattle.command_fields.specs.Verdicts.{verdict_view};
+ghost use Rattle.command_fields.specs.Words.{pipeline_view, pipeline_read, told};
 
 use crate::command::Command;
 use crate::draft::Draft;
@@ -54,7 +54,7 @@ impl Rules for CursorRules {
 }
 
 fn cursor_needed(value: &Value) -> Option<Code>
-    ensures { verdict_meant result ≡ fields.document_needed (fields.check_inner_fields cursor_rules) (datum_of value.now) }
+    ensures { verdict_view result ≡ fields.document_needed (fields.check_inner_fields cursor_rules) (datum_of value.now) }
 {
     match value {
         Value::Doc(cursor) => check_fields(&CursorRules, cursor.fields(), 0),
@@ -79,7 +79,7 @@ struct AggregateRules<'a> {
 }
 
 impl Rules for AggregateRules<'_> {
-    ghost rules = { λ r. aggregate_rules_held (told (pipeline_meant r.pipeline.now)) };
+    ghost rules = { λ r. aggregate_rules_held (told (pipeline_view r.pipeline.now)) };
 
     ghost unlisted_verdict = { λ _. Some failed_to_parse };
 
@@ -117,7 +117,7 @@ impl CommandForm for AggregateForm {
 
     ghost is_read = { λ _ namespace database value. NamesCollection namespace database value };
 
-    ghost are_read = { λ _ word database document. pipeline_meant word ≡ pipeline_read (get (codes "pipeline") document) };
+    ghost are_read = { λ _ word database document. pipeline_view word ≡ pipeline_read (get (codes "pipeline") document) };
 
     fn read_own(
         &self,

@@ -8,12 +8,12 @@ ghost use Rattle.command_model.specs.Refusals.{no_document_at};
 ghost use Rattle.bson_values.specs.ReadFaults.{fault_from};
 ghost use Rattle.command_model.specs.Requests as wire;
 ghost use Rattle.opmsg_frames.specs.Lists.{pairs_of};
-ghost use Rattle.opmsg_frames.specs.RequestMeanings.{IsBody, IsMeant, form_meant};
+ghost use Rattle.opmsg_frames.specs.RequestMeanings.{IsBody, IsMeant, form_view};
 ghost use Rattle.command_model.specs.Command as model;
 ghost use Rattle.command_words.specs.Commands.{Answers, Tells};
-ghost use Rattle.command_answers.specs.Refusals.{refusal_meant};
+ghost use Rattle.command_replies.specs.Refusals.{refusal_view};
 ghost use Rattle.command_words.specs.Drafts.{Drafts};
-ghost use Rattle.command_words.specs.Rows.{IsRowNamed, row_meant};
+ghost use Rattle.command_words.specs.Rows.{IsRowNamed, row_view};
 ghost use Rattle.command_words.specs.declared.command.AnyForm.TheVariants.{Write};
 
 use crate::aggregate::AggregateForm;
@@ -33,8 +33,8 @@ use crate::reading::Reading;
 use crate::writes::{WriteCommand, WriteForm};
 use bson_values::{BsonFault, Document};
 use cluster_base::Code;
-use command_answers::{Evidence, Refusal, WriteKind};
 use command_fields::{CheckFault, documents_moved, documents_or_none};
+use command_replies::{Evidence, Refusal, WriteKind};
 use opmsg_frames::{Body, Form, Request, Sequence, SequenceList};
 use std::alloc::Global;
 
@@ -72,7 +72,7 @@ pub(crate) enum AnyForm {
 
 // The form of the handshake of that name.
 fn handshake_named(name: &str) -> Option<AnyForm>
-    ensures found { option_or (option_map row_meant result) (model.find_form_in name.now (drop 5 model.rows)) ≡ model.form_of name.now }
+    ensures found { option_or (option_map row_view result) (model.find_form_in name.now (drop 5 model.rows)) ≡ model.form_of name.now }
     ensures named { IsRowNamed result name.now }
 {
     if "hello" == name {
@@ -94,7 +94,7 @@ fn handshake_named(name: &str) -> Option<AnyForm>
 
 // The form of the write of that name.
 fn write_named(name: &str) -> Option<WriteForm>
-    ensures found { option_or (option_map (λ form. row_meant (Write form)) result) (model.find_form_in name.now (drop 8 model.rows))
+    ensures found { option_or (option_map (λ form. row_view (Write form)) result) (model.find_form_in name.now (drop 8 model.rows))
         ≡ model.find_form_in name.now (drop 5 model.rows) }
     ensures named { IsRowNamed (option_map (λ form. Write form) result) name.now }
 {
@@ -117,7 +117,7 @@ fn write_named(name: &str) -> Option<WriteForm>
 
 // The form of the reading command of that name.
 fn read_named(name: &str) -> Option<AnyForm>
-    ensures found { option_map row_meant result ≡ model.find_form_in name.now (drop 8 model.rows) }
+    ensures found { option_map row_view result ≡ model.find_form_in name.now (drop 8 model.rows) }
     ensures named { IsRowNamed result name.now }
 {
     if "find" == name {
@@ -137,7 +137,7 @@ fn read_named(name: &str) -> Option<AnyForm>
 
 // The form of the command of that name.
 fn form_of(name: &str) -> Option<AnyForm>
-    ensures found { option_map row_meant result ≡ model.form_of name.now }
+    ensures found { option_map row_view result ≡ model.form_of name.now }
     ensures named { IsRowNamed result name.now }
 {
     if let Some(form) = handshake_named(name) {
@@ -156,7 +156,7 @@ fn draft_of(
     document: &Document,
     sequences: &[Sequence],
 ) -> Result<Draft, CheckFault>
-    ensures { Drafts document.now (pairs_of sequences.now) result (model.command_asked (form_meant sent) document.now (pairs_of sequences.now)) }
+    ensures { Drafts document.now (pairs_of sequences.now) result (model.command_asked (form_view sent) document.now (pairs_of sequences.now)) }
 {
     let [own, ..] = document.fields() else {
         return Err(CheckFault::Refused(Code::CommandNotFound));
@@ -185,7 +185,7 @@ fn read_documents(
     document: &Document,
     sequences: &[Sequence],
 ) -> Result<Command, CheckFault>
-    ensures { Tells result (model.command_asked (form_meant sent) document.now (pairs_of sequences.now)) }
+    ensures { Tells result (model.command_asked (form_view sent) document.now (pairs_of sequences.now)) }
 {
     match draft_of(alloc, sent, document, sequences) {
         Ok(Draft::Whole(command)) => Ok(command),
@@ -204,7 +204,7 @@ fn take_documents(
     document: Document,
     sequences: SequenceList,
 ) -> Result<Command, CheckFault>
-    ensures { Tells result (model.command_asked (form_meant sent) document sequences) }
+    ensures { Tells result (model.command_asked (form_view sent) document sequences) }
 {
     match draft_of(alloc, sent, &document, sequences.as_slice()) {
         Ok(Draft::Whole(command)) => Ok(command),
@@ -232,7 +232,7 @@ fn answered(read: Result<Command, CheckFault>) -> Result<Command, CommandFault>
 
 // The refusal of a document that is no BSON, with the offset of its fault.
 fn no_document(fault: &BsonFault) -> Refusal
-    ensures { (first : Fault) (place : ℕ) → fault.now ≡ fault_from first place → refusal_meant result ≡ no_document_at place }
+    ensures { (first : Fault) (place : ℕ) → fault.now ≡ fault_from first place → refusal_view result ≡ no_document_at place }
 {
     let place = match fault.place() {
         Some(place) => place as u64,
@@ -264,7 +264,7 @@ impl Command {
     /// The same of what the documents of a request are, which are given away: those of a write's statements are moved into the command, and none
     /// is copied. The caller keeps the rest of the request.
     pub fn take_body(alloc: Global, sent: Form, body: Body) -> Result<Command, CommandFault>
-        ensures { (meant : wire.Body) → IsBody body meant → Answers result (model.command_in (form_meant sent) meant) }
+        ensures { (meant : wire.Body) → IsBody body meant → Answers result (model.command_in (form_view sent) meant) }
     {
         match body {
             Body::Read { doc, sequences } => answered(take_documents(alloc, sent, doc, sequences)),

@@ -8,7 +8,7 @@ ghost use Rattle.command_model.specs.Errors.{failed_to_parse};
 ghost use Rattle.command_model.specs.Forms.{made_into};
 ghost use Rattle.command_fields.specs.FieldNames.{NamesCollection};
 ghost use Rattle.command_words.specs.HeldRules.{count_rules_held};
-ghost use Rattle.command_fields.specs.Words.{told, word_meant, word_read};
+ghost use Rattle.command_fields.specs.Words.{told, word_view, word_read};
 ghost use Rattle.command_fields.specs.declared.words.WordKind.TheVariants.{Filter};
 
 use crate::command::Command;
@@ -27,7 +27,7 @@ use std::alloc::Global;
 
 // The pipeline of a count with this query. Fails for want of memory.
 fn pipeline_of(alloc: Global, query: Word, document: &Document) -> Result<Pipeline, Memory>
-    ensures { word_meant query ≡ word_read Filter (get (codes "query") document.now) → IfOk result (λ pipeline. pipeline ≡ count_stages document.now) }
+    ensures { word_view query ≡ word_read Filter (get (codes "query") document.now) → IfOk result (λ pipeline. pipeline ≡ count_stages document.now) }
 {
     let mut stages = Vec::new(alloc);
     put_word(&mut stages, query)?;
@@ -43,7 +43,7 @@ struct CountRules<'a> {
 }
 
 impl Rules for CountRules<'_> {
-    ghost rules = { λ r. count_rules_held (told (word_meant r.query.now)) };
+    ghost rules = { λ r. count_rules_held (told (word_view r.query.now)) };
 
     ghost unlisted_verdict = { λ _. Some failed_to_parse };
 
@@ -79,7 +79,7 @@ impl CommandForm for CountForm {
 
     ghost is_read = { λ _ namespace database value. NamesCollection namespace database value };
 
-    ghost are_read = { λ _ query database document. word_meant query ≡ word_read Filter (get (codes "query") document) };
+    ghost are_read = { λ _ query database document. word_view query ≡ word_read Filter (get (codes "query") document) };
 
     fn read_own(
         &self,

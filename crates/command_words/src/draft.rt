@@ -1,7 +1,7 @@
 //! Commands whose statements are still in their request.
 
 ghost use Rattle.std.specs.Prelude.{◌≡◌};
-ghost use Rattle.command_answers.specs.Kinds.{given_meant, kind_meant};
+ghost use Rattle.command_replies.specs.Kinds.{given_view, kind_view};
 ghost use Rattle.command_words.specs.Commands.{Tells};
 ghost use Rattle.command_words.specs.Drafts.{judged};
 
@@ -9,8 +9,8 @@ use crate::command::Command;
 use crate::writes::WriteCommand;
 use bson_values::Document;
 use cluster_base::Namespace;
-use command_answers::{ClientNumber, WriteKind};
 use command_fields::{CheckFault, operations_of};
+use command_replies::{ClientNumber, WriteKind};
 use std::alloc::Global;
 
 /// A write, but for its statements.
@@ -36,7 +36,7 @@ impl WriteDraft {
         alloc: Global,
         statements: Vec<Document>,
     ) -> Result<Command, CheckFault>
-        ensures { Tells result (judged (kind_meant self.kind) self.namespace self.ordered (given_meant self.number) statements.items) }
+        ensures { Tells result (judged (kind_view self.kind) self.namespace self.ordered (given_view self.number) statements.items) }
     {
         match operations_of(alloc, self.kind, statements) {
             Ok(operations) => Ok(Command::Write(WriteCommand {

@@ -4,7 +4,7 @@ ghost use Rattle.std.specs.Prelude.{◌≡◌};
 ghost use Rattle.command_words.specs.declared.fault.CommandFault.TheVariants.{Memory as no_memory};
 
 use bson_values::Memory;
-use command_answers::Refusal;
+use command_replies::Refusal;
 
 /// Why there is no command.
 #[derive(Clone, Copy, Debug, PartialEq, Eq)]

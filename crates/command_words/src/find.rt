@@ -10,7 +10,7 @@ ghost use Rattle.command_model.specs.Find.{find_form, find_rules, find_stages};
 ghost use Rattle.command_model.specs.Forms.{made_into};
 ghost use Rattle.command_fields.specs.FieldNames.{NamesCollection};
 ghost use Rattle.command_words.specs.FindWords.{AreFindWords, rules_with};
-ghost use Rattle.command_fields.specs.Verdicts.{ruling_meant};
+ghost use Rattle.command_fields.specs.Verdicts.{ruling_view};
 
 use crate::command::Command;
 use crate::draft::Draft;
@@ -67,7 +67,7 @@ fn pipeline_of(alloc: Global, words: FindWords, document: &Document) -> Result<P
 
 // What the rules tell of a value that is no word.
 fn plain_ruling(name: &str, value: &Value) -> Option<Option<Code>>
-    ensures { ruling_meant result ≡ option_map (λ r. r.check (datum_of value.now)) (find_rule name.now (drop 3 find_rules)) }
+    ensures { ruling_view result ≡ option_map (λ r. r.check (datum_of value.now)) (find_rule name.now (drop 3 find_rules)) }
 {
     if "skip" == name || "limit" == name || "batchSize" == name {
         Some(natural_needed(value))

@@ -4,13 +4,13 @@ ghost use Rattle.std.specs.Prelude.{◌≡◌, ℕ, List, [], ◌∷◌, None, S
 ghost use Rattle.bson_values.specs.Tree.{Datum, Fields, field};
 ghost use Rattle.bson_values.specs.View.{datum_of};
 ghost use Rattle.opmsg_frames.specs.Lists.{pairs_of};
-ghost use Rattle.opmsg_frames.specs.RequestMeanings.{form_meant};
+ghost use Rattle.opmsg_frames.specs.RequestMeanings.{form_view};
 ghost use Rattle.command_model.specs.Checks.{is_one_of};
 ghost use Rattle.command_model.specs.Command as commands;
 ghost use Rattle.command_model.specs.Forms as model;
 ghost use Rattle.command_model.specs.Fields as fields;
 ghost use Rattle.command_words.specs.Drafts.{Drafts};
-ghost use Rattle.command_fields.specs.Verdicts.{ReadsBy, verdict_meant};
+ghost use Rattle.command_fields.specs.Verdicts.{ReadsBy, verdict_view};
 
 use crate::draft::Draft;
 use bson_values::{Document, Value};
@@ -56,11 +56,11 @@ pub(crate) trait CommandForm {
 
     /// Checks a document sequence; `given`: a field or a sequence of its identifier stands before it.
     fn check_sequence(&self, given: bool, sequence: &Sequence) -> Option<Code>
-        ensures { verdict_meant result ≡ model.check_sequence (form self.now).sequence given (sequence.now.identifier, sequence.now.documents) };
+        ensures { verdict_view result ≡ model.check_sequence (form self.now).sequence given (sequence.now.identifier, sequence.now.documents) };
 
     /// Checks that there is what is needed.
     fn check_needed(&self, document: &Document, sequences: &[Sequence]) -> Option<Code>
-        ensures { verdict_meant result ≡ (form self.now).check_needed document.now (pairs_of sequences.now) };
+        ensures { verdict_view result ≡ (form self.now).check_needed document.now (pairs_of sequences.now) };
 
     /// The command, but for the statements of a write, which are judged last; unless what is judged last fails.
     fn finish(
@@ -80,7 +80,7 @@ pub(crate) trait CommandForm {
 
 // The first sequence.
 fn check_first<F: CommandForm>(form: &F, document: &Document, first: &Sequence) -> Option<Code>
-    ensures { verdict_meant result ≡ model.check_sequence (F.form form.now).sequence
+    ensures { verdict_view result ≡ model.check_sequence (F.form form.now).sequence
         (is_one_of first.now.identifier (fields.names_of document.now)) (first.now.identifier, first.now.documents) }
 {
     let given = document.get(first.identifier.as_str()).is_some();
@@ -93,7 +93,7 @@ fn check_sequences<F: CommandForm>(
     document: &Document,
     sequences: &[Sequence],
 ) -> Option<Code>
-    ensures { verdict_meant result ≡ model.check_sequences (F.form form.now).sequence (fields.names_of document.now) (pairs_of sequences.now) }
+    ensures { verdict_view result ≡ model.check_sequences (F.form form.now).sequence (fields.names_of document.now) (pairs_of sequences.now) }
 {
     match sequences {
         [] => None,
@@ -117,7 +117,7 @@ pub(crate) fn read_by<F: CommandForm>(
 ) -> Result<Draft, CheckFault>
     ensures { (name : List ℕ) (others : Fields) → F.is_name form.now name → document.now ≡ field name (datum_of own.now) others →
         Drafts document.now (pairs_of sequences.now) result
-        (commands.by_form (Some (F.form form.now)) (form_meant sent) name (datum_of own.now) others (pairs_of sequences.now)) }
+        (commands.by_form (Some (F.form form.now)) (form_view sent) name (datum_of own.now) others (pairs_of sequences.now)) }
 {
     passed(check_database(sent, document))?;
     let database = database_of(sent, document);

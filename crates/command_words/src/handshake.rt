@@ -5,7 +5,7 @@ ghost use Rattle.std.specs.Prelude.{◌≡◌, None};
 ghost use Rattle.bson_values.specs.Tree.{Fields};
 ghost use Rattle.command_model.specs.Command as model;
 ghost use Rattle.command_model.specs.Handshake.{handshake_form, handshake_rules};
-ghost use Rattle.command_words.specs.Commands.{command_meant};
+ghost use Rattle.command_words.specs.Commands.{command_view};
 
 use crate::command::Command;
 use crate::draft::Draft;
@@ -23,7 +23,7 @@ pub(crate) trait Handshake {
 
     /// The command that a document asks for.
     fn command(&self, document: &Document) -> Command
-        ensures { command_meant result ≡ asked self.now document.now };
+        ensures { command_view result ≡ asked self.now document.now };
 }
 
 /// The form of such a command.

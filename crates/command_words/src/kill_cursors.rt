@@ -9,7 +9,7 @@ ghost use Rattle.command_model.specs.KillCursors.{kill_form, kill_rules};
 ghost use Rattle.command_model.specs.Errors.{failed_to_parse};
 ghost use Rattle.command_model.specs.Forms.{made_into};
 ghost use Rattle.command_fields.specs.FieldNames.{NamesCollection};
-ghost use Rattle.command_fields.specs.Verdicts.{verdict_meant};
+ghost use Rattle.command_fields.specs.Verdicts.{verdict_view};
 
 use crate::command::Command;
 use crate::draft::Draft;
@@ -42,7 +42,7 @@ fn are_whole_numbers(values: &[Value]) -> bool
 }
 
 fn cursors_needed(value: &Value) -> Option<Code>
-    ensures { verdict_meant result ≡ model.cursors_needed (datum_of value.now) }
+    ensures { verdict_view result ≡ model.cursors_needed (datum_of value.now) }
 {
     match value {
         Value::Array(array) => unless_passes(are_whole_numbers(array.values()), Code::TypeMismatch),

@@ -3,7 +3,7 @@
 ghost use Rattle.std.specs.Prelude.{◌≡◌, codes};
 ghost use Rattle.bson_values.specs.Tree.{get};
 ghost use Rattle.command_model.specs.Reading.{time_given};
-ghost use Rattle.command_words.specs.Commands.{reading_meant};
+ghost use Rattle.command_words.specs.Commands.{reading_view};
 
 use bson_values::Document;
 use cluster_base::{Namespace, Time};
@@ -28,7 +28,7 @@ pub struct Batches {
 
 /// The reading of a command with that document.
 pub(crate) fn reading_of(namespace: Namespace, pipeline: Pipeline, document: &Document) -> Reading
-    ensures { reading_meant result ≡ record {
+    ensures { reading_view result ≡ record {
       namespace = namespace;
       stages = pipeline;
       at = time_given (codes "atClusterTime") (get (codes "readConcern") document.now);

@@ -1,25 +1,25 @@
 //! Commands that write: `insert`, `update` and `delete` (MongoDB manual, "insert", "update", "delete").
 
 ghost use Rattle.std.specs.Prelude.{◌≡◌, Some};
-ghost use Rattle.command_answers.specs.Kinds.{kind_meant};
+ghost use Rattle.command_replies.specs.Kinds.{kind_view};
 ghost use Rattle.command_model.specs.Errors.{failed_to_parse};
 ghost use Rattle.command_model.specs.Command.{write_command};
 ghost use Rattle.command_model.specs.Forms.{made_into};
 ghost use Rattle.command_model.specs.Writes.{statement_form, write_form, write_rules};
 ghost use Rattle.command_fields.specs.FieldNames.{NamesCollection};
-ghost use Rattle.command_words.specs.WriteNames.{name_meant};
+ghost use Rattle.command_words.specs.WriteNames.{name_view};
 ghost use Rattle.command_fields.specs.Sessions.{HasSession};
 
 use crate::draft::{Draft, WriteDraft};
 use crate::forms::CommandForm;
 use bson_values::{Document, Value};
 use cluster_base::{Code, Namespace};
-use command_answers::{ClientNumber, WriteKind};
 use command_fields::{
     CheckFault, Rules, boolean_needed, boolean_or, check_behind_own, check_count, client_number,
     collection_of, common_ruling, document_needed, documents_needed, has_documents, passed,
     session_needed, statements_name, whole_needed,
 };
+use command_replies::{ClientNumber, WriteKind};
 use opmsg_frames::Sequence;
 use std::alloc::Global;
 use value_compare::OpWords;
@@ -42,7 +42,7 @@ pub(crate) struct WriteForm {
 }
 
 impl Rules for WriteForm {
-    ghost rules = { λ f. write_rules (statement_form (kind_meant f.kind)) };
+    ghost rules = { λ f. write_rules (statement_form (kind_view f.kind)) };
 
     ghost unlisted_verdict = { λ _. Some failed_to_parse };
 
@@ -72,9 +72,9 @@ impl CommandForm for WriteForm {
 
     type Given = ();
 
-    ghost form = { λ f. made_into write_command (write_form (kind_meant f.kind)) };
+    ghost form = { λ f. made_into write_command (write_form (kind_view f.kind)) };
 
-    ghost is_name = { λ f name. name ≡ name_meant f.kind };
+    ghost is_name = { λ f name. name ≡ name_view f.kind };
 
     ghost is_read = { λ _ namespace database value. NamesCollection namespace database value };
 

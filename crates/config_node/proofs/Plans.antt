@@ -15,10 +15,10 @@ use Rattle.node_traits.specs.Times.{time_of_moment}
 use Rattle.std.specs.Arc.{arc_value}
 use Rattle.std.specs.Option.{option_map}
 use Rattle.cluster_base.specs.declared.time.Time.{Time}
-use Rattle.protocol_model.specs.Bodies.{at_meant, table_ask_meant}
+use Rattle.protocol_model.specs.Bodies.{at_view, table_ask_view}
 use Rattle.protocol_model.specs.Messages.{letter_of}
 use Rattle.config_node.specs.declared.plan.Asked.{Asked}
-use Rattle.config_node.specs.declared.plan.Plan.{Plan}
+use Rattle.config_node.specs.declared.plan.StepPlan.{StepPlan}
 use Rattle.config_node.specs.Plans.{at_then}
 
 -- a step that leaves nothing
@@ -107,22 +107,22 @@ answer : (c : Catalogue) (m : Letter) (sender time : ℕ) (namespace : List ℕ)
 answer c m sender time namespace create at found from =
     ap (λ (n : ℕ). record { sender = c.me; receiver = n; time = time; body = table_told namespace create at found }) from
 
-pub told_planned : (c : Catalogue) (m : Letter) (asked : Asked) (heard_at : Time) (found : Option Table) (p : Plan)
-    → heard_at.0 ≡ max c.time m.time → asked.sender.0 ≡ m.sender → m.body ≡ table_ask_meant asked.ask → m.receiver ≡ c.me
+pub told_planned : (c : Catalogue) (m : Letter) (asked : Asked) (heard_at : Time) (found : Option Table) (p : StepPlan)
+    → heard_at.0 ≡ max c.time m.time → asked.sender.0 ≡ m.sender → m.body ≡ table_ask_view asked.ask → m.receiver ≡ c.me
     → (asked.ask.create ≡ false) ⊎ IsSome found → found ≡ table_of asked.ask.namespace c.tables
     → p.time ≡ heard_at → p.table ≡ None
-    → map letter_of p.mail ≡ record { sender = c.me; receiver = asked.sender.0; time = heard_at.0; body = table_told asked.ask.namespace asked.ask.create (at_meant asked.ask.at) found } ∷ []
+    → map letter_of p.mail ≡ record { sender = c.me; receiver = asked.sender.0; time = heard_at.0; body = table_told asked.ask.namespace asked.ask.create (at_view asked.ask.at) found } ∷ []
     → p.records.items ≡ []
     → StepPlanned (catalogue_state c) (letter_input m) (map letter_of p.mail) [] p.records.items (at_then c.me p.time.0 (option_map (λ t. arc_value t) p.table) c.tables)
 told_planned c m asked heard_at found p late from is here may known now none sent unwritten =
-    tells c m asked.ask.namespace asked.ask.create (at_meant asked.ask.at) p.time.0 (option_map (λ t. arc_value t) p.table) found (map letter_of p.mail) p.records.items
+    tells c m asked.ask.namespace asked.ask.create (at_view asked.ask.at) p.time.0 (option_map (λ t. arc_value t) p.table) found (map letter_of p.mail) p.records.items
     here is may (sym known) (ap (λ (t : Time). t.0) now ∙ late) (ap (λ o. option_map (λ t. arc_value t) o) none)
-    (sent ∙ ap (λ (l : Letter). l ∷ []) (answer c m asked.sender.0 heard_at.0 asked.ask.namespace asked.ask.create (at_meant asked.ask.at) found from
-    ∙ ap (λ n. told c m n asked.ask.namespace asked.ask.create (at_meant asked.ask.at) found) (sym (ap (λ (t : Time). t.0) now))))
+    (sent ∙ ap (λ (l : Letter). l ∷ []) (answer c m asked.sender.0 heard_at.0 asked.ask.namespace asked.ask.create (at_view asked.ask.at) found from
+    ∙ ap (λ n. told c m n asked.ask.namespace asked.ask.create (at_view asked.ask.at) found) (sym (ap (λ (t : Time). t.0) now))))
     unwritten
 
-pub begun_planned : {E : Type 0} (c : Catalogue) (m : Letter) (asked : Asked) (heard_at time : Time) (r : Result Plan E)
-    → heard_at.0 ≡ max c.time m.time → asked.sender.0 ≡ m.sender → m.body ≡ table_ask_meant asked.ask → m.receiver ≡ c.me
+pub begun_planned : {E : Type 0} (c : Catalogue) (m : Letter) (asked : Asked) (heard_at time : Time) (r : Result StepPlan E)
+    → heard_at.0 ≡ max c.time m.time → asked.sender.0 ≡ m.sender → m.body ≡ table_ask_view asked.ask → m.receiver ≡ c.me
     → asked.ask.create ≡ true → table_of asked.ask.namespace c.tables ≡ None → time.0 ≡ heard_at.0 + 1
     → IfOk r (λ p. p.time ≡ time)
     → IfOk r (λ p. option_map (λ t. arc_value t) p.table ≡ Some (first_table (begun_at asked.ask.namespace time.0)))
@@ -130,7 +130,7 @@ pub begun_planned : {E : Type 0} (c : Catalogue) (m : Letter) (asked : Asked) (h
       sender = c.me;
       receiver = asked.sender.0;
       time = time.0;
-      body = table_told asked.ask.namespace asked.ask.create (at_meant asked.ask.at) (Some (first_table (begun_at asked.ask.namespace time.0)));
+      body = table_told asked.ask.namespace asked.ask.create (at_view asked.ask.at) (Some (first_table (begun_at asked.ask.namespace time.0)));
     } ∷ [])
     → IfOk r (λ p. p.records.items ≡ spelled 1 (create_record (begun_at asked.ask.namespace time.0)) ∷ [])
     → IfOk r (λ p. IsSound (create_record (begun_at asked.ask.namespace time.0)))
@@ -139,8 +139,8 @@ begun_planned c m asked heard_at time (Err e) late from is here create new next 
 begun_planned c m asked heard_at time (Ok p) late from is here create new next now table sent wrote sound =
     subst (λ n. StepPlanned (catalogue_state c) (letter_input m) (map letter_of p.mail) [] p.records.items (at_then c.me n (option_map (λ t. arc_value t) p.table) c.tables))
     (sym (ap (λ (t : Time). t.0) now))
-    (begins c m asked.ask.namespace (at_meant asked.ask.at) time.0 (option_map (λ t. arc_value t) p.table) (map letter_of p.mail) p.records.items
-    here (is ∙ ap (λ b. table_ask asked.ask.namespace b (at_meant asked.ask.at)) create) new (next ∙ ap (λ n. n + 1) late) table
-    (sent ∙ ap (λ (l : Letter). l ∷ []) (answer c m asked.sender.0 time.0 asked.ask.namespace asked.ask.create (at_meant asked.ask.at) (Some (first_table (begun_at asked.ask.namespace time.0))) from
-    ∙ ap (λ b. told c m time.0 asked.ask.namespace b (at_meant asked.ask.at) (Some (first_table (begun_at asked.ask.namespace time.0)))) create))
+    (begins c m asked.ask.namespace (at_view asked.ask.at) time.0 (option_map (λ t. arc_value t) p.table) (map letter_of p.mail) p.records.items
+    here (is ∙ ap (λ b. table_ask asked.ask.namespace b (at_view asked.ask.at)) create) new (next ∙ ap (λ n. n + 1) late) table
+    (sent ∙ ap (λ (l : Letter). l ∷ []) (answer c m asked.sender.0 time.0 asked.ask.namespace asked.ask.create (at_view asked.ask.at) (Some (first_table (begun_at asked.ask.namespace time.0))) from
+    ∙ ap (λ b. told c m time.0 asked.ask.namespace b (at_view asked.ask.at) (Some (first_table (begun_at asked.ask.namespace time.0)))) create))
     wrote sound)

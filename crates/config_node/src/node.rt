@@ -7,7 +7,7 @@ ghost use Rattle.node_traits.specs.Effects.{StepPlanned, last_time, time_in};
 ghost use Rattle.node_traits.specs.States.{catalogue_state, new_catalogue};
 ghost use Rattle.node_traits.specs.CatalogueRows.{AsksNothing};
 ghost use Rattle.node_traits.specs.Letters.{Letter, letter_input};
-ghost use Rattle.protocol_model.specs.Bodies.{body_meant, table_ask_meant};
+ghost use Rattle.protocol_model.specs.Bodies.{body_view, table_ask_view};
 ghost use Rattle.protocol_model.specs.Inputs.{input_of};
 ghost use Rattle.protocol_model.specs.Requests.{request_of};
 ghost use Rattle.protocol_model.specs.Messages.{letter_of};
@@ -15,7 +15,7 @@ ghost use Rattle.known_tables.specs.Tables.{table_of};
 ghost use Rattle.config_node.specs.Plans.{at_then};
 ghost use Rattle.config_node.specs.State.{state_of};
 
-use crate::plan::{Asked, Plan};
+use crate::plan::{Asked, StepPlan};
 use bson_values::Memory;
 use chunk_table::Table;
 use cluster_base::{Namespace, NodeId, Time, moment_time};
@@ -41,8 +41,8 @@ pub struct ConfigNode {
 
 // The ask of a table, if a message is one.
 fn ask_in(body: Body) -> Option<TableAsk>
-    ensures some { IfSome result (λ ask. body_meant body ≡ table_ask_meant ask) }
-    ensures none { (result ≡ None) → AsksNothing (body_meant body) }
+    ensures some { IfSome result (λ ask. body_view body ≡ table_ask_view ask) }
+    ensures none { (result ≡ None) → AsksNothing (body_view body) }
 {
     match body {
         Body::TableAsk(ask) => Some(ask),
@@ -76,7 +76,7 @@ impl ConfigNode {
     }
 
     // What an input comes to. Makes room for a new table; else nothing changes.
-    fn plan(&mut self, input: Input) -> Result<Plan, Memory>
+    fn plan(&mut self, input: Input) -> Result<StepPlan, Memory>
         requires early { self.old.time.0 < last_time }
         requires brought { time_in (input_of input) < last_time }
         ensures planned { IfOk result (λ p. StepPlanned (state_of self.old) (input_of input) (map letter_of p.mail) [] p.records.items
@@ -87,17 +87,17 @@ impl ConfigNode {
     {
         match input {
             Input::Deliver(message) => self.plan_message(message),
-            Input::Moment(moment) => Ok(Plan::of_time(
+            Input::Moment(moment) => Ok(StepPlan::of_time(
                 self.alloc,
                 self.time.max(moment_time(moment)),
             )),
-            Input::Client { .. } => Ok(Plan::of_time(self.alloc, self.time)),
-            Input::Opened => Ok(Plan::of_time(self.alloc, self.time)),
+            Input::Client { .. } => Ok(StepPlan::of_time(self.alloc, self.time)),
+            Input::Opened => Ok(StepPlan::of_time(self.alloc, self.time)),
         }
     }
 
     // What a message comes to.
-    fn plan_message(&mut self, message: Message) -> Result<Plan, Memory>
+    fn plan_message(&mut self, message: Message) -> Result<StepPlan, Memory>
         requires early { self.old.time.0 < last_time }
         requires brought { message.time.0 < last_time }
         ensures planned { IfOk result (λ p. StepPlanned (state_of self.old) (input_of (Input.Deliver message)) (map letter_of p.mail) [] p.records.items
@@ -113,19 +113,19 @@ impl ConfigNode {
             body,
         } = message;
         if receiver != self.me {
-            return Ok(Plan::of_time(self.alloc, self.time));
+            return Ok(StepPlan::of_time(self.alloc, self.time));
         }
         match ask_in(body) {
             Some(ask) => self.plan_ask(self.time.max(time), Asked { sender, ask }),
-            None => Ok(Plan::of_time(self.alloc, self.time)),
+            None => Ok(StepPlan::of_time(self.alloc, self.time)),
         }
     }
 
     // What an ask of a table comes to, at the time that the message brings: a collection begins where it is to and there is none of its
     // name, else what there is is told.
-    fn plan_ask(&mut self, heard: Time, asked: Asked) -> Result<Plan, Memory>
+    fn plan_ask(&mut self, heard: Time, asked: Asked) -> Result<StepPlan, Memory>
         requires early { heard.0 < last_time }
-        ensures planned { (m : Letter) → heard.0 ≡ max self.old.time.0 m.time → asked.sender.0 ≡ m.sender → m.body ≡ table_ask_meant asked.ask → m.receiver ≡ self.old.me.0 →
+        ensures planned { (m : Letter) → heard.0 ≡ max self.old.time.0 m.time → asked.sender.0 ≡ m.sender → m.body ≡ table_ask_view asked.ask → m.receiver ≡ self.old.me.0 →
             IfOk result (λ p. StepPlanned (state_of self.old) (letter_input m) (map letter_of p.mail) [] p.records.items
             (at_then self.old.me.0 p.time.0 (option_map (λ t. arc_value t) p.table) self.old.tables.tables)) }
         ensures room { IfOk result (λ p. IfSome p.table (λ _. 1 ≤ self.new.tables.room)) }
@@ -151,14 +151,14 @@ impl ConfigNode {
     }
 
     // Becomes what was planned, and gives out its messages.
-    fn take(&mut self, plan: Plan) -> Outputs<Message>
+    fn take(&mut self, plan: StepPlan) -> Outputs<Message>
         requires room { IfSome plan.table (λ _. 1 ≤ self.old.tables.room) }
         ensures state { state_of self.new ≡ at_then self.old.me.0 plan.time.0 (option_map (λ t. arc_value t) plan.table) self.old.tables.tables }
         ensures mail { result.mail ≡ plan.mail }
         ensures replies { result.replies ≡ [] }
         ensures steps { self.new.steps ≡ self.old.steps }
     {
-        let Plan {
+        let StepPlan {
             time,
             table,
             mail,

@@ -6,7 +6,7 @@ ghost use Rattle.std.specs.Option.{option_map};
 ghost use Rattle.chunk_table.specs.Tables.{first_table};
 ghost use Rattle.node_traits.specs.CatalogueRows.{begun_at};
 ghost use Rattle.node_traits.specs.Letters.{table_told};
-ghost use Rattle.protocol_model.specs.Bodies.{at_meant};
+ghost use Rattle.protocol_model.specs.Bodies.{at_view};
 ghost use Rattle.protocol_model.specs.Messages.{letter_of};
 ghost use Rattle.shard_records.specs.Records.{create_record};
 ghost use Rattle.shard_records.specs.RecordFormat.{spelled, IsSound};
@@ -22,22 +22,22 @@ use std::sync::Arc;
 
 /// What a step will write and send, and what the catalogue will then be: at which time, and with which new table.
 #[derive(Drop)]
-pub(crate) struct Plan {
+pub(crate) struct StepPlan {
     pub(crate) time: Time,
     pub(crate) table: Option<Arc<Table, Global>>,
     pub(crate) mail: MailList<Message>,
     pub(crate) records: Vec<Blob>,
 }
 
-impl Plan {
+impl StepPlan {
     /// Nothing but the time.
-    pub(crate) fn of_time(alloc: Global, time: Time) -> Plan
+    pub(crate) fn of_time(alloc: Global, time: Time) -> StepPlan
         ensures time { result.time ≡ time }
         ensures table { result.table ≡ None }
         ensures mail { result.mail ≡ [] }
         ensures records { result.records.items ≡ [] }
     {
-        Plan {
+        StepPlan {
             time,
             table: None,
             mail: MailList::new(alloc),
@@ -60,7 +60,7 @@ impl Asked {
           sender = me.0;
           receiver = self.sender.0;
           time = time.0;
-          body = table_told self.ask.namespace self.ask.create (at_meant self.ask.at) (option_map (λ t. arc_value t) table);
+          body = table_told self.ask.namespace self.ask.create (at_view self.ask.at) (option_map (λ t. arc_value t) table);
         } }
     {
         let Asked { sender, ask } = self;
@@ -89,19 +89,19 @@ impl Asked {
         me: NodeId,
         time: Time,
         table: Option<Arc<Table, Global>>,
-    ) -> Plan
+    ) -> StepPlan
         ensures time { result.time ≡ time }
         ensures table { result.table ≡ None }
         ensures mail { map letter_of result.mail ≡ record {
           sender = me.0;
           receiver = self.sender.0;
           time = time.0;
-          body = table_told self.ask.namespace self.ask.create (at_meant self.ask.at) (option_map (λ t. arc_value t) table);
+          body = table_told self.ask.namespace self.ask.create (at_view self.ask.at) (option_map (λ t. arc_value t) table);
         } ∷ [] }
         ensures records { result.records.items ≡ [] }
     {
         let message = self.told(me, time, table);
-        Plan {
+        StepPlan {
             time,
             table: None,
             mail: MailList::of_one(alloc, message),
@@ -110,14 +110,14 @@ impl Asked {
     }
 
     /// A collection begins at a time, and its first table is told. Fails for want of memory.
-    pub(crate) fn begin(self, alloc: Global, me: NodeId, time: Time) -> Result<Plan, Memory>
+    pub(crate) fn begin(self, alloc: Global, me: NodeId, time: Time) -> Result<StepPlan, Memory>
         ensures time { IfOk result (λ p. p.time ≡ time) }
         ensures table { IfOk result (λ p. option_map (λ t. arc_value t) p.table ≡ Some (first_table (begun_at self.ask.namespace time.0))) }
         ensures mail { IfOk result (λ p. map letter_of p.mail ≡ record {
           sender = me.0;
           receiver = self.sender.0;
           time = time.0;
-          body = table_told self.ask.namespace self.ask.create (at_meant self.ask.at) (Some (first_table (begun_at self.ask.namespace time.0)));
+          body = table_told self.ask.namespace self.ask.create (at_view self.ask.at) (Some (first_table (begun_at self.ask.namespace time.0)));
         } ∷ []) }
         ensures records { IfOk result (λ p. p.records.items ≡ spelled 1 (create_record (begun_at self.ask.namespace time.0)) ∷ []) }
         ensures sound { IfOk result (λ p. IsSound (create_record (begun_at self.ask.namespace time.0))) }
@@ -128,7 +128,7 @@ impl Asked {
         let table = first_table(alloc, &self.ask.namespace, time)?;
         let told = Arc::try_clone(&table)?;
         let message = self.told(me, time, Some(told));
-        Ok(Plan {
+        Ok(StepPlan {
             time,
             table: Some(table),
             mail: MailList::of_one(alloc, message),

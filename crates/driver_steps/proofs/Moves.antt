@@ -7,17 +7,17 @@ use Rattle.node_traits.specs.Effects.{ByStepFault}
 use Rattle.node_traits.specs.declared.outputs.StepFault.{StepFault}
 use Rattle.node_traits.specs.declared.outputs.StepFault.TheVariants.{Disk, Steps, Memory}
 use Rattle.node_traits.specs.declared.outputs.ToLink.{ToLink}
-use Rattle.driver_steps.specs.declared.post.Post.{Post}
+use Rattle.driver_steps.specs.declared.network.Network.{Network}
 use Rattle.driver_steps.specs.Seats.{SeatView, AreHeld, LeaveKept}
-use Rattle.driver_steps.specs.Worlds.{StandsFor, post_view, puts_given}
+use Rattle.driver_steps.specs.Worlds.{StandsFor, network_view, puts_given}
 use Rattle.driver_steps.specs.Moves.{HasStepped, HasMoved, IsBroken, IsCutShort, MovesOrNot}
 use Rattle.driver_steps.proofs.Stepping.{puts_moved}
 
 module _ {S M : Type 0} (view : S → SeatView) (letter : M → Letter) (seats seats_after : List S) (handed : List ToLink) (w : World) (next at : ℕ)
-    (i : Input) (old new : Post M) (stands : StandsFor view seats (post_view letter old) handed w next) where
+    (i : Input) (old new : Network M) (stands : StandsFor view seats (network_view letter old) handed w next) where
   pub moved : (mail : List M) (replies : List ToLink) → HasStepped view seats_after w at i (map letter mail) replies
       → new.waiting.items ≡ old.waiting.items ++ mail → new.replies.items ≡ old.replies.items ++ replies
-      → HasMoved view seats_after (post_view letter new) handed w next at i
+      → HasMoved view seats_after (network_view letter new) handed w next at i
   moved mail replies h waits puts = record {
     end = h.end;
     moves = h.moves;

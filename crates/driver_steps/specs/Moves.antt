@@ -7,7 +7,7 @@ use Rattle.node_traits.specs.Effects.{ByStepFault}
 use Rattle.node_traits.specs.declared.outputs.StepFault.{StepFault}
 use Rattle.node_traits.specs.declared.outputs.ToLink.{ToLink}
 use Rattle.driver_steps.specs.Seats.{SeatView, AreHeld, AreKept, AreHeldOrKept, LeaveKept}
-use Rattle.driver_steps.specs.Worlds.{PostView, puts_given, StandsFor}
+use Rattle.driver_steps.specs.Worlds.{NetworkView, puts_given, StandsFor}
 
 -- a step of the node at a place on the input is this event
 abbrev pub IsEvent : World → (at : ℕ) → Input → Event → Type 0
@@ -37,11 +37,11 @@ pub record IsBroken {S : Type 0} (view : S → SeatView) (seats : List S) (befor
   pub crashes : (e : Event) → IsEvent before at i e → LeaveKept view seats last
 
 -- The node at a place took a step on the input, whichever event that is, and what it gave out was taken in.
-pub record HasMoved {S : Type 0} (view : S → SeatView) (seats : List S) (post : PostView) (handed : List ToLink) (before : World) (next at : ℕ)
+pub record HasMoved {S : Type 0} (view : S → SeatView) (seats : List S) (network : NetworkView) (handed : List ToLink) (before : World) (next at : ℕ)
     (i : Input) : Type 0 where
   pub end : World
   pub moves : Moves before at i end
-  pub stands : (e : Event) → IsEvent before at i e → StandsFor view seats post handed end next
+  pub stands : (e : Event) → IsEvent before at i e → StandsFor view seats network handed end next
 
 -- The world up to which a crash may have left what the nodes keep: the last one, and where a disk failed maybe one more.
 abbrev pub IsUpTo : StepFault → (end last : World) → (more : Type 0) → Type 0
@@ -60,18 +60,18 @@ pub record IsCutShort {S : Type 0} (view : S → SeatView) (seats : List S) (rep
   pub given : puts_given end.answered ≡ (handed ++ replies) ++ missing
 
 -- An event happened.
-pub record HasHappened {S : Type 0} (view : S → SeatView) (seats : List S) (post : PostView) (handed : List ToLink) (before : World) (next : ℕ)
+pub record HasHappened {S : Type 0} (view : S → SeatView) (seats : List S) (network : NetworkView) (handed : List ToLink) (before : World) (next : ℕ)
     (e : Event) : Type 0 where
   pub end : World
   pub happens : Happens before e end
-  pub stands : StandsFor view seats post handed end next
+  pub stands : StandsFor view seats network handed end next
 
 -- These events happened, one after another.
-pub record HasRun {S : Type 0} (view : S → SeatView) (seats : List S) (post : PostView) (handed : List ToLink) (before : World) (next : ℕ)
+pub record HasRun {S : Type 0} (view : S → SeatView) (seats : List S) (network : NetworkView) (handed : List ToLink) (before : World) (next : ℕ)
     (events : List Event) : Type 0 where
   pub end : World
   pub run : Run before events end
-  pub stands : StandsFor view seats post handed end next
+  pub stands : StandsFor view seats network handed end next
 
 -- these are the first of all these events, as far as they go
 abbrev pub BeginWith : (events all : List Event) → Type 0
@@ -105,11 +105,11 @@ pub record HasStopped {S : Type 0} (view : S → SeatView) (seats : List S) (rep
 abbrev pub DeliversOrLoses : World → (which receiver : ℕ) → World → Type 0
 DeliversOrLoses before which receiver end = Happens before (deliver_event receiver which) end ⊎ ((end ≡ before) × (length before.nodes ≤ receiver))
 
-pub record HasDelivered {S : Type 0} (view : S → SeatView) (seats : List S) (post : PostView) (handed : List ToLink) (before : World)
+pub record HasDelivered {S : Type 0} (view : S → SeatView) (seats : List S) (network : NetworkView) (handed : List ToLink) (before : World)
     (next which receiver : ℕ) : Type 0 where
   pub end : World
   pub delivers : DeliversOrLoses before which receiver end
-  pub stands : StandsFor view seats post handed end next
+  pub stands : StandsFor view seats network handed end next
 
 -- Messages are delivered in order of sending, each once, from a place among all that were sent up to a later one; those too that are
 -- sent meanwhile. One that goes to no node is lost.
@@ -121,8 +121,8 @@ pub data Settles : World → (next : ℕ) → List Event → World → (later : 
       → Settles u (next + 1) events w later → Settles u next events w later
 
 -- All that waited was delivered, and nothing waits.
-pub record HasSettled {S : Type 0} (view : S → SeatView) (seats : List S) (post : PostView) (handed : List ToLink) (before : World) (next : ℕ) : Type 0 where
+pub record HasSettled {S : Type 0} (view : S → SeatView) (seats : List S) (network : NetworkView) (handed : List ToLink) (before : World) (next : ℕ) : Type 0 where
   pub events : List Event
   pub end : World
   pub settles : Settles before next events end (length end.sent)
-  pub stands : StandsFor view seats post handed end (length end.sent)
+  pub stands : StandsFor view seats network handed end (length end.sent)

@@ -5,7 +5,7 @@ use Rattle.node_model.specs.Letters.{Letter}
 use Rattle.node_model.specs.World.{World}
 use Rattle.node_traits.specs.declared.outputs.ToLink.{ToLink}
 use Rattle.driver_steps.specs.Seats.{SeatView, AreHeld, LeaveKept}
-use Rattle.driver_steps.specs.declared.post.Post.{Post}
+use Rattle.driver_steps.specs.declared.network.Network.{Network}
 
 -- what is put for answers, in order: nothing for a request with moreToCome
 abbrev pub puts_given : List Answered → List ToLink
@@ -14,19 +14,19 @@ puts_given (a ∷ answered) =
     if a.request.more then puts_given answered else record { link = a.link; bytes = reply_put a.number a.request a.document } ∷ puts_given answered
 
 -- the messages that wait, and the replies that were not handed on yet
-pub record PostView : Type 0 where
+pub record NetworkView : Type 0 where
   pub waiting : List Letter
   pub replies : List ToLink
 
-abbrev pub post_view : {M : Type 0} → (M → Letter) → Post M → PostView
-post_view letter post = record { waiting = map letter post.waiting.items; replies = post.replies.items }
+abbrev pub network_view : {M : Type 0} → (M → Letter) → Network M → NetworkView
+network_view letter network = record { waiting = map letter network.waiting.items; replies = network.replies.items }
 
 -- The nodes with their logs are those of the world, also as for crashes; of all messages that were sent those from a place on wait; and
 -- the replies were given behind those that were handed on.
-pub record StandsFor {S : Type 0} (view : S → SeatView) (seats : List S) (post : PostView) (handed : List ToLink) (w : World) (next : ℕ) : Type 0 where
+pub record StandsFor {S : Type 0} (view : S → SeatView) (seats : List S) (network : NetworkView) (handed : List ToLink) (w : World) (next : ℕ) : Type 0 where
   pub nodes : AreHeld view seats w.nodes
   pub crashes : LeaveKept view seats w
   pub past : List Letter
-  pub sent : w.sent ≡ past ++ post.waiting
+  pub sent : w.sent ≡ past ++ network.waiting
   pub place : length past ≡ next
-  pub given : puts_given w.answered ≡ handed ++ post.replies
+  pub given : puts_given w.answered ≡ handed ++ network.replies

@@ -2,13 +2,13 @@
 #![tactic(auto)]
 
 mod deliveries;
-mod post;
+mod network;
 mod rounds;
 mod seat;
 mod steps;
 
 pub use deliveries::{deliver, settle};
-pub use post::Post;
+pub use network::Network;
 pub use rounds::{ask, give_moments, open_all};
 pub use seat::Seat;
 pub use steps::{happen, step_node};

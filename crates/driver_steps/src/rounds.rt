@@ -7,9 +7,9 @@ ghost use Rattle.node_traits.specs.declared.outputs.ToLink.{ToLink};
 ghost use Rattle.driver_steps.specs.Crashes.{Since};
 ghost use Rattle.driver_steps.specs.Seats.{AreOpen, TellsFaults, faults_of, places_of, seat_since};
 ghost use Rattle.driver_steps.specs.Moves.{BeginWith, HasHappened, HasRun, HasStopped};
-ghost use Rattle.driver_steps.specs.Worlds.{StandsFor, post_view};
+ghost use Rattle.driver_steps.specs.Worlds.{StandsFor, network_view};
 
-use crate::post::Post;
+use crate::network::Network;
 use crate::seat::Seat;
 use crate::steps::happen;
 use node_traits::{Node, StepFault};
@@ -21,20 +21,20 @@ use outside::log::Log;
 /// The first fault, as `happen` has it.
 pub fn open_all<N: Node, L: Log>(
     seats: &mut Vec<Seat<N, L>>,
-    post: &mut Post<N::Mail>,
+    network: &mut Network<N::Mail>,
 ) -> Result<(), StepFault>
     requires { AreOpen L.is_open seats.old.items }
     ensures opened { (since : Since L) (w : World) (next : ℕ) (handed : List ToLink) →
         StandsFor (seat_since N.state L.tells L.records L.holds L.finds L.moment L.left_since since) seats.old.items
-        (post_view (λ m. N.Mail.letter m) post.old) handed w next →
+        (network_view (λ m. N.Mail.letter m) network.old) handed w next →
         OnOk result (HasRun (seat_since N.state L.tells L.records L.holds L.finds L.moment L.left_since since) seats.new.items
-        (post_view (λ m. N.Mail.letter m) post.new) handed w next
+        (network_view (λ m. N.Mail.letter m) network.new) handed w next
         (openings 0 (vec_len seats.old))) }
     ensures stopped { (since : Since L) (w : World) (next : ℕ) (handed : List ToLink) →
         StandsFor (seat_since N.state L.tells L.records L.holds L.finds L.moment L.left_since since) seats.old.items
-        (post_view (λ m. N.Mail.letter m) post.old) handed w next →
+        (network_view (λ m. N.Mail.letter m) network.old) handed w next →
         IfErr result (λ e. HasStopped (seat_since N.state L.tells L.records L.holds L.finds L.moment L.left_since since) seats.new.items
-        post.new.replies.items handed w (λ events. BeginWith events (openings 0 (vec_len seats.old))) e) }
+        network.new.replies.items handed w (λ events. BeginWith events (openings 0 (vec_len seats.old))) e) }
     ensures len { vec_len seats.new ≡ vec_len seats.old }
     ensures open { OnOk result (AreOpen L.is_open seats.new.items) }
 
@@ -44,7 +44,7 @@ pub fn open_all<N: Node, L: Log>(
 {
     let count = seats.len();
     'nodes: for at in 0..count {
-        match happen(seats, post, at, N::opened()) {
+        match happen(seats, network, at, N::opened()) {
             Ok(()) => {}
             Err(e) => return Err(e),
         }
@@ -58,21 +58,21 @@ pub fn open_all<N: Node, L: Log>(
 /// The first fault, as `happen` has it.
 pub fn give_moments<N: Node, L: Log>(
     seats: &mut Vec<Seat<N, L>>,
-    post: &mut Post<N::Mail>,
+    network: &mut Network<N::Mail>,
     moment: u64,
 ) -> Result<(), StepFault>
     requires { AreOpen L.is_open seats.old.items }
     ensures given { (since : Since L) (w : World) (next : ℕ) (handed : List ToLink) →
         StandsFor (seat_since N.state L.tells L.records L.holds L.finds L.moment L.left_since since) seats.old.items
-        (post_view (λ m. N.Mail.letter m) post.old) handed w next →
+        (network_view (λ m. N.Mail.letter m) network.old) handed w next →
         OnOk result (HasRun (seat_since N.state L.tells L.records L.holds L.finds L.moment L.left_since since) seats.new.items
-        (post_view (λ m. N.Mail.letter m) post.new) handed w next
+        (network_view (λ m. N.Mail.letter m) network.new) handed w next
         (moments_given 0 (vec_len seats.old) moment)) }
     ensures stopped { (since : Since L) (w : World) (next : ℕ) (handed : List ToLink) →
         StandsFor (seat_since N.state L.tells L.records L.holds L.finds L.moment L.left_since since) seats.old.items
-        (post_view (λ m. N.Mail.letter m) post.old) handed w next →
+        (network_view (λ m. N.Mail.letter m) network.old) handed w next →
         IfErr result (λ e. HasStopped (seat_since N.state L.tells L.records L.holds L.finds L.moment L.left_since since) seats.new.items
-        post.new.replies.items handed w (λ events. BeginWith events (moments_given 0 (vec_len seats.old) moment)) e) }
+        network.new.replies.items handed w (λ events. BeginWith events (moments_given 0 (vec_len seats.old) moment)) e) }
     ensures len { vec_len seats.new ≡ vec_len seats.old }
     ensures open { OnOk result (AreOpen L.is_open seats.new.items) }
 
@@ -82,7 +82,7 @@ pub fn give_moments<N: Node, L: Log>(
 {
     let count = seats.len();
     'nodes: for at in 0..count {
-        match happen(seats, post, at, N::moment(moment)) {
+        match happen(seats, network, at, N::moment(moment)) {
             Ok(()) => {}
             Err(e) => return Err(e),
         }
@@ -96,7 +96,7 @@ pub fn give_moments<N: Node, L: Log>(
 /// As `happen` has them.
 pub fn ask<N: Node, L: Log>(
     seats: &mut Vec<Seat<N, L>>,
-    post: &mut Post<N::Mail>,
+    network: &mut Network<N::Mail>,
     at: usize,
     link: u32,
     number: i32,
@@ -106,16 +106,16 @@ pub fn ask<N: Node, L: Log>(
     requires open { AreOpen L.is_open seats.old.items }
     ensures asked { (since : Since L) (w : World) (next : ℕ) (handed : List ToLink) →
         StandsFor (seat_since N.state L.tells L.records L.holds L.finds L.moment L.left_since since) seats.old.items
-        (post_view (λ m. N.Mail.letter m) post.old) handed w next
+        (network_view (λ m. N.Mail.letter m) network.old) handed w next
         → IsRouter w.nodes at →
         OnOk result (HasHappened (seat_since N.state L.tells L.records L.holds L.finds L.moment L.left_since since) seats.new.items
-        (post_view (λ m. N.Mail.letter m) post.new) handed w next (client_event at link number (N.asks request))) }
+        (network_view (λ m. N.Mail.letter m) network.new) handed w next (client_event at link number (N.asks request))) }
     ensures stopped { (since : Since L) (w : World) (next : ℕ) (handed : List ToLink) →
         StandsFor (seat_since N.state L.tells L.records L.holds L.finds L.moment L.left_since since) seats.old.items
-        (post_view (λ m. N.Mail.letter m) post.old) handed w next
+        (network_view (λ m. N.Mail.letter m) network.old) handed w next
         → IsRouter w.nodes at →
         IfErr result (λ e. HasStopped (seat_since N.state L.tells L.records L.holds L.finds L.moment L.left_since since) seats.new.items
-        post.new.replies.items handed w (λ events. BeginWith events (client_event at link number (N.asks request) ∷ [])) e) }
+        network.new.replies.items handed w (λ events. BeginWith events (client_event at link number (N.asks request) ∷ [])) e) }
     ensures len { vec_len seats.new ≡ vec_len seats.old }
     ensures open { OnOk result (AreOpen L.is_open seats.new.items) }
 
@@ -123,7 +123,7 @@ pub fn ask<N: Node, L: Log>(
     ensures faults { TellsFaults result (faults_of L.fault_count seats.old.items) (faults_of L.fault_count seats.new.items) }
     ensures places { places_of L.place seats.new.items ≡ places_of L.place seats.old.items }
 {
-    match happen(seats, post, at, N::client(link, number, request)) {
+    match happen(seats, network, at, N::client(link, number, request)) {
         Ok(()) => Ok(()),
         Err(e) => Err(e),
     }

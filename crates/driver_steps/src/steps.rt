@@ -7,9 +7,9 @@ ghost use Rattle.node_traits.specs.declared.outputs.ToLink.{ToLink};
 ghost use Rattle.driver_steps.specs.Crashes.{Since};
 ghost use Rattle.driver_steps.specs.Seats.{AreHeld, AreOpen, LeaveKept, TellsFaults, faults_of, left_of, places_of, seat_since};
 ghost use Rattle.driver_steps.specs.Moves.{HasMoved, HasStepped, IsBroken, IsCutShort};
-ghost use Rattle.driver_steps.specs.Worlds.{StandsFor, post_view};
+ghost use Rattle.driver_steps.specs.Worlds.{StandsFor, network_view};
 
-use crate::post::Post;
+use crate::network::Network;
 use crate::seat::Seat;
 use node_traits::{Node, Outputs, StepFault};
 use outside::log::Log;
@@ -58,7 +58,7 @@ pub fn step_node<N: Node, L: Log>(
 /// The fault of the step, or `StepFault::Memory` where its messages or replies found no room.
 pub fn happen<N: Node, L: Log>(
     seats: &mut Vec<Seat<N, L>>,
-    post: &mut Post<N::Mail>,
+    network: &mut Network<N::Mail>,
     at: usize,
     input: N::Input,
 ) -> Result<(), StepFault>
@@ -66,14 +66,14 @@ pub fn happen<N: Node, L: Log>(
     requires open { AreOpen L.is_open seats.old.items }
     ensures moved { (since : Since L) (w : World) (next : ℕ) (handed : List ToLink) →
         StandsFor (seat_since N.state L.tells L.records L.holds L.finds L.moment L.left_since since) seats.old.items
-        (post_view (λ m. N.Mail.letter m) post.old) handed w next →
+        (network_view (λ m. N.Mail.letter m) network.old) handed w next →
         OnOk result (HasMoved (seat_since N.state L.tells L.records L.holds L.finds L.moment L.left_since since) seats.new.items
-        (post_view (λ m. N.Mail.letter m) post.new) handed w next at (N.meaning input)) }
+        (network_view (λ m. N.Mail.letter m) network.new) handed w next at (N.meaning input)) }
     ensures cut { (since : Since L) (w : World) (next : ℕ) (handed : List ToLink) →
         StandsFor (seat_since N.state L.tells L.records L.holds L.finds L.moment L.left_since since) seats.old.items
-        (post_view (λ m. N.Mail.letter m) post.old) handed w next →
+        (network_view (λ m. N.Mail.letter m) network.old) handed w next →
         IfErr result (λ e. IsCutShort (seat_since N.state L.tells L.records L.holds L.finds L.moment L.left_since since) seats.new.items
-        post.new.replies.items handed w at (N.meaning input) e) }
+        network.new.replies.items handed w at (N.meaning input) e) }
     ensures len { vec_len seats.new ≡ vec_len seats.old }
     ensures open { OnOk result (AreOpen L.is_open seats.new.items) }
     ensures falls { OnOk result (left_of N.steps seats.new.items + 1 ≡ left_of N.steps seats.old.items) }
@@ -86,7 +86,7 @@ pub fn happen<N: Node, L: Log>(
         Ok(outputs) => outputs,
         Err(e) => return Err(e),
     };
-    match post.take(outputs) {
+    match network.take(outputs) {
         Ok(()) => Ok(()),
         Err(_) => Err(StepFault::Memory),
     }

@@ -15,8 +15,8 @@ use Rattle.mvcc_collection.specs.Places.{chain_at}
 use Rattle.mvcc_collection.specs.declared.collection.Collection.{Collection}
 
 -- from the time on this document, or none, stands under the key
-abbrev pub put_meant : {Z : Type 0} → Datum → Time → Option (Arc Fields Z) → Put
-put_meant key time document = record { key = key; time = time.0; document = option_map arc_value document }
+abbrev pub put_view : {Z : Type 0} → Datum → Time → Option (Arc Fields Z) → Put
+put_view key time document = record { key = key; time = time.0; document = option_map arc_value document }
 
 abbrev pub document_in : Option Past → ℕ → Option Fields
 document_in None time = None

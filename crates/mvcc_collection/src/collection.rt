@@ -35,7 +35,7 @@ pub struct Collection {
 }
 
 impl Collection {
-    ghost use Rattle.mvcc_collection.specs.Collections.{PutsAre, at_in, document_in, last_in, put_meant, room_in};
+    ghost use Rattle.mvcc_collection.specs.Collections.{PutsAre, at_in, document_in, last_in, put_view, room_in};
     ghost use Rattle.std.specs.List.{slice_get};
 
     /// No documents.
@@ -76,8 +76,8 @@ impl Collection {
     pub fn put(&mut self, key: &Key, time: Time, document: Option<Arc<Document, Global>>)
         requires room { 1 ≤ room_in self.old key.now }
         requires later { IfSome (last_in self.old key.now) (λ t. t < time.0) }
-        ensures put { (k : Datum) (t : ℕ) → at_in self.new k t ≡ one_more (put_meant key.now time document) k t (at_in self.old k t) }
-        ensures so_far { (puts : List Put) → PutsAre self.old puts → PutsAre self.new (puts ++ put_meant key.now time document ∷ []) }
+        ensures put { (k : Datum) (t : ℕ) → at_in self.new k t ≡ one_more (put_view key.now time document) k t (at_in self.old k t) }
+        ensures so_far { (puts : List Put) → PutsAre self.old puts → PutsAre self.new (puts ++ put_view key.now time document ∷ []) }
         ensures last { (k : Datum) → last_in self.new k ≡ (if same_value key.now k then Some time.0 else last_in self.old k) }
         ensures rooms { (k : Datum) → room_in self.old k ≤ room_in self.new k + (if same_value key.now k then 1 else 0) }
     {

@@ -10,7 +10,7 @@ use Rattle.node_model.specs.Refusals.{Refusal}
 use Rattle.node_model.specs.ReplyParts.{operation_time}
 use Rattle.node_model.specs.Answers.{Answer, hello_answer, legacy_answer, done_answer, first_answer, next_answer, count_answer, killed_answer, refusal_answer}
 use Rattle.node_model.specs.Answers.{answer_document}
-use Rattle.node_model.specs.Outcomes.{StatementAnswer, was_done, was_refused, Done, later, time_of, summary_of, answer_of}
+use Rattle.node_model.specs.Outcomes.{StatementOutcome, was_done, was_refused, Done, later, time_of, summary_of, answer_of}
 
 -- an answer shows no time above this one
 abbrev pub ShowsBelow : ℕ → Answer → Type 0
@@ -50,7 +50,7 @@ done_below bound = shows_none bound done_answer refl
 -- WRITES
 
 -- what was done was done by this time
-abbrev pub IsBelow : ℕ → StatementAnswer → Type 0
+abbrev pub IsBelow : ℕ → StatementOutcome → Type 0
 IsBelow bound (was_done time outcome) = time ≤ bound
 IsBelow bound (was_refused refusal) = Unit {0}
 
@@ -65,8 +65,8 @@ greatest_below bound (d ∷ dones) all time shows = by_answer d.answer all.0 sho
     by_rest at None le same more = let is : at ≡ time = cc in omega arith
     by_rest at (Some other) le same more = let is : max at other ≡ time = cc in let rest = more other refl in omega arith
 
-    by_answer : (answer : StatementAnswer) → IsBelow bound answer
-        → (elim answer as (λ (x : StatementAnswer). Option ℕ) [ was_done at outcome ↦ Some (later at (time_of dones)) | was_refused refusal ↦ time_of dones ])
+    by_answer : (answer : StatementOutcome) → IsBelow bound answer
+        → (elim answer as (λ (x : StatementOutcome). Option ℕ) [ was_done at outcome ↦ Some (later at (time_of dones)) | was_refused refusal ↦ time_of dones ])
         ≡ Some time → ((other : ℕ) → time_of dones ≡ Some other → other ≤ bound) → time ≤ bound
     by_answer (was_done at outcome) le same more = by_rest at (time_of dones) le same more
     by_answer (was_refused refusal) le same more = more time same

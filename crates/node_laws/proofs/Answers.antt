@@ -17,7 +17,7 @@ use Rattle.node_model.specs.Documents.{documents_at}
 use Rattle.node_model.specs.Runs.{Outcome, Allows}
 use Rattle.node_model.specs.History.{StatementNumber, Operation, Entry, IsIn}
 use Rattle.node_model.specs.Exchanges.{RequestId, Asked, Answered, number_for, entries_by}
-use Rattle.node_model.specs.Outcomes.{StatementAnswer, was_done, was_refused, Done, done_of, time_of, answer_of}
+use Rattle.node_model.specs.Outcomes.{StatementOutcome, was_done, was_refused, Done, done_of, time_of, answer_of}
 use Rattle.node_model.specs.Outcomes.{later as greatest}
 use Rattle.node_model.specs.Reads.{MayGive, IsExcess, excess_answer, excess_half, IsAhead, owned_by}
 use Rattle.node_model.specs.Right.{ends, MayBeTold, told_own, told_other, told_older, AreTold, AreStatements, AreAll, IsPart, IsWhole, Reads, find_reads}
@@ -99,7 +99,7 @@ closed_write v w asked more a write later after taken asks own whole =
 
 module _ (old new : List Entry) (asked more : List Asked) (t : Answered) (stays : (d : Entry) → IsIn d old → IsIn d new) where
   -- what a statement may be told it may be told of more entries and requests
-  may_grow : (given : Option ClientNumber) (number : StatementNumber) (namespace : List ℕ) (operation : Operation) (answer : StatementAnswer)
+  may_grow : (given : Option ClientNumber) (number : StatementNumber) (namespace : List ℕ) (operation : Operation) (answer : StatementOutcome)
       → MayBeTold old asked t given number namespace operation answer → MayBeTold new (asked ++ more) t given number namespace operation answer
   may_grow given number namespace operation _ (told_own e i is past) = told_own e (stays e i) is past
   may_grow given number namespace operation _ (told_other e by i some is past had) =
@@ -133,7 +133,7 @@ module _ (old new : List Entry) (asked more : List Asked) (t : Answered) (stays 
 -- TIMES THAT WERE TOLD
 
 may_below : (history : List Entry) (asked : List Asked) (t : Answered) (bound : ℕ) (given : Option ClientNumber) (number : StatementNumber)
-    (namespace : List ℕ) (operation : Operation) (answer : StatementAnswer) → AllByRecursion (λ (e : Entry). e.time ≤ bound) history
+    (namespace : List ℕ) (operation : Operation) (answer : StatementOutcome) → AllByRecursion (λ (e : Entry). e.time ≤ bound) history
     → MayBeTold history asked t given number namespace operation answer → IsBelow bound answer
 may_below history asked t bound given number namespace operation _ past (told_own e i is at) = all_at (λ (d : Entry). d.time ≤ bound) e history past i
 may_below history asked t bound given number namespace operation _ past (told_other e by i some is at had) =
@@ -204,9 +204,9 @@ module _ (v w : View) (asked more : List Asked) (later : Later v w) (before : Ne
           (kept x i).rises (first x (entry_stays v w first_shard x later i) ∙ sym (first e stands)) of in
           true_false (sym less ∙ ap (λ n. int_lt n x.number.transaction) (sym at) ∙ not_less)
 
-      by_answer : (answer : StatementAnswer)
+      by_answer : (answer : StatementOutcome)
           → MayBeTold (entries_in v first_shard) asked t write.number (number_for write.number t.id index) write.namespace operation answer
-          → (elim answer as (λ (x : StatementAnswer). Option ℕ) [
+          → (elim answer as (λ (x : StatementOutcome). Option ℕ) [
             | was_done at outcome ↦ Some (greatest at (time_of dones))
             | was_refused refusal ↦ time_of
                 dones

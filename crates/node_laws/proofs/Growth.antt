@@ -12,7 +12,7 @@ use Rattle.node_model.specs.Halves.{Half, Rows, kept_at_head, may_stand_in}
 use Rattle.node_model.specs.Writes.{WriteCommand}
 use Rattle.node_model.specs.History.{StatementNumber, Entry, IsIn}
 use Rattle.node_model.specs.Exchanges.{RequestId, Asked, number_for, is_session_of, entries_by}
-use Rattle.node_model.specs.Outcomes.{StatementAnswer, Done}
+use Rattle.node_model.specs.Outcomes.{StatementOutcome, Done}
 use Rattle.node_model.specs.OneHistory.{WasWanted, IsPlaced, Given}
 use Rattle.node_model.specs.Journal.{Kept, kept_table, kept_entry, kept_creation, kept_life, kept_block, entries_kept, creations_kept}
 use Rattle.node_model.specs.Letters.{At, no_time, at_time, Statement, HalfFault, half_overflow, half_excess, Body, table_ask, table_told, write_ask}
@@ -224,7 +224,7 @@ rows_grow v w asked more sender time id (Err (half_excess n)) later f = record {
 }
 
 -- what statements are told is told of more entries, at a later time
-answer_grows : (old more : List Entry) (early late : ℕ) (number : StatementNumber) (answer : StatementAnswer) → early ≤ late
+answer_grows : (old more : List Entry) (early late : ℕ) (number : StatementNumber) (answer : StatementOutcome) → early ≤ late
     → IsAnswerOf old early number answer → IsAnswerOf (old ++ more) late number answer
 answer_grows old more early late number _ le (by_entry e i numbered past) = by_entry e (in_prefix e old more i) numbered (omega arith)
 answer_grows old more early late number _ le (by_older e i session less past) = by_older e (in_prefix e old more i) session less (omega arith)

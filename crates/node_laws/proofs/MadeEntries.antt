@@ -9,7 +9,7 @@ use Rattle.node_model.specs.Refusals.{Refusal, without_evidence}
 use Rattle.node_model.specs.Writes.{ClientNumber, WriteCommand}
 use Rattle.node_model.specs.History.{StatementNumber, Operation, Entry, IsIn}
 use Rattle.node_model.specs.Exchanges.{RequestId, Asked, number_for}
-use Rattle.node_model.specs.Outcomes.{StatementAnswer, is_older, Done, answer_by, done_of}
+use Rattle.node_model.specs.Outcomes.{StatementOutcome, is_older, Done, answer_by, done_of}
 use Rattle.node_model.specs.Right.{ends, IsEntryAt}
 use Rattle.node_model.specs.Letters.{Statement}
 use Rattle.node_model.specs.Service.{entry_for, Serves, serves_no_more, serves_again, serves_new, ends_again, ends_new}
@@ -112,7 +112,7 @@ found_goes entries time number _ ordered is on past (found_entry e stands same) 
 found_goes entries time number _ ordered is on past (found_older e stands session less) =
     absurd (true_false (ap (λ b. ends b (record { index = number.index; answer = is_older e.number.transaction })) (sym is) ∙ on))
 
-answer_goes : (history : List Entry) (time : ℕ) (number : StatementNumber) (index : ℕ) (answer : StatementAnswer) (ordered : Bool) → ordered ≡ true
+answer_goes : (history : List Entry) (time : ℕ) (number : StatementNumber) (index : ℕ) (answer : StatementOutcome) (ordered : Bool) → ordered ≡ true
     → ends ordered (record { index = index; answer = answer }) ≡ false → IsAnswerOf history time number answer → WasDone history number time
 answer_goes history time number index _ ordered is on (by_entry e stands same past) = record {
   entry = e;

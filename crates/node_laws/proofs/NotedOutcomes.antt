@@ -7,7 +7,7 @@ use Rattle.history_model.proofs.Lists.{all_weaken, all_append, all_at, in_none, 
 use Rattle.node_model.specs.Writes.{ClientNumber, WriteCommand}
 use Rattle.node_model.specs.History.{router_session, StatementNumber, Operation, Entry, IsIn}
 use Rattle.node_model.specs.Exchanges.{RequestId, Asked, number_for, is_session_of, entries_by}
-use Rattle.node_model.specs.Outcomes.{StatementAnswer, Done, answer_by, done_of}
+use Rattle.node_model.specs.Outcomes.{StatementOutcome, Done, answer_by, done_of}
 use Rattle.node_model.specs.Right.{ends, AreStatements, AreAll, IsPart, told_by}
 use Rattle.node_model.specs.Letters.{Statement}
 use Rattle.node_model.specs.RouterRows.{statements_from, noted, is_answered}
@@ -79,7 +79,7 @@ made_no_other history asked e m node life request same =
     ∙ number_no_other m.sends.write.number m.request.id m.sends.index node life request (sym (ap (λ (n : StatementNumber). n.session) number) ∙ same)
 
 -- so that a statement under one is told by its own entry
-pub own_answer : (history : List Entry) (time : ℕ) (id : RequestId) (index : ℕ) (answer : StatementAnswer) → AllByRecursion HasNoOther history
+pub own_answer : (history : List Entry) (time : ℕ) (id : RequestId) (index : ℕ) (answer : StatementOutcome) → AllByRecursion HasNoOther history
     → IsAnswerOf history time (number_for None id index) answer
     → (e : Entry) × IsIn e history × (e.number ≡ number_for None id index) × (answer ≡ answer_by e)
 own_answer history time id index _ none (by_entry e i numbered past) = (e, i, numbered, refl)
@@ -190,7 +190,7 @@ answers_below history time write id index [] all = tt
 answers_below history time write id index (d ∷ dones) all =
     (of_answer d.answer all.1.answer, answers_below history time write id (index + 1) dones all.2)
   where
-    of_answer : (answer : StatementAnswer) → IsAnswerOf history time (number_for write.number id d.index) answer → IsBelow time answer
+    of_answer : (answer : StatementOutcome) → IsAnswerOf history time (number_for write.number id d.index) answer → IsBelow time answer
     of_answer _ (by_entry e i numbered past) = past
     of_answer _ (by_older e i session less past) = tt
 

@@ -14,7 +14,7 @@ use Rattle.node_model.specs.Cursors.{Cursor}
 use Rattle.node_model.specs.Tables.{first_shard}
 use Rattle.node_model.specs.History.{StatementNumber, Operation, Entry, IsIn}
 use Rattle.node_model.specs.Exchanges.{RequestId, Asked, Answered, number_for, entries_by}
-use Rattle.node_model.specs.Outcomes.{StatementAnswer, Done, answer_of}
+use Rattle.node_model.specs.Outcomes.{StatementOutcome, Done, answer_of}
 use Rattle.node_model.specs.Right.{ends, IsStatement, HadSent, MayBeTold, told_own, told_other, told_older, AreTold, IsPart, told_by, AreAll, right_write}
 use Rattle.node_model.specs.Right.{right_refused_read, refused_ahead, right_hello, right_legacy, right_ping}
 use Rattle.node_model.specs.Right.{right_end_sessions, right_refusal}
@@ -133,13 +133,13 @@ module _ (v : View) (asked : List Asked) (a : Asked) (write : WriteCommand) (t :
       index_at (Some by) id n = refl
 
   -- an answer that is by an entry may be told
-  may_tell : (prefix : List Operation) (operation : Operation) (back : List Operation) (answer : StatementAnswer)
+  may_tell : (prefix : List Operation) (operation : Operation) (back : List Operation) (answer : StatementOutcome)
       → write.operations ≡ prefix ++ operation ∷ back
       → IsAnswerOf (entries_in v first_shard) t.time (number_for write.number t.id (length prefix)) answer
       → MayBeTold (entries_in v first_shard) asked t write.number (number_for write.number t.id (length prefix)) write.namespace operation answer
   may_tell prefix operation back answer both is = by_number write.number refl answer is
     where
-      of_own : (number : StatementNumber) → number ≡ number_for write.number t.id (length prefix) → write.number ≡ None → (answer : StatementAnswer)
+      of_own : (number : StatementNumber) → number ≡ number_for write.number t.id (length prefix) → write.number ≡ None → (answer : StatementOutcome)
           → IsAnswerOf (entries_in v first_shard) t.time number answer
           → MayBeTold (entries_in v first_shard) asked t write.number (number_for write.number t.id (length prefix)) write.namespace operation answer
       of_own number same none _ (by_entry e i numbered past) = told_own e i (own_statement e prefix operation back none both i (numbered ∙ same)) past
@@ -150,13 +150,13 @@ module _ (v : View) (asked : List Asked) (a : Asked) (write : WriteCommand) (t :
           (session ∙ ap (λ (n : StatementNumber). n.session) zero) in
           absurd (true_false (sym less ∙ ap (λ n. int_lt n e.number.transaction) first ∙ ap (λ n. int_lt (pos 0) n) other))
 
-      of_client : (by : ClientNumber) → write.number ≡ Some by → (answer : StatementAnswer)
+      of_client : (by : ClientNumber) → write.number ≡ Some by → (answer : StatementOutcome)
           → IsAnswerOf (entries_in v first_shard) t.time (number_for write.number t.id (length prefix)) answer
           → MayBeTold (entries_in v first_shard) asked t write.number (number_for write.number t.id (length prefix)) write.namespace operation answer
       of_client by some _ (by_entry e i numbered past) = told_other e by i some numbered past (had e i)
       of_client by some _ (by_older e i session less past) = told_older e by i some session less past (had e i)
 
-      by_number : (given : Option ClientNumber) → write.number ≡ given → (answer : StatementAnswer)
+      by_number : (given : Option ClientNumber) → write.number ≡ given → (answer : StatementOutcome)
           → IsAnswerOf (entries_in v first_shard) t.time (number_for write.number t.id (length prefix)) answer
           → MayBeTold (entries_in v first_shard) asked t write.number (number_for write.number t.id (length prefix)) write.namespace operation answer
       by_number None none answer is = of_own (number_for write.number t.id (length prefix)) refl none answer is

@@ -23,7 +23,7 @@ use Rattle.node_model.specs.Right.{asks_for_one, usual_size, unless_silent, righ
 use Rattle.node_model.specs.Journal.{Kept}
 use Rattle.node_model.specs.Letters.{Input, Reply, Effect}
 use Rattle.node_model.specs.States.{Telling, in_batches, as_number, Work, writing, reading, for_time, Open, Router, router_state}
-use Rattle.node_model.specs.RouterRows.{id_of, heard, is_ahead, table_for, wait_by, wait_of, asks_for, Plan, at_once, needs, needs_batch, needs_end, plan_of}
+use Rattle.node_model.specs.RouterRows.{id_of, heard, is_ahead, table_for, wait_by, wait_of, asks_for, RequestPlan, at_once, needs, needs_batch, needs_end, plan_of}
 use Rattle.node_model.specs.RouterRows.{plan_read, opened_request, taken_now}
 use Rattle.node_model.specs.RouterRows.{RouterRow, router_begin, router_opened, router_plain, router_more, router_no_cursor, router_kill, router_take}
 use Rattle.node_model.specs.RouterRows.{router_learn, router_reach, router_ahead}
@@ -53,7 +53,7 @@ use Rattle.node_laws.proofs.RouterTakes.{asked_now, took, counts_behind, new_ans
 
 -- what is said of a plan: the work of a request, with the collection that it is on. A read that waits for its time waits for
 -- one that it wants.
-abbrev IsPlanned : View → Router → Asked → Plan → Type 0
+abbrev IsPlanned : View → Router → Asked → RequestPlan → Type 0
 IsPlanned v r a (at_once answer) = ⊥
 IsPlanned v r a (needs namespace work) =
     WorkFits a namespace work × AreSeen v a.time a work × (is_ahead r.time work ≡ true → chosen_time a.id v.chosen ≡ None → WaitsFor v a a.id work)

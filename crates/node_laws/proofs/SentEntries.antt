@@ -9,7 +9,7 @@ use Rattle.node_model.specs.Writes.{ClientNumber, WriteCommand}
 use Rattle.node_model.specs.Tables.{first_shard}
 use Rattle.node_model.specs.History.{StatementNumber, Operation, Entry, IsIn}
 use Rattle.node_model.specs.Exchanges.{RequestId, Asked, Answered, number_for}
-use Rattle.node_model.specs.Outcomes.{StatementAnswer, WasDone, Done, answer_by}
+use Rattle.node_model.specs.Outcomes.{StatementOutcome, WasDone, Done, answer_by}
 use Rattle.node_model.specs.Right.{ends, Sends, MayBeTold, told_own, told_other, told_older, AreTold}
 use Rattle.node_model.specs.OneHistory.{EndsBefore, WasSent, IsReached, AreNumbered}
 use Rattle.node_laws.proofs.WriteFacts.{AreDoneBefore, WasMade}
@@ -46,7 +46,7 @@ module _ (history : List Entry) (asked : List Asked) (numbered : AreNumbered his
         not_over e d.index write.ordered (ap (λ (x : Entry). x.outcome.error) (sym one) ∙ r.3)
         (ap (λ a. ends write.ordered (record { index = d.index; answer = a })) (sym is) ∙ over)
 
-    answer_goes : (i : ℕ) (d : Done) (namespace : List ℕ) (operation : Operation) (answer : StatementAnswer) → i < index → d.answer ≡ answer
+    answer_goes : (i : ℕ) (d : Done) (namespace : List ℕ) (operation : Operation) (answer : StatementOutcome) → i < index → d.answer ≡ answer
         → MayBeTold history asked t write.number (number_for write.number t.id i) namespace operation answer → WasDone answer → ends write.ordered d ≡ true → ⊥
     answer_goes i d namespace operation _ below is (told_own e stands own past) done over = entry_goes i d e below stands own.same_number is over
     answer_goes i d namespace operation _ below is (told_other e by stands some own past had) done over = entry_goes i d e below stands own is over

@@ -4,13 +4,13 @@ use Rattle.std.specs.Prelude.{None, true, length, int_lt}
 use Rattle.node_model.specs.Writes.{WriteCommand}
 use Rattle.node_model.specs.History.{StatementNumber, Entry, IsIn}
 use Rattle.node_model.specs.Exchanges.{RequestId, Asked, number_for}
-use Rattle.node_model.specs.Outcomes.{StatementAnswer, is_older, Done, answer_by}
+use Rattle.node_model.specs.Outcomes.{StatementOutcome, is_older, Done, answer_by}
 use Rattle.node_model.specs.Right.{ends, Sends}
 
 -- WHAT A STATEMENT IS TOLD
 
 -- the answer is by an entry that stands under the number, or by one of a greater transaction of its session; the entry is not above a time
-pub data IsAnswerOf (history : List Entry) (time : ℕ) (number : StatementNumber) : StatementAnswer → Type 0 where
+pub data IsAnswerOf (history : List Entry) (time : ℕ) (number : StatementNumber) : StatementOutcome → Type 0 where
   by_entry : (e : Entry) → IsIn e history → e.number ≡ number → e.time ≤ time → IsAnswerOf history time number (answer_by e)
   by_older : (e : Entry) → IsIn e history → e.number.session ≡ number.session → int_lt number.transaction e.number.transaction ≡ true → e.time ≤ time
       → IsAnswerOf history time number (is_older e.number.transaction)

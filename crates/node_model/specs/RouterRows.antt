@@ -51,20 +51,20 @@ statements_from given id index [] = []
 statements_from given id index (operation ∷ operations) = record { number = number_for given id index; operation = operation } ∷ statements_from given id (index + 1) operations
 
 -- a command is answered at once, or is about cursors, or there is work to do on a collection first
-pub data Plan : Type 0 where
-  at_once : Answer → Plan
-  needs : (namespace : List ℕ) → Work → Plan
-  needs_batch : GetMore → Plan
-  needs_end : KillCursors → Plan
+pub data RequestPlan : Type 0 where
+  at_once : Answer → RequestPlan
+  needs : (namespace : List ℕ) → Work → RequestPlan
+  needs_batch : GetMore → RequestPlan
+  needs_end : KillCursors → RequestPlan
 
 -- a read is of the time that it names, or else of the router's time, which must have come to the one that is to be reached
-abbrev pub plan_read : Router → Reading → Telling → Plan
+abbrev pub plan_read : Router → Reading → Telling → RequestPlan
 plan_read r read telling = needs read.namespace (elim read.at [
   | None ↦ reading false (max r.time (unwrap_or read.after 0)) read.stages telling
   | Some named ↦ reading true named read.stages telling
 ])
 
-abbrev pub plan_of : Router → RequestId → (silent : Bool) → Result Command Refusal → Plan
+abbrev pub plan_of : Router → RequestId → (silent : Bool) → Result Command Refusal → RequestPlan
 plan_of r id silent (Err refusal) = at_once (refusal_answer refusal)
 plan_of r id silent (Ok hello_command) = at_once (hello_answer r.moment)
 plan_of r id silent (Ok (legacy_command legacy)) = at_once (legacy_answer r.moment legacy.shows_hello_ok)

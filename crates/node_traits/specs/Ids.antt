@@ -2,5 +2,5 @@
 use Rattle.cluster_base.specs.declared.identity.RequestId.{RequestId}
 use Rattle.node_model.specs.Exchanges as asked
 
-abbrev pub id_meant : RequestId → asked.RequestId
-id_meant id = record { router = id.router.0; life = id.life; count = id.count }
+abbrev pub id_view : RequestId → asked.RequestId
+id_view id = record { router = id.router.0; life = id.life; count = id.count }

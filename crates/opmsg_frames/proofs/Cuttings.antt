@@ -8,7 +8,7 @@ use Rattle.opmsg_frames.specs.declared.fault.FrameFault.TheVariants.{Malformed, 
 use Rattle.opmsg_frames.specs.declared.fault.Malformed as faults
 use Rattle.opmsg_frames.specs.declared.fault.Malformed.TheVariants.{BadLength, TooLong, BadOpcode, BadFlags, BadKind, BadSection, TwoBodies, NoBody, BadQuery}
 use Rattle.opmsg_frames.specs.declared.request.Request.{Request}
-use Rattle.opmsg_frames.specs.Outlines.{fault_meant}
+use Rattle.opmsg_frames.specs.Outlines.{fault_view}
 use Rattle.opmsg_frames.specs.RequestMeanings.{IsMeant}
 use Rattle.opmsg_frames.specs.FramerViews.{FramerView}
 use Rattle.opmsg_frames.specs.Framers.{Given, Told}
@@ -129,7 +129,7 @@ spoken_step all so_far old refused new e s =
     took_piece all so_far old new [] (e.0 ∙ sym (append-nil old.bytes), e.1, e.2) s
 spoken_step all so_far old (answered (Ok None)) new e s = same_view all so_far old new e.2 s
 spoken_step all so_far old (answered (Ok (Some request))) new e s = one_more all so_far old new request e.1.0 e.1.1 s
-spoken_step all so_far old (answered (Err (Malformed fault offset))) new e s = told_once all so_far old new (fault_meant fault) offset e s
+spoken_step all so_far old (answered (Err (Malformed fault offset))) new e s = told_once all so_far old new (fault_view fault) offset e s
 spoken_step all so_far old (answered (Err Memory)) new e s = same_view all so_far old new e.1 s
 
 spoken_steps : (all : List ℕ) (so_far : List Request) (old : FramerView) (steps : List Step) (new : FramerView) → IsConversation old steps new → Spoken all so_far old → Spoken (all ++ fed steps) (so_far ++ given steps) new
@@ -165,14 +165,14 @@ all_given steps end talk =
     (s.meants, s.meant, rw (append-nil s.meants, sym same) at frames)
 
 pub fault_told : (steps : List Step) (fault : faults.Malformed) (offset : ℕ) (end : FramerView) → IsConversation new_framer (steps ++ answered (Err (Malformed fault offset)) ∷ []) end
-    → (all : List requests.Request) × AreMeant (given steps) all × Frames (fed steps) all end.bytes (Some (fault_meant fault, offset))
+    → (all : List requests.Request) × AreMeant (given steps) all × Frames (fed steps) all end.bytes (Some (fault_view fault, offset))
 fault_told steps fault offset end talk =
     let t = split new_framer steps (answered (Err (Malformed fault offset)) ∷ []) end talk in
     let s = spoken steps t.0 t.1 in
-    let last : Told t.0 t.2.0 (fault_meant fault) offset = t.2.1 in
+    let last : Told t.0 t.2.0 (fault_view fault) offset = t.2.1 in
     let same : end.bytes ≡ t.0.bytes = ap (λ (v : FramerView). v.bytes) t.2.2 ∙ last.bytes in
-    let stands = told_stands (fault_meant fault) t.0 t.2.0 offset last s.told in
-    let frames = prefix_then 0 (fed steps) s.meants t.0.offset t.0.bytes [] t.0.bytes (Some (fault_meant fault, t.0.offset)) s.prefix (fails t.0.offset t.0.bytes (fault_meant fault) stands) in
+    let stands = told_stands (fault_view fault) t.0 t.2.0 offset last s.told in
+    let frames = prefix_then 0 (fed steps) s.meants t.0.offset t.0.bytes [] t.0.bytes (Some (fault_view fault, t.0.offset)) s.prefix (fails t.0.offset t.0.bytes (fault_view fault) stands) in
     (s.meants, s.meant, rw (append-nil s.meants, sym same, sym last.at) at frames)
 
 -- ---- a fault is told again
@@ -189,7 +189,7 @@ told_as wire.two_bodies = TwoBodies
 told_as wire.no_body = NoBody
 told_as wire.bad_query = BadQuery
 
-told_back : (f : faults.Malformed) → told_as (fault_meant f) ≡ f
+told_back : (f : faults.Malformed) → told_as (fault_view f) ≡ f
 told_back BadLength = refl
 told_back TooLong = refl
 told_back BadOpcode = refl
@@ -200,27 +200,27 @@ told_back TwoBodies = refl
 told_back NoBody = refl
 told_back BadQuery = refl
 
-fault_once : (f g : faults.Malformed) → fault_meant f ≡ fault_meant g → f ≡ g
+fault_once : (f g : faults.Malformed) → fault_view f ≡ fault_view g → f ≡ g
 fault_once f g e = sym (told_back f) ∙ ap (λ (h : wire.FrameFault). told_as h) e ∙ told_back g
 
 -- a fault was told
 abbrev Holds : faults.Malformed → ℕ → FramerView → Type 0
-Holds fault offset now = (now.fault ≡ Some (fault_meant fault)) × (now.offset ≡ offset)
+Holds fault offset now = (now.fault ≡ Some (fault_view fault)) × (now.offset ≡ offset)
 
 told_again : (fault : faults.Malformed) (offset : ℕ) (old : FramerView) (step : Step) (new : FramerView) → Holds fault offset old → IsStep old step new → IsToldAgain fault offset step × Holds fault offset new
 told_again fault offset old (took piece) new h e = (tt, (e.2 ∙ h.0, e.1 ∙ h.1))
 told_again fault offset old refused new h e = (tt, (e.2 ∙ h.0, e.1 ∙ h.1))
-told_again fault offset old (answered (Ok None)) new h e = absurd (let q : None ≡ Some (fault_meant fault) = sym e.0 ∙ h.0 in cc)
-told_again fault offset old (answered (Ok (Some request))) new h e = absurd (let q : None ≡ Some (fault_meant fault) = sym e.0 ∙ h.0 in cc)
-told_again fault offset old (answered (Err Memory)) new h e = absurd (let q : None ≡ Some (fault_meant fault) = sym e.0 ∙ h.0 in cc)
+told_again fault offset old (answered (Ok None)) new h e = absurd (let q : None ≡ Some (fault_view fault) = sym e.0 ∙ h.0 in cc)
+told_again fault offset old (answered (Ok (Some request))) new h e = absurd (let q : None ≡ Some (fault_view fault) = sym e.0 ∙ h.0 in cc)
+told_again fault offset old (answered (Err Memory)) new h e = absurd (let q : None ≡ Some (fault_view fault) = sym e.0 ∙ h.0 in cc)
 told_again fault offset old (answered (Err (Malformed g there))) new h t =
     let same : g ≡ fault = by_cause t.cause in
     let at : there ≡ offset = t.at ∙ h.1 in
-    (cc (same, at), (t.kept ∙ ap (λ (f : faults.Malformed). Some (fault_meant f)) same, t.offset_is ∙ h.1))
+    (cc (same, at), (t.kept ∙ ap (λ (f : faults.Malformed). Some (fault_view f)) same, t.offset_is ∙ h.1))
   where
-    by_cause : (old.fault ≡ Some (fault_meant g)) ⊎ ((old.fault ≡ None) × (wire.outline old.bytes ≡ wire.faulty_outline (fault_meant g))) → g ≡ fault
-    by_cause (inl e) = let q : Some (fault_meant g) ≡ Some (fault_meant fault) = sym e ∙ h.0 in fault_once g fault (cc)
-    by_cause (inr e) = absurd (let q : None ≡ Some (fault_meant fault) = sym e.0 ∙ h.0 in cc)
+    by_cause : (old.fault ≡ Some (fault_view g)) ⊎ ((old.fault ≡ None) × (wire.outline old.bytes ≡ wire.faulty_outline (fault_view g))) → g ≡ fault
+    by_cause (inl e) = let q : Some (fault_view g) ≡ Some (fault_view fault) = sym e ∙ h.0 in fault_once g fault (cc)
+    by_cause (inr e) = absurd (let q : None ≡ Some (fault_view fault) = sym e.0 ∙ h.0 in cc)
 
 only_told : (fault : faults.Malformed) (offset : ℕ) (old : FramerView) (steps : List Step) (new : FramerView) → Holds fault offset old → IsConversation old steps new → OnlyTell fault offset steps
 only_told fault offset old [] new h talk = tt
@@ -231,5 +231,5 @@ only_told fault offset old (step ∷ steps) new h (between, first, behind) =
 pub again : (before after : List Step) (fault : faults.Malformed) (offset : ℕ) (start end : FramerView) → IsConversation start (before ++ answered (Err (Malformed fault offset)) ∷ after) end → OnlyTell fault offset after
 again before after fault offset start end talk =
     let t = split start before (answered (Err (Malformed fault offset)) ∷ after) end talk in
-    let told : Told t.0 t.2.0 (fault_meant fault) offset = t.2.1 in
+    let told : Told t.0 t.2.0 (fault_view fault) offset = t.2.1 in
     only_told fault offset t.2.0 after end (told.kept, told.offset_is ∙ sym told.at) t.2.2

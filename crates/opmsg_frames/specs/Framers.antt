@@ -6,7 +6,7 @@ use Rattle.opmsg_model.specs.Requests as requests
 use Rattle.opmsg_frames.specs.declared.fault.FrameFault.{FrameFault}
 use Rattle.opmsg_frames.specs.declared.fault.FrameFault.TheVariants.{Malformed, Memory}
 use Rattle.opmsg_frames.specs.declared.request.Request.{Request}
-use Rattle.opmsg_frames.specs.Outlines.{fault_meant}
+use Rattle.opmsg_frames.specs.Outlines.{fault_view}
 use Rattle.opmsg_frames.specs.RequestMeanings.{IsMeant}
 use Rattle.opmsg_frames.specs.FramerViews.{FramerView}
 
@@ -28,5 +28,5 @@ pub record Told (old new : FramerView) (fault : wire.FrameFault) (offset : ℕ) 
 abbrev pub IsNext : FramerView → FramerView → Result (Option Request) FrameFault → Type 0
 IsNext old new (Ok None) = (old.fault ≡ None) × (wire.outline old.bytes ≡ wire.partial_outline) × (new ≡ old)
 IsNext old new (Ok (Some request)) = (old.fault ≡ None) × ((meant : requests.Request) × Given old new request meant)
-IsNext old new (Err (Malformed fault offset)) = Told old new (fault_meant fault) offset
+IsNext old new (Err (Malformed fault offset)) = Told old new (fault_view fault) offset
 IsNext old new (Err Memory) = (old.fault ≡ None) × (new ≡ old)

@@ -10,28 +10,28 @@ use Rattle.opmsg_frames.specs.declared.outline.Outline.TheVariants.{Partial, Mes
 use Rattle.opmsg_frames.specs.declared.sections.Next.{Next}
 use Rattle.opmsg_frames.specs.declared.sections.Next.TheVariants.{Nothing, UnknownKind, BadSize, Body, Sequence}
 
-abbrev pub fault_meant : Malformed → wire.FrameFault
-fault_meant BadLength = wire.bad_length
-fault_meant TooLong = wire.too_long
-fault_meant BadOpcode = wire.bad_opcode
-fault_meant BadFlags = wire.bad_flags
-fault_meant BadKind = wire.bad_kind
-fault_meant BadSection = wire.bad_section
-fault_meant TwoBodies = wire.two_bodies
-fault_meant NoBody = wire.no_body
-fault_meant BadQuery = wire.bad_query
+abbrev pub fault_view : Malformed → wire.FrameFault
+fault_view BadLength = wire.bad_length
+fault_view TooLong = wire.too_long
+fault_view BadOpcode = wire.bad_opcode
+fault_view BadFlags = wire.bad_flags
+fault_view BadKind = wire.bad_kind
+fault_view BadSection = wire.bad_section
+fault_view TwoBodies = wire.two_bodies
+fault_view NoBody = wire.no_body
+fault_view BadQuery = wire.bad_query
 
-abbrev pub outline_meant : Outline → wire.Outline
-outline_meant Partial = wire.partial_outline
-outline_meant (Message count) = wire.message_outline count
-outline_meant (Faulty fault) = wire.faulty_outline (fault_meant fault)
+abbrev pub outline_view : Outline → wire.Outline
+outline_view Partial = wire.partial_outline
+outline_view (Message count) = wire.message_outline count
+outline_view (Faulty fault) = wire.faulty_outline (fault_view fault)
 
-abbrev pub next_meant : Next → wire.Next
-next_meant Nothing = wire.no_section
-next_meant UnknownKind = wire.unknown_kind
-next_meant BadSize = wire.bad_size
-next_meant (Body document behind) = wire.next_body document.now behind.now
-next_meant (Sequence content behind) = wire.next_sequence content.now behind.now
+abbrev pub next_view : Next → wire.Next
+next_view Nothing = wire.no_section
+next_view UnknownKind = wire.unknown_kind
+next_view BadSize = wire.bad_size
+next_view (Body document behind) = wire.next_body document.now behind.now
+next_view (Sequence content behind) = wire.next_sequence content.now behind.now
 
 -- what holds of the bytes behind a section that was found
 abbrev pub IfBehind : Next → (List ℕ → Type 0) → Type 0

@@ -12,9 +12,9 @@ use Rattle.opmsg_frames.specs.declared.request.Body.TheVariants.{Read, Faulty}
 use Rattle.opmsg_frames.specs.declared.request.Content.{Content}
 use Rattle.opmsg_frames.specs.declared.request.Request.{Request}
 
-abbrev pub form_meant : Form → wire.Form
-form_meant Msg = wire.msg_form
-form_meant Query = wire.query_form
+abbrev pub form_view : Form → wire.Form
+form_view Msg = wire.msg_form
+form_view Query = wire.query_form
 
 abbrev pub IsBody : Body → wire.Body → Type 0
 IsBody (Read doc sequences) body = body ≡ wire.read_body doc sequences
@@ -24,7 +24,7 @@ IsBody (Faulty e) body = (fault : Fault) × (offset : ℕ) × (e ≡ fault_from 
 pub record IsMeant (request : Request) (meant : wire.Request) : Type 0 where
   pub id : meant.id ≡ request.id
   pub more : meant.more ≡ request.more
-  pub form : meant.form ≡ form_meant request.form
+  pub form : meant.form ≡ form_view request.form
   pub body : IsBody request.body meant.body
   pub bytes : meant.bytes ≡ request.bytes
 
@@ -32,7 +32,7 @@ pub record IsMeant (request : Request) (meant : wire.Request) : Type 0 where
 pub record IsContent (content : Content) (meant : wire.Request) : Type 0 where
   pub id : meant.id ≡ content.id
   pub more : meant.more ≡ content.more
-  pub form : meant.form ≡ form_meant content.form
+  pub form : meant.form ≡ form_view content.form
   pub body : IsBody content.body meant.body
 
 -- what was read, or a fault; unless memory ran out

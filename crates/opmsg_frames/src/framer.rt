@@ -49,9 +49,9 @@ impl Model for Framer {
 
     ghost use Rattle.std.specs.Prelude.{◌+◌, ◌<◌, ◌^◌, length};
     ghost use Rattle.std.specs.Option.{option_map};
-    ghost use Rattle.opmsg_frames.specs.Outlines.{fault_meant};
+    ghost use Rattle.opmsg_frames.specs.Outlines.{fault_view};
 
-    ghost view = { λ f. record { bytes = f.bytes.items; offset = f.offset; fault = option_map (λ fault. fault_meant fault) f.fault; room = f.bytes.spare } };
+    ghost view = { λ f. record { bytes = f.bytes.items; offset = f.offset; fault = option_map (λ fault. fault_view fault) f.fault; room = f.bytes.spare } };
 
     ghost invariant = { λ f. f.offset + length f.bytes.items < 2 ^ 64 };
 }

@@ -7,7 +7,7 @@ ghost use Rattle.opmsg_model.specs.Outline.{faulty_outline, message_outline, out
 ghost use Rattle.opmsg_model.specs.Requests.{IsRequest, Request};
 ghost use Rattle.opmsg_frames.specs.Conversations.{AreMeant, IsConversation, OnlyTell, Step, answered, fed, given, new_framer};
 ghost use Rattle.opmsg_frames.specs.FramerViews.{FramerView};
-ghost use Rattle.opmsg_frames.specs.Outlines.{fault_meant};
+ghost use Rattle.opmsg_frames.specs.Outlines.{fault_view};
 ghost use Rattle.opmsg_frames.specs.Readings.{PlacedFault};
 ghost use Rattle.opmsg_model.specs.Grammar.{AreBytes};
 ghost use Rattle.opmsg_model.specs.MessageSizes.{IsSmallBody};
@@ -78,7 +78,7 @@ pub fn every_cutting()
     ensures fault { (steps : List Step) (fault : Malformed) (offset : ℕ) (end : FramerView) →
         IsConversation new_framer (steps ++ answered (Err (FrameFault.Malformed fault offset)) ∷ []) end →
         (requests : List Request) × AreMeant (given steps) requests
-        × Frames (fed steps) requests end.bytes (Some (fault_meant fault, offset)) }
+        × Frames (fed steps) requests end.bytes (Some (fault_view fault, offset)) }
     ensures again { (before after : List Step) (fault : Malformed) (offset : ℕ) (start end : FramerView) →
         IsConversation start (before ++ answered (Err (FrameFault.Malformed fault offset)) ∷ after) end →
         OnlyTell fault offset after }

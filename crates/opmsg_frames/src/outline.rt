@@ -4,7 +4,7 @@ ghost use Rattle.std.specs.Prelude.{◌≡◌, ◌+◌, ◌<◌, ◌≤◌, None
 ghost use Rattle.std.specs.Option.{option_map};
 ghost use Rattle.opmsg_model.specs.Messages.{header_length};
 ghost use Rattle.opmsg_model.specs.Outline.{greets, header_fault, headed_outline, is_query, message_fault, msg_fault, outline, whole_outline};
-ghost use Rattle.opmsg_frames.specs.Outlines.{fault_meant, outline_meant};
+ghost use Rattle.opmsg_frames.specs.Outlines.{fault_view, outline_view};
 
 use crate::fault::Malformed;
 use crate::sections::{before_zero, number_at, sections_fault};
@@ -37,7 +37,7 @@ pub enum Outline {
 /// What is wrong with a header.
 fn header_fault(bytes: &[u8]) -> Option<Malformed>
     requires { header_length ≤ length bytes.now }
-    ensures { option_map (λ f. fault_meant f) result ≡ header_fault bytes.now }
+    ensures { option_map (λ f. fault_view f) result ≡ header_fault bytes.now }
 {
     let stated = number_at(bytes, 0);
     if stated < HEADER_LENGTH as u32 || stated >= 0x8000_0000 {
@@ -83,7 +83,7 @@ fn is_query(bytes: &[u8]) -> bool
 
 /// What is wrong with a whole message of OP_MSG.
 fn msg_fault(bytes: &[u8]) -> Option<Malformed>
-    ensures { option_map (λ f. fault_meant f) result ≡ msg_fault bytes.now }
+    ensures { option_map (λ f. fault_view f) result ≡ msg_fault bytes.now }
 {
     if bytes.len() < SECTIONS_OFFSET {
         return Some(Malformed::BadFlags);
@@ -99,7 +99,7 @@ fn msg_fault(bytes: &[u8]) -> Option<Malformed>
 /// What is wrong with a whole message that has one of the two opcodes.
 fn message_fault(bytes: &[u8]) -> Option<Malformed>
     requires { header_length ≤ length bytes.now }
-    ensures { option_map (λ f. fault_meant f) result ≡ message_fault bytes.now }
+    ensures { option_map (λ f. fault_view f) result ≡ message_fault bytes.now }
 {
     if number_at(bytes, 12) == OP_MSG {
         return msg_fault(bytes);
@@ -113,7 +113,7 @@ fn message_fault(bytes: &[u8]) -> Option<Malformed>
 /// What a whole message is.
 fn whole_outline(message: &[u8]) -> Outline
     requires { header_length ≤ length message.now }
-    ensures { outline_meant result ≡ whole_outline (length message.now) (message_fault message.now) }
+    ensures { outline_view result ≡ whole_outline (length message.now) (message_fault message.now) }
 {
     match message_fault(message) {
         Some(fault) => Outline::Faulty(fault),
@@ -125,7 +125,7 @@ fn whole_outline(message: &[u8]) -> Outline
 fn headed_outline(bytes: &[u8]) -> Outline
     requires least { header_length ≤ length bytes.now }
     requires header { header_fault bytes.now ≡ None }
-    ensures { outline_meant result ≡ headed_outline bytes.now None }
+    ensures { outline_view result ≡ headed_outline bytes.now None }
 {
     let stated = number_at(bytes, 0) as usize;
     if bytes.len() < stated {
@@ -138,7 +138,7 @@ fn headed_outline(bytes: &[u8]) -> Outline
 /// What stands at the beginning of the bytes: less than a whole message, a whole one, or a fault. It is a fault as soon as its
 /// header's 16 bytes tell one, or else once the message is whole.
 pub fn outline_of(bytes: &[u8]) -> Outline
-    ensures { outline_meant result ≡ outline bytes.now }
+    ensures { outline_view result ≡ outline bytes.now }
 {
     if bytes.len() < HEADER_LENGTH {
         return Outline::Partial;

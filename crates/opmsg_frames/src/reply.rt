@@ -7,7 +7,7 @@ ghost use Rattle.opmsg_model.specs.Tree.{document_depth};
 ghost use Rattle.opmsg_model.specs.Messages.{header, int32};
 ghost use Rattle.opmsg_model.specs.Replies.{reply_bytes, reply_head};
 ghost use Rattle.opmsg_model.specs.Requests.{msg_form, query_form};
-ghost use Rattle.opmsg_frames.specs.RequestMeanings.{form_meant};
+ghost use Rattle.opmsg_frames.specs.RequestMeanings.{form_view};
 ghost use Rattle.opmsg_model.specs.Limits.{most_bytes_written, most_depth_written};
 
 use crate::request::Form;
@@ -95,7 +95,7 @@ fn put_query_head(id: i32, number: i32, size: u32, out: &mut Vec<u8>) -> Result<
 /// Puts what stands before the document of a reply. An `Err` may leave a part of it.
 fn put_head(form: Form, id: i32, number: i32, size: u32, out: &mut Vec<u8>) -> Result<(), Memory>
     requires { size ≤ most_bytes_written }
-    ensures ok { OnOk result (out.new.items ≡ out.old.items ++ reply_head (form_meant form) id number size) }
+    ensures ok { OnOk result (out.new.items ≡ out.old.items ++ reply_head (form_view form) id number size) }
     ensures kept { take (length out.old.items) out.new.items ≡ out.old.items }
 {
     match form {
@@ -115,7 +115,7 @@ fn put_reply(
     requires depth { document_depth doc.now ≤ most_depth_written }
     requires size { length (written doc.now) ≤ most_bytes_written }
     ensures ok { OnOk result (out.new.items
-        ≡ out.old.items ++ reply_bytes (form_meant form) id number doc.now) }
+        ≡ out.old.items ++ reply_bytes (form_view form) id number doc.now) }
     ensures kept { take (length out.old.items) out.new.items ≡ out.old.items }
 {
     let size = doc.size() as u32;
@@ -136,7 +136,7 @@ pub fn write_reply(
     requires depth { document_depth doc.now ≤ most_depth_written }
     requires size { length (written doc.now) ≤ most_bytes_written }
     ensures ok { OnOk result (out.new.items
-        ≡ out.old.items ++ reply_bytes (form_meant form) id number doc.now) }
+        ≡ out.old.items ++ reply_bytes (form_view form) id number doc.now) }
     ensures err { OnErr result (out.new.items ≡ out.old.items) }
 {
     let len = out.len();

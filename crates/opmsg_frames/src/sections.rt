@@ -6,7 +6,7 @@ ghost use Rattle.std.specs.Str.{is_utf8};
 ghost use Rattle.opmsg_model.specs.Faults.{before_zero};
 ghost use Rattle.opmsg_model.specs.Messages.{number_at};
 ghost use Rattle.opmsg_model.specs.Outline.{are_documents, ended_fault, has_stated, is_sequence, next_section, sections_fault};
-ghost use Rattle.opmsg_frames.specs.Outlines.{IfBehind, fault_meant, next_meant, sequence_parts, text_if};
+ghost use Rattle.opmsg_frames.specs.Outlines.{IfBehind, fault_view, next_view, sequence_parts, text_if};
 
 use crate::fault::Malformed;
 use byteorder::{ByteOrder, LittleEndian};
@@ -55,7 +55,7 @@ pub(crate) fn has_stated(bytes: &[u8]) -> bool
 
 /// The section that the bytes begin with.
 pub(crate) fn next_section(bytes: &[u8]) -> Next<'_>
-    ensures next { next_meant result ≡ next_section bytes.now }
+    ensures next { next_view result ≡ next_section bytes.now }
     ensures shorter { IfBehind result (λ behind. length behind < length bytes.now) }
 {
     let Some((kind, rest)) = bytes.split_first() else {
@@ -140,7 +140,7 @@ fn is_sequence(content: &[u8]) -> bool
 
 /// What is wrong once all sections were seen: how many of them are bodies, and whether one of the others is bad.
 fn ended_fault(bodies: usize, bad: bool) -> Option<Malformed>
-    ensures { option_map (λ f. fault_meant f) result ≡ ended_fault bodies bad }
+    ensures { option_map (λ f. fault_view f) result ≡ ended_fault bodies bad }
 {
     if bad {
         return Some(Malformed::BadSection);
@@ -155,7 +155,7 @@ fn ended_fault(bodies: usize, bad: bool) -> Option<Malformed>
 /// What is wrong with the sections.
 pub(crate) fn sections_fault(bytes: &[u8]) -> Option<Malformed>
     ensures { (n : ℕ) → length bytes.now < n →
-        option_map (λ f. fault_meant f) result ≡ sections_fault n 0 false bytes.now }
+        option_map (λ f. fault_view f) result ≡ sections_fault n 0 false bytes.now }
 {
     let mut bodies = 0;
     let mut bad = false;

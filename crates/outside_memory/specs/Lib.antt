@@ -1,4 +1,4 @@
-pub mod Plan
+pub mod FaultPlan
 pub mod CallList
 pub mod Memory
 pub mod Calls

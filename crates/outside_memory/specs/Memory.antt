@@ -1,6 +1,6 @@
 -- What the memory forms are, as values.
 use Rattle.std.specs.Prelude.{ℕ, ◌+◌, ◌-◌, min, List, [], ◌∷◌, ◌++◌, length, take, drop, replicate}
-use Rattle.outside_memory.specs.Plan.{PlanState, fresh_plan, after_call, after_fault}
+use Rattle.outside_memory.specs.FaultPlan.{PlanState, fresh_plan, after_call, after_fault}
 use Rattle.outside_memory.specs.declared.call.Call.{Call}
 use Rattle.outside_memory.specs.declared.call.Call.TheVariants.{Cut, Sync}
 

@@ -2,11 +2,11 @@
 ghost use Rattle.std.specs.Prelude.{◌≡◌, ◌≤◌, ◌⊎◌, [], ◌∷◌, IsTrue, IsErr, IsOk, IfOk, OnOk, OnErr, if◌then◌else◌};
 ghost use Rattle.std.specs.Bool.{MatchBool};
 ghost use Rattle.outside.specs.Causes.{Rose};
-ghost use Rattle.outside_memory.specs.Plan.{fresh_plan, fails_now, after_call, after_fault};
+ghost use Rattle.outside_memory.specs.FaultPlan.{fresh_plan, fails_now, after_call, after_fault};
 ghost use Rattle.outside_memory.specs.Memory.{acceptor_passed, acceptor_failed};
 
 use super::link::MemLink;
-use super::plan::Plan;
+use super::plan::FaultPlan;
 use outside::streams::{Acceptor, Failed};
 use std::marker::Model;
 use std::vec::IntoIter;
@@ -15,7 +15,7 @@ use std::vec::IntoIter;
 #[derive(Drop)]
 pub struct MemAcceptor {
     links: IntoIter<MemLink>,
-    plan: Plan,
+    plan: FaultPlan,
 }
 
 impl Model for MemAcceptor {
@@ -35,7 +35,7 @@ impl MemAcceptor {
     {
         MemAcceptor {
             links: links.into_iter(),
-            plan: Plan::new(failing),
+            plan: FaultPlan::new(failing),
         }
     }
 }

@@ -3,7 +3,7 @@ ghost use Rattle.std.specs.Prelude.{◌≡◌, ◌+◌, ◌-◌, ◌<◌, ◌≤
 ghost use Rattle.std.specs.Bool.{MatchBool};
 ghost use Rattle.outside.specs.Causes.{Rose};
 ghost use Rattle.outside.specs.Disks.{Cut, Elapses, Follows, Holds, Only, Torn, Within};
-ghost use Rattle.outside_memory.specs.Plan.{fails_now, after_call, after_fault};
+ghost use Rattle.outside_memory.specs.FaultPlan.{fails_now, after_call, after_fault};
 ghost use Rattle.outside_memory.specs.Memory.{written, read_count, fresh_disk, disk_passed, disk_cut, disk_synced, disk_failed};
 ghost use Rattle.outside_memory.specs.Calls.{replayed, crash_leaves, crash_left_since};
 ghost use Rattle.outside_memory.specs.declared.call.Call.TheVariants.{Write};
@@ -11,7 +11,7 @@ ghost use Rattle.outside_memory.specs.Moments.{now_counts, now_only};
 
 use super::call::Call;
 use super::calls::CallList;
-use super::plan::Plan;
+use super::plan::FaultPlan;
 use outside::disk::Disk;
 use outside::streams::Failed;
 use std::alloc::AllocError;
@@ -22,7 +22,7 @@ use std::marker::Model;
 #[derive(Drop)]
 pub struct MemDisk {
     bytes: Vec<u8>,
-    plan: Plan,
+    plan: FaultPlan,
     list: CallList,
 }
 
@@ -55,7 +55,7 @@ impl MemDisk {
         let list = CallList::new(*bytes.allocator());
         MemDisk {
             bytes,
-            plan: Plan::new(failing),
+            plan: FaultPlan::new(failing),
             list,
         }
     }

@@ -2,7 +2,7 @@
 ghost use Rattle.std.specs.Prelude.{refl, ◌≡◌, ◌+◌, ◌<◌, ◌≤◌, ◌++◌, ◌⊎◌, [], length, take, drop, true, IsTrue, IsErr, Ok, IfOk, OnOk, OnErr, if◌then◌else◌};
 ghost use Rattle.std.specs.Bool.{MatchBool};
 ghost use Rattle.outside.specs.Causes.{Rose};
-ghost use Rattle.outside_memory.specs.Plan.{fresh_plan, fails_now, after_call, after_fault};
+ghost use Rattle.outside_memory.specs.FaultPlan.{fresh_plan, fails_now, after_call, after_fault};
 ghost use Rattle.outside_memory.specs.Memory.{fresh_sink, taken_count, source_after, source_failed};
 
 use super::sink::MemSink;

@@ -1,33 +1,33 @@
 //! The plan of failing calls that a memory form follows.
 ghost use Rattle.std.specs.Prelude.{◌≡◌, ◌≤◌, if◌then◌else◌};
 ghost use Rattle.outside.specs.Causes.{next_count};
-ghost use Rattle.outside_memory.specs.Plan.{fresh_plan, fails_now, after_call, after_fault};
+ghost use Rattle.outside_memory.specs.FaultPlan.{fresh_plan, fails_now, after_call, after_fault};
 
 use std::marker::Model;
 
 /// The numbers of the calls that fail, from 0, with the counts of the calls and of the faults so far. A count stays at
 /// its last value, 2^64 - 1.
 #[derive(Drop)]
-pub(crate) struct Plan {
+pub(crate) struct FaultPlan {
     failing: Vec<u64>,
     calls: u64,
     faults: u64,
 }
 
-impl Model for Plan {
-    ghost use Rattle.outside_memory.specs.Plan.{PlanState};
+impl Model for FaultPlan {
+    ghost use Rattle.outside_memory.specs.FaultPlan.{PlanState};
 
     ghost Value = { PlanState };
 
     ghost view = { λ p. record { failing = p.failing.items; calls = p.calls; faults = p.faults } };
 }
 
-impl Plan {
+impl FaultPlan {
     /// The plan before the first call.
-    pub(crate) fn new(failing: Vec<u64>) -> Plan
+    pub(crate) fn new(failing: Vec<u64>) -> FaultPlan
         ensures { result ≡ fresh_plan failing.items }
     {
-        Plan {
+        FaultPlan {
             failing,
             calls: 0,
             faults: 0,

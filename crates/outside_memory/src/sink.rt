@@ -2,10 +2,10 @@
 ghost use Rattle.std.specs.Prelude.{◌≡◌, ◌+◌, ◌<◌, ◌≤◌, ◌++◌, ◌⊎◌, length, take, true, IsTrue, IsErr, IsOk, IfOk, OnOk, OnErr, if◌then◌else◌};
 ghost use Rattle.std.specs.Bool.{OnTrue};
 ghost use Rattle.outside.specs.Causes.{Rose};
-ghost use Rattle.outside_memory.specs.Plan.{fails_now, after_call, after_fault};
+ghost use Rattle.outside_memory.specs.FaultPlan.{fails_now, after_call, after_fault};
 ghost use Rattle.outside_memory.specs.Memory.{fresh_sink};
 
-use super::plan::Plan;
+use super::plan::FaultPlan;
 use outside::streams::{Failed, Sink};
 use std::marker::Model;
 
@@ -13,7 +13,7 @@ use std::marker::Model;
 #[derive(Drop)]
 pub struct MemSink {
     bytes: Vec<u8>,
-    plan: Plan,
+    plan: FaultPlan,
 }
 
 impl Model for MemSink {
@@ -33,7 +33,7 @@ impl MemSink {
         let alloc = *failing.allocator();
         MemSink {
             bytes: Vec::new(alloc),
-            plan: Plan::new(failing),
+            plan: FaultPlan::new(failing),
         }
     }
 

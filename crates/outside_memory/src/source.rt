@@ -2,10 +2,10 @@
 ghost use Rattle.std.specs.Prelude.{◌≡◌, ◌<◌, ◌≤◌, ◌++◌, [], length, take, drop, true, IsErr, Ok, IfOk, OnOk, OnErr, if◌then◌else◌};
 ghost use Rattle.std.specs.Bool.{MatchBool};
 ghost use Rattle.outside.specs.Causes.{Rose};
-ghost use Rattle.outside_memory.specs.Plan.{fresh_plan, fails_now};
+ghost use Rattle.outside_memory.specs.FaultPlan.{fresh_plan, fails_now};
 ghost use Rattle.outside_memory.specs.Memory.{taken_count, source_after, source_failed};
 
-use super::plan::Plan;
+use super::plan::FaultPlan;
 use outside::streams::{Failed, Source};
 use std::marker::Model;
 
@@ -14,7 +14,7 @@ use std::marker::Model;
 pub struct MemSource {
     bytes: Vec<u8>,
     at: usize,
-    plan: Plan,
+    plan: FaultPlan,
 }
 
 impl Model for MemSource {
@@ -36,7 +36,7 @@ impl MemSource {
         MemSource {
             bytes,
             at: 0,
-            plan: Plan::new(failing),
+            plan: FaultPlan::new(failing),
         }
     }
 }

@@ -11,12 +11,12 @@ take_prefix (suc m) (suc n) [] h = refl
 take_prefix (suc m) (suc n) (x ∷ xs) h = ap (λ ys. x ∷ ys) (take_prefix m n xs (omega arith))
 
 -- at its front stand the bytes that were taken
-pub front_taken : (count whole : ℕ) (buf post tail : List ℕ) → count ≤ length buf → count ≤ whole
-    → take count (take whole ((buf ++ post) ++ tail)) ≡ take count buf
-front_taken count whole buf post tail fits below =
-    take_prefix count whole ((buf ++ post) ++ tail) below
-    ∙ take-append-le count (buf ++ post) tail (omega (arith, fits, length-append buf post))
-    ∙ take-append-le count buf post fits
+pub front_taken : (count whole : ℕ) (buf network tail : List ℕ) → count ≤ length buf → count ≤ whole
+    → take count (take whole ((buf ++ network) ++ tail)) ≡ take count buf
+front_taken count whole buf network tail fits below =
+    take_prefix count whole ((buf ++ network) ++ tail) below
+    ∙ take-append-le count (buf ++ network) tail (omega (arith, fits, length-append buf network))
+    ∙ take-append-le count buf network fits
 
 -- what is ensured of a call that went well, where it did
 pub as_ok : {X E : Type 0} (answer : Result X E) (P : Type 0) → is_ok answer ≡ true → OnOk answer P → P

@@ -11,7 +11,7 @@ use Rattle.node_model.specs.World.{Held, World}
 use Rattle.node_model.specs.Schedule.{Round}
 use Rattle.node_progress.proofs.Rounds.{piped_requests_are_answered}
 use Rattle.driver_steps.specs.Seats.{SeatView, AreKept, LeaveKept}
-use Rattle.driver_steps.specs.Worlds.{PostView, puts_given}
+use Rattle.driver_steps.specs.Worlds.{NetworkView, puts_given}
 use Rattle.driver_steps.proofs.Seats.{held_kept}
 use Rattle.pipe_driver.specs.Buffers.{EndsTaking, at_source_end, at_read_fault}
 use Rattle.pipe_driver.specs.Endings.{AllServed, SomeServed, LastCutShort, Cause, input_ended, read_failed, write_failed, disk_failed, no_memory, no_request}
@@ -75,15 +75,15 @@ module _ {S : Type 0} (view : S → SeatView) (seats : List S) (source : SourceC
   -- ALL WAS SERVED
 
   -- all requests had their rounds
-  ended : (post : PostView) (replied : ℕ) (known : Status) (fault : Option (FrameFault × ℕ)) → status ≡ known
-      → (s : Serving view seats post gives routers sink.tells sink.held_before sink.held_after consumed replied)
+  ended : (network : NetworkView) (replied : ℕ) (known : Status) (fault : Option (FrameFault × ℕ)) → status ≡ known
+      → (s : Serving view seats network gives routers sink.tells sink.held_before sink.held_after consumed replied)
       → Took source.tells source.left_before (consumed ++ rest) source.left_after → length consumed + length rest ≤ limit
       → FramesFrom (0 + length (bytes_asked (requests_of s.rounds))) rest [] rest fault → count ≡ length rest
       → ((put : List ℕ) (requests : List Request) → AllServed routers put requests s.rounds s.world
       → Cause limit (IsTrue source.tells → source.left_after ≡ []) (consumed ++ rest) fault (AllServed routers put requests s.rounds s.world)
       (SomeServed routers gives put requests s.rounds s.world) (LastCutShort routers put requests s.rounds s.world) known)
       → IsPiped source sink gives (AreKept view seats) (LeaveKept view seats) routers limit status count
-  ended post replied known fault is s took most frames counted cause =
+  ended network replied known fault is s took most frames counted cause =
       let f = framed limit count source consumed rest rest [] fault (requests_of s.rounds) s.asked took most frames counted in
       record {
         taken = consumed ++ rest;
@@ -119,25 +119,25 @@ module _ {S : Type 0} (view : S → SeatView) (seats : List S) (source : SourceC
       }
 
   -- the input is at its limit, and the rest is less than a whole message
-  pub ended_at_limit : (post : PostView) (replied : ℕ) → status ≡ statuses.InputTooLong
-      → Serving view seats post gives routers sink.tells sink.held_before sink.held_after consumed replied
+  pub ended_at_limit : (network : NetworkView) (replied : ℕ) → status ≡ statuses.InputTooLong
+      → Serving view seats network gives routers sink.tells sink.held_before sink.held_after consumed replied
       → Took source.tells source.left_before (consumed ++ rest) source.left_after → length consumed + length rest ≡ limit
       → outline rest ≡ partial_outline → count ≡ length rest
       → IsPiped source sink gives (AreKept view seats) (LeaveKept view seats) routers limit status count
-  ended_at_limit post replied is s took most partial counted =
+  ended_at_limit network replied is s took most partial counted =
       let full : length (consumed ++ rest) ≡ limit = omega (arith, most, length-append consumed rest) in
-      ended post replied statuses.InputTooLong None is s took (omega (arith, most)) (ends _ rest partial) counted
+      ended network replied statuses.InputTooLong None is s took (omega (arith, most)) (ends _ rest partial) counted
       (λ put requests all. too_long full refl all)
 
   -- the rest begins no message
-  ended_malformed : (post : PostView) (replied : ℕ) → status ≡ statuses.BadInput
-      → Serving view seats post gives routers sink.tells sink.held_before sink.held_after consumed replied
+  ended_malformed : (network : NetworkView) (replied : ℕ) → status ≡ statuses.BadInput
+      → Serving view seats network gives routers sink.tells sink.held_before sink.held_after consumed replied
       → Took source.tells source.left_before (consumed ++ rest) source.left_after → length consumed + length rest ≤ limit
       → IsMalformed rest → count ≡ length rest
       → IsPiped source sink gives (AreKept view seats) (LeaveKept view seats) routers limit status count
-  ended_malformed post replied is s took most malformed counted =
+  ended_malformed network replied is s took most malformed counted =
       let place : ℕ = 0 + length (bytes_asked (requests_of s.rounds)) in
-      ended post replied statuses.BadInput (Some (malformed.0, place)) is s took most (fails place rest malformed.0 malformed.1) counted
+      ended network replied statuses.BadInput (Some (malformed.0, place)) is s took most (fails place rest malformed.0 malformed.1) counted
       (λ put requests all. no_request refl all)
 
   -- SOME WAS SERVED
@@ -236,27 +236,27 @@ module _ {S : Type 0} (view : S → SeatView) (seats : List S) (source : SourceC
       }
 
   -- there was no memory, between two rounds
-  pub ended_full : (post : PostView) (replied : ℕ) → status ≡ statuses.OutOfMemory
-      → Serving view seats post gives routers sink.tells sink.held_before sink.held_after consumed replied
+  pub ended_full : (network : NetworkView) (replied : ℕ) → status ≡ statuses.OutOfMemory
+      → Serving view seats network gives routers sink.tells sink.held_before sink.held_after consumed replied
       → Took source.tells source.left_before (consumed ++ rest) source.left_after → length consumed + length rest ≤ limit
       → outline rest ≡ partial_outline → count ≡ length rest
       → IsPiped source sink gives (AreKept view seats) (LeaveKept view seats) routers limit status count
-  ended_full post replied is s took most partial counted =
+  ended_full network replied is s took most partial counted =
       ended_cut statuses.OutOfMemory is
-      (cut_between view seats gives routers sink.tells sink.held_before sink.held_after consumed post replied s) took most
+      (cut_between view seats gives routers sink.tells sink.held_before sink.held_after consumed network replied s) took most
       (λ place. ([], rest, None, ends place rest partial, counted)) (λ put requests fault some. no_memory some)
 
   -- no more is taken, and the rest is less than a whole message
-  pub ended_taking : (post : PostView) (replied : ℕ) (told : Status) → status ≡ told → EndsTaking source.tells source.left_after told
-      → Serving view seats post gives routers sink.tells sink.held_before sink.held_after consumed replied
+  pub ended_taking : (network : NetworkView) (replied : ℕ) (told : Status) → status ≡ told → EndsTaking source.tells source.left_after told
+      → Serving view seats network gives routers sink.tells sink.held_before sink.held_after consumed replied
       → Took source.tells source.left_before (consumed ++ rest) source.left_after → length (consumed ++ rest) < limit
       → outline rest ≡ partial_outline → count ≡ length rest
       → IsPiped source sink gives (AreKept view seats) (LeaveKept view seats) routers limit status count
-  ended_taking post replied told is (at_source_end at_end) s took below partial counted =
-      ended post replied statuses.InputEnded None is s took (omega (arith, below, length-append consumed rest)) (ends _ rest partial) counted
+  ended_taking network replied told is (at_source_end at_end) s took below partial counted =
+      ended network replied statuses.InputEnded None is s took (omega (arith, below, length-append consumed rest)) (ends _ rest partial) counted
       (λ put requests all. input_ended at_end below refl all)
-  ended_taking post replied told is at_read_fault s took below partial counted =
-      ended post replied statuses.ReadFailed None is s took (omega (arith, below, length-append consumed rest)) (ends _ rest partial) counted
+  ended_taking network replied told is at_read_fault s took below partial counted =
+      ended network replied statuses.ReadFailed None is s took (omega (arith, below, length-append consumed rest)) (ends _ rest partial) counted
       (λ put requests all. read_failed below refl all)
 
   -- what begins with no request is all that is left
@@ -274,16 +274,16 @@ module _ {S : Type 0} (view : S → SeatView) (seats : List S) (source : SourceC
       found.4 ∙ ap (λ (b : List ℕ). length b) (malformed_frames 0 rest found.0 found.1 found.2 malformed.0 found.3 malformed.1)
 
   -- no further request is served
-  pub ended_serving : (post : PostView) (told : Status) → status ≡ told
-      → StopsServing told view seats post gives routers sink.tells sink.held_before sink.held_after consumed rest
+  pub ended_serving : (network : NetworkView) (told : Status) → status ≡ told
+      → StopsServing told view seats network gives routers sink.tells sink.held_before sink.held_after consumed rest
       → Took source.tells source.left_before (consumed ++ rest) source.left_after → length consumed + length rest ≤ limit → Unframed rest count
       → IsPiped source sink gives (AreKept view seats) (LeaveKept view seats) routers limit status count
-  ended_serving post told is (inl (bad, malformed, (replied, s))) took most unframed =
-      ended_malformed post replied (is ∙ bad) s took most malformed (malformed_left malformed unframed)
-  ended_serving post told is (inr (at_write_fault s)) took most unframed = ended_short is s took most unframed
-  ended_serving post told is (inr (at_disk_fault s)) took most unframed =
+  ended_serving network told is (inl (bad, malformed, (replied, s))) took most unframed =
+      ended_malformed network replied (is ∙ bad) s took most malformed (malformed_left malformed unframed)
+  ended_serving network told is (inr (at_write_fault s)) took most unframed = ended_short is s took most unframed
+  ended_serving network told is (inr (at_disk_fault s)) took most unframed =
       ended_cut statuses.DiskFailed is s took most unframed (λ put requests fault some. disk_failed some)
-  ended_serving post told is (inr (at_no_memory s)) took most unframed =
+  ended_serving network told is (inr (at_no_memory s)) took most unframed =
       ended_cut statuses.OutOfMemory is s took most unframed (λ put requests fault some. no_memory some)
 
 -- that is no status of writing or of disks

@@ -6,7 +6,7 @@ use Rattle.opmsg_frames.specs.Frames.{IsFirst}
 use Rattle.opmsg_frames.specs.Outline.{FrameFault, outline, partial_outline, faulty_outline}
 use Rattle.opmsg_frames.specs.FramerViews.{FramerView}
 use Rattle.opmsg_frames.specs.Framers.{Given, IsNext, Told}
-use Rattle.opmsg_frames.specs.Outlines.{fault_meant}
+use Rattle.opmsg_frames.specs.Outlines.{fault_view}
 use Rattle.opmsg_frames.specs.declared.fault.FrameFault as declared
 use Rattle.opmsg_frames.specs.declared.fault.FrameFault.TheVariants.{Malformed, Memory}
 use Rattle.opmsg_frames.specs.declared.fault.Malformed as faults
@@ -49,7 +49,7 @@ pub next_none : (old new : FramerView) (answer : Option frames.Request) → answ
 next_none old new answer is next = let told = subst (λ (a : Option frames.Request). IsNext old new (Ok a)) is next in (told.1, told.2)
 
 pub next_malformed : (old new : FramerView) (answer : declared.FrameFault) (fault : faults.Malformed) (place : ℕ) → answer ≡ Malformed fault place
-    → IsNext old new (Err answer) → Told old new (fault_meant fault) place
+    → IsNext old new (Err answer) → Told old new (fault_view fault) place
 next_malformed old new answer fault place is next = subst (λ (a : declared.FrameFault). IsNext old new (Err a)) is next
 
 pub next_memory : (old new : FramerView) (answer : declared.FrameFault) → answer ≡ Memory → IsNext old new (Err answer) → new ≡ old

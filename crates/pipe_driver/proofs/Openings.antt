@@ -11,9 +11,9 @@ use Rattle.node_model.specs.World.{World, Moves, Event, client_event, deliver_ev
 use Rattle.node_model.specs.World.{passes, begins as was_opened, Run, stands, goes, start}
 use Rattle.node_model.specs.Schedule.{openings}
 use Rattle.node_traits.specs.declared.outputs.ToLink.{ToLink}
-use Rattle.driver_steps.specs.declared.post.Post.{Post}
+use Rattle.driver_steps.specs.declared.network.Network.{Network}
 use Rattle.driver_steps.specs.Seats.{SeatView, AreHeld, LeaveKept}
-use Rattle.driver_steps.specs.Worlds.{StandsFor, post_view, puts_given}
+use Rattle.driver_steps.specs.Worlds.{StandsFor, network_view, puts_given}
 
 -- NOTHING IS TOLD
 
@@ -51,10 +51,10 @@ nothing_told routers count w run = run_tells (start routers) (openings 0 count) 
 
 -- AT THE START
 
-pub starts : {S M : Type 0} (view : S → SeatView) (letter : M → Letter) (seats : List S) (routers : ℕ) (post : Post M)
-    → AreHeld view seats (start routers).nodes → LeaveKept view seats (start routers) → post.waiting.items ≡ [] → post.replies.items ≡ []
-    → StandsFor view seats (post_view letter post) [] (start routers) 0
-starts {S} {M} view letter seats routers post are leave none silent = record {
+pub starts : {S M : Type 0} (view : S → SeatView) (letter : M → Letter) (seats : List S) (routers : ℕ) (network : Network M)
+    → AreHeld view seats (start routers).nodes → LeaveKept view seats (start routers) → network.waiting.items ≡ [] → network.replies.items ≡ []
+    → StandsFor view seats (network_view letter network) [] (start routers) 0
+starts {S} {M} view letter seats routers network are leave none silent = record {
   nodes = are;
   crashes = leave;
   past = [];

@@ -5,7 +5,7 @@ use Rattle.opmsg_frames.specs.Outline.{outline, message_outline}
 use Rattle.opmsg_frames.specs.Frames.{ends, fails, goes_on}
 use Rattle.opmsg_frames.specs.declared.outline.Outline.{Outline}
 use Rattle.opmsg_frames.specs.declared.outline.Outline.TheVariants.{Partial, Message, Faulty}
-use Rattle.opmsg_frames.specs.Outlines.{fault_meant, outline_meant}
+use Rattle.opmsg_frames.specs.Outlines.{fault_view, outline_view}
 use Rattle.bson_values.proofs.Leaves.{AreBytes-drop}
 use Rattle.bson_values.specs.Grammar.{AreBytes}
 use Rattle.opmsg_frames.proofs.SomeReading.{some_request}
@@ -30,10 +30,10 @@ passed bytes rest n leads are seen =
     rw (take_rest rest n) ((λ count behind. leads count (one_less n rest are (sym seen) count behind)), AreBytes-drop n rest are)
 
 -- what begins with no whole request is all that is left
-pub none_left : (seen : Outline) (rest : List ℕ) → outline_meant seen ≡ outline rest → ((n : ℕ) → seen ≡ Message n → ⊥) → Unframed rest (length rest)
+pub none_left : (seen : Outline) (rest : List ℕ) → outline_view seen ≡ outline rest → ((n : ℕ) → seen ≡ Message n → ⊥) → Unframed rest (length rest)
 none_left Partial rest e other place = ([], rest, None, ends place rest (sym e), refl)
 none_left (Message n) rest e other place = absurd (other n refl)
-none_left (Faulty fault) rest e other place = ([], rest, Some (fault_meant fault, place), fails place rest (fault_meant fault) (sym e), refl)
+none_left (Faulty fault) rest e other place = ([], rest, Some (fault_view fault, place), fails place rest (fault_view fault) (sym e), refl)
 
 -- a whole message is within the bytes
 pub message_fits : (n : ℕ) (rest : List ℕ) → message_outline n ≡ outline rest → n ≤ length rest

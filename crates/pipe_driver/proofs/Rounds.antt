@@ -16,7 +16,7 @@ use Rattle.node_progress.proofs.Takes.{request_stage}
 use Rattle.node_traits.specs.declared.outputs.StepFault.{StepFault}
 use Rattle.node_traits.specs.declared.outputs.ToLink.{ToLink}
 use Rattle.driver_steps.specs.Seats.{SeatView}
-use Rattle.driver_steps.specs.Worlds.{PostView, StandsFor}
+use Rattle.driver_steps.specs.Worlds.{NetworkView, StandsFor}
 use Rattle.driver_steps.specs.Moves.{BeginWith, AreDeliveries, HasHappened, HasRun, HasSettled, HasStopped}
 use Rattle.driver_steps.proofs.Runs.{stopped_behind, up_to_more}
 use Rattle.pipe_driver.specs.Progress.{AreAsked}
@@ -34,10 +34,10 @@ module _ {S : Type 0} (view : S → SeatView) (handed : List ToLink) (routers : 
   router_asked given run = run_stays w (moments_given 0 count r.moment) given first_router run (router_there routers rounds before w next some pipes)
 
   -- all messages of the round were delivered
-  pub round_served : (seats : List S) (post : PostView) (given asked : World) → Run w (moments_given 0 count r.moment) given
-      → Happens given (client_event r.at r.link r.number r.request) asked → HasSettled view seats post handed asked next
-      → HasServed view seats post handed w next r
-  round_served seats post given asked run came s =
+  pub round_served : (seats : List S) (network : NetworkView) (given asked : World) → Run w (moments_given 0 count r.moment) given
+      → Happens given (client_event r.at r.link r.number r.request) asked → HasSettled view seats network handed asked next
+      → HasServed view seats network handed w next r
+  round_served seats network given asked run came s =
       let there = pipes_idle routers rounds before w next pipes in
       let same : moments_given 0 count r.moment ≡ moments_given 0 (length w.nodes) r.moment = ap (λ (n : ℕ). moments_given 0 n r.moment) as_many in
       let moments : Run w (moments_given 0 (length w.nodes) r.moment) given = subst (λ (l : List Event). Run w l given) same run in

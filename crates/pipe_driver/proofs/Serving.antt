@@ -11,9 +11,9 @@ use Rattle.node_model.specs.Schedule.{openings, Round, Pipes, opens, serves}
 use Rattle.node_traits.specs.declared.outputs.StepFault.{StepFault}
 use Rattle.node_traits.specs.declared.outputs.StepFault.TheVariants.{Disk, Steps, Memory}
 use Rattle.node_traits.specs.declared.outputs.ToLink.{ToLink}
-use Rattle.driver_steps.specs.declared.post.Post.{Post}
+use Rattle.driver_steps.specs.declared.network.Network.{Network}
 use Rattle.driver_steps.specs.Seats.{SeatView, AreHeld, AreKept, AreHeldOrKept}
-use Rattle.driver_steps.specs.Worlds.{PostView, StandsFor, post_view, puts_given}
+use Rattle.driver_steps.specs.Worlds.{NetworkView, StandsFor, network_view, puts_given}
 use Rattle.driver_steps.specs.Moves.{IsUpTo, BeginWith, HasRun, HasStopped}
 use Rattle.driver_steps.proofs.Seats.{held_kept}
 use Rattle.driver_steps.proofs.Runs.{handed_on}
@@ -60,9 +60,9 @@ module _ {S : Type 0} (view : S → SeatView) (seats : List S) (gives : ℕ → 
   stops_by Memory status is cut = subst (λ (s : Status). StopsAtRequest view seats gives routers tells held_before held consumed s) (sym is) (at_no_memory cut)
 
   -- between two rounds
-  pub cut_between : (post : PostView) (replied : ℕ) → Serving view seats post gives routers tells held_before held consumed replied
+  pub cut_between : (network : NetworkView) (replied : ℕ) → Serving view seats network gives routers tells held_before held consumed replied
       → CutShort view seats gives routers tells held_before held consumed statuses.OutOfMemory
-  cut_between post replied s = record {
+  cut_between network replied s = record {
     rounds = s.rounds;
     under_way = [];
     whole = s.world;
@@ -87,9 +87,9 @@ no_other Memory status is disk memory = memory is
 
 module _ {S : Type 0} (view : S → SeatView) (seats : List S) (gives : ℕ → Type 0) (routers : ℕ) (tells : Bool) (held : List ℕ) (count : ℕ)
     (as_many : count ≡ length (start routers).nodes) where
-  pub opened_serving : (post : PostView) → HasRun view seats post [] (start routers) 0 (openings 0 count)
-      → Serving view seats post gives routers tells held held [] 0
-  opened_serving post r =
+  pub opened_serving : (network : NetworkView) → HasRun view seats network [] (start routers) 0 (openings 0 count)
+      → Serving view seats network gives routers tells held held [] 0
+  opened_serving network r =
       let none : r.end.answered ≡ [] = nothing_told routers count r.end r.run in
       let silent : puts_given r.end.answered ≡ [] = ap puts_given none in
       let run : Run (start routers) (openings 0 (length (start routers).nodes)) r.end =
@@ -101,7 +101,7 @@ module _ {S : Type 0} (view : S → SeatView) (seats : List S) (gives : ℕ → 
         next = 0;
         pipes = opens r.end run;
         one = record { moments = tt; routers = tt; links = tt; numbers = tt };
-        stands = subst (λ (l : List ToLink). StandsFor view seats post l r.end 0) (sym silent) r.stands;
+        stands = subst (λ (l : List ToLink). StandsFor view seats network l r.end 0) (sym silent) r.stands;
         put = λ told. sym (ap (λ (l : List ToLink). held ++ bytes_of l) silent ∙ append-nil held);
         asked = record { all = refl; each = tt };
         count = refl;
@@ -131,7 +131,7 @@ module _ {S : Type 0} (view : S → SeatView) (seats : List S) (gives : ℕ → 
 
 -- ONE REQUEST
 
-module _ {S : Type 0} (view : S → SeatView) (seats seats_after : List S) (before : PostView) (gives : ℕ → Type 0) (routers : ℕ) (tells : Bool)
+module _ {S : Type 0} (view : S → SeatView) (seats seats_after : List S) (before : NetworkView) (gives : ℕ → Type 0) (routers : ℕ) (tells : Bool)
     (held_before held consumed : List ℕ) (replied : ℕ) (s : Serving view seats before gives routers tells held_before held consumed replied)
     (moment : ℕ) (number : ℤ) (asked q : Request) (given : gives moment) (numbered : number ≡ number_behind replied) (same : asked ≡ q) (is : IsRequest q) where
   numbered_behind : number ≡ number_behind (replies_behind 0 (requests_of s.rounds))
@@ -182,8 +182,8 @@ module _ {S : Type 0} (view : S → SeatView) (seats seats_after : List S) (befo
     crashes = h.crashes;
   }
 
-  module _ {M : Type 0} (letter : M → Letter) (old new : Post M)
-      (h : HasServed view seats_after (post_view letter old) (puts_given s.world.answered) s.world s.next (round_of moment number asked))
+  module _ {M : Type 0} (letter : M → Letter) (old new : Network M)
+      (h : HasServed view seats_after (network_view letter old) (puts_given s.world.answered) s.world s.next (round_of moment number asked))
       (waits : new.waiting.items ≡ old.waiting.items) (none : new.replies.items ≡ []) where
     puts_are : puts_given h.end.answered ≡ puts_given s.world.answered ++ old.replies.items
     puts_are = h.stands.given
@@ -193,7 +193,7 @@ module _ {S : Type 0} (view : S → SeatView) (seats seats_after : List S) (befo
 
     -- all replies of the round were put
     pub served_one : (held' : List ℕ) (after : ℕ) → Put tells held (bytes_of old.replies.items) held' → after ≡ replies_after q.more replied
-        → Serving view seats_after (post_view letter new) gives routers tells held_before held' (consumed ++ q.bytes) after
+        → Serving view seats_after (network_view letter new) gives routers tells held_before held' (consumed ++ q.bytes) after
     served_one held' after put counted = record {
       rounds = s.rounds ++ round_of moment number asked ∷ [];
       events = s.events ++ h.events;
@@ -201,7 +201,7 @@ module _ {S : Type 0} (view : S → SeatView) (seats seats_after : List S) (befo
       next = length h.end.sent;
       pipes = serves s.rounds (round_of moment number asked) s.events h.events s.world h.end s.next s.pipes h.round;
       one = rounds_one;
-      stands = subst (λ (l : List ToLink). StandsFor view seats_after (post_view letter new) l h.end (length h.end.sent)) (sym puts_are)
+      stands = subst (λ (l : List ToLink). StandsFor view seats_after (network_view letter new) l h.end (length h.end.sent)) (sym puts_are)
           (handed_on view letter seats_after (puts_given s.world.answered) h.end (length h.end.sent) old new h.stands waits none);
       put = subst (λ (b : List ℕ). Put tells held_before b held') (sym bytes_are)
           (put_then tells held_before (bytes_of (puts_given s.world.answered)) held (bytes_of old.replies.items) held' s.put put);

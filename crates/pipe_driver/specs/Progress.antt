@@ -8,7 +8,7 @@ use Rattle.opmsg_frames.specs.declared.request.Request as frames
 use Rattle.node_model.specs.World.{World, Event}
 use Rattle.node_model.specs.Schedule.{Round, IsRound, Pipes}
 use Rattle.driver_steps.specs.Seats.{SeatView, AreKept, LeaveKept}
-use Rattle.driver_steps.specs.Worlds.{PostView, StandsFor, puts_given}
+use Rattle.driver_steps.specs.Worlds.{NetworkView, StandsFor, puts_given}
 use Rattle.pipe_driver.specs.Pieces.{IsPrefix}
 use Rattle.pipe_driver.specs.Rounds.{requests_of, replies_behind, AreOfOne, bytes_of}
 use Rattle.pipe_driver.specs.Schedules.{Came, IsLast}
@@ -24,7 +24,7 @@ pub record AreAsked (bytes : List ℕ) (requests : List Request) : Type 0 where
   pub each : AllByRecursion IsRequest requests
 
 -- These bytes were served, in whole rounds: nodes, logs and messages are those of the world behind them, and all replies were put.
-pub record Serving {S : Type 0} (view : S → SeatView) (seats : List S) (post : PostView) (gives : ℕ → Type 0) (routers : ℕ) (tells : Bool)
+pub record Serving {S : Type 0} (view : S → SeatView) (seats : List S) (network : NetworkView) (gives : ℕ → Type 0) (routers : ℕ) (tells : Bool)
     (held_before held consumed : List ℕ) (replied : ℕ) : Type 0 where
   pub rounds : List Round
   pub events : List Event
@@ -32,7 +32,7 @@ pub record Serving {S : Type 0} (view : S → SeatView) (seats : List S) (post :
   pub next : ℕ
   pub pipes : Pipes routers rounds events world next
   pub one : AreOfOne gives rounds
-  pub stands : StandsFor view seats post (puts_given world.answered) world next
+  pub stands : StandsFor view seats network (puts_given world.answered) world next
   pub put : Put tells held_before (bytes_of (puts_given world.answered)) held
   pub asked : AreAsked consumed (requests_of rounds)
   pub count : replied ≡ replies_behind 0 (requests_of rounds)

@@ -6,7 +6,7 @@ use Rattle.node_model.specs.World.{World, Event, client_event, Happens, Run, sta
 use Rattle.node_model.specs.Schedule.{openings, moments_given, Round, IsRound, Pipes}
 use Rattle.node_traits.specs.declared.outputs.ToLink.{ToLink}
 use Rattle.driver_steps.specs.Seats.{SeatView}
-use Rattle.driver_steps.specs.Worlds.{PostView, StandsFor}
+use Rattle.driver_steps.specs.Worlds.{NetworkView, StandsFor}
 use Rattle.driver_steps.specs.Moves.{BeginWith, AreDeliveries}
 use Rattle.pipe_driver.specs.Rounds.{first_router, first_link, number_behind, replies_behind, requests_of}
 use Rattle.pipe_driver.specs.declared.status.Status.{Status}
@@ -23,12 +23,12 @@ pub data IsPart (count : ℕ) (r : Round) : List Event → Type 0 where
       → IsPart count r (moments_given 0 count r.moment ++ client_event r.at r.link r.number r.request ∷ deliveries)
 
 -- The round happened: nodes and logs, messages and replies are those of the world behind it.
-pub record HasServed {S : Type 0} (view : S → SeatView) (seats : List S) (post : PostView) (handed : List ToLink) (before : World) (next : ℕ)
+pub record HasServed {S : Type 0} (view : S → SeatView) (seats : List S) (network : NetworkView) (handed : List ToLink) (before : World) (next : ℕ)
     (r : Round) : Type 0 where
   pub events : List Event
   pub end : World
   pub round : IsRound before next r events end
-  pub stands : StandsFor view seats post handed end (length end.sent)
+  pub stands : StandsFor view seats network handed end (length end.sent)
 
 -- The schedule came to an end of rounds, to the world behind them (`whole`), and then to the last one (`end`), with no request under way, or with one.
 pub data Came (routers : ℕ) (gives : ℕ → Type 0) : (rounds : List Round) → (under_way : List Request) → (whole end : World) → Type 0 where

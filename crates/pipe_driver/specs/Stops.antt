@@ -4,7 +4,7 @@ use Rattle.opmsg_frames.specs.Outline.{FrameFault, outline, partial_outline, fau
 use Rattle.node_traits.specs.declared.outputs.StepFault.{StepFault}
 use Rattle.node_traits.specs.declared.outputs.StepFault.TheVariants.{Disk, Steps, Memory}
 use Rattle.driver_steps.specs.Seats.{SeatView}
-use Rattle.driver_steps.specs.Worlds.{PostView}
+use Rattle.driver_steps.specs.Worlds.{NetworkView}
 use Rattle.pipe_driver.specs.Progress.{Serving, CutShort, PutShort}
 use Rattle.pipe_driver.specs.declared.status.Status.{Status}
 use Rattle.pipe_driver.specs.declared.status.Status.TheVariants as statuses
@@ -25,10 +25,10 @@ pub data StopsAtRequest {S : Type 0} (view : S → SeatView) (seats : List S) (g
   at_no_memory : CutShort view seats gives routers tells held_before held consumed statuses.OutOfMemory
       → StopsAtRequest view seats gives routers tells held_before held consumed statuses.OutOfMemory
 
-abbrev pub AfterOne : {S : Type 0} → Result ℕ Status → (S → SeatView) → List S → PostView → (ℕ → Type 0) → ℕ → Bool → List ℕ → List ℕ → List ℕ → Type 0
-AfterOne (Ok replied) view seats post gives routers tells held_before held consumed =
-    Serving view seats post gives routers tells held_before held consumed replied
-AfterOne (Err status) view seats post gives routers tells held_before held consumed =
+abbrev pub AfterOne : {S : Type 0} → Result ℕ Status → (S → SeatView) → List S → NetworkView → (ℕ → Type 0) → ℕ → Bool → List ℕ → List ℕ → List ℕ → Type 0
+AfterOne (Ok replied) view seats network gives routers tells held_before held consumed =
+    Serving view seats network gives routers tells held_before held consumed replied
+AfterOne (Err status) view seats network gives routers tells held_before held consumed =
     StopsAtRequest view seats gives routers tells held_before held consumed status
 
 -- the bytes begin with no request, however they go on
@@ -36,27 +36,27 @@ abbrev pub IsMalformed : List ℕ → Type 0
 IsMalformed bytes = (fault : FrameFault) × (outline bytes ≡ faulty_outline fault)
 
 -- requests were served to the last one, with some number of replies
-abbrev pub HasServedAll : {S : Type 0} → (S → SeatView) → List S → PostView → (ℕ → Type 0) → ℕ → Bool → List ℕ → List ℕ → List ℕ → Type 0
-HasServedAll view seats post gives routers tells held_before held consumed =
-    (replied : ℕ) × Serving view seats post gives routers tells held_before held consumed replied
+abbrev pub HasServedAll : {S : Type 0} → (S → SeatView) → List S → NetworkView → (ℕ → Type 0) → ℕ → Bool → List ℕ → List ℕ → List ℕ → Type 0
+HasServedAll view seats network gives routers tells held_before held consumed =
+    (replied : ℕ) × Serving view seats network gives routers tells held_before held consumed replied
 
 -- why no further request is served: what is left begins with none, or the last one stopped
-abbrev pub StopsServing : {S : Type 0} → Status → (S → SeatView) → List S → PostView → (ℕ → Type 0) → ℕ → Bool → List ℕ → List ℕ → List ℕ → List ℕ → Type 0
-StopsServing status view seats post gives routers tells held_before held consumed rest =
-    ((status ≡ statuses.BadInput) × IsMalformed rest × HasServedAll view seats post gives routers tells held_before held consumed)
+abbrev pub StopsServing : {S : Type 0} → Status → (S → SeatView) → List S → NetworkView → (ℕ → Type 0) → ℕ → Bool → List ℕ → List ℕ → List ℕ → List ℕ → Type 0
+StopsServing status view seats network gives routers tells held_before held consumed rest =
+    ((status ≡ statuses.BadInput) × IsMalformed rest × HasServedAll view seats network gives routers tells held_before held consumed)
     ⊎ StopsAtRequest view seats gives routers tells held_before held consumed status
 
-abbrev pub AfterAll : {S : Type 0} → Result ℕ Status → (S → SeatView) → List S → PostView → (ℕ → Type 0) → ℕ → Bool → List ℕ → List ℕ → List ℕ → List ℕ → Type 0
-AfterAll (Ok replied) view seats post gives routers tells held_before held consumed rest =
-    (outline rest ≡ partial_outline) × Serving view seats post gives routers tells held_before held consumed replied
-AfterAll (Err status) view seats post gives routers tells held_before held consumed rest =
-    StopsServing status view seats post gives routers tells held_before held consumed rest
+abbrev pub AfterAll : {S : Type 0} → Result ℕ Status → (S → SeatView) → List S → NetworkView → (ℕ → Type 0) → ℕ → Bool → List ℕ → List ℕ → List ℕ → List ℕ → Type 0
+AfterAll (Ok replied) view seats network gives routers tells held_before held consumed rest =
+    (outline rest ≡ partial_outline) × Serving view seats network gives routers tells held_before held consumed replied
+AfterAll (Err status) view seats network gives routers tells held_before held consumed rest =
+    StopsServing status view seats network gives routers tells held_before held consumed rest
 
 -- the same, of all bytes that were fed: those of requests that were taken, and the rest
-abbrev pub AfterRequests : {S : Type 0} → Result ℕ Status → (S → SeatView) → List S → PostView → (ℕ → Type 0) → ℕ → Bool → List ℕ → List ℕ
+abbrev pub AfterRequests : {S : Type 0} → Result ℕ Status → (S → SeatView) → List S → NetworkView → (ℕ → Type 0) → ℕ → Bool → List ℕ → List ℕ
     → (bytes rest : List ℕ) → Type 0
-AfterRequests result view seats post gives routers tells held_before held bytes rest =
-    (consumed : List ℕ) × (bytes ≡ consumed ++ rest) × AfterAll result view seats post gives routers tells held_before held consumed rest
+AfterRequests result view seats network gives routers tells held_before held bytes rest =
+    (consumed : List ℕ) × (bytes ≡ consumed ++ rest) × AfterAll result view seats network gives routers tells held_before held consumed rest
 
 -- a status that serving may stop with: not that of a read, nor that of an input at its end
 abbrev pub IsOfServing : Status → Type 0

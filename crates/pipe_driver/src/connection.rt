@@ -5,7 +5,7 @@ ghost use Rattle.outside.specs.Devices.{sink_call, source_call};
 ghost use Rattle.node_model.specs.World.{start};
 ghost use Rattle.driver_steps.specs.Crashes.{Since};
 ghost use Rattle.driver_steps.specs.Seats.{AreHeld, AreKept, AreOpen, LeaveKept, faults_of, places_of, seat_since, seat_view, since_then};
-ghost use Rattle.driver_steps.specs.Worlds.{post_view};
+ghost use Rattle.driver_steps.specs.Worlds.{network_view};
 ghost use Rattle.pipe_driver.specs.Counts.{HaveRisenWhere, RoseWhere};
 ghost use Rattle.pipe_driver.specs.Endings.{IsPiped, most_taken};
 ghost use Rattle.pipe_driver.specs.Progress.{AreAskedAsRead, Serving};
@@ -16,7 +16,7 @@ use crate::requests::answer_all;
 use crate::rest::unframed;
 use crate::status::Status;
 use crate::streams::{PIECE, new_piece, take_more};
-use driver_steps::{Post, Seat, open_all};
+use driver_steps::{Network, Seat, open_all};
 use node_traits::Node;
 use opmsg_frames::{Framer, Request};
 use outside::clock::Clock;
@@ -79,9 +79,9 @@ pub fn pipe<R: Threads + Sync, N: Node<Request = Request>, L: Log, S: Source, K:
         (faults_of L.fault_count seats.new.items) }
     ensures places { places_of L.place seats.new.items ≡ places_of L.place seats.old.items }
 {
-    let mut post = Post::new(alloc);
-    match open_all(seats, &mut post) {
-        Ok(()) => serve(rt, alloc, input, out, seats, post, clock, limit),
+    let mut network = Network::new(alloc);
+    match open_all(seats, &mut network) {
+        Ok(()) => serve(rt, alloc, input, out, seats, network, clock, limit),
         Err(e) => ended(Status::of(e), 0),
     }
 }
@@ -93,7 +93,7 @@ fn serve<R: Threads + Sync, N: Node<Request = Request>, L: Log, S: Source, K: Si
     input: &mut S,
     out: &mut K,
     seats: &mut Vec<Seat<N, L>>,
-    post: Post<N::Mail>,
+    network: Network<N::Mail>,
     clock: &C,
     limit: u64,
 ) -> Ending
@@ -101,7 +101,7 @@ fn serve<R: Threads + Sync, N: Node<Request = Request>, L: Log, S: Source, K: Si
     requires open { AreOpen L.is_open seats.old.items }
     requires limit { limit ≤ most_taken }
     ensures piped { AreAskedAsRead N.asks → (since : Since L) (routers : ℕ) → 0 < routers →
-        Serving (seat_since N.state L.tells L.records L.holds L.finds L.moment L.left_since since) seats.old.items (post_view (λ m. N.Mail.letter m) post)
+        Serving (seat_since N.state L.tells L.records L.holds L.finds L.moment L.left_since since) seats.old.items (network_view (λ m. N.Mail.letter m) network)
         (C.gives clock.now) routers K.tells (K.held out.old) (K.held out.old) [] 0 →
         IsPiped (source_call S.tells S.left S.fault_count input.old input.new) (sink_call K.tells K.held K.fault_count out.old out.new)
         (C.gives clock.now) (AreKept (seat_since N.state L.tells L.records L.holds L.finds L.moment L.left_since since) seats.new.items)
@@ -115,7 +115,7 @@ fn serve<R: Threads + Sync, N: Node<Request = Request>, L: Log, S: Source, K: Si
         (faults_of L.fault_count seats.new.items) }
     ensures places { places_of L.place seats.new.items ≡ places_of L.place seats.old.items }
 {
-    let mut post = post;
+    let mut network = network;
     let mut framer = Framer::new(alloc);
     let Ok(mut piece) = new_piece(alloc) else {
         return ended(Status::OutOfMemory, 0);
@@ -136,7 +136,16 @@ fn serve<R: Threads + Sync, N: Node<Request = Request>, L: Log, S: Source, K: Si
         let Ok(()) = framer.feed(&piece[..count]) else {
             return ended(Status::OutOfMemory, framer.rest().len());
         };
-        match answer_all(rt, alloc, &mut framer, seats, &mut post, puts, out, clock) {
+        match answer_all(
+            rt,
+            alloc,
+            &mut framer,
+            seats,
+            &mut network,
+            puts,
+            out,
+            clock,
+        ) {
             Ok(after) => puts = after,
             Err(status) => return ended(status, unframed(framer.rest())),
         }

@@ -7,7 +7,7 @@ ghost use Rattle.opmsg_frames.specs.Requests as wire;
 ghost use Rattle.opmsg_frames.specs.RequestMeanings.{IsMeant};
 ghost use Rattle.driver_steps.specs.Crashes.{Since};
 ghost use Rattle.driver_steps.specs.Seats.{AreOpen, faults_of, places_of, seat_since};
-ghost use Rattle.driver_steps.specs.Worlds.{post_view};
+ghost use Rattle.driver_steps.specs.Worlds.{network_view};
 ghost use Rattle.pipe_driver.specs.Counts.{HaveRisenWhere, RoseWhere};
 ghost use Rattle.pipe_driver.specs.Endings.{most_taken};
 ghost use Rattle.pipe_driver.specs.Progress.{AreAskedAsRead, Serving};
@@ -18,7 +18,7 @@ ghost use Rattle.pipe_driver.specs.declared.status.Status.TheVariants as statuse
 use crate::replies::{next_number, put_replies, replied_after};
 use crate::round::serve_round;
 use crate::status::Status;
-use driver_steps::{Post, Seat};
+use driver_steps::{Network, Seat};
 use node_traits::Node;
 use opmsg_frames::{FrameFault, Framer, Request};
 use outside::clock::Clock;
@@ -40,7 +40,7 @@ pub fn answer_one<R: Threads + Sync, N: Node<Request = Request>, L: Log, K: Sink
     alloc: Global,
     request: Request,
     seats: &mut Vec<Seat<N, L>>,
-    post: &mut Post<N::Mail>,
+    network: &mut Network<N::Mail>,
     replied: u64,
     out: &mut K,
     clock: &C,
@@ -50,10 +50,10 @@ pub fn answer_one<R: Threads + Sync, N: Node<Request = Request>, L: Log, K: Sink
     requires count { replied < 2 ^ 63 }
     ensures served { AreAskedAsRead N.asks → (meant : wire.Request) → IsMeant request meant → wire.IsRequest meant →
         (since : Since L) (routers : ℕ) → 0 < routers → (held_before consumed : List ℕ) →
-        Serving (seat_since N.state L.tells L.records L.holds L.finds L.moment L.left_since since) seats.old.items (post_view (λ m. N.Mail.letter m) post.old)
+        Serving (seat_since N.state L.tells L.records L.holds L.finds L.moment L.left_since since) seats.old.items (network_view (λ m. N.Mail.letter m) network.old)
         (C.gives clock.now) routers K.tells held_before (K.held out.old) consumed replied →
         AfterOne result (seat_since N.state L.tells L.records L.holds L.finds L.moment L.left_since since) seats.new.items
-        (post_view (λ m. N.Mail.letter m) post.new)
+        (network_view (λ m. N.Mail.letter m) network.new)
         (C.gives clock.now) routers K.tells held_before (K.held out.new) (consumed ++ meant.bytes) }
     ensures replied { IfOk result (λ after. after ≤ replied + 1) }
     ensures len { vec_len seats.new ≡ vec_len seats.old }
@@ -69,11 +69,11 @@ pub fn answer_one<R: Threads + Sync, N: Node<Request = Request>, L: Log, K: Sink
     let more = request.more;
     let moment = clock.now();
     let number = next_number(replied);
-    match serve_round(rt, alloc, seats, post, moment, number, request) {
+    match serve_round(rt, alloc, seats, network, moment, number, request) {
         Ok(()) => {}
         Err(e) => return Err(Status::of(e)),
     }
-    let replies = post.hand_on(alloc);
+    let replies = network.hand_on(alloc);
     match put_replies(out, &replies) {
         Ok(()) => Ok(replied_after(more, replied)),
         Err(_) => Err(Status::WriteFailed),
@@ -91,7 +91,7 @@ pub fn answer_all<R: Threads + Sync, N: Node<Request = Request>, L: Log, K: Sink
     alloc: Global,
     framer: &mut Framer,
     seats: &mut Vec<Seat<N, L>>,
-    post: &mut Post<N::Mail>,
+    network: &mut Network<N::Mail>,
     replied: u64,
     out: &mut K,
     clock: &C,
@@ -102,10 +102,10 @@ pub fn answer_all<R: Threads + Sync, N: Node<Request = Request>, L: Log, K: Sink
     requires fault { framer.old.fault ≡ None }
     requires count { replied ≤ framer.old.offset }
     ensures served { AreAskedAsRead N.asks → (since : Since L) (routers : ℕ) → 0 < routers → (held_before consumed : List ℕ) →
-        Serving (seat_since N.state L.tells L.records L.holds L.finds L.moment L.left_since since) seats.old.items (post_view (λ m. N.Mail.letter m) post.old)
+        Serving (seat_since N.state L.tells L.records L.holds L.finds L.moment L.left_since since) seats.old.items (network_view (λ m. N.Mail.letter m) network.old)
         (C.gives clock.now) routers K.tells held_before (K.held out.old) consumed replied →
         AfterRequests result (seat_since N.state L.tells L.records L.holds L.finds L.moment L.left_since since) seats.new.items
-        (post_view (λ m. N.Mail.letter m) post.new)
+        (network_view (λ m. N.Mail.letter m) network.new)
         (C.gives clock.now) routers K.tells held_before (K.held out.new) (consumed ++ framer.old.bytes) framer.new.bytes }
     ensures partial { OnOk result (outline framer.new.bytes ≡ partial_outline) }
     ensures fed { framer.new.offset + length framer.new.bytes ≡ framer.old.offset + length framer.old.bytes }
@@ -129,7 +129,7 @@ pub fn answer_all<R: Threads + Sync, N: Node<Request = Request>, L: Log, K: Sink
             Err(FrameFault::Malformed { .. }) => return Err(Status::BadInput),
             Err(FrameFault::Memory) => return Err(Status::OutOfMemory),
         };
-        match answer_one(rt, alloc, request, seats, post, replied, out, clock) {
+        match answer_one(rt, alloc, request, seats, network, replied, out, clock) {
             Ok(after) => replied = after,
             Err(status) => return Err(status),
         }

@@ -7,11 +7,11 @@ ghost use Rattle.node_traits.specs.declared.outputs.ToLink.{ToLink};
 ghost use Rattle.driver_steps.specs.Crashes.{Since};
 ghost use Rattle.driver_steps.specs.Seats.{AreOpen, TellsFaults, faults_of, places_of, seat_since};
 ghost use Rattle.driver_steps.specs.Moves.{HasStopped};
-ghost use Rattle.driver_steps.specs.Worlds.{StandsFor, post_view};
+ghost use Rattle.driver_steps.specs.Worlds.{StandsFor, network_view};
 ghost use Rattle.pipe_driver.specs.Rounds.{first_router};
 ghost use Rattle.pipe_driver.specs.Schedules.{HasServed, IsPart, round_of};
 
-use driver_steps::{Post, Seat, ask, give_moments, settle};
+use driver_steps::{Network, Seat, ask, give_moments, settle};
 use node_traits::{Node, StepFault};
 use outside::log::Log;
 use std::alloc::Global;
@@ -33,7 +33,7 @@ pub fn serve_round<R: Threads + Sync, N: Node, L: Log>(
     rt: &R,
     alloc: Global,
     seats: &mut Vec<Seat<N, L>>,
-    post: &mut Post<N::Mail>,
+    network: &mut Network<N::Mail>,
     moment: u64,
     number: i32,
     request: N::Request,
@@ -43,16 +43,16 @@ pub fn serve_round<R: Threads + Sync, N: Node, L: Log>(
     ensures served { (since : Since L) (routers : ℕ) (rounds : List Round) (events : List Event) (w : World) (next : ℕ) (handed : List ToLink) →
         0 < routers → Pipes routers rounds events w next →
         StandsFor (seat_since N.state L.tells L.records L.holds L.finds L.moment L.left_since since) seats.old.items
-        (post_view (λ m. N.Mail.letter m) post.old) handed w next →
+        (network_view (λ m. N.Mail.letter m) network.old) handed w next →
         OnOk result (HasServed (seat_since N.state L.tells L.records L.holds L.finds L.moment L.left_since since) seats.new.items
-        (post_view (λ m. N.Mail.letter m) post.new) handed w next
+        (network_view (λ m. N.Mail.letter m) network.new) handed w next
         (round_of moment number (N.asks request))) }
     ensures stopped { (since : Since L) (routers : ℕ) (rounds : List Round) (events : List Event) (w : World) (next : ℕ) (handed : List ToLink) →
         0 < routers → Pipes routers rounds events w next →
         StandsFor (seat_since N.state L.tells L.records L.holds L.finds L.moment L.left_since since) seats.old.items
-        (post_view (λ m. N.Mail.letter m) post.old) handed w next →
+        (network_view (λ m. N.Mail.letter m) network.old) handed w next →
         IfErr result (λ e. HasStopped (seat_since N.state L.tells L.records L.holds L.finds L.moment L.left_since since) seats.new.items
-        post.new.replies.items handed w (IsPart (vec_len seats.old) (round_of moment number (N.asks request))) e) }
+        network.new.replies.items handed w (IsPart (vec_len seats.old) (round_of moment number (N.asks request))) e) }
     ensures len { vec_len seats.new ≡ vec_len seats.old }
     ensures open { OnOk result (AreOpen L.is_open seats.new.items) }
 
@@ -60,15 +60,15 @@ pub fn serve_round<R: Threads + Sync, N: Node, L: Log>(
     ensures faults { TellsFaults result (faults_of L.fault_count seats.old.items) (faults_of L.fault_count seats.new.items) }
     ensures places { places_of L.place seats.new.items ≡ places_of L.place seats.old.items }
 {
-    match give_moments(seats, post, moment) {
+    match give_moments(seats, network, moment) {
         Ok(()) => {}
         Err(e) => return Err(e),
     }
-    match ask(seats, post, FIRST_ROUTER, FIRST_LINK, number, request) {
+    match ask(seats, network, FIRST_ROUTER, FIRST_LINK, number, request) {
         Ok(()) => {}
         Err(e) => return Err(e),
     }
-    match settle(rt, alloc, seats, post) {
+    match settle(rt, alloc, seats, network) {
         Ok(()) => Ok(()),
         Err(e) => Err(e),
     }

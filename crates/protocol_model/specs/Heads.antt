@@ -2,7 +2,7 @@
 use Rattle.std.specs.Prelude.{ℕ, List, [], ◌∷◌}
 use Rattle.bson_values.specs.Tree.{no_fields}
 use Rattle.opmsg_frames.specs.Requests as wire
-use Rattle.opmsg_frames.specs.RequestMeanings.{form_meant}
+use Rattle.opmsg_frames.specs.RequestMeanings.{form_view}
 use Rattle.opmsg_frames.specs.declared.request.Request.{Request}
 use Rattle.protocol_model.specs.Requests.{body_of}
 use Rattle.protocol_model.specs.declared.head.Head.{Head}
@@ -17,4 +17,4 @@ bytes_came (c ∷ more) = c.0.bytes
 
 -- the request that came: its documents and its bytes are there for proofs alone
 abbrev pub head_request : Head → wire.Request
-head_request h = record { id = h.id; more = h.more; form = form_meant h.form; body = body_came h.came.items; bytes = bytes_came h.came.items }
+head_request h = record { id = h.id; more = h.more; form = form_view h.form; body = body_came h.came.items; bytes = bytes_came h.came.items }

@@ -1,7 +1,7 @@
 -- The messages of the definitions that those of the program are.
 use Rattle.node_traits.specs.Letters as letters
 use Rattle.protocol_model.specs.declared.message.Message.{Message}
-use Rattle.protocol_model.specs.Bodies.{body_meant}
+use Rattle.protocol_model.specs.Bodies.{body_view}
 
 abbrev pub letter_of : Message → letters.Letter
-letter_of m = record { sender = m.sender.0; receiver = m.receiver.0; time = m.time.0; body = body_meant m.body }
+letter_of m = record { sender = m.sender.0; receiver = m.receiver.0; time = m.time.0; body = body_view m.body }

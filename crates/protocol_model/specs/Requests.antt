@@ -6,7 +6,7 @@ use Rattle.bson_values.specs.declared.fault.BsonFault.TheVariants.{Short, BadLen
 use Rattle.opmsg_frames.specs.declared.request.Body.{Body}
 use Rattle.opmsg_frames.specs.declared.request.Body.TheVariants.{Read, Faulty}
 use Rattle.opmsg_frames.specs.declared.request.Request.{Request}
-use Rattle.opmsg_frames.specs.RequestMeanings.{form_meant}
+use Rattle.opmsg_frames.specs.RequestMeanings.{form_view}
 
 -- A framer tells want of memory itself, so no request has it for a fault: what it would be says nothing.
 abbrev pub faulty_body_of : BsonFault → wire.Body
@@ -24,4 +24,4 @@ body_of (Read document sequences) = wire.read_body document sequences
 body_of (Faulty fault) = faulty_body_of fault
 
 abbrev pub request_of : Request → wire.Request
-request_of r = record { id = r.id; more = r.more; form = form_meant r.form; body = body_of r.body; bytes = r.bytes }
+request_of r = record { id = r.id; more = r.more; form = form_view r.form; body = body_of r.body; bytes = r.bytes }

@@ -14,20 +14,20 @@ use Rattle.protocol_model.specs.declared.statement.Operation.{Operation}
 use Rattle.protocol_model.specs.declared.statement.Operation.TheVariants.{Insert, Change}
 use Rattle.protocol_model.specs.declared.statement.Statement.{Statement}
 use Rattle.protocol_model.specs.declared.statement.Outcome.{Outcome}
-use Rattle.protocol_model.specs.declared.statement.StatementAnswer.{StatementAnswer}
-use Rattle.protocol_model.specs.declared.statement.StatementAnswer.TheVariants.{WasDone, Older}
+use Rattle.protocol_model.specs.declared.statement.StatementOutcome.{StatementOutcome}
+use Rattle.protocol_model.specs.declared.statement.StatementOutcome.TheVariants.{WasDone, Older}
 use Rattle.protocol_model.specs.declared.statement.Done.{Done}
 
-abbrev pub operation_meant : Operation → history.Operation
-operation_meant (Insert document) = insert_operation document
-operation_meant (Change operation) = operation
+abbrev pub operation_view : Operation → history.Operation
+operation_view (Insert document) = insert_operation document
+operation_view (Change operation) = operation
 
 -- a statement of a request, with the number that its client gave or the router's own
-abbrev pub statement_meant : Option ClientNumber → RequestId → Statement → letters.Statement
-statement_meant given id s = record { number = number_for given id s.index; operation = operation_meant s.operation }
+abbrev pub statement_view : Option ClientNumber → RequestId → Statement → letters.Statement
+statement_view given id s = record { number = number_for given id s.index; operation = operation_view s.operation }
 
-abbrev pub outcome_meant : Outcome → history.Outcome
-outcome_meant o = record {
+abbrev pub outcome_view : Outcome → history.Outcome
+outcome_view o = record {
   count = o.count;
   modified = o.modified;
   upserted = option_map (λ key. arc_value key) o.upserted;
@@ -35,9 +35,9 @@ outcome_meant o = record {
       meaning_of o.error;
 }
 
-abbrev pub answer_meant : StatementAnswer → outcomes.StatementAnswer
-answer_meant (WasDone time outcome) = was_done time.0 (outcome_meant outcome)
-answer_meant (Older greatest) = is_older greatest
+abbrev pub answer_view : StatementOutcome → outcomes.StatementOutcome
+answer_view (WasDone time outcome) = was_done time.0 (outcome_view outcome)
+answer_view (Older greatest) = is_older greatest
 
-abbrev pub done_meant : Done → outcomes.Done
-done_meant d = record { index = d.index; answer = answer_meant d.answer }
+abbrev pub done_view : Done → outcomes.Done
+done_view d = record { index = d.index; answer = answer_view d.answer }

@@ -2,7 +2,7 @@
 
 ghost use Rattle.std.specs.Prelude.{◌≡◌, IfOk};
 ghost use Rattle.node_traits.specs.Kinds.{kind_of};
-ghost use Rattle.protocol_model.specs.Bodies.{body_meant};
+ghost use Rattle.protocol_model.specs.Bodies.{body_view};
 
 use crate::reads::{HalfAsk, ReadAsk, ReadRows, TimeAsk, TimeTold};
 use crate::tables::{TableAsk, TableTold};
@@ -38,7 +38,7 @@ pub enum Body {
 impl Body {
     /// The name of the message's kind.
     pub fn kind(&self) -> &'static str
-        ensures { result.now ≡ kind_of (body_meant self.now) }
+        ensures { result.now ≡ kind_of (body_view self.now) }
     {
         match self {
             Body::TableAsk(_) => "TableAsk",
@@ -56,7 +56,7 @@ impl Body {
 
     /// The same once more. Documents, keys and tables are shared. Fails for want of memory.
     pub fn copy(&self, alloc: Global) -> Result<Body, Memory>
-        ensures { IfOk result (λ body. body_meant body ≡ body_meant self.now) }
+        ensures { IfOk result (λ body. body_view body ≡ body_view self.now) }
     {
         match self {
             Body::TableAsk(ask) => Ok(Body::TableAsk(ask.copy()?)),

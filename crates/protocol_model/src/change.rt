@@ -3,7 +3,7 @@
 ghost use Rattle.std.specs.Prelude.{◌≡◌, IfOk};
 ghost use Rattle.std.specs.Arc.{arc_value};
 ghost use Rattle.command_model.specs.CommandSizes.{IsKeepable};
-ghost use Rattle.shard_records.specs.Meanings.{operation_meant};
+ghost use Rattle.shard_records.specs.Meanings.{operation_view};
 
 use bson_values::Memory;
 use std::alloc::Global;
@@ -28,18 +28,18 @@ impl Model for NewChange {
 
     ghost use Rattle.std.specs.Arc.{arc_value};
     ghost use Rattle.command_model.specs.CommandSizes.{IsKeepable};
-    ghost use Rattle.shard_records.specs.Meanings.{operation_meant};
+    ghost use Rattle.shard_records.specs.Meanings.{operation_view};
 
-    ghost view = { λ c. operation_meant (arc_value c.words) };
+    ghost view = { λ c. operation_view (arc_value c.words) };
 
-    ghost invariant = { λ c. IsKeepable (operation_meant (arc_value c.words)) };
+    ghost invariant = { λ c. IsKeepable (operation_view (arc_value c.words)) };
 }
 
 impl NewChange {
     /// The words, to be shared. Fails for want of memory.
     pub fn of(alloc: Global, words: OpWords) -> Result<NewChange, Memory>
-        requires { IsKeepable (operation_meant words) }
-        ensures { IfOk result (λ new. new ≡ operation_meant words) }
+        requires { IsKeepable (operation_view words) }
+        ensures { IfOk result (λ new. new ≡ operation_view words) }
     {
         let words = Arc::new(alloc, words)?;
         Ok(NewChange { words })
@@ -47,7 +47,7 @@ impl NewChange {
 
     /// The words that it is, which may be kept.
     pub fn words(&self) -> &Arc<OpWords, Global>
-        ensures same { operation_meant (arc_value result.now) ≡ self.now }
+        ensures same { operation_view (arc_value result.now) ≡ self.now }
         ensures keepable { IsKeepable self.now }
     {
         &self.words

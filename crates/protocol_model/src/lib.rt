@@ -22,6 +22,6 @@ pub use input::Input;
 pub use lists::{DocumentList, DoneList, StatementList};
 pub use message::Message;
 pub use reads::{HalfAsk, HalfFault, ReadAsk, ReadRows, TimeAsk, TimeTold};
-pub use statement::{Done, Operation, Outcome, Statement, StatementAnswer};
+pub use statement::{Done, Operation, Outcome, Statement, StatementOutcome};
 pub use tables::{At, TableAsk, TableTold};
 pub use writes::{WriteAsk, WriteDone};

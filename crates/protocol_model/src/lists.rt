@@ -3,7 +3,7 @@
 ghost use Rattle.std.specs.Prelude.{◌≡◌, IfOk, Option, map};
 ghost use Rattle.command_model.specs.Writes.{ClientNumber};
 ghost use Rattle.node_traits.specs.Exchanges.{RequestId};
-ghost use Rattle.protocol_model.specs.Statements.{done_meant, statement_meant};
+ghost use Rattle.protocol_model.specs.Statements.{done_view, statement_view};
 
 use crate::statement::{Done, Statement};
 use bson_values::{Document, Memory};
@@ -24,8 +24,8 @@ pub(crate) fn copy_statements(
     alloc: Global,
     statements: &[Statement],
 ) -> Result<StatementList, Memory>
-    ensures { (given : Option ClientNumber) (id : RequestId) → IfOk result (λ list. map (statement_meant given id) list.items
-        ≡ map (statement_meant given id) statements.now) }
+    ensures { (given : Option ClientNumber) (id : RequestId) → IfOk result (λ list. map (statement_view given id) list.items
+        ≡ map (statement_view given id) statements.now) }
 {
     let mut list = Vec::new(alloc);
     for statement in statements {
@@ -36,7 +36,7 @@ pub(crate) fn copy_statements(
 
 /// The same once more. Fails for want of memory.
 pub(crate) fn copy_dones(alloc: Global, dones: &[Done]) -> Result<DoneList, Memory>
-    ensures { IfOk result (λ list. map done_meant list.items ≡ map done_meant dones.now) }
+    ensures { IfOk result (λ list. map done_view list.items ≡ map done_view dones.now) }
 {
     let mut list = Vec::new(alloc);
     for done in dones {

@@ -1,7 +1,7 @@
 //! Messages on reads.
 
 ghost use Rattle.std.specs.Prelude.{◌≡◌, IfOk};
-ghost use Rattle.protocol_model.specs.Bodies.{half_ask_meant, read_ask_meant, read_rows_meant};
+ghost use Rattle.protocol_model.specs.Bodies.{half_ask_view, read_ask_view, read_rows_view};
 
 use crate::lists::DocumentList;
 use bson_values::Memory;
@@ -35,7 +35,7 @@ pub struct ReadAsk {
 impl ReadAsk {
     /// The same once more, which shares the half. Fails for want of memory.
     pub fn copy(&self) -> Result<ReadAsk, Memory>
-        ensures { IfOk result (λ ask. read_ask_meant ask ≡ read_ask_meant self.now) }
+        ensures { IfOk result (λ ask. read_ask_view ask ≡ read_ask_view self.now) }
     {
         let namespace = self.namespace.copy()?;
         let half = Arc::try_clone(&self.half)?;
@@ -64,7 +64,7 @@ pub struct HalfAsk {
 impl HalfAsk {
     /// The same once more, which shares the half and the documents. Fails for want of memory.
     pub fn copy(&self, alloc: Global) -> Result<HalfAsk, Memory>
-        ensures { IfOk result (λ ask. half_ask_meant ask ≡ half_ask_meant self.now) }
+        ensures { IfOk result (λ ask. half_ask_view ask ≡ half_ask_view self.now) }
     {
         let namespace = self.namespace.copy()?;
         let half = Arc::try_clone(&self.half)?;
@@ -91,7 +91,7 @@ pub struct ReadRows {
 impl ReadRows {
     /// The same once more, which shares the documents. Fails for want of memory.
     pub fn copy(&self, alloc: Global) -> Result<ReadRows, Memory>
-        ensures { IfOk result (λ told. read_rows_meant told ≡ read_rows_meant self.now) }
+        ensures { IfOk result (λ told. read_rows_view told ≡ read_rows_view self.now) }
     {
         let rows = match &self.rows {
             Ok(rows) => Ok(rows.copy(alloc)?),

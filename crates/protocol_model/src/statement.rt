@@ -4,7 +4,7 @@ ghost use Rattle.std.specs.Prelude.{◌≡◌, IfOk, Option, is_some};
 ghost use Rattle.command_model.specs.Writes.{ClientNumber};
 ghost use Rattle.node_traits.specs.Exchanges.{RequestId};
 ghost use Rattle.node_traits.specs.Outcomes.{refusal_in};
-ghost use Rattle.protocol_model.specs.Statements.{answer_meant, done_meant, operation_meant, outcome_meant, statement_meant};
+ghost use Rattle.protocol_model.specs.Statements.{answer_view, done_view, operation_view, outcome_view, statement_view};
 
 use crate::change::NewChange;
 use crate::document::NewDocument;
@@ -26,7 +26,7 @@ pub enum Operation {
 impl Operation {
     /// The same once more, which shares its documents. Fails for want of memory.
     pub fn copy(&self) -> Result<Operation, Memory>
-        ensures { IfOk result (λ operation. operation_meant operation ≡ operation_meant self.now) }
+        ensures { IfOk result (λ operation. operation_view operation ≡ operation_view self.now) }
     {
         match self {
             Operation::Insert(document) => Ok(Operation::Insert(document.copy()?)),
@@ -46,7 +46,7 @@ impl Statement {
     /// The same statement once more, which shares its documents. Fails for want of memory.
     pub fn copy(&self) -> Result<Statement, Memory>
         ensures { (given : Option ClientNumber) (id : RequestId) →
-            IfOk result (λ statement. statement_meant given id statement ≡ statement_meant given id self.now) }
+            IfOk result (λ statement. statement_view given id statement ≡ statement_view given id self.now) }
     {
         let operation = self.operation.copy()?;
         Ok(Statement {
@@ -72,7 +72,7 @@ pub struct Outcome {
 impl Outcome {
     /// The same once more. Fails for want of memory.
     fn copy(&self) -> Result<Outcome, Memory>
-        ensures { IfOk result (λ outcome. outcome_meant outcome ≡ outcome_meant self.now) }
+        ensures { IfOk result (λ outcome. outcome_view outcome ≡ outcome_view self.now) }
     {
         let upserted = match &self.upserted {
             Some(key) => Some(Arc::try_clone(key)?),
@@ -89,7 +89,7 @@ impl Outcome {
 
 /// What a statement is told.
 #[derive(Drop)]
-pub enum StatementAnswer {
+pub enum StatementOutcome {
     /// It was done.
     WasDone {
         /// The time of its entry.
@@ -101,27 +101,27 @@ pub enum StatementAnswer {
     Older(i64),
 }
 
-impl StatementAnswer {
+impl StatementOutcome {
     /// Whether it is an error.
     pub fn fails(&self) -> bool
-        ensures { result ≡ is_some (refusal_in (answer_meant self.now)) }
+        ensures { result ≡ is_some (refusal_in (answer_view self.now)) }
     {
         match self {
-            StatementAnswer::WasDone { outcome, .. } => outcome.error.is_some(),
-            StatementAnswer::Older(_) => true,
+            StatementOutcome::WasDone { outcome, .. } => outcome.error.is_some(),
+            StatementOutcome::Older(_) => true,
         }
     }
 
     /// The same once more. Fails for want of memory.
-    fn copy(&self) -> Result<StatementAnswer, Memory>
-        ensures { IfOk result (λ answer. answer_meant answer ≡ answer_meant self.now) }
+    fn copy(&self) -> Result<StatementOutcome, Memory>
+        ensures { IfOk result (λ answer. answer_view answer ≡ answer_view self.now) }
     {
         match self {
-            StatementAnswer::WasDone { time, outcome } => Ok(StatementAnswer::WasDone {
+            StatementOutcome::WasDone { time, outcome } => Ok(StatementOutcome::WasDone {
                 time: *time,
                 outcome: outcome.copy()?,
             }),
-            StatementAnswer::Older(greatest) => Ok(StatementAnswer::Older(*greatest)),
+            StatementOutcome::Older(greatest) => Ok(StatementOutcome::Older(*greatest)),
         }
     }
 }
@@ -130,13 +130,13 @@ impl StatementAnswer {
 #[derive(Drop)]
 pub struct Done {
     pub index: u32,
-    pub answer: StatementAnswer,
+    pub answer: StatementOutcome,
 }
 
 impl Done {
     /// The same once more. Fails for want of memory.
     pub fn copy(&self) -> Result<Done, Memory>
-        ensures { IfOk result (λ done. done_meant done ≡ done_meant self.now) }
+        ensures { IfOk result (λ done. done_view done ≡ done_view self.now) }
     {
         let answer = self.answer.copy()?;
         Ok(Done {

@@ -3,7 +3,7 @@
 ghost use Rattle.std.specs.Prelude.{◌≡◌, IfOk};
 ghost use Rattle.std.specs.Arc.{arc_value};
 ghost use Rattle.std.specs.Option.{option_map};
-ghost use Rattle.protocol_model.specs.Bodies.{table_ask_meant, table_told_meant};
+ghost use Rattle.protocol_model.specs.Bodies.{table_ask_view, table_told_view};
 
 use bson_values::Memory;
 use chunk_table::Table;
@@ -31,7 +31,7 @@ pub struct TableAsk {
 impl TableAsk {
     /// The same once more. Fails for want of memory.
     pub fn copy(&self) -> Result<TableAsk, Memory>
-        ensures { IfOk result (λ ask. table_ask_meant ask ≡ table_ask_meant self.now) }
+        ensures { IfOk result (λ ask. table_ask_view ask ≡ table_ask_view self.now) }
     {
         let namespace = self.namespace.copy()?;
         Ok(TableAsk {
@@ -64,7 +64,7 @@ fn share_table(table: &Option<Arc<Table, Global>>) -> Result<Option<Arc<Table, G
 impl TableTold {
     /// The same once more, which shares the table. Fails for want of memory.
     pub fn copy(&self) -> Result<TableTold, Memory>
-        ensures { IfOk result (λ told. table_told_meant told ≡ table_told_meant self.now) }
+        ensures { IfOk result (λ told. table_told_view told ≡ table_told_view self.now) }
     {
         let namespace = self.namespace.copy()?;
         let table = share_table(&self.table)?;

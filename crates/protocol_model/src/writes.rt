@@ -1,13 +1,13 @@
 //! Messages on writes.
 
 ghost use Rattle.std.specs.Prelude.{◌≡◌, IfOk};
-ghost use Rattle.protocol_model.specs.Bodies.{write_ask_meant, write_done_meant};
+ghost use Rattle.protocol_model.specs.Bodies.{write_ask_view, write_done_view};
 
 use crate::lists::{DoneList, StatementList, copy_dones, copy_statements};
 use bson_values::Memory;
 use chunk_table::Sent;
 use cluster_base::{Namespace, RequestId};
-use command_answers::ClientNumber;
+use command_replies::ClientNumber;
 use std::alloc::Global;
 
 /// To a shard: the statements of a request that follow one another and go there, with the number that the client gave, if it gave one.
@@ -25,7 +25,7 @@ pub struct WriteAsk {
 impl WriteAsk {
     /// The same once more, which shares the documents. Fails for want of memory.
     pub fn copy(&self, alloc: Global) -> Result<WriteAsk, Memory>
-        ensures { IfOk result (λ ask. write_ask_meant ask ≡ write_ask_meant self.now) }
+        ensures { IfOk result (λ ask. write_ask_view ask ≡ write_ask_view self.now) }
     {
         let namespace = self.namespace.copy()?;
         let statements = copy_statements(alloc, &self.statements)?;
@@ -51,7 +51,7 @@ pub struct WriteDone {
 impl WriteDone {
     /// The same once more. Fails for want of memory.
     pub fn copy(&self, alloc: Global) -> Result<WriteDone, Memory>
-        ensures { IfOk result (λ done. write_done_meant done ≡ write_done_meant self.now) }
+        ensures { IfOk result (λ done. write_done_view done ≡ write_done_view self.now) }
     {
         let dones = copy_dones(alloc, &self.dones)?;
         Ok(WriteDone { id: self.id, dones })

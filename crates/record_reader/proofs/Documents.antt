@@ -19,7 +19,7 @@ use Rattle.value_compare.specs.Keys.{is_key, key_of, KeyFault, absent_key, wrong
 use Rattle.record_model.specs.RecordFormat.{key_document}
 use Rattle.shard_records.specs.Sizes.{FitsRecord}
 use Rattle.record_reader.specs.declared.fault.RecordFault.{RecordFault}
-use Rattle.record_reader.specs.SoundRecords.{Finds, fault_meant}
+use Rattle.record_reader.specs.SoundRecords.{Finds, fault_view}
 use Rattle.record_reader.specs.Readers.{whole_in}
 
 -- what was found is the document that stands there
@@ -37,7 +37,7 @@ no_whole bytes fault offset are first = by_read (whole_at bytes) refl
 none_there : (bytes : List ℕ) (e : BsonFault) → AreBytes bytes → e ≢ Memory → (e ≢ Memory → TellsFirst bytes e) → whole_in (whole_at bytes) ≡ None
 none_there bytes e are other first = let t = first other in no_whole bytes t.0 t.1 are t.3
 
-by_fault : (bytes : List ℕ) (e : BsonFault) → AreBytes bytes → (e ≢ Memory → TellsFirst bytes e) → Finds (λ (x : Fields × ℕ). x) (Err (fault_meant e)) (whole_in (whole_at bytes))
+by_fault : (bytes : List ℕ) (e : BsonFault) → AreBytes bytes → (e ≢ Memory → TellsFirst bytes e) → Finds (λ (x : Fields × ℕ). x) (Err (fault_view e)) (whole_in (whole_at bytes))
 by_fault bytes (Short offset) are first = none_there bytes (Short offset) are (λ q. cc) first
 by_fault bytes (BadLength offset) are first = none_there bytes (BadLength offset) are (λ q. cc) first
 by_fault bytes (BadType offset byte) are first = none_there bytes (BadType offset byte) are (λ q. cc) first
@@ -48,7 +48,7 @@ by_fault bytes (Trailing offset) are first = none_there bytes (Trailing offset) 
 by_fault bytes Memory are first = tt
 
 -- a call that failed in reading a document tells so
-pub found_fault : (bytes : List ℕ) (e : BsonFault) (d : RecordFault) → AreBytes bytes → d ≡ fault_meant e → (e ≢ Memory → (fault : Fault) × (offset : ℕ) × (e ≡ fault_from fault offset) × HasFirstFault bytes fault offset) → Finds (λ (x : Fields × ℕ). x) (Err d) (whole_in (whole_at bytes))
+pub found_fault : (bytes : List ℕ) (e : BsonFault) (d : RecordFault) → AreBytes bytes → d ≡ fault_view e → (e ≢ Memory → (fault : Fault) × (offset : ℕ) × (e ≡ fault_from fault offset) × HasFirstFault bytes fault offset) → Finds (λ (x : Fields × ℕ). x) (Err d) (whole_in (whole_at bytes))
 found_fault bytes e d are is first = subst (λ (f : RecordFault). Finds (λ (x : Fields × ℕ). x) (Err f) (whole_in (whole_at bytes))) (sym is) (by_fault bytes e are first)
 
 abbrev KeyRead : Type 0

@@ -20,9 +20,9 @@ Finds view (Err NoRecord) there = there ≡ None
 Finds view (Err Memory) there = Unit {0}
 
 -- bytes that begin with no document are no record
-abbrev pub fault_meant : BsonFault → RecordFault
-fault_meant bson.Memory = Memory
-fault_meant fault = NoRecord
+abbrev pub fault_view : BsonFault → RecordFault
+fault_view bson.Memory = Memory
+fault_view fault = NoRecord
 
 -- a chunk that can be written, of a range that is not empty
 pub record IsHeldChunk (c : Chunk) : Type 0 where

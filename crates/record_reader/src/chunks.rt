@@ -2,9 +2,9 @@
 
 ghost use Rattle.std.specs.Prelude.{◌≡◌, ◌<◌, ◌^◌, length, map, IfOk};
 ghost use Rattle.std.specs.List.{AllByRecursion};
-ghost use Rattle.chunk_table.specs.Meanings.{chunk_meant, owned_meant, version_meant};
+ghost use Rattle.chunk_table.specs.Meanings.{chunk_view, owned_view, version_view};
 ghost use Rattle.chunk_table.specs.Whole.{IsWritableBound, IsWritableChunk};
-ghost use Rattle.shard_records.specs.Meanings.{record_meant};
+ghost use Rattle.shard_records.specs.Meanings.{record_view};
 ghost use Rattle.record_reader.specs.SoundRecords.{Finds, IsHeld, IsHeldChunk};
 ghost use Rattle.record_reader.specs.Readers.{bound_at, chunk_at, items_at, key_bound_at, list_at, owned_at, range_at, range_in, table_at, version_at};
 ghost use Rattle.value_compare.specs.Bounds.{bound_of};
@@ -75,7 +75,7 @@ fn read_range(alloc: Global, bytes: &[u8]) -> Result<(KeyRange, &[u8]), RecordFa
 /// Reads a version.
 #[tactic(auto, unfolding(crate::specs::Readers::version_at))]
 fn read_version(bytes: &[u8]) -> Result<(Version, &[u8]), RecordFault>
-    ensures { Finds (λ x. (version_meant x.0, x.1.now)) result (version_at bytes.now) }
+    ensures { Finds (λ x. (version_view x.0, x.1.now)) result (version_at bytes.now) }
 {
     let (epoch, rest) = read_u64(bytes)?;
     let (major, rest) = read_u64(rest)?;
@@ -91,7 +91,7 @@ fn read_version(bytes: &[u8]) -> Result<(Version, &[u8]), RecordFault>
 /// Reads one owner of a chunk.
 #[tactic(auto, unfolding(crate::specs::Readers::owned_at))]
 fn read_owned(bytes: &[u8]) -> Result<(Owned, &[u8]), RecordFault>
-    ensures { Finds (λ x. (owned_meant x.0, x.1.now)) result (owned_at bytes.now) }
+    ensures { Finds (λ x. (owned_view x.0, x.1.now)) result (owned_at bytes.now) }
 {
     let (since, rest) = read_u64(bytes)?;
     let (shard, rest) = read_u32(rest)?;
@@ -109,7 +109,7 @@ fn read_each_owned(
     count: u32,
     bytes: &[u8],
 ) -> Result<(Vec<Owned>, &[u8]), RecordFault>
-    ensures found { Finds (λ x. (map owned_meant x.0.items, x.1.now)) result (items_at owned_at count bytes.now) }
+    ensures found { Finds (λ x. (map owned_view x.0.items, x.1.now)) result (items_at owned_at count bytes.now) }
     ensures count { IfOk result (λ x. length x.0.items ≡ count) }
 {
     let mut owners = Vec::new(alloc);
@@ -136,8 +136,8 @@ fn read_owners(alloc: Global, bytes: &[u8]) -> Result<(OwnedList, &[u8]), Record
 /// Reads a chunk.
 #[tactic(auto, unfolding(crate::specs::Readers::chunk_at), using(crate::proofs::Held::chunk_held))]
 fn read_chunk(alloc: Global, bytes: &[u8]) -> Result<(Chunk, &[u8]), RecordFault>
-    ensures found { Finds (λ x. (chunk_meant x.0, x.1.now)) result (chunk_at bytes.now) }
-    ensures held { IfOk result (λ x. IsHeldChunk (chunk_meant x.0)) }
+    ensures found { Finds (λ x. (chunk_view x.0, x.1.now)) result (chunk_at bytes.now) }
+    ensures held { IfOk result (λ x. IsHeldChunk (chunk_view x.0)) }
 {
     let (range, rest) = read_range(alloc, bytes)?;
     let (version, rest) = read_version(rest)?;
@@ -157,9 +157,9 @@ fn read_each_chunk(
     count: u32,
     bytes: &[u8],
 ) -> Result<(Vec<Chunk>, &[u8]), RecordFault>
-    ensures found { Finds (λ x. (map chunk_meant x.0.items, x.1.now)) result (items_at chunk_at count bytes.now) }
+    ensures found { Finds (λ x. (map chunk_view x.0.items, x.1.now)) result (items_at chunk_at count bytes.now) }
     ensures count { IfOk result (λ x. length x.0.items ≡ count) }
-    ensures held { IfOk result (λ x. AllByRecursion IsHeldChunk (map chunk_meant x.0.items)) }
+    ensures held { IfOk result (λ x. AllByRecursion IsHeldChunk (map chunk_view x.0.items)) }
 {
     let mut chunks = Vec::new(alloc);
     let mut left = bytes;
@@ -174,9 +174,9 @@ fn read_each_chunk(
 /// Reads the chunks of a table: how many, and each.
 #[tactic(auto, unfolding(crate::specs::Readers::list_at))]
 fn read_chunks(alloc: Global, bytes: &[u8]) -> Result<(Vec<Chunk>, &[u8]), RecordFault>
-    ensures found { Finds (λ x. (map chunk_meant x.0.items, x.1.now)) result (list_at chunk_at bytes.now) }
+    ensures found { Finds (λ x. (map chunk_view x.0.items, x.1.now)) result (list_at chunk_at bytes.now) }
     ensures count { IfOk result (λ x. length x.0.items < 2 ^ 32) }
-    ensures held { IfOk result (λ x. AllByRecursion IsHeldChunk (map chunk_meant x.0.items)) }
+    ensures held { IfOk result (λ x. AllByRecursion IsHeldChunk (map chunk_view x.0.items)) }
 {
     let (count, rest) = read_u32(bytes)?;
     read_each_chunk(alloc, count, rest)
@@ -185,8 +185,8 @@ fn read_chunks(alloc: Global, bytes: &[u8]) -> Result<(Vec<Chunk>, &[u8]), Recor
 /// Reads a table.
 #[tactic(auto, unfolding(crate::specs::Readers::table_at), using(crate::proofs::Held::table_held, crate::proofs::Held::chunks_writable, crate::proofs::Tests::some_true))]
 pub(crate) fn read_table(alloc: Global, bytes: &[u8]) -> Result<Record, RecordFault>
-    ensures found { Finds (λ r. record_meant r) result (table_at bytes.now) }
-    ensures held { IfOk result (λ r. IsHeld (record_meant r)) }
+    ensures found { Finds (λ r. record_view r) result (table_at bytes.now) }
+    ensures held { IfOk result (λ r. IsHeld (record_view r)) }
 {
     let (namespace, rest) = read_namespace(alloc, bytes)?;
     let (epoch, rest) = read_u64(rest)?;

@@ -1,7 +1,7 @@
 //! Reading the record of an entry.
 
 ghost use Rattle.std.specs.Prelude.{IfOk};
-ghost use Rattle.shard_records.specs.Meanings.{number_meant, operation_meant, outcome_meant, record_meant, session_meant};
+ghost use Rattle.shard_records.specs.Meanings.{number_view, operation_view, outcome_view, record_view, session_view};
 ghost use Rattle.record_reader.specs.SoundRecords.{Finds, IsHeld};
 ghost use Rattle.record_reader.specs.Readers.{client_at, delete_at, entry_at, insert_at, operation_at, option_key_at, outcome_at, router_at, session_at, some_key_at, statement_at, update_at};
 ghost use Rattle.shard_records.specs.Sizes.{IsWritableKey, IsWritableOperation};
@@ -42,7 +42,7 @@ fn read_option_key(alloc: Global, bytes: &[u8]) -> Result<(Option<Key>, &[u8]), 
 /// Reads a client's session.
 #[tactic(auto, unfolding(crate::specs::Readers::client_at))]
 fn read_client(bytes: &[u8]) -> Result<(Session, &[u8]), RecordFault>
-    ensures { Finds (λ x. (session_meant x.0, x.1.now)) result (client_at bytes.now) }
+    ensures { Finds (λ x. (session_view x.0, x.1.now)) result (client_at bytes.now) }
 {
     let (found, rest) = read_bytes(16, bytes)?;
     let mut id = [0; 16];
@@ -53,7 +53,7 @@ fn read_client(bytes: &[u8]) -> Result<(Session, &[u8]), RecordFault>
 /// Reads a router's session.
 #[tactic(auto, unfolding(crate::specs::Readers::router_at))]
 fn read_router(bytes: &[u8]) -> Result<(Session, &[u8]), RecordFault>
-    ensures { Finds (λ x. (session_meant x.0, x.1.now)) result (router_at bytes.now) }
+    ensures { Finds (λ x. (session_view x.0, x.1.now)) result (router_at bytes.now) }
 {
     let (node, rest) = read_u32(bytes)?;
     let (life, rest) = read_u64(rest)?;
@@ -69,7 +69,7 @@ fn read_router(bytes: &[u8]) -> Result<(Session, &[u8]), RecordFault>
 /// Reads whose statement it is.
 #[tactic(auto, unfolding(crate::specs::Readers::session_at))]
 fn read_session(bytes: &[u8]) -> Result<(Session, &[u8]), RecordFault>
-    ensures { Finds (λ x. (session_meant x.0, x.1.now)) result (session_at bytes.now) }
+    ensures { Finds (λ x. (session_view x.0, x.1.now)) result (session_at bytes.now) }
 {
     let (kind, rest) = read_byte(bytes)?;
     match kind {
@@ -82,7 +82,7 @@ fn read_session(bytes: &[u8]) -> Result<(Session, &[u8]), RecordFault>
 /// Reads the number of a statement.
 #[tactic(auto, unfolding(crate::specs::Readers::statement_at))]
 fn read_statement(bytes: &[u8]) -> Result<(Stmt, &[u8]), RecordFault>
-    ensures { Finds (λ x. (number_meant x.0, x.1.now)) result (statement_at bytes.now) }
+    ensures { Finds (λ x. (number_view x.0, x.1.now)) result (statement_at bytes.now) }
 {
     let (session, rest) = read_session(bytes)?;
     let (txn, rest) = read_u64(rest)?;
@@ -98,8 +98,8 @@ fn read_statement(bytes: &[u8]) -> Result<(Stmt, &[u8]), RecordFault>
 /// Reads the words of an insert.
 #[tactic(auto, unfolding(crate::specs::Readers::insert_at))]
 fn read_insert(alloc: Global, bytes: &[u8]) -> Result<(OpWords, &[u8]), RecordFault>
-    ensures found { Finds (λ x. (operation_meant x.0, x.1.now)) result (insert_at bytes.now) }
-    ensures fits { IfOk result (λ x. IsWritableOperation (operation_meant x.0)) }
+    ensures found { Finds (λ x. (operation_view x.0, x.1.now)) result (insert_at bytes.now) }
+    ensures fits { IfOk result (λ x. IsWritableOperation (operation_view x.0)) }
 {
     let (document, rest) = read_document(alloc, bytes)?;
     Ok((OpWords::Insert(document), rest))
@@ -108,8 +108,8 @@ fn read_insert(alloc: Global, bytes: &[u8]) -> Result<(OpWords, &[u8]), RecordFa
 /// Reads the words of an update.
 #[tactic(auto, unfolding(crate::specs::Readers::update_at))]
 fn read_update(alloc: Global, bytes: &[u8]) -> Result<(OpWords, &[u8]), RecordFault>
-    ensures found { Finds (λ x. (operation_meant x.0, x.1.now)) result (update_at bytes.now) }
-    ensures fits { IfOk result (λ x. IsWritableOperation (operation_meant x.0)) }
+    ensures found { Finds (λ x. (operation_view x.0, x.1.now)) result (update_at bytes.now) }
+    ensures fits { IfOk result (λ x. IsWritableOperation (operation_view x.0)) }
 {
     let (filter, rest) = read_document(alloc, bytes)?;
     let (change, rest) = read_document(alloc, rest)?;
@@ -125,8 +125,8 @@ fn read_update(alloc: Global, bytes: &[u8]) -> Result<(OpWords, &[u8]), RecordFa
 /// Reads the words of a delete.
 #[tactic(auto, unfolding(crate::specs::Readers::delete_at))]
 fn read_delete(alloc: Global, bytes: &[u8]) -> Result<(OpWords, &[u8]), RecordFault>
-    ensures found { Finds (λ x. (operation_meant x.0, x.1.now)) result (delete_at bytes.now) }
-    ensures fits { IfOk result (λ x. IsWritableOperation (operation_meant x.0)) }
+    ensures found { Finds (λ x. (operation_view x.0, x.1.now)) result (delete_at bytes.now) }
+    ensures fits { IfOk result (λ x. IsWritableOperation (operation_view x.0)) }
 {
     let (filter, rest) = read_document(alloc, bytes)?;
     Ok((OpWords::Delete { filter }, rest))
@@ -135,8 +135,8 @@ fn read_delete(alloc: Global, bytes: &[u8]) -> Result<(OpWords, &[u8]), RecordFa
 /// Reads what a statement does.
 #[tactic(auto, unfolding(crate::specs::Readers::operation_at))]
 fn read_operation(alloc: Global, bytes: &[u8]) -> Result<(OpWords, &[u8]), RecordFault>
-    ensures found { Finds (λ x. (operation_meant x.0, x.1.now)) result (operation_at bytes.now) }
-    ensures fits { IfOk result (λ x. IsWritableOperation (operation_meant x.0)) }
+    ensures found { Finds (λ x. (operation_view x.0, x.1.now)) result (operation_at bytes.now) }
+    ensures fits { IfOk result (λ x. IsWritableOperation (operation_view x.0)) }
 {
     let (kind, rest) = read_byte(bytes)?;
     match kind {
@@ -150,8 +150,8 @@ fn read_operation(alloc: Global, bytes: &[u8]) -> Result<(OpWords, &[u8]), Recor
 /// Reads what a statement was told.
 #[tactic(auto, unfolding(crate::specs::Readers::outcome_at))]
 fn read_reply(alloc: Global, bytes: &[u8]) -> Result<(Reply, &[u8]), RecordFault>
-    ensures found { Finds (λ x. (outcome_meant x.0, x.1.now)) result (outcome_at bytes.now) }
-    ensures fits { IfOk result (λ x. IsWritableKey (outcome_meant x.0).upserted) }
+    ensures found { Finds (λ x. (outcome_view x.0, x.1.now)) result (outcome_at bytes.now) }
+    ensures fits { IfOk result (λ x. IsWritableKey (outcome_view x.0).upserted) }
 {
     let (n, rest) = read_u32(bytes)?;
     let (modified, rest) = read_u32(rest)?;
@@ -169,8 +169,8 @@ fn read_reply(alloc: Global, bytes: &[u8]) -> Result<(Reply, &[u8]), RecordFault
 /// Reads an entry.
 #[tactic(auto, unfolding(crate::specs::Readers::entry_at))]
 pub(crate) fn read_entry(alloc: Global, bytes: &[u8]) -> Result<Record, RecordFault>
-    ensures found { Finds (λ r. record_meant r) result (entry_at bytes.now) }
-    ensures held { IfOk result (λ r. IsHeld (record_meant r)) }
+    ensures found { Finds (λ r. record_view r) result (entry_at bytes.now) }
+    ensures held { IfOk result (λ r. IsHeld (record_view r)) }
 {
     let (time, rest) = read_u64(bytes)?;
     let (namespace, rest) = read_namespace(alloc, rest)?;

@@ -8,7 +8,7 @@ ghost use Rattle.bson_values.specs.Limits.{IsWritable};
 ghost use Rattle.bson_values.specs.Readers.{whole_at};
 ghost use Rattle.value_compare.specs.Keys.{valid_key};
 ghost use Rattle.record_model.specs.RecordFormat.{key_document};
-ghost use Rattle.record_reader.specs.SoundRecords.{Finds, fault_meant};
+ghost use Rattle.record_reader.specs.SoundRecords.{Finds, fault_view};
 ghost use Rattle.record_reader.specs.Readers.{byte_at, bytes_at, document_at, eight_at, four_at, key_at, key_in, name_in, namespace_at, whole_in};
 ghost use Rattle.shard_records.specs.Sizes.{FitsRecord};
 ghost use Rattle.bson_values.specs.Grammar.{IsWithinDepth};
@@ -96,7 +96,7 @@ pub(crate) fn read_namespace(alloc: Global, bytes: &[u8]) -> Result<(Namespace, 
 
 /// The fault of a record whose bytes have that fault.
 fn fault_of(fault: BsonFault) -> RecordFault
-    ensures { result ≡ fault_meant fault }
+    ensures { result ≡ fault_view fault }
 {
     match fault {
         BsonFault::Memory => RecordFault::Memory,

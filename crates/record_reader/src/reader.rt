@@ -3,7 +3,7 @@
 ghost use Rattle.std.specs.Prelude.{◌≡◌, ◌↔◌, Some, IfOk, IsTrue};
 ghost use Rattle.record_model.specs.Records as records;
 ghost use Rattle.record_model.specs.RecordFormat.{IsSound, spelled};
-ghost use Rattle.shard_records.specs.Meanings.{record_meant};
+ghost use Rattle.shard_records.specs.Meanings.{record_view};
 ghost use Rattle.record_reader.specs.SoundRecords.{Finds, IsHeld};
 ghost use Rattle.record_reader.specs.Readers.{block_at, creation_at, fields_at, life_at, record_at};
 
@@ -22,8 +22,8 @@ const FORMAT: u8 = 0x01;
 /// Reads a collection that begins.
 #[tactic(auto, unfolding(crate::specs::Readers::creation_at))]
 fn read_creation(alloc: Global, bytes: &[u8]) -> Result<Record, RecordFault>
-    ensures found { Finds (λ r. record_meant r) result (creation_at bytes.now) }
-    ensures held { IfOk result (λ r. IsHeld (record_meant r)) }
+    ensures found { Finds (λ r. record_view r) result (creation_at bytes.now) }
+    ensures held { IfOk result (λ r. IsHeld (record_view r)) }
 {
     let (namespace, rest) = read_namespace(alloc, bytes)?;
     let (epoch, rest) = read_u64(rest)?;
@@ -38,8 +38,8 @@ fn read_creation(alloc: Global, bytes: &[u8]) -> Result<Record, RecordFault>
 /// Reads a life of a router.
 #[tactic(auto, unfolding(crate::specs::Readers::life_at))]
 fn read_life(bytes: &[u8]) -> Result<Record, RecordFault>
-    ensures found { Finds (λ r. record_meant r) result (life_at bytes.now) }
-    ensures held { IfOk result (λ r. IsHeld (record_meant r)) }
+    ensures found { Finds (λ r. record_view r) result (life_at bytes.now) }
+    ensures held { IfOk result (λ r. IsHeld (record_view r)) }
 {
     let (number, _rest) = read_u64(bytes)?;
     Ok(Record::Life(number))
@@ -48,8 +48,8 @@ fn read_life(bytes: &[u8]) -> Result<Record, RecordFault>
 /// Reads a block of cursor numbers.
 #[tactic(auto, unfolding(crate::specs::Readers::block_at))]
 fn read_block(bytes: &[u8]) -> Result<Record, RecordFault>
-    ensures found { Finds (λ r. record_meant r) result (block_at bytes.now) }
-    ensures held { IfOk result (λ r. IsHeld (record_meant r)) }
+    ensures found { Finds (λ r. record_view r) result (block_at bytes.now) }
+    ensures held { IfOk result (λ r. IsHeld (record_view r)) }
 {
     let (number, _rest) = read_u64(bytes)?;
     Ok(Record::Block(number))
@@ -58,8 +58,8 @@ fn read_block(bytes: &[u8]) -> Result<Record, RecordFault>
 /// Reads the fields of a record of that kind.
 #[tactic(auto, unfolding(crate::specs::Readers::fields_at))]
 fn read_fields(alloc: Global, kind: u8, bytes: &[u8]) -> Result<Record, RecordFault>
-    ensures found { Finds (λ r. record_meant r) result (fields_at kind bytes.now) }
-    ensures held { IfOk result (λ r. IsHeld (record_meant r)) }
+    ensures found { Finds (λ r. record_view r) result (fields_at kind bytes.now) }
+    ensures held { IfOk result (λ r. IsHeld (record_view r)) }
 {
     match kind {
         0x01 => read_table(alloc, bytes),
@@ -74,8 +74,8 @@ fn read_fields(alloc: Global, kind: u8, bytes: &[u8]) -> Result<Record, RecordFa
 /// Reads the record that bytes begin with, if they spell one.
 #[tactic(auto, unfolding(crate::specs::Readers::record_at))]
 fn record_in(alloc: Global, bytes: &[u8]) -> Result<Record, RecordFault>
-    ensures found { Finds (λ r. record_meant r) result (record_at bytes.now) }
-    ensures held { IfOk result (λ r. IsHeld (record_meant r)) }
+    ensures found { Finds (λ r. record_view r) result (record_at bytes.now) }
+    ensures held { IfOk result (λ r. IsHeld (record_view r)) }
 {
     let (format, rest) = read_byte(bytes)?;
     let (kind, rest) = read_byte(rest)?;
@@ -89,9 +89,9 @@ fn record_in(alloc: Global, bytes: &[u8]) -> Result<Record, RecordFault>
 /// Whether the bytes are the record's one spelling. Fails for want of memory.
 #[tactic(auto, using(crate::proofs::Held::held_writable))]
 fn is_spelled(alloc: Global, kept: &Record, bytes: &[u8]) -> Result<bool, Memory>
-    requires { IsHeld (record_meant kept.now) }
-    ensures same { IfOk result (λ b. IsTrue b ↔ (spelled 1 (record_meant kept.now) ≡ bytes.now)) }
-    ensures sound { IfOk result (λ b. IsSound (record_meant kept.now)) }
+    requires { IsHeld (record_view kept.now) }
+    ensures same { IfOk result (λ b. IsTrue b ↔ (spelled 1 (record_view kept.now) ≡ bytes.now)) }
+    ensures sound { IfOk result (λ b. IsSound (record_view kept.now)) }
 {
     let mut spelling = Vec::with_capacity(alloc, bytes.len())?;
     write_record(kept, &mut spelling)?;
@@ -105,11 +105,11 @@ fn is_spelled(alloc: Global, kept: &Record, bytes: &[u8]) -> Result<bool, Memory
 /// - `Memory` for want of memory.
 pub fn read_record(alloc: Global, bytes: &[u8]) -> Result<Record, RecordFault>
     // What is read is sound, and is spelled by the bytes.
-    ensures spelled { IfOk result (λ r. spelled 1 (record_meant r) ≡ bytes.now) }
-    ensures sound { IfOk result (λ r. IsSound (record_meant r)) }
-    ensures held { IfOk result (λ r. IsHeld (record_meant r)) }
+    ensures spelled { IfOk result (λ r. spelled 1 (record_view r) ≡ bytes.now) }
+    ensures sound { IfOk result (λ r. IsSound (record_view r)) }
+    ensures held { IfOk result (λ r. IsHeld (record_view r)) }
     // The record that the bytes spell is read, unless memory runs out.
-    ensures only { (r : records.Record) → IsSound r → IsHeld r → spelled 1 r ≡ bytes.now → Finds (λ x. record_meant x) result (Some r) }
+    ensures only { (r : records.Record) → IsSound r → IsHeld r → spelled 1 r ≡ bytes.now → Finds (λ x. record_view x) result (Some r) }
 {
     let kept = record_in(alloc, bytes)?;
     if is_spelled(alloc, &kept, bytes)? {

@@ -14,7 +14,7 @@ use Rattle.chunk_model.specs.Catalogue.{Creation}
 use Rattle.history_model.specs.History.{Operation, Outcome, Entry, IsIn}
 use Rattle.history_model.proofs.Lists.{all_at, in_cons, in_first, in_none}
 use Rattle.reply_model.specs.Exchanges.{RequestId, Asked, Answered, number_for, entries_by}
-use Rattle.reply_model.specs.Outcomes.{StatementAnswer, was_done, WasDone, Done, answer_by, time_of, answer_of}
+use Rattle.reply_model.specs.Outcomes.{StatementOutcome, was_done, WasDone, Done, answer_by, time_of, answer_of}
 use Rattle.reply_model.specs.Cursors.{Cursor}
 use Rattle.reply_model.specs.Reads.{IsTimeRead}
 use Rattle.reply_model.specs.Right.{Sends, MayBeTold, AreTold, told_by, IsRight, Reads}
@@ -125,10 +125,10 @@ module _ (given : List Given) (creations : List Creation) (history : List Entry)
           → IsAnswerOf history (number_for (Some by) t.id d.index) (was_done before outcome)
       entry_of t write by dones d before outcome told own i is =
           let so = told_in history asked t write 0 write.operations dones d told i in
-          subst (λ (answer : StatementAnswer). IsAnswerOf history (number_for (Some by) t.id d.index) answer) is
+          subst (λ (answer : StatementOutcome). IsAnswerOf history (number_for (Some by) t.id d.index) answer) is
           (subst (λ (given : Option ClientNumber). IsAnswerOf history (number_for given t.id d.index) d.answer) own
           (answer_of_entry history asked t write.number (number_for write.number t.id d.index) write.namespace so.operation d.answer so.may
-          (subst (λ (answer : StatementAnswer). WasDone answer) (sym is) tt)))
+          (subst (λ (answer : StatementOutcome). WasDone answer) (sym is) tt)))
 
   pub sent : (e : Entry) → IsIn e history → WasSent history asked answered e
   sent e i = all_at (WasSent history asked answered) e history one.sent i

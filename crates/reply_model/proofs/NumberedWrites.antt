@@ -11,7 +11,7 @@ use Rattle.chunk_model.specs.SampleCollections.{creation}
 use Rattle.history_model.specs.History.{Operation, StatementNumber, Entry}
 use Rattle.history_model.proofs.Lists.{all_at, in_first}
 use Rattle.reply_model.specs.Exchanges.{Asked, Answered, number_for}
-use Rattle.reply_model.specs.Outcomes.{StatementAnswer, is_older, Done, answer_by, fails, answer_of}
+use Rattle.reply_model.specs.Outcomes.{StatementOutcome, is_older, Done, answer_by, fails, answer_of}
 use Rattle.reply_model.specs.Right.{IsStatement, HadSent, MayBeTold, told_own, told_other, told_older, AreTold, right_write}
 use Rattle.reply_model.specs.SampleExchanges.{tells}
 use Rattle.reply_model.specs.SampleRetries.{IsToldJust, IsUntold}
@@ -19,14 +19,14 @@ use Rattle.reply_model.proofs.RightAnswers.{right_of}
 use Rattle.reply_model.proofs.Statements.{UnlessEnded}
 
 -- the outcomes from this index on
-abbrev pub dones_from : ℕ → List StatementAnswer → List Done
+abbrev pub dones_from : ℕ → List StatementOutcome → List Done
 dones_from index [] = []
 dones_from index (answer ∷ answers) = record { index = index; answer = answer } ∷ dones_from (index + 1) answers
 
 -- WHAT AN ENTRY TELLS
 
 -- what a statement may be told by the entry has a property
-pub record Gives (asked : List Asked) (t : Answered) (number : StatementNumber) (namespace : List ℕ) (operation : Operation) (P : StatementAnswer → Type 0)
+pub record Gives (asked : List Asked) (t : Answered) (number : StatementNumber) (namespace : List ℕ) (operation : Operation) (P : StatementOutcome → Type 0)
     (e : Entry) : Type 0 where
   pub own : IsStatement number namespace operation e → e.time ≤ t.time → P (answer_by e)
   pub other : e.number ≡ number → e.time ≤ t.time → HadSent asked e t → P (answer_by e)
@@ -34,7 +34,7 @@ pub record Gives (asked : List Asked) (t : Answered) (number : StatementNumber) 
 
 pub told_by_entries : (history : List Entry) (asked : List Asked) (t : Answered) (given : Option ClientNumber) (number : StatementNumber) (namespace : List ℕ)
     (operation : Operation)
-    (P : StatementAnswer → Type 0) (answer : StatementAnswer) → AllByRecursion (Gives asked t number namespace operation P) history
+    (P : StatementOutcome → Type 0) (answer : StatementOutcome) → AllByRecursion (Gives asked t number namespace operation P) history
     → MayBeTold history asked t given number namespace operation answer → P answer
 told_by_entries history asked t given number namespace operation P answer all (told_own e i is early) =
     (all_at (Gives asked t number namespace operation P) e history all i).own is early
@@ -45,7 +45,7 @@ told_by_entries history asked t given number namespace operation P answer all (t
 
 module _ (asked : List Asked) (t : Answered) (number : StatementNumber) where
   -- another session's tells nothing
-  pub gives_elsewhere : {namespace : List ℕ} {operation : Operation} (P : StatementAnswer → Type 0) (e : Entry) → e.number.session ≢ number.session
+  pub gives_elsewhere : {namespace : List ℕ} {operation : Operation} (P : StatementOutcome → Type 0) (e : Entry) → e.number.session ≢ number.session
       → Gives asked t number namespace operation P e
   gives_elsewhere P e another = record {
     own = λ is early. absurd (another (ap (λ (n : StatementNumber). n.session) is.same_number));
@@ -54,7 +54,7 @@ module _ (asked : List Asked) (t : Answered) (number : StatementNumber) where
   }
 
   -- nor another number of a transaction that is not greater
-  pub gives_nothing : {namespace : List ℕ} {operation : Operation} (P : StatementAnswer → Type 0) (e : Entry) → e.number ≢ number
+  pub gives_nothing : {namespace : List ℕ} {operation : Operation} (P : StatementOutcome → Type 0) (e : Entry) → e.number ≢ number
       → int_lt number.transaction e.number.transaction ≡ false → Gives asked t number namespace operation P e
   gives_nothing P e another no_more = record {
     own = λ is early. absurd (another is.same_number);
@@ -62,7 +62,7 @@ module _ (asked : List Asked) (t : Answered) (number : StatementNumber) where
     older = λ session less had. absurd (let both : true ≡ false = sym less ∙ no_more in cc);
   }
 
-  pub gives_another : {namespace : List ℕ} {operation : Operation} (P : StatementAnswer → Type 0) (e : Entry) → e.number.index ≢ number.index
+  pub gives_another : {namespace : List ℕ} {operation : Operation} (P : StatementOutcome → Type 0) (e : Entry) → e.number.index ≢ number.index
       → int_lt number.transaction e.number.transaction ≡ false → Gives asked t number namespace operation P e
   gives_another P e another no_more = gives_nothing P e (λ same. another (ap (λ (n : StatementNumber). n.index) same)) no_more
 
@@ -85,7 +85,7 @@ module _ (asked : List Asked) (t : Answered) (number : StatementNumber) where
   }
 
   -- an entry that is later tells nothing
-  pub gives_later : {namespace : List ℕ} {operation : Operation} (P : StatementAnswer → Type 0) (e : Entry) → t.time < e.time
+  pub gives_later : {namespace : List ℕ} {operation : Operation} (P : StatementOutcome → Type 0) (e : Entry) → t.time < e.time
       → int_lt number.transaction e.number.transaction ≡ false → Gives asked t number namespace operation P e
   gives_later P e late no_more = record {
     own = λ is early. absurd (omega (arith, late, early));
@@ -100,7 +100,7 @@ module _ (history : List Entry) (asked : List Asked) (a : Asked) (step counter :
   command_with operations = record { kind = kind; namespace = codes "d.c"; operations = operations; ordered = ordered; number = Some by }
 
   -- each statement may be told this, and this alone
-  abbrev pub AreJust : ℕ → List Operation → List StatementAnswer → Type 0
+  abbrev pub AreJust : ℕ → List Operation → List StatementOutcome → Type 0
   AreJust index [] answers = answers ≡ []
   AreJust index (operation ∷ operations) [] = ⊥
   AreJust index (operation ∷ operations) (answer ∷ answers) =
@@ -113,8 +113,8 @@ module _ (history : List Entry) (asked : List Asked) (a : Asked) (step counter :
     abbrev Told : ℕ → List Operation → List Done → Type 0
     Told index rest dones = AreTold history asked (tells a step counter document) (command_with operations) index rest dones
 
-    just_told : (index : ℕ) (rest : List Operation) (answers : List StatementAnswer) → AreJust index rest answers → Told index rest (dones_from index answers)
-    just_told index [] answers just = ap (λ (xs : List StatementAnswer). dones_from index xs) just
+    just_told : (index : ℕ) (rest : List Operation) (answers : List StatementOutcome) → AreJust index rest answers → Told index rest (dones_from index answers)
+    just_told index [] answers just = ap (λ (xs : List StatementOutcome). dones_from index xs) just
     just_told index (operation ∷ rest) [] just = absurd just
     just_told index (operation ∷ rest) (answer ∷ answers) just =
         (refl, just.0 document, by_end (ordered && fails (record { index = index; answer = answer })) just.2 (λ more. just_told (index + 1) rest answers more))
@@ -122,12 +122,12 @@ module _ (history : List Entry) (asked : List Asked) (a : Asked) (step counter :
         by_end : (b : Bool) → UnlessEnded b answers (AreJust (index + 1) rest answers)
             → (AreJust (index + 1) rest answers → Told (index + 1) rest (dones_from (index + 1) answers))
             → UnlessEnded b (dones_from (index + 1) answers) (Told (index + 1) rest (dones_from (index + 1) answers))
-        by_end true none more = ap (λ (xs : List StatementAnswer). dones_from (index + 1) xs) none
+        by_end true none more = ap (λ (xs : List StatementOutcome). dones_from (index + 1) xs) none
         by_end false every more = more every
 
-    just_only : (index : ℕ) (rest : List Operation) (answers : List StatementAnswer) (dones : List Done) → AreJust index rest answers → Told index rest dones
+    just_only : (index : ℕ) (rest : List Operation) (answers : List StatementOutcome) (dones : List Done) → AreJust index rest answers → Told index rest dones
         → dones ≡ dones_from index answers
-    just_only index [] answers dones just told = told ∙ sym (ap (λ (xs : List StatementAnswer). dones_from index xs) just)
+    just_only index [] answers dones just told = told ∙ sym (ap (λ (xs : List StatementOutcome). dones_from index xs) just)
     just_only index (operation ∷ rest) [] dones just told = absurd just
     just_only index (operation ∷ rest) (answer ∷ answers) [] just told = absurd told
     just_only index (operation ∷ rest) (answer ∷ answers) (d ∷ dones) just told =
@@ -149,10 +149,10 @@ module _ (history : List Entry) (asked : List Asked) (a : Asked) (step counter :
 
         by_end : (b : Bool) → UnlessEnded b dones (Told (index + 1) rest dones) → UnlessEnded b answers (AreJust (index + 1) rest answers)
             → (Told (index + 1) rest dones → AreJust (index + 1) rest answers → dones ≡ dones_from (index + 1) answers) → dones ≡ dones_from (index + 1) answers
-        by_end true told_none all_none more = told_none ∙ sym (ap (λ (xs : List StatementAnswer). dones_from (index + 1) xs) all_none)
+        by_end true told_none all_none more = told_none ∙ sym (ap (λ (xs : List StatementOutcome). dones_from (index + 1) xs) all_none)
         by_end false some every more = more some every
 
-  pub told_just : (operations : List Operation) (answers : List StatementAnswer) (document : Fields)
+  pub told_just : (operations : List Operation) (answers : List StatementOutcome) (document : Fields)
       → command_of a.request ≡ Ok (write_command (command_with operations))
       → AreJust 0 operations answers → creation.at ≤ timestamp 1000 counter
       → document ≡ answer_document (answer_of kind (timestamp 1000 counter) (dones_from 0 answers)) → IsToldJust history asked a step counter document

@@ -22,7 +22,7 @@ use Rattle.chunk_model.specs.Catalogue.{Creation}
 use Rattle.history_model.specs.History.{Entry, IsIn, Outcome}
 use Rattle.history_model.proofs.Lists.{in_cons, in_none}
 use Rattle.reply_model.specs.Exchanges.{RequestId, Asked, Answered}
-use Rattle.reply_model.specs.Outcomes.{StatementAnswer, was_done, was_refused, Done, later, summary_of, time_of, answer_of}
+use Rattle.reply_model.specs.Outcomes.{StatementOutcome, was_done, was_refused, Done, later, summary_of, time_of, answer_of}
 use Rattle.reply_model.specs.Cursors.{Cursor, open_cursor, ShowsFirst, ShowsNext, Kills}
 use Rattle.reply_model.specs.Reads.{IsTimeRead, MayGive}
 use Rattle.reply_model.specs.Right.{AreTold, IsWhole, usual_size, asks_for_one, unless_silent, Reads, find_reads, count_reads, IsReadRefused, IsRight, right_write, right_find, right_count, right_refused_read, right_more, right_no_cursor, right_kill, right_hello, right_legacy, right_ping, right_end_sessions, right_refusal}
@@ -143,7 +143,7 @@ IsReached before (Some time) = before ≤ time
 
 reached_by : (d : Done) (dones : List Done) (before : ℕ) (outcome : Outcome) → d.answer ≡ was_done before outcome → IsReached before (time_of (d ∷ dones))
 reached_by d dones before outcome is =
-    subst (λ (answer : StatementAnswer). IsReached before (time_of (record { index = d.index; answer = answer } ∷ dones))) (sym is) (of_rest (time_of dones))
+    subst (λ (answer : StatementOutcome). IsReached before (time_of (record { index = d.index; answer = answer } ∷ dones))) (sym is) (of_rest (time_of dones))
   where
     of_rest : (rest : Option ℕ) → before ≤ later before rest
     of_rest None = omega arith
@@ -152,8 +152,8 @@ reached_by d dones before outcome is =
 reached_later : (d : Done) (dones : List Done) (before : ℕ) → IsReached before (time_of dones) → IsReached before (time_of (d ∷ dones))
 reached_later d dones before reached = by_answer d.answer (time_of dones) reached
   where
-    by_answer : (answer : StatementAnswer) (rest : Option ℕ) → IsReached before rest
-        → IsReached before (elim answer as (λ (a : StatementAnswer). Option ℕ) [ was_done time outcome ↦ Some (later time rest) | was_refused refusal ↦ rest ])
+    by_answer : (answer : StatementOutcome) (rest : Option ℕ) → IsReached before rest
+        → IsReached before (elim answer as (λ (a : StatementOutcome). Option ℕ) [ was_done time outcome ↦ Some (later time rest) | was_refused refusal ↦ rest ])
     by_answer (was_done time outcome) None is = absurd is
     by_answer (was_done time outcome) (Some other) is = omega (arith, is)
     by_answer (was_refused refusal) rest is = is

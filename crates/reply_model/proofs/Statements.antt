@@ -8,7 +8,7 @@ use Rattle.chunk_model.proofs.FirstTables.{only_at}
 use Rattle.history_model.specs.History.{StatementNumber, Operation, Entry, IsIn}
 use Rattle.history_model.proofs.Lists.{all_at, in_cons, in_first, in_later, in_none}
 use Rattle.reply_model.specs.Exchanges.{Asked, Answered, number_for}
-use Rattle.reply_model.specs.Outcomes.{StatementAnswer, WasDone, Done, answer_by, done_of}
+use Rattle.reply_model.specs.Outcomes.{StatementOutcome, WasDone, Done, answer_by, done_of}
 use Rattle.reply_model.specs.Right.{MayBeTold, told_own, told_other, told_older, AreTold, AreStatements, AreAll, ends}
 use Rattle.reply_model.specs.OneHistory.{KeepsNumbers, AreNumbered, IsPlaced}
 
@@ -41,21 +41,21 @@ abbrev pub UnlessEnded : {X : Type 0} → (ended : Bool) → List X → Type 0 �
 UnlessEnded ended xs More = elim ended [ true ↦ xs ≡ [] | false ↦ More ]
 
 -- an entry under the number gives the answer
-pub record IsAnswerOf (history : List Entry) (number : StatementNumber) (answer : StatementAnswer) : Type 0 where
+pub record IsAnswerOf (history : List Entry) (number : StatementNumber) (answer : StatementOutcome) : Type 0 where
   pub entry : Entry
   pub stands : IsIn entry history
   pub numbered : entry.number ≡ number
   pub says : answer ≡ answer_by entry
 
 module _ (history : List Entry) (asked : List Asked) (t : Answered) where
-  pub answer_of_entry : (given : Option ClientNumber) (number : StatementNumber) (namespace : List ℕ) (operation : Operation) (answer : StatementAnswer)
+  pub answer_of_entry : (given : Option ClientNumber) (number : StatementNumber) (namespace : List ℕ) (operation : Operation) (answer : StatementOutcome)
       → MayBeTold history asked t given number namespace operation answer → WasDone answer → IsAnswerOf history number answer
   answer_of_entry given number namespace operation answer (told_own e i is at) done = record { entry = e; stands = i; numbered = is.same_number; says = refl }
   answer_of_entry given number namespace operation answer (told_other e by i some is at had) done = record { entry = e; stands = i; numbered = is; says = refl }
   answer_of_entry given number namespace operation answer (told_older e by i some is less at had) done = absurd done
 
   -- where the router gives the number the statement was done
-  pub was_done_own : (number : StatementNumber) (namespace : List ℕ) (operation : Operation) (answer : StatementAnswer)
+  pub was_done_own : (number : StatementNumber) (namespace : List ℕ) (operation : Operation) (answer : StatementOutcome)
       → MayBeTold history asked t None number namespace operation answer → WasDone answer
   was_done_own number namespace operation answer (told_own e i is at) = tt
   was_done_own number namespace operation answer (told_other e by i some is at had) = absurd (cc)

@@ -8,37 +8,37 @@ use Rattle.command_model.specs.Writes.{Upserted, WriteError, WriteKind, WriteSum
 use Rattle.command_model.specs.Answers.{Answer, write_answer}
 
 -- What a statement is told: that it was done, at this time and with this outcome; or why it was not.
-pub data StatementAnswer : Type 0 where
-  was_done : (time : ℕ) → Outcome → StatementAnswer
-  was_refused : Refusal → StatementAnswer
+pub data StatementOutcome : Type 0 where
+  was_done : (time : ℕ) → Outcome → StatementOutcome
+  was_refused : Refusal → StatementOutcome
 
-abbrev pub WasDone : StatementAnswer → Type 0
+abbrev pub WasDone : StatementOutcome → Type 0
 WasDone (was_done time outcome) = Unit {0}
 WasDone (was_refused refusal) = ⊥
 
 -- its session has a greater transaction
-abbrev pub is_older : (greatest : ℤ) → StatementAnswer
+abbrev pub is_older : (greatest : ℤ) → StatementOutcome
 is_older greatest = was_refused (record { error = transaction_too_old; evidence = number_evidence greatest })
 
 -- what the statement with this index is told
 pub record Done : Type 0 where
   pub index : ℕ
-  pub answer : StatementAnswer
+  pub answer : StatementOutcome
 
 -- what the entry of a statement is told
-abbrev pub answer_by : Entry → StatementAnswer
+abbrev pub answer_by : Entry → StatementOutcome
 answer_by e = was_done e.time e.outcome
 
 abbrev pub done_of : Entry → Done
 done_of e = record { index = e.number.index; answer = answer_by e }
 
 -- a statement that is refused changes nothing
-abbrev pub outcome_in : StatementAnswer → Outcome
+abbrev pub outcome_in : StatementOutcome → Outcome
 outcome_in (was_done time outcome) = outcome
 outcome_in (was_refused refusal) = record { count = 0; modified = 0; upserted = None; error = Some refusal.error }
 
 -- the error that a statement is told, with its evidence
-abbrev pub refusal_in : StatementAnswer → Option Refusal
+abbrev pub refusal_in : StatementOutcome → Option Refusal
 refusal_in (was_done time outcome) = elim outcome.error [ None ↦ None | Some error ↦ Some (without_evidence error) ]
 refusal_in (was_refused refusal) = Some refusal
 

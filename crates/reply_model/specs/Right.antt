@@ -19,7 +19,7 @@ use Rattle.history_model.specs.History.{StatementNumber, Operation, Entry, IsIn}
 use Rattle.pipeline_model.specs.Lengths.{excess_of_answer}
 use Rattle.chunk_model.specs.Catalogue.{Creation}
 use Rattle.reply_model.specs.Exchanges.{RequestId, Asked, Answered, number_for, entries_by}
-use Rattle.reply_model.specs.Outcomes.{StatementAnswer, is_older, Done, answer_by, done_of, fails, answer_of}
+use Rattle.reply_model.specs.Outcomes.{StatementOutcome, is_older, Done, answer_by, done_of, fails, answer_of}
 use Rattle.reply_model.specs.Cursors.{Cursor, open_cursor, ShowsFirst, ShowsNext, Kills}
 use Rattle.reply_model.specs.Reads.{IsTimeRead, MayGive, IsExcess, IsAhead}
 
@@ -63,7 +63,7 @@ pub record HadSent (asked : List Asked) (e : Entry) (t : Answered) : Type 0 wher
 -- What a statement may be told: the outcome of its own entry; where a client gave the number, that of another entry under it; or that an
 -- entry of the client's session has this greater transaction. The entry is not later than what the router knows as it tells.
 pub data MayBeTold (history : List Entry) (asked : List Asked) (t : Answered) (given : Option ClientNumber) (number : StatementNumber) (namespace : List ℕ)
-    (operation : Operation) : StatementAnswer → Type 0 where
+    (operation : Operation) : StatementOutcome → Type 0 where
   told_own : (e : Entry) → IsIn e history → IsStatement number namespace operation e → e.time ≤ t.time
       → MayBeTold history asked t given number namespace operation (answer_by e)
   told_other : (e : Entry) (by : ClientNumber) → IsIn e history → given ≡ Some by → e.number ≡ number → e.time ≤ t.time → HadSent asked e t

@@ -9,9 +9,9 @@ use Rattle.node_model.specs.RouterRows.{reached, with_work}
 use Rattle.node_model.specs.States.{Open, Router, Work, writing, reading, open_with, replaced}
 use Rattle.node_model.specs.Tables.{Table}
 use Rattle.node_model.specs.Writes.{WriteKind}
-use Rattle.open_requests.specs.Works.{wait_meant}
-use Rattle.open_requests.specs.declared.work.Wait.{Wait}
-use Rattle.protocol_model.specs.Statements.{done_meant}
+use Rattle.router_requests.specs.Works.{wait_view}
+use Rattle.router_requests.specs.declared.work.Wait.{Wait}
+use Rattle.protocol_model.specs.Statements.{done_view}
 use Rattle.protocol_model.specs.declared.statement.Done.{Done as StatementDone}
 use Rattle.router_node.specs.StepPlans.{opens_then}
 use Rattle.router_node.specs.declared.step_plan.Change.TheVariants.{Reaches, Notes}
@@ -23,24 +23,24 @@ pub becomes : (me time life : ℕ) (begun : Bool) (moment a b : ℕ) (s t : List
 becomes me time life begun moment a b s t p q x y j k g h count tables requests cursors blocks gave = rw (count, tables, requests, cursors, blocks, gave) refl
 
 module _ (r : Router) (time count : ℕ) (q : Open) (found : open_with count r.requests ≡ Some q) where
-  pub opens_reaches : (wait : Wait) → replaced (with_work q (wait_meant wait) (reached time q.work)) r.requests ≡ opens_then r time (Reaches count wait)
+  pub opens_reaches : (wait : Wait) → replaced (with_work q (wait_view wait) (reached time q.work)) r.requests ≡ opens_then r time (Reaches count wait)
   opens_reaches wait =
-      subst (λ (o : Option Open). replaced (with_work q (wait_meant wait) (reached time q.work)) r.requests
-      ≡ elim o as (λ _. List Open) [ None ↦ r.requests | Some x ↦ replaced (with_work x (wait_meant wait) (reached time x.work)) r.requests ]) (sym found) refl
+      subst (λ (o : Option Open). replaced (with_work q (wait_view wait) (reached time q.work)) r.requests
+      ≡ elim o as (λ _. List Open) [ None ↦ r.requests | Some x ↦ replaced (with_work x (wait_view wait) (reached time x.work)) r.requests ]) (sym found) refl
 
   pub opens_notes : (wait : Wait) (answers : Vec StatementDone Global) (kind : WriteKind) (ordered : Bool) (statements : List Statement) (before : List Done) → q.work ≡ writing kind ordered statements before
-      → replaced (with_work q (wait_meant wait) (writing kind ordered statements (map done_meant answers.items))) r.requests ≡ opens_then r time (Notes count wait answers)
+      → replaced (with_work q (wait_view wait) (writing kind ordered statements (map done_view answers.items))) r.requests ≡ opens_then r time (Notes count wait answers)
   opens_notes wait answers kind ordered statements before work =
-      subst (λ (o : Option Open). replaced (with_work q (wait_meant wait) (writing kind ordered statements (map done_meant answers.items))) r.requests
+      subst (λ (o : Option Open). replaced (with_work q (wait_view wait) (writing kind ordered statements (map done_view answers.items))) r.requests
       ≡ elim o as (λ _. List Open) [
         | None ↦ r.requests
         | Some x ↦ elim x.work as (λ _. List Open) [
-          | writing k a s b ↦ replaced (with_work x (wait_meant wait) (writing k a s (map done_meant answers.items))) r.requests
+          | writing k a s b ↦ replaced (with_work x (wait_view wait) (writing k a s (map done_view answers.items))) r.requests
           | reading named at stages telling ↦ r.requests
         ]
       ]) (sym found)
-      (subst (λ (w : Work). replaced (with_work q (wait_meant wait) (writing kind ordered statements (map done_meant answers.items))) r.requests
+      (subst (λ (w : Work). replaced (with_work q (wait_view wait) (writing kind ordered statements (map done_view answers.items))) r.requests
       ≡ elim w as (λ _. List Open) [
-        | writing k a s b ↦ replaced (with_work q (wait_meant wait) (writing k a s (map done_meant answers.items))) r.requests
+        | writing k a s b ↦ replaced (with_work q (wait_view wait) (writing k a s (map done_view answers.items))) r.requests
         | reading named at stages telling ↦ r.requests
       ]) (sym work) refl)

@@ -10,9 +10,9 @@ use Rattle.node_model.specs.States.{Open, Router, Work, writing, reading, open_w
 use Rattle.node_model.specs.Writes.{WriteKind}
 use Rattle.node_traits.specs.Effects.{AreSound, puts_of, spellings}
 use Rattle.node_traits.specs.declared.outputs.ToLink.{ToLink}
-use Rattle.open_requests.specs.Works.{wait_meant}
-use Rattle.open_requests.specs.declared.work.Wait.{Wait}
-use Rattle.protocol_model.specs.Statements.{done_meant}
+use Rattle.router_requests.specs.Works.{wait_view}
+use Rattle.router_requests.specs.declared.work.Wait.{Wait}
+use Rattle.protocol_model.specs.Statements.{done_view}
 use Rattle.protocol_model.specs.declared.statement.Done.{Done as Done_told}
 use Rattle.std.specs.declared.vec.Vec.{Vec}
 use Rattle.router_node.specs.Rows.{TookRow}
@@ -65,7 +65,7 @@ module _ (r : Router) (id : RequestId) (q : Open) (opened : open_of r id ≡ Som
 
   -- it waits for this
   pub reaches_so : (i : Input) (ls : List Letter) (rs : List ToLink) (time : ℕ) (wait : Wait)
-      → TookRow r i ls rs (knows r time r.tables (replaced (with_work q (wait_meant wait) (reached time q.work)) r.requests))
+      → TookRow r i ls rs (knows r time r.tables (replaced (with_work q (wait_view wait) (reached time q.work)) r.requests))
       → TookRow r i ls rs (changed r time r.begun r.moment (Reaches id.count wait))
   reaches_so i ls rs time wait took =
       subst (λ (o : Option Open). TookRow r i ls rs (record {
@@ -76,7 +76,7 @@ module _ (r : Router) (id : RequestId) (q : Open) (opened : open_of r id ≡ Som
         moment = r.moment;
         count = r.count;
         tables = r.tables;
-        requests = elim o as (λ _. List Open) [ None ↦ r.requests | Some x ↦ replaced (with_work x (wait_meant wait) (reached time x.work)) r.requests ];
+        requests = elim o as (λ _. List Open) [ None ↦ r.requests | Some x ↦ replaced (with_work x (wait_view wait) (reached time x.work)) r.requests ];
         cursors = r.cursors;
         blocks = r.blocks;
         gave = r.gave;
@@ -85,7 +85,7 @@ module _ (r : Router) (id : RequestId) (q : Open) (opened : open_of r id ≡ Som
   -- it has these answers now, and waits for this
   pub notes_so : (i : Input) (ls : List Letter) (rs : List ToLink) (time : ℕ) (wait : Wait) (answers : Vec Done_told Global) (kind : WriteKind) (ordered : Bool) (statements : List letters.Statement) (before : List Done)
       → q.work ≡ writing kind ordered statements before
-      → TookRow r i ls rs (knows r time r.tables (replaced (with_work q (wait_meant wait) (writing kind ordered statements (map done_meant answers.items))) r.requests))
+      → TookRow r i ls rs (knows r time r.tables (replaced (with_work q (wait_view wait) (writing kind ordered statements (map done_view answers.items))) r.requests))
       → TookRow r i ls rs (changed r time r.begun r.moment (Notes id.count wait answers))
   notes_so i ls rs time wait answers kind ordered statements before work took =
       subst (λ (o : Option Open). TookRow r i ls rs (record {
@@ -99,7 +99,7 @@ module _ (r : Router) (id : RequestId) (q : Open) (opened : open_of r id ≡ Som
         requests = elim o as (λ _. List Open) [
           | None ↦ r.requests
           | Some x ↦ elim x.work as (λ _. List Open) [
-            | writing k a s b ↦ replaced (with_work x (wait_meant wait) (writing k a s (map done_meant answers.items))) r.requests
+            | writing k a s b ↦ replaced (with_work x (wait_view wait) (writing k a s (map done_view answers.items))) r.requests
             | reading named at stages telling ↦ r.requests
           ]
         ];
@@ -115,7 +115,7 @@ module _ (r : Router) (id : RequestId) (q : Open) (opened : open_of r id ≡ Som
         count = r.count;
         tables = r.tables;
         requests = elim w as (λ _. List Open) [
-          | writing k a s b ↦ replaced (with_work q (wait_meant wait) (writing k a s (map done_meant answers.items))) r.requests
+          | writing k a s b ↦ replaced (with_work q (wait_view wait) (writing k a s (map done_view answers.items))) r.requests
           | reading named at stages telling ↦ r.requests
         ];
         cursors = r.cursors;

@@ -8,8 +8,8 @@ use Rattle.node_model.specs.RouterRows.{asks_by, asks_for, enough_of, wait_by, w
 use Rattle.node_model.specs.States.{Router, Wait, writing}
 use Rattle.node_model.specs.Tables.{Table, table_of}
 use Rattle.node_model.specs.Writes.{WriteKind}
-use Rattle.open_requests.proofs.Askers.{asked_alike}
-use Rattle.open_requests.specs.Askers.{asking}
+use Rattle.router_requests.proofs.Askers.{asked_alike}
+use Rattle.router_requests.specs.Askers.{asking}
 
 module _ (r : Router) (time count : ℕ) (namespace : List ℕ) (kind : WriteKind) (ordered : Bool) (statements : List Statement) (answers : List Done) where
   -- any table is enough for a write

@@ -13,9 +13,9 @@ use Rattle.node_model.specs.Steps.{Step, IsFor, BeginsBefore, router_step, begin
 use Rattle.node_model.specs.Times.{time_of_moment}
 use Rattle.node_traits.specs.Effects.{AreSound, puts_of, spellings}
 use Rattle.node_traits.specs.declared.outputs.ToLink.{ToLink}
-use Rattle.open_requests.proofs.Askers.{asked_alike}
-use Rattle.open_requests.specs.Works.{open_meant, wait_meant, work_meant}
-use Rattle.open_requests.specs.declared.work.OpenRequest.{OpenRequest}
+use Rattle.router_requests.proofs.Askers.{asked_alike}
+use Rattle.router_requests.specs.Works.{open_view, wait_view, work_view}
+use Rattle.router_requests.specs.declared.work.OpenRequest.{OpenRequest}
 use Rattle.protocol_model.specs.Heads.{head_request}
 use Rattle.router_node.specs.Rows.{TookRow, started, life_kept}
 use Rattle.router_node.proofs.Heard.{follows_so}
@@ -152,23 +152,23 @@ asked_started r time count namespace work =
 
 module _ (r : Router) (o : OpenRequest) (next : o.count ≡ r.count + 1) where
   abbrev work : Work
-  work = work_meant (id_of r o.count) o.work
+  work = work_view (id_of r o.count) o.work
 
   abbrev request : Request
   request = head_request o.head
 
-  opens : wait_meant o.wait ≡ wait_of r r.time o.namespace work → open_meant r.me r.life o ≡ opened_request (started r) o.link o.number request o.namespace work
+  opens : wait_view o.wait ≡ wait_of r r.time o.namespace work → open_view r.me r.life o ≡ opened_request (started r) o.link o.number request o.namespace work
   opens waits =
-      ap (λ (n : ℕ). record { count = n; link = o.link; number = o.number; request = request; namespace = o.namespace; wait = wait_meant o.wait; work = work }) next
+      ap (λ (n : ℕ). record { count = n; link = o.link; number = o.number; request = request; namespace = o.namespace; wait = wait_view o.wait; work = work }) next
       ∙ ap (λ (w : Wait). record { count = r.count + 1; link = o.link; number = o.number; request = request; namespace = o.namespace; wait = w; work = work }) waits
 
   abbrev effect : Effect
   effect = record { written = []; mail = asks_for (started r) r.time (r.count + 1) o.namespace work; taken = taken_now (started r) o.link o.number request ∷ []; replies = [] }
 
   -- kept open
-  pub took_open : (letters : List Letter) → plan_of (started r) (id_of r o.count) (head_request o.head).more (command_of (head_request o.head)) ≡ needs o.namespace (work_meant (id_of r o.count) o.work)
-      → letters ≡ asks_for r r.time o.count o.namespace (work_meant (id_of r o.count) o.work)
-      → wait_meant o.wait ≡ wait_of r r.time o.namespace (work_meant (id_of r o.count) o.work)
+  pub took_open : (letters : List Letter) → plan_of (started r) (id_of r o.count) (head_request o.head).more (command_of (head_request o.head)) ≡ needs o.namespace (work_view (id_of r o.count) o.work)
+      → letters ≡ asks_for r r.time o.count o.namespace (work_view (id_of r o.count) o.work)
+      → wait_view o.wait ≡ wait_of r r.time o.namespace (work_view (id_of r o.count) o.work)
       → TookRow (started r) (client_input o.link o.number (head_request o.head)) letters [] (changed r r.time true r.moment (Opens o))
   took_open letters plan asked waits = record {
     effect = effect;

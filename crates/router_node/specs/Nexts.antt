@@ -5,7 +5,7 @@ use Rattle.std.specs.Option.{option_map}
 use Rattle.node_model.specs.RouterRows.{Next, adopted, next_of}
 use Rattle.node_model.specs.States.{Open, Router}
 use Rattle.node_model.specs.Tables.{Table}
-use Rattle.protocol_model.specs.Bodies.{at_meant}
+use Rattle.protocol_model.specs.Bodies.{at_view}
 use Rattle.protocol_model.specs.declared.tables.TableTold.{TableTold}
 
 -- the tables with the one that was told, if one was
@@ -14,4 +14,4 @@ tables_told told tables = adopted (option_map (λ t. arc_value t) told.table) ta
 
 -- at a time of the router
 abbrev pub next_at : Router → (time : ℕ) → TableTold → Open → Next
-next_at r time told q = next_of r time (tables_told told r.tables) told.namespace (at_meant told.at) q
+next_at r time told q = next_of r time (tables_told told r.tables) told.namespace (at_view told.at) q

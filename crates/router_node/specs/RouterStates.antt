@@ -1,6 +1,6 @@
 -- The state of the definitions that a router of the program is in.
 use Rattle.node_model.specs.States.{Router, NodeState, router_state}
-use Rattle.open_requests.specs.Lists.{opens_of, taken_of}
+use Rattle.router_requests.specs.Lists.{opens_of, taken_of}
 use Rattle.router_cursors.specs.CursorLists.{blocks_of, cursors_of, gave_of}
 use Rattle.router_node.specs.declared.node.RouterNode.{RouterNode}
 

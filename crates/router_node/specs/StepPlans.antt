@@ -13,11 +13,11 @@ use Rattle.node_model.specs.Tables.{Table}
 use Rattle.node_model.specs.Writes.{WriteKind}
 use Rattle.node_traits.specs.Effects.{AreSound, StepPlanned, puts_of, spellings}
 use Rattle.node_traits.specs.declared.outputs.ToLink.{ToLink}
-use Rattle.open_requests.specs.Lists.{has_room}
-use Rattle.open_requests.specs.Works.{open_meant, wait_meant}
-use Rattle.protocol_model.specs.Bodies.{at_meant}
+use Rattle.router_requests.specs.Lists.{has_room}
+use Rattle.router_requests.specs.Works.{open_view, wait_view}
+use Rattle.protocol_model.specs.Bodies.{at_view}
 use Rattle.protocol_model.specs.Messages.{letter_of}
-use Rattle.protocol_model.specs.Statements.{done_meant}
+use Rattle.protocol_model.specs.Statements.{done_view}
 use Rattle.router_cursors.specs.CursorLists as cursors
 use Rattle.router_cursors.specs.CursorLists.{advanced, closed_all}
 use Rattle.router_cursors.specs.Marks.{is_left}
@@ -59,22 +59,22 @@ tables_then (Ends numbers) tables = tables
 abbrev pub opens_then : Router → (time : ℕ) → Change → List Open
 opens_then r time Stays = r.requests
 opens_then r time Counts = r.requests
-opens_then r time (Opens q) = r.requests ++ open_meant r.me r.life q ∷ []
+opens_then r time (Opens q) = r.requests ++ open_view r.me r.life q ∷ []
 opens_then r time (Closes count) = without count r.requests
 opens_then r time (Reaches count wait) = elim (open_with count r.requests) [
   | None ↦ r.requests
-  | Some q ↦ replaced (with_work q (wait_meant wait) (reached time q.work)) r.requests
+  | Some q ↦ replaced (with_work q (wait_view wait) (reached time q.work)) r.requests
 ]
 opens_then r time (Notes count wait answers) = elim (open_with count r.requests) [
   | None ↦ r.requests
   | Some q ↦ elim q.work [
     | writing kind ordered statements before ↦
-        replaced (with_work q (wait_meant wait) (writing kind ordered statements (map done_meant answers.items))) r.requests
+        replaced (with_work q (wait_view wait) (writing kind ordered statements (map done_view answers.items))) r.requests
     | reading named at stages telling ↦ r.requests
   ]
 ]
 opens_then r time (Learns namespace at table) =
-    flat_map (λ q. stay_in (next_of r time (adopted (option_map (λ t. arc_value t) table) r.tables) namespace (at_meant at) q)) r.requests
+    flat_map (λ q. stay_in (next_of r time (adopted (option_map (λ t. arc_value t) table) r.tables) namespace (at_view at) q)) r.requests
 opens_then r time (Shelves count opened) = without count r.requests
 opens_then r time (Advances number shown) = r.requests
 opens_then r time (Ends numbers) = r.requests

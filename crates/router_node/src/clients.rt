@@ -5,12 +5,12 @@ use crate::node::RouterNode;
 use crate::step_plan::{Change, StepPlan};
 use bson_values::Memory;
 use cluster_base::Namespace;
-use command_answers::Answer;
+use command_replies::Answer;
 use node_traits::MailList;
-use open_requests::{OpenRequest, Work};
 use opmsg_frames::Request;
 use protocol_model::Head;
-use router_replies::{Plan, reply_to};
+use router_replies::{RequestPlan, reply_to};
+use router_requests::{OpenRequest, Work};
 
 /// The head of a request that comes on a link; the number is that of its reply.
 #[derive(Drop)]
@@ -22,12 +22,12 @@ pub(crate) struct Asked {
 
 impl RouterNode {
     ghost use Rattle.std.specs.Prelude.{◌≡◌, ◌<◌, ◌+◌, ◌-◌, ◌^◌, IfOk};
-    ghost use Rattle.command_answers.specs.AnswerMeanings.{answer_meant};
+    ghost use Rattle.command_replies.specs.AnswerMeanings.{answer_view};
     ghost use Rattle.command_words.specs.Command.{command_of};
     ghost use Rattle.node_model.specs.Letters.{client_input};
     ghost use Rattle.node_model.specs.RouterRows as rows;
-    ghost use Rattle.open_requests.specs.Lists.{taken_of};
-    ghost use Rattle.open_requests.specs.Works.{work_meant};
+    ghost use Rattle.router_requests.specs.Lists.{taken_of};
+    ghost use Rattle.router_requests.specs.Works.{work_view};
     ghost use Rattle.protocol_model.specs.Heads.{head_request};
     ghost use Rattle.protocol_model.specs.Requests.{request_of};
     ghost use Rattle.router_node.specs.RouterStates.{router_of};
@@ -39,7 +39,7 @@ impl RouterNode {
         requires few { taken_of self.now.requests < 2 ^ 64 - 1 }
         requires plan { rows.plan_of (started (router_of self.now))
             (rows.id_of (router_of self.now) (taken_of self.now.requests + 1)) asked.head.more (command_of (head_request asked.head))
-            ≡ rows.at_once (answer_meant answer) }
+            ≡ rows.at_once (answer_view answer) }
         ensures { IfOk result (λ p. IsPlanned (router_of self.now) (client_input asked.link asked.number (head_request asked.head)) p) }
     {
         let Asked { link, number, head } = asked;
@@ -60,7 +60,7 @@ impl RouterNode {
         requires next { count ≡ taken_of self.now.requests + 1 }
         requires plan { rows.plan_of (started (router_of self.now))
             (rows.id_of (router_of self.now) count) asked.head.more (command_of (head_request asked.head))
-            ≡ rows.needs namespace (work_meant (rows.id_of (router_of self.now) count) work) }
+            ≡ rows.needs namespace (work_view (rows.id_of (router_of self.now) count) work) }
         ensures { IfOk result (λ p. IsPlanned (router_of self.now) (client_input asked.link asked.number (head_request asked.head)) p) }
     {
         let (wait, message) = self.asks_for(self.time, count, &namespace, &work)?;
@@ -96,10 +96,15 @@ impl RouterNode {
         let plan = self.plan_of(head.form, head.more, body)?;
         let asked = Asked { link, number, head };
         match plan {
-            Plan::AtOnce(answer) => self.plan_plain(asked, answer),
-            Plan::Needs { namespace, work } => self.plan_open(asked, taken + 1, namespace, work),
-            Plan::NeedsBatch(more) => self.plan_more(asked, more),
-            Plan::NeedsEnd(kill) => self.plan_end(asked, kill),
+            RequestPlan::AtOnce(answer) => self.plan_plain(asked, answer),
+            RequestPlan::Needs { namespace, work } => self.plan_open(
+                asked,
+                taken + 1,
+                namespace,
+                work,
+            ),
+            RequestPlan::NeedsBatch(more) => self.plan_more(asked, more),
+            RequestPlan::NeedsEnd(kill) => self.plan_end(asked, kill),
         }
     }
 }

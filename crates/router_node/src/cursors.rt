@@ -4,7 +4,7 @@ use crate::clients::Asked;
 use crate::node::RouterNode;
 use crate::step_plan::{Change, StepPlan};
 use bson_values::Memory;
-use command_answers::Answer;
+use command_replies::Answer;
 use command_words::{GetMore, KillCursors};
 use cursor_shelf::{Batch as Shown, ShelfFault};
 use node_traits::MailList;
@@ -13,11 +13,11 @@ use router_replies::{next_answer, not_open, reply_to};
 impl RouterNode {
     ghost use Rattle.std.specs.Prelude.{◌≡◌, ◌<◌, ◌+◌, ◌-◌, ◌^◌, IfOk, None, Some, length};
     ghost use Rattle.command_words.specs.Command.{command_of};
-    ghost use Rattle.command_words.specs.Commands.{kill_meant, more_meant};
+    ghost use Rattle.command_words.specs.Commands.{kill_view, more_view};
     ghost use Rattle.node_model.specs.Cursors.{Cursor, ShowsNext, open_cursor};
     ghost use Rattle.node_model.specs.Letters.{client_input};
     ghost use Rattle.node_model.specs.RouterRows as rows;
-    ghost use Rattle.open_requests.specs.Lists.{taken_of};
+    ghost use Rattle.router_requests.specs.Lists.{taken_of};
     ghost use Rattle.protocol_model.specs.Heads.{head_request};
     ghost use Rattle.router_cursors.specs.CursorLists.{advanced, batch_of};
     ghost use Rattle.router_node.specs.RouterStates.{router_of};
@@ -29,7 +29,7 @@ impl RouterNode {
         requires few { taken_of self.now.requests < 2 ^ 64 - 1 }
         requires plan { rows.plan_of (started (router_of self.now))
             (rows.id_of (router_of self.now) (taken_of self.now.requests + 1)) asked.head.more (command_of (head_request asked.head))
-            ≡ rows.needs_batch (more_meant more) }
+            ≡ rows.needs_batch (more_view more) }
         requires shows { (c : Cursor)
             × (open_cursor (rows.id_of (router_of self.now) (taken_of self.now.requests + 1)) more.cursor more.namespace (router_of self.now).cursors ≡ Some c)
             × ShowsNext (rows.id_of (router_of self.now) (taken_of self.now.requests + 1)) more.size (router_of self.now).cursors c
@@ -57,7 +57,7 @@ impl RouterNode {
         requires few { taken_of self.now.requests < 2 ^ 64 - 1 }
         requires plan { rows.plan_of (started (router_of self.now))
             (rows.id_of (router_of self.now) (taken_of self.now.requests + 1)) asked.head.more (command_of (head_request asked.head))
-            ≡ rows.needs_batch (more_meant more) }
+            ≡ rows.needs_batch (more_view more) }
         requires none { open_cursor (rows.id_of (router_of self.now) (taken_of self.now.requests + 1)) more.cursor more.namespace
             (router_of self.now).cursors ≡ None }
         ensures { IfOk result (λ p. IsPlanned (router_of self.now) (client_input asked.link asked.number (head_request asked.head)) p) }
@@ -74,7 +74,7 @@ impl RouterNode {
         requires few { taken_of self.now.requests < 2 ^ 64 - 1 }
         requires plan { rows.plan_of (started (router_of self.now))
             (rows.id_of (router_of self.now) (taken_of self.now.requests + 1)) asked.head.more (command_of (head_request asked.head))
-            ≡ rows.needs_batch (more_meant more) }
+            ≡ rows.needs_batch (more_view more) }
         ensures { IfOk result (λ p. IsPlanned (router_of self.now) (client_input asked.link asked.number (head_request asked.head)) p) }
     {
         match self
@@ -92,7 +92,7 @@ impl RouterNode {
         requires few { taken_of self.now.requests < 2 ^ 64 - 1 }
         requires plan { rows.plan_of (started (router_of self.now))
             (rows.id_of (router_of self.now) (taken_of self.now.requests + 1)) asked.head.more (command_of (head_request asked.head))
-            ≡ rows.needs_end (kill_meant kill) }
+            ≡ rows.needs_end (kill_view kill) }
         ensures { IfOk result (λ p. IsPlanned (router_of self.now) (client_input asked.link asked.number (head_request asked.head)) p) }
     {
         let closing = self.cursors.closing(&kill.namespace, &kill.cursors)?;

@@ -9,9 +9,9 @@ use bson_values::Memory;
 use chunk_table::Table;
 use cluster_base::Time;
 use node_traits::{MailList, ReplyList, ToLink};
-use open_requests::{Next, OpenRequest, next_of};
 use protocol_model::{Message, TableTold};
 use router_replies::{empty_answer, reply_to};
+use router_requests::{Next, OpenRequest, next_of};
 
 /// The longer of two tables, else the other.
 fn longer_of<'a>(table: &'a Table, other: &'a Table) -> &'a Table
@@ -33,9 +33,9 @@ impl RouterNode {
     ghost use Rattle.node_model.specs.Tables.{table_of};
     ghost use Rattle.node_traits.specs.Effects.{puts_of};
     ghost use Rattle.node_traits.specs.Lists.{listed};
-    ghost use Rattle.open_requests.specs.Askers.{letters_of};
-    ghost use Rattle.open_requests.specs.Works.{open_meant};
-    ghost use Rattle.protocol_model.specs.Bodies.{table_told_meant};
+    ghost use Rattle.router_requests.specs.Askers.{letters_of};
+    ghost use Rattle.router_requests.specs.Works.{open_view};
+    ghost use Rattle.protocol_model.specs.Bodies.{table_told_view};
     ghost use Rattle.protocol_model.specs.Messages.{letter_of};
     ghost use Rattle.router_node.specs.Nexts.{next_at, tables_told};
     ghost use Rattle.router_node.specs.RouterStates.{router_of};
@@ -70,7 +70,7 @@ impl RouterNode {
     ) -> Result<Option<Message>, Memory>
         requires { table_of told.now.namespace (tables_told told.now self.now.tables.tables) ≡ option_map (λ t. t.now) known }
         ensures { IfOk result (λ m. letters_of m
-            ≡ rows.letters_in (next_at (router_of self.now) time.0 told.now (open_meant self.now.me.0 self.now.life request.now))) }
+            ≡ rows.letters_in (next_at (router_of self.now) time.0 told.now (open_view self.now.me.0 self.now.life request.now))) }
     {
         match next_of(&told.namespace, told.at, known, request) {
             Next::Stays => Ok(None),
@@ -99,7 +99,7 @@ impl RouterNode {
     ) -> Result<Option<ToLink>, Memory>
         requires { table_of told.now.namespace (tables_told told.now self.now.tables.tables) ≡ option_map (λ t. t.now) known }
         ensures { IfOk result (λ reply. listed reply
-            ≡ puts_of (rows.replies_in (next_at (router_of self.now) time.0 told.now (open_meant self.now.me.0 self.now.life request.now)))) }
+            ≡ puts_of (rows.replies_in (next_at (router_of self.now) time.0 told.now (open_view self.now.me.0 self.now.life request.now)))) }
     {
         match next_of(&told.namespace, told.at, known, request) {
             Next::Stays => Ok(None),
@@ -128,7 +128,7 @@ impl RouterNode {
     ) -> Result<(), Memory>
         requires { table_of told.now.namespace (tables_told told.now self.now.tables.tables) ≡ option_map (λ t. t.now) known }
         ensures { OnOk result (map (λ m. letter_of m) mail.new ≡ map (λ m. letter_of m) mail.old
-            ++ rows.letters_in (next_at (router_of self.now) time.0 told.now (open_meant self.now.me.0 self.now.life request.now))) }
+            ++ rows.letters_in (next_at (router_of self.now) time.0 told.now (open_view self.now.me.0 self.now.life request.now))) }
     {
         match self.asks_next(time, told, known, request)? {
             Some(message) => mail.push(message),
@@ -147,7 +147,7 @@ impl RouterNode {
     ) -> Result<(), Memory>
         requires { table_of told.now.namespace (tables_told told.now self.now.tables.tables) ≡ option_map (λ t. t.now) known }
         ensures { OnOk result (replies.new ≡ replies.old
-            ++ puts_of (rows.replies_in (next_at (router_of self.now) time.0 told.now (open_meant self.now.me.0 self.now.life request.now)))) }
+            ++ puts_of (rows.replies_in (next_at (router_of self.now) time.0 told.now (open_view self.now.me.0 self.now.life request.now)))) }
     {
         match self.reply_next(time, told, known, request)? {
             Some(reply) => replies.push(reply),
@@ -164,7 +164,7 @@ impl RouterNode {
     ) -> Result<MailList<Message>, Memory>
         ensures { IfOk result (λ mail. map (λ m. letter_of m) mail
             ≡ flat_map (λ q. rows.letters_in (next_at (router_of self.now) time.0 told.now q))
-            (map (λ q. open_meant self.now.me.0 self.now.life q) requests.now)) }
+            (map (λ q. open_view self.now.me.0 self.now.life q) requests.now)) }
     {
         let known = self.known_after(told);
         let mut mail = MailList::new(self.alloc);
@@ -184,7 +184,7 @@ impl RouterNode {
     ) -> Result<ReplyList, Memory>
         ensures { IfOk result (λ replies. replies
             ≡ puts_of (flat_map (λ q. rows.replies_in (next_at (router_of self.now) time.0 told.now q))
-            (map (λ q. open_meant self.now.me.0 self.now.life q) requests.now))) }
+            (map (λ q. open_view self.now.me.0 self.now.life q) requests.now))) }
     {
         let known = self.known_after(told);
         let mut replies = ReplyList::new(self.alloc);
@@ -196,7 +196,7 @@ impl RouterNode {
 
     // What a table that is told comes to. Fails for want of memory.
     pub(crate) fn plan_table(&self, time: Time, told: TableTold) -> Result<StepPlan, Memory>
-        ensures { (m : Letter) → m.body ≡ table_told_meant told → time.0 ≡ rows.heard (router_of self.now) m →
+        ensures { (m : Letter) → m.body ≡ table_told_view told → time.0 ≡ rows.heard (router_of self.now) m →
             IfOk result (λ p. IsHeard (router_of self.now) m p) }
     {
         let requests = self.requests.as_slice();

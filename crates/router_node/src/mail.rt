@@ -1,7 +1,7 @@
 //! Messages that steps give out.
 
 ghost use Rattle.std.specs.Prelude.{◌≡◌, map};
-ghost use Rattle.open_requests.specs.Askers.{letters_of};
+ghost use Rattle.router_requests.specs.Askers.{letters_of};
 ghost use Rattle.protocol_model.specs.Messages.{letter_of};
 
 use node_traits::MailList;

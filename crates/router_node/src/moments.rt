@@ -4,24 +4,24 @@ use crate::node::RouterNode;
 use bson_values::Memory;
 use cluster_base::Time;
 use node_traits::MailList;
-use open_requests::{OpenRequest, Wait};
 use protocol_model::Message;
+use router_requests::{OpenRequest, Wait};
 
 impl RouterNode {
     ghost use Rattle.std.specs.Prelude.{◌≡◌, ◌++◌, map, IfOk, OnOk};
     ghost use Rattle.std.specs.List.{flat_map};
     ghost use Rattle.node_model.specs.RouterRows as rows;
-    ghost use Rattle.open_requests.specs.Askers.{letters_of};
-    ghost use Rattle.open_requests.specs.Lists.{opens_of};
-    ghost use Rattle.open_requests.specs.Works.{open_meant};
+    ghost use Rattle.router_requests.specs.Askers.{letters_of};
+    ghost use Rattle.router_requests.specs.Lists.{opens_of};
+    ghost use Rattle.router_requests.specs.Works.{open_view};
     ghost use Rattle.protocol_model.specs.Messages.{letter_of};
     ghost use Rattle.router_node.specs.RouterStates.{router_of};
     ghost use Rattle.router_node.specs.Rows.{started};
 
     // What an open request waits for, asked again. Fails for want of memory.
-    #[tactic(auto, using(open_requests::proofs::Askers::shards_alike, open_requests::proofs::Askers::table_alike))]
+    #[tactic(auto, using(router_requests::proofs::Askers::shards_alike, router_requests::proofs::Askers::table_alike))]
     fn asks_again(&self, time: Time, request: &OpenRequest) -> Result<Option<Message>, Memory>
-        ensures { IfOk result (λ m. letters_of m ≡ rows.asks_again (started (router_of self.now)) time.0 (open_meant self.now.me.0 self.now.life request.now)) }
+        ensures { IfOk result (λ m. letters_of m ≡ rows.asks_again (started (router_of self.now)) time.0 (open_view self.now.me.0 self.now.life request.now)) }
     {
         let asker = self.asker();
         let count = request.count;
@@ -49,7 +49,7 @@ impl RouterNode {
         request: &OpenRequest,
     ) -> Result<(), Memory>
         ensures { OnOk result (map (λ m. letter_of m) mail.new
-            ≡ map (λ m. letter_of m) mail.old ++ rows.asks_again (started (router_of self.now)) time.0 (open_meant self.now.me.0 self.now.life request.now)) }
+            ≡ map (λ m. letter_of m) mail.old ++ rows.asks_again (started (router_of self.now)) time.0 (open_view self.now.me.0 self.now.life request.now)) }
     {
         match self.asks_again(time, request)? {
             Some(message) => mail.push(message),
@@ -60,7 +60,7 @@ impl RouterNode {
     // What these open requests wait for, asked again. Fails for want of memory.
     fn ask_each(&self, time: Time, requests: &[OpenRequest]) -> Result<MailList<Message>, Memory>
         ensures { IfOk result (λ mail. map (λ m. letter_of m) mail
-            ≡ flat_map (λ q. rows.asks_again (started (router_of self.now)) time.0 q) (map (λ q. open_meant self.now.me.0 self.now.life q) requests.now)) }
+            ≡ flat_map (λ q. rows.asks_again (started (router_of self.now)) time.0 q) (map (λ q. open_view self.now.me.0 self.now.life q) requests.now)) }
     {
         let mut mail = MailList::new(self.alloc);
         for request in requests {

@@ -4,23 +4,23 @@ ghost use Rattle.std.specs.Prelude.{◌≡◌, false};
 ghost use Rattle.std.specs.Option.{option_map};
 ghost use Rattle.known_tables.specs.Tables.{table_of};
 ghost use Rattle.node_model.specs.RouterRows as rows;
-ghost use Rattle.open_requests.specs.Lists.{taken_of};
-ghost use Rattle.open_requests.specs.Works.{wait_meant};
+ghost use Rattle.router_requests.specs.Lists.{taken_of};
+ghost use Rattle.router_requests.specs.Works.{wait_view};
 
 use bson_values::Memory;
 use chunk_table::Table;
 use cluster_base::{Namespace, NodeId, RequestId, Time};
 use known_tables::TableList;
 use node_traits::StepCount;
-use open_requests::{Asker, OpenList, OpenRead, OpenRequest, Wait, Work, is_enough};
 use protocol_model::Message;
 use router_cursors::CursorList;
 use router_replies::known_in;
+use router_requests::{Asker, OpenList, OpenRead, OpenRequest, Wait, Work, is_enough};
 use std::alloc::Global;
 
 /// What waits by a table, if it is there: for the shards, or else for the table.
 pub(crate) fn wait_by(table: Option<&Table>) -> Wait
-    ensures { wait_meant result ≡ rows.wait_by (option_map (λ t. t.now) table.entry) }
+    ensures { wait_view result ≡ rows.wait_by (option_map (λ t. t.now) table.entry) }
 {
     match table {
         None => Wait::ForTable,
@@ -53,9 +53,9 @@ impl RouterNode {
     ghost use Rattle.node_model.specs.Exchanges as asked;
     ghost use Rattle.node_model.specs.RouterRows as rows;
     ghost use Rattle.node_model.specs.States.{new_router};
-    ghost use Rattle.node_traits.specs.Ids.{id_meant};
-    ghost use Rattle.open_requests.specs.Askers.{asker_meant, letters_of};
-    ghost use Rattle.open_requests.specs.Works.{open_meant, read_at, wait_meant, work_meant};
+    ghost use Rattle.node_traits.specs.Ids.{id_view};
+    ghost use Rattle.router_requests.specs.Askers.{asker_view, letters_of};
+    ghost use Rattle.router_requests.specs.Works.{open_view, read_at, wait_view, work_view};
     ghost use Rattle.router_node.specs.RouterStates.{router_of};
 
     /// The router of this number, before its first step, with nothing kept.
@@ -79,7 +79,7 @@ impl RouterNode {
 
     // Itself, as it asks others.
     pub(crate) fn asker(&self) -> Asker
-        ensures { asker_meant result ≡ asker_meant (record { me = self.now.me; life = self.now.life }) }
+        ensures { asker_view result ≡ asker_view (record { me = self.now.me; life = self.now.life }) }
     {
         Asker {
             me: self.me,
@@ -89,7 +89,7 @@ impl RouterNode {
 
     // The open request with this id, where it is open in this life.
     pub(crate) fn open_of(&self, id: RequestId) -> Option<&OpenRequest>
-        ensures { option_map (λ q. open_meant self.now.me.0 self.now.life q.now) result ≡ rows.open_of (router_of self.now) (id_meant id) }
+        ensures { option_map (λ q. open_view self.now.me.0 self.now.life q.now) result ≡ rows.open_of (router_of self.now) (id_view id) }
     {
         if id == self.asker().id(id.count) {
             self.requests.find(id.count)
@@ -124,7 +124,7 @@ impl RouterNode {
 
     // The table that work can go on with.
     pub(crate) fn table_for(&self, namespace: &Namespace, work: &Work) -> Option<&Table>
-        ensures { (id : asked.RequestId) → option_map (λ t. t.now) result ≡ rows.table_for self.now.tables.tables namespace.now (work_meant id work.now) }
+        ensures { (id : asked.RequestId) → option_map (λ t. t.now) result ≡ rows.table_for self.now.tables.tables namespace.now (work_view id work.now) }
     {
         match work {
             Work::Writing { .. } => self.table_of(namespace),
@@ -134,7 +134,7 @@ impl RouterNode {
 
     // Whether work reads at a time that is not reached.
     fn is_ahead(time: Time, work: &Work) -> bool
-        ensures { (id : asked.RequestId) → result ≡ rows.is_ahead time.0 (work_meant id work.now) }
+        ensures { (id : asked.RequestId) → result ≡ rows.is_ahead time.0 (work_view id work.now) }
     {
         match work {
             Work::Writing { .. } => false,
@@ -150,10 +150,10 @@ impl RouterNode {
         namespace: &Namespace,
         work: &Work,
     ) -> Result<(Wait, Option<Message>), Memory>
-        ensures wait { (id : asked.RequestId) → IfOk result (λ asked. wait_meant asked.0
-            ≡ rows.wait_of (router_of self.now) time.0 namespace.now (work_meant id work.now)) }
+        ensures wait { (id : asked.RequestId) → IfOk result (λ asked. wait_view asked.0
+            ≡ rows.wait_of (router_of self.now) time.0 namespace.now (work_view id work.now)) }
         ensures letters { IfOk result (λ asked. letters_of asked.1
-            ≡ rows.asks_for (router_of self.now) time.0 count namespace.now (work_meant (rows.id_of (router_of self.now) count) work.now)) }
+            ≡ rows.asks_for (router_of self.now) time.0 count namespace.now (work_view (rows.id_of (router_of self.now) count) work.now)) }
     {
         let asker = self.asker();
         if RouterNode::is_ahead(time, work) {

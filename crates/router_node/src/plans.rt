@@ -3,25 +3,25 @@
 ghost use Rattle.std.specs.Prelude.{◌≡◌, IfOk, Ok, max};
 ghost use Rattle.std.specs.Option.{option_map, unwrap_or};
 ghost use Rattle.command_words.specs.Command.{command_in};
-ghost use Rattle.command_words.specs.Commands.{command_meant, reading_meant};
+ghost use Rattle.command_words.specs.Commands.{command_view, reading_view};
 ghost use Rattle.command_words.specs.CommandSizes.{IsSmallCommand};
 ghost use Rattle.node_model.specs.Exchanges as asked;
 ghost use Rattle.node_model.specs.RouterRows as rows;
-ghost use Rattle.open_requests.specs.Works.{telling_meant};
-ghost use Rattle.opmsg_frames.specs.RequestMeanings.{form_meant};
+ghost use Rattle.router_requests.specs.Works.{telling_view};
+ghost use Rattle.opmsg_frames.specs.RequestMeanings.{form_view};
 ghost use Rattle.protocol_model.specs.Requests.{body_of};
-ghost use Rattle.router_replies.specs.Plans.{plan_meant};
+ghost use Rattle.router_replies.specs.Plans.{plan_view};
 ghost use Rattle.router_node.specs.RouterStates.{router_of};
 ghost use Rattle.router_node.specs.Rows.{started};
 
 use crate::node::RouterNode;
 use bson_values::Memory;
 use cluster_base::Time;
-use command_answers::Answer;
+use command_replies::Answer;
 use command_words::{Command, CommandFault, Reading};
-use open_requests::{Parts, Telling};
 use opmsg_frames::{Body, Form};
-use router_replies::{Plan, is_taken, needs_read, plan_write, telling_of};
+use router_replies::{RequestPlan, is_taken, needs_read, plan_write, telling_of};
+use router_requests::{Parts, Telling};
 
 impl RouterNode {
     // The time of a read that names none: the router's, which must have come to the one that is to be reached.
@@ -35,9 +35,9 @@ impl RouterNode {
     }
 
     // What a read has to do: it is of the time that it names, or else of the router's. Fails for want of memory.
-    fn plan_read(&self, reading: Reading, telling: Telling) -> Result<Plan, Memory>
-        ensures { (id : asked.RequestId) → IfOk result (λ plan. plan_meant id plan ≡ rows.plan_read (started (router_of self.now)) (reading_meant reading)
-            (telling_meant telling)) }
+    fn plan_read(&self, reading: Reading, telling: Telling) -> Result<RequestPlan, Memory>
+        ensures { (id : asked.RequestId) → IfOk result (λ plan. plan_view id plan ≡ rows.plan_read (started (router_of self.now)) (reading_view reading)
+            (telling_view telling)) }
     {
         let Reading {
             namespace,
@@ -56,35 +56,40 @@ impl RouterNode {
     }
 
     // What a command is answered, or has to do. Fails for want of memory.
-    fn plan_command(&self, silent: bool, command: Command) -> Result<Plan, Memory>
-        requires { IsSmallCommand (command_meant command) }
-        ensures { (id : asked.RequestId) → IfOk result (λ plan. plan_meant id plan
-            ≡ rows.plan_of (started (router_of self.now)) id silent (Ok (command_meant command))) }
+    fn plan_command(&self, silent: bool, command: Command) -> Result<RequestPlan, Memory>
+        requires { IsSmallCommand (command_view command) }
+        ensures { (id : asked.RequestId) → IfOk result (λ plan. plan_view id plan
+            ≡ rows.plan_of (started (router_of self.now)) id silent (Ok (command_view command))) }
     {
         match command {
-            Command::Hello => Ok(Plan::AtOnce(Answer::Hello {
+            Command::Hello => Ok(RequestPlan::AtOnce(Answer::Hello {
                 moment: self.moment,
             })),
-            Command::Legacy(legacy) => Ok(Plan::AtOnce(Answer::Legacy {
+            Command::Legacy(legacy) => Ok(RequestPlan::AtOnce(Answer::Legacy {
                 moment: self.moment,
                 hello_ok: legacy.shows_hello_ok,
             })),
-            Command::Ping | Command::EndSessions => Ok(Plan::AtOnce(Answer::Done)),
+            Command::Ping | Command::EndSessions => Ok(RequestPlan::AtOnce(Answer::Done)),
             Command::Write(write) => plan_write(self.alloc, write),
             Command::Find(find) => {
                 let telling = telling_of(&find.batches, silent);
                 self.plan_read(find.reading, telling)
             }
             Command::Count(reading) => self.plan_read(reading, Telling::Number),
-            Command::GetMore(more) => Ok(Plan::NeedsBatch(more)),
-            Command::KillCursors(kill) => Ok(Plan::NeedsEnd(kill)),
+            Command::GetMore(more) => Ok(RequestPlan::NeedsBatch(more)),
+            Command::KillCursors(kill) => Ok(RequestPlan::NeedsEnd(kill)),
         }
     }
 
     // What a request of this body is answered, or has to do. Fails for want of memory.
-    pub(crate) fn plan_of(&self, sent: Form, silent: bool, body: Body) -> Result<Plan, Memory>
-        ensures { (id : asked.RequestId) → IfOk result (λ plan. plan_meant id plan
-            ≡ rows.plan_of (started (router_of self.now)) id silent (command_in (form_meant sent) (body_of body))) }
+    pub(crate) fn plan_of(
+        &self,
+        sent: Form,
+        silent: bool,
+        body: Body,
+    ) -> Result<RequestPlan, Memory>
+        ensures { (id : asked.RequestId) → IfOk result (λ plan. plan_view id plan
+            ≡ rows.plan_of (started (router_of self.now)) id silent (command_in (form_view sent) (body_of body))) }
     {
         if !is_taken(&body) {
             // A framer gives no such request.
@@ -92,7 +97,9 @@ impl RouterNode {
         }
         match Command::take_body(self.alloc, sent, body) {
             Ok(command) => self.plan_command(silent, command),
-            Err(CommandFault::Refused(refusal)) => Ok(Plan::AtOnce(Answer::Refused(refusal))),
+            Err(CommandFault::Refused(refusal)) => Ok(RequestPlan::AtOnce(Answer::Refused(
+                refusal,
+            ))),
             Err(CommandFault::Memory) => Err(Memory),
         }
     }

@@ -6,10 +6,10 @@ use crate::node::{RouterNode, wait_by};
 use crate::step_plan::{Change, StepPlan};
 use bson_values::Memory;
 use cluster_base::{RequestId, Time};
-use command_answers::Answer;
-use open_requests::{OpenRead, OpenRequest, Wait, Work};
+use command_replies::Answer;
 use protocol_model::{ReadRows, TimeTold};
 use router_replies::{reply_to, time_ahead};
+use router_requests::{OpenRead, OpenRequest, Wait, Work};
 
 /// Whether a turn is the first, which is the only one so far.
 fn is_first(turn: u32) -> bool
@@ -31,16 +31,16 @@ impl RouterNode {
     ghost use Rattle.std.specs.Prelude.{◌≡◌, ◌≤◌, ◌<◌, IfOk, Some};
     ghost use Rattle.node_model.specs.Letters.{Letter, time_told};
     ghost use Rattle.node_model.specs.States.{for_time};
-    ghost use Rattle.open_requests.specs.Works.{open_meant, read_meant};
+    ghost use Rattle.router_requests.specs.Works.{open_view, read_view};
     ghost use Rattle.node_model.specs.RouterRows as rows;
-    ghost use Rattle.node_traits.specs.Ids.{id_meant};
-    ghost use Rattle.protocol_model.specs.Bodies.{read_rows_meant, time_told_meant};
+    ghost use Rattle.node_traits.specs.Ids.{id_view};
+    ghost use Rattle.protocol_model.specs.Bodies.{read_rows_view, time_told_view};
     ghost use Rattle.router_node.specs.RouterStates.{router_of};
     ghost use Rattle.router_node.specs.StepPlans.{IsHeard};
 
     // What becomes of a read whose rows are told. Fails for want of memory.
     pub(crate) fn plan_rows(&self, time: Time, told: ReadRows) -> Result<StepPlan, Memory>
-        ensures { (m : Letter) → m.body ≡ read_rows_meant told → time.0 ≡ rows.heard (router_of self.now) m →
+        ensures { (m : Letter) → m.body ≡ read_rows_view told → time.0 ≡ rows.heard (router_of self.now) m →
             IfOk result (λ p. IsHeard (router_of self.now) m p) }
     {
         match self.open_of(told.id) {
@@ -66,11 +66,11 @@ impl RouterNode {
         request: &OpenRequest,
         read: &OpenRead,
     ) -> Result<StepPlan, Memory>
-        requires open { rows.open_of (router_of self.now) (id_meant id) ≡ Some (open_meant self.now.me.0 self.now.life request.now) }
-        requires waits { (open_meant self.now.me.0 self.now.life request.now).wait ≡ for_time }
-        requires work { (open_meant self.now.me.0 self.now.life request.now).work ≡ read_meant read.now }
+        requires open { rows.open_of (router_of self.now) (id_view id) ≡ Some (open_view self.now.me.0 self.now.life request.now) }
+        requires waits { (open_view self.now.me.0 self.now.life request.now).wait ≡ for_time }
+        requires work { (open_view self.now.me.0 self.now.life request.now).work ≡ read_view read.now }
         requires come { read.now.at.0 ≤ time.0 }
-        ensures { (m : Letter) → m.body ≡ time_told (id_meant id) → time.0 ≡ rows.heard (router_of self.now) m →
+        ensures { (m : Letter) → m.body ≡ time_told (id_view id) → time.0 ≡ rows.heard (router_of self.now) m →
             IfOk result (λ p. IsHeard (router_of self.now) m p) }
     {
         let at = read.at_reached(time);
@@ -90,11 +90,11 @@ impl RouterNode {
         request: &OpenRequest,
         read: &OpenRead,
     ) -> Result<StepPlan, Memory>
-        requires open { rows.open_of (router_of self.now) (id_meant id) ≡ Some (open_meant self.now.me.0 self.now.life request.now) }
-        requires waits { (open_meant self.now.me.0 self.now.life request.now).wait ≡ for_time }
-        requires work { (open_meant self.now.me.0 self.now.life request.now).work ≡ read_meant read.now }
+        requires open { rows.open_of (router_of self.now) (id_view id) ≡ Some (open_view self.now.me.0 self.now.life request.now) }
+        requires waits { (open_view self.now.me.0 self.now.life request.now).wait ≡ for_time }
+        requires work { (open_view self.now.me.0 self.now.life request.now).work ≡ read_view read.now }
         requires ahead { time.0 < read.now.at.0 }
-        ensures { (m : Letter) → m.body ≡ time_told (id_meant id) → time.0 ≡ rows.heard (router_of self.now) m →
+        ensures { (m : Letter) → m.body ≡ time_told (id_view id) → time.0 ≡ rows.heard (router_of self.now) m →
             IfOk result (λ p. IsHeard (router_of self.now) m p) }
     {
         let answer = Answer::Refused(time_ahead(time));
@@ -117,10 +117,10 @@ impl RouterNode {
         request: &OpenRequest,
         read: &OpenRead,
     ) -> Result<StepPlan, Memory>
-        requires open { rows.open_of (router_of self.now) (id_meant id) ≡ Some (open_meant self.now.me.0 self.now.life request.now) }
-        requires waits { (open_meant self.now.me.0 self.now.life request.now).wait ≡ for_time }
-        requires work { (open_meant self.now.me.0 self.now.life request.now).work ≡ read_meant read.now }
-        ensures { (m : Letter) → m.body ≡ time_told (id_meant id) → time.0 ≡ rows.heard (router_of self.now) m →
+        requires open { rows.open_of (router_of self.now) (id_view id) ≡ Some (open_view self.now.me.0 self.now.life request.now) }
+        requires waits { (open_view self.now.me.0 self.now.life request.now).wait ≡ for_time }
+        requires work { (open_view self.now.me.0 self.now.life request.now).work ≡ read_view read.now }
+        ensures { (m : Letter) → m.body ≡ time_told (id_view id) → time.0 ≡ rows.heard (router_of self.now) m →
             IfOk result (λ p. IsHeard (router_of self.now) m p) }
     {
         if has_come(read.at, time) {
@@ -132,7 +132,7 @@ impl RouterNode {
 
     // What becomes of a read where every shard told its time, at a time of the router. Fails for want of memory.
     pub(crate) fn plan_time(&self, time: Time, told: &TimeTold) -> Result<StepPlan, Memory>
-        ensures { (m : Letter) → m.body ≡ time_told_meant told.now → time.0 ≡ rows.heard (router_of self.now) m →
+        ensures { (m : Letter) → m.body ≡ time_told_view told.now → time.0 ≡ rows.heard (router_of self.now) m →
             IfOk result (λ p. IsHeard (router_of self.now) m p) }
     {
         match self.open_of(told.id) {

@@ -9,8 +9,8 @@ use bson_values::{Blob, Document, Memory};
 use chunk_table::Table;
 use cluster_base::{Namespace, Time};
 use node_traits::{MailList, ReplyList, ToLink};
-use open_requests::{OpenRequest, Wait};
 use protocol_model::{At, DoneList, Message};
+use router_requests::{OpenRequest, Wait};
 use std::alloc::Global;
 use std::collections::VecDeque;
 use std::sync::Arc;
@@ -77,7 +77,7 @@ impl RouterNode {
     ghost use Rattle.node_model.specs.Journal.{Kept};
     ghost use Rattle.node_traits.specs.Effects.{spellings};
     ghost use Rattle.node_traits.specs.Lists.{listed};
-    ghost use Rattle.open_requests.specs.Askers.{letters_of};
+    ghost use Rattle.router_requests.specs.Askers.{letters_of};
     ghost use Rattle.protocol_model.specs.Messages.{letter_of};
     ghost use Rattle.router_node.specs.RouterStates.{router_of};
     ghost use Rattle.router_node.specs.StepPlans.{Hears, HearsKeeping, Starts};

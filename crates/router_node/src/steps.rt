@@ -13,7 +13,7 @@ impl RouterNode {
     ghost use Rattle.node_model.specs.RouterRows as rows;
     ghost use Rattle.node_model.specs.States.{router_state};
     ghost use Rattle.node_traits.specs.Effects.{StepPlanned};
-    ghost use Rattle.protocol_model.specs.Bodies.{body_meant};
+    ghost use Rattle.protocol_model.specs.Bodies.{body_view};
     ghost use Rattle.protocol_model.specs.Inputs.{input_of};
     ghost use Rattle.protocol_model.specs.Messages.{letter_of};
     ghost use Rattle.router_node.specs.RouterStates.{router_of};
@@ -21,7 +21,7 @@ impl RouterNode {
 
     // What a message to it comes to, at the time that it brings. Fails for want of memory.
     fn plan_body(&self, time: Time, body: Body) -> Result<StepPlan, Memory>
-        ensures { (m : Letter) → m.body ≡ body_meant body → time.0 ≡ rows.heard (router_of self.now) m → IfOk result (λ p. IsHeard (router_of self.now) m p) }
+        ensures { (m : Letter) → m.body ≡ body_view body → time.0 ≡ rows.heard (router_of self.now) m → IfOk result (λ p. IsHeard (router_of self.now) m p) }
     {
         match body {
             Body::TableTold(told) => self.plan_table(time, told),

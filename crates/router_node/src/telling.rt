@@ -4,16 +4,16 @@ use crate::node::RouterNode;
 use crate::step_plan::{Change, NewCursor, StepPlan};
 use bson_values::Memory;
 use cluster_base::Time;
-use command_answers::Answer;
+use command_replies::Answer;
 use cursor_shelf::{FirstBatch, first_batch};
 use group_merge::merge;
-use open_requests::{OpenRead, OpenRequest, Telling};
 use pipeline_eval::{EvalFault, Rows};
 use protocol_model::HalfFault;
 use router_replies::{
     DocumentList, batch_answer, block_records, count_told, excess_answer, is_only, overflow_answer,
     reply_to,
 };
+use router_requests::{OpenRead, OpenRequest, Telling};
 
 impl RouterNode {
     ghost use Rattle.std.specs.Prelude.{◌≡◌, [], ◌∷◌, ◌++◌, ◌<◌, ◌-◌, pos, ℕ, List, IfOk, None, Some, Ok, Err, drop, length, map, option_map, true};
@@ -22,7 +22,7 @@ impl RouterNode {
     ghost use Rattle.node_model.specs.Tree.{Fields};
     ghost use Rattle.pipeline_eval.specs.Rows.{rows_of};
     ghost use Rattle.std.specs.Arc.{arc_value};
-    ghost use Rattle.command_answers.specs.AnswerMeanings.{answer_meant};
+    ghost use Rattle.command_replies.specs.AnswerMeanings.{answer_view};
     ghost use Rattle.node_model.specs.Answers.{first_answer};
     ghost use Rattle.node_model.specs.Exchanges as asked;
     ghost use Rattle.node_model.specs.Lengths.{excess_of_answer};
@@ -31,8 +31,8 @@ impl RouterNode {
     ghost use Rattle.node_model.specs.RouterRows.{as_before, batch_of, gives_number, new_cursor, next_number};
     ghost use Rattle.node_model.specs.Runs.{listed};
     ghost use Rattle.node_model.specs.States as states;
-    ghost use Rattle.open_requests.specs.Works.{open_meant, read_meant, telling_meant};
-    ghost use Rattle.protocol_model.specs.Bodies.{half_fault_meant, rows_meant};
+    ghost use Rattle.router_requests.specs.Works.{open_view, read_view, telling_view};
+    ghost use Rattle.protocol_model.specs.Bodies.{half_fault_view, rows_view};
     ghost use Rattle.router_cursors.specs.Marks.{is_left};
     ghost use Rattle.router_node.specs.RouterStates.{router_of};
     ghost use Rattle.router_node.specs.StepPlans.{IsHeard};
@@ -46,7 +46,7 @@ impl RouterNode {
         answer: &Answer,
     ) -> Result<StepPlan, Memory>
         ensures { (m : Letter) → time.0 ≡ rows.heard (router_of self.now) m →
-            MayTell (router_of self.now) m (open_meant self.now.me.0 self.now.life request.now) (answer_meant answer.now) (as_before (router_of self.now)) →
+            MayTell (router_of self.now) m (open_view self.now.me.0 self.now.life request.now) (answer_view answer.now) (as_before (router_of self.now)) →
             IfOk result (λ p. IsHeard (router_of self.now) m p) }
     {
         let reply = reply_to(
@@ -69,11 +69,11 @@ impl RouterNode {
         batch: FirstBatch,
     ) -> Result<StepPlan, Memory>
         ensures { (m : Letter) → time.0 ≡ rows.heard (router_of self.now) m → is_left (map arc_value batch.rest.items) ≡ true →
-            MayTell (router_of self.now) m (open_meant self.now.me.0 self.now.life request.now)
-            (first_answer (batch_of (open_meant self.now.me.0 self.now.life request.now) at.0 (pos (next_number (router_of self.now)))
+            MayTell (router_of self.now) m (open_view self.now.me.0 self.now.life request.now)
+            (first_answer (batch_of (open_view self.now.me.0 self.now.life request.now) at.0 (pos (next_number (router_of self.now)))
             (map arc_value batch.documents.items)))
             (gives_number (router_of self.now) ((router_of self.now).cursors
-            ++ new_cursor (router_of self.now) (open_meant self.now.me.0 self.now.life request.now) at.0 (map arc_value batch.rest.items) ∷ [])) →
+            ++ new_cursor (router_of self.now) (open_view self.now.me.0 self.now.life request.now) at.0 (map arc_value batch.rest.items) ∷ [])) →
             IfOk result (λ p. IsHeard (router_of self.now) m p) }
     {
         let Some(next) = self.cursors.next_number() else {
@@ -110,7 +110,7 @@ impl RouterNode {
         ensures { (m : Letter) (size : ℕ) (documents : List Fields) → time.0 ≡ rows.heard (router_of self.now) m → excess_of_answer documents ≡ None →
             IsBatch (Some size) documents (map arc_value batch.documents.items) →
             map arc_value batch.rest.items ≡ drop (length (map arc_value batch.documents.items)) documents →
-            MayTellOf (router_of self.now) m (open_meant self.now.me.0 self.now.life request.now) at.0 (states.in_batches size single) (listed documents) →
+            MayTellOf (router_of self.now) m (open_view self.now.me.0 self.now.life request.now) at.0 (states.in_batches size single) (listed documents) →
             IfOk result (λ p. IsHeard (router_of self.now) m p) }
     {
         if is_only(single, &batch) {
@@ -131,7 +131,7 @@ impl RouterNode {
         documents: &DocumentList,
     ) -> Result<StepPlan, Memory>
         ensures { (m : Letter) → time.0 ≡ rows.heard (router_of self.now) m →
-            MayTellOf (router_of self.now) m (open_meant self.now.me.0 self.now.life request.now) at.0 states.as_number
+            MayTellOf (router_of self.now) m (open_view self.now.me.0 self.now.life request.now) at.0 states.as_number
             (listed (map arc_value documents.now.items)) →
             IfOk result (λ p. IsHeard (router_of self.now) m p) }
     {
@@ -153,7 +153,7 @@ impl RouterNode {
         documents: DocumentList,
     ) -> Result<StepPlan, Memory>
         ensures { (m : Letter) → time.0 ≡ rows.heard (router_of self.now) m → excess_of_answer (map arc_value documents.items) ≡ None →
-            MayTellOf (router_of self.now) m (open_meant self.now.me.0 self.now.life request.now) read.now.at.0 (telling_meant read.now.telling)
+            MayTellOf (router_of self.now) m (open_view self.now.me.0 self.now.life request.now) read.now.at.0 (telling_view read.now.telling)
             (listed (map arc_value documents.items)) →
             IfOk result (λ p. IsHeard (router_of self.now) m p) }
     {
@@ -171,7 +171,7 @@ impl RouterNode {
     fn plan_excess(&self, time: Time, request: &OpenRequest, bytes: u64) -> Result<StepPlan, Memory>
         ensures { (m : Letter) (at : ℕ) (telling : states.Telling) (documents : List Fields) → time.0 ≡ rows.heard (router_of self.now) m →
             option_map capped (excess_of_answer documents) ≡ Some bytes →
-            MayTellOf (router_of self.now) m (open_meant self.now.me.0 self.now.life request.now) at telling (listed documents) →
+            MayTellOf (router_of self.now) m (open_view self.now.me.0 self.now.life request.now) at telling (listed documents) →
             IfOk result (λ p. IsHeard (router_of self.now) m p) }
     {
         if bytes == u64::MAX {
@@ -189,8 +189,8 @@ impl RouterNode {
         shown: Rows,
     ) -> Result<StepPlan, Memory>
         ensures { (m : Letter) (id : asked.RequestId) → m.body ≡ read_rows id 1 (Ok (rows_of shown)) → time.0 ≡ rows.heard (router_of self.now) m →
-            rows.open_of (router_of self.now) id ≡ Some (open_meant self.now.me.0 self.now.life request.now) →
-            (open_meant self.now.me.0 self.now.life request.now).work ≡ read_meant read.now → IfOk result (λ p. IsHeard (router_of self.now) m p) }
+            rows.open_of (router_of self.now) id ≡ Some (open_view self.now.me.0 self.now.life request.now) →
+            (open_view self.now.me.0 self.now.life request.now).work ≡ read_view read.now → IfOk result (λ p. IsHeard (router_of self.now) m p) }
     {
         let mut parts = Vec::new(self.alloc);
         parts.push(shown)?;
@@ -211,9 +211,9 @@ impl RouterNode {
         read: &OpenRead,
         fault: HalfFault,
     ) -> Result<StepPlan, Memory>
-        ensures { (m : Letter) (id : asked.RequestId) → m.body ≡ read_rows id 1 (Err (half_fault_meant fault)) → time.0 ≡ rows.heard (router_of self.now) m →
-            rows.open_of (router_of self.now) id ≡ Some (open_meant self.now.me.0 self.now.life request.now) →
-            (open_meant self.now.me.0 self.now.life request.now).work ≡ read_meant read.now → IfOk result (λ p. IsHeard (router_of self.now) m p) }
+        ensures { (m : Letter) (id : asked.RequestId) → m.body ≡ read_rows id 1 (Err (half_fault_view fault)) → time.0 ≡ rows.heard (router_of self.now) m →
+            rows.open_of (router_of self.now) id ≡ Some (open_view self.now.me.0 self.now.life request.now) →
+            (open_view self.now.me.0 self.now.life request.now).work ≡ read_view read.now → IfOk result (λ p. IsHeard (router_of self.now) m p) }
     {
         match fault {
             HalfFault::Overflow => self.plan_answer(time, request, &overflow_answer()),
@@ -229,9 +229,9 @@ impl RouterNode {
         read: &OpenRead,
         told: Result<Rows, HalfFault>,
     ) -> Result<StepPlan, Memory>
-        ensures { (m : Letter) (id : asked.RequestId) → m.body ≡ read_rows id 1 (rows_meant told) → time.0 ≡ rows.heard (router_of self.now) m →
-            rows.open_of (router_of self.now) id ≡ Some (open_meant self.now.me.0 self.now.life request.now) →
-            (open_meant self.now.me.0 self.now.life request.now).work ≡ read_meant read.now → IfOk result (λ p. IsHeard (router_of self.now) m p) }
+        ensures { (m : Letter) (id : asked.RequestId) → m.body ≡ read_rows id 1 (rows_view told) → time.0 ≡ rows.heard (router_of self.now) m →
+            rows.open_of (router_of self.now) id ≡ Some (open_view self.now.me.0 self.now.life request.now) →
+            (open_view self.now.me.0 self.now.life request.now).work ≡ read_view read.now → IfOk result (λ p. IsHeard (router_of self.now) m p) }
     {
         match told {
             Ok(shown) => self.plan_merged(time, request, read, shown),

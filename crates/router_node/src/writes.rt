@@ -1,25 +1,25 @@
 //! What writes are told.
 
 ghost use Rattle.std.specs.Prelude.{◌≡◌, ◌≢◌, Option, length, map, true, false, IfOk};
-ghost use Rattle.command_answers.specs.AnswerMeanings.{answer_meant};
-ghost use Rattle.command_answers.specs.Kinds.{kind_meant};
+ghost use Rattle.command_replies.specs.AnswerMeanings.{answer_view};
+ghost use Rattle.command_replies.specs.Kinds.{kind_view};
 ghost use Rattle.node_model.specs.Exchanges as asked;
 ghost use Rattle.node_model.specs.Writes as writes;
 ghost use Rattle.node_model.specs.Outcomes as outcomes;
 ghost use Rattle.node_model.specs.RouterRows as rows;
-ghost use Rattle.protocol_model.specs.Statements.{done_meant, statement_meant};
+ghost use Rattle.protocol_model.specs.Statements.{done_view, statement_view};
 
 use crate::node::{RouterNode, wait_by};
 use crate::step_plan::{Change, StepPlan};
 use bson_values::Memory;
 use chunk_table::Table;
 use cluster_base::{RequestId, Time};
-use command_answers::{Answer, ClientNumber, WriteKind};
-use open_requests::{OpenRequest, Work};
+use command_replies::{Answer, ClientNumber, WriteKind};
 use protocol_model::{DoneList, Message, StatementList, WriteDone};
 use router_replies::reply_to;
+use router_requests::{OpenRequest, Work};
+use router_writes::{answer_of, is_answered, note};
 use std::alloc::Global;
-use write_answers::{answer_of, is_answered, note};
 
 /// Whether answers are as many as there were.
 fn are_as_many(before: &DoneList, answers: &DoneList) -> bool
@@ -31,7 +31,7 @@ fn are_as_many(before: &DoneList, answers: &DoneList) -> bool
 
 /// The answers with those that are told next. Fails for want of memory.
 fn with_told(alloc: Global, answers: &DoneList, dones: &DoneList) -> Result<DoneList, Memory>
-    ensures { IfOk result (λ list. map done_meant list.items ≡ rows.noted (map done_meant answers.now.items) (map done_meant dones.now.items)) }
+    ensures { IfOk result (λ list. map done_view list.items ≡ rows.noted (map done_view answers.now.items) (map done_view dones.now.items)) }
 {
     note(alloc, answers, dones)
 }
@@ -39,7 +39,7 @@ fn with_told(alloc: Global, answers: &DoneList, dones: &DoneList) -> Result<Done
 /// Whether all statements are answered, or the last answer ends the command.
 fn is_all(ordered: bool, statements: &StatementList, answers: &DoneList) -> bool
     ensures { (given : Option writes.ClientNumber) (id : asked.RequestId) → result
-        ≡ rows.is_answered ordered (map (λ s. statement_meant given id s) statements.now.items) (map done_meant answers.now.items) }
+        ≡ rows.is_answered ordered (map (λ s. statement_view given id s) statements.now.items) (map done_view answers.now.items) }
 {
     is_answered(ordered, statements, answers)
 }
@@ -52,7 +52,7 @@ fn answer_to(
     time: Time,
     answers: &DoneList,
 ) -> Result<Answer, Memory>
-    ensures { IfOk result (λ answer. answer_meant answer ≡ outcomes.answer_of (kind_meant kind) time.0 (map done_meant answers.now.items)) }
+    ensures { IfOk result (λ answer. answer_view answer ≡ outcomes.answer_of (kind_view kind) time.0 (map done_view answers.now.items)) }
 {
     answer_of(alloc, kind, time, answers)
 }
@@ -63,13 +63,13 @@ impl RouterNode {
     ghost use Rattle.node_model.specs.RouterRows as rows;
     ghost use Rattle.node_model.specs.States as states;
     ghost use Rattle.node_model.specs.Writes as writes;
-    ghost use Rattle.command_answers.specs.Kinds.{given_meant, kind_meant};
-    ghost use Rattle.open_requests.specs.Askers.{asking, letters_of};
-    ghost use Rattle.open_requests.specs.Works.{open_meant};
+    ghost use Rattle.command_replies.specs.Kinds.{given_view, kind_view};
+    ghost use Rattle.router_requests.specs.Askers.{asking, letters_of};
+    ghost use Rattle.router_requests.specs.Works.{open_view};
     ghost use Rattle.std.specs.Option.{option_map};
-    ghost use Rattle.node_traits.specs.Ids.{id_meant};
-    ghost use Rattle.protocol_model.specs.Bodies.{write_done_meant};
-    ghost use Rattle.protocol_model.specs.Statements.{done_meant, statement_meant};
+    ghost use Rattle.node_traits.specs.Ids.{id_view};
+    ghost use Rattle.protocol_model.specs.Bodies.{write_done_view};
+    ghost use Rattle.protocol_model.specs.Statements.{done_view, statement_view};
     ghost use Rattle.router_node.specs.News.{IsNews};
     ghost use Rattle.router_node.specs.RouterStates.{router_of};
     ghost use Rattle.router_node.specs.StepPlans.{IsHeard};
@@ -85,9 +85,9 @@ impl RouterNode {
         noted: &DoneList,
     ) -> Result<StepPlan, Memory>
         ensures { (m : letters.Letter) (statements : List letters.Statement) → time.0 ≡ rows.heard (router_of self.now) m →
-            IsNews (router_of self.now) m (id_meant id) (open_meant self.now.me.0 self.now.life request.now)
-            (kind_meant kind) ordered statements (map done_meant noted.now.items) →
-            rows.is_answered ordered statements (map done_meant noted.now.items) ≡ true → IfOk result (λ p. IsHeard (router_of self.now) m p) }
+            IsNews (router_of self.now) m (id_view id) (open_view self.now.me.0 self.now.life request.now)
+            (kind_view kind) ordered statements (map done_view noted.now.items) →
+            rows.is_answered ordered statements (map done_view noted.now.items) ≡ true → IfOk result (λ p. IsHeard (router_of self.now) m p) }
     {
         let answer = answer_to(self.alloc, kind, time, noted)?;
         let reply = reply_to(
@@ -114,8 +114,8 @@ impl RouterNode {
         ensures { (kind : writes.WriteKind) → IfOk result (λ m. letters_of m
             ≡ rows.asks_by (asking self.now.me.0 self.now.life) time.0 request.now.count request.now.namespace
             (states.writing kind ordered
-            (map (λ s. statement_meant (given_meant number) (rows.id_of (router_of self.now) request.now.count) s) statements.now.items)
-            (map done_meant noted.now.items))
+            (map (λ s. statement_view (given_view number) (rows.id_of (router_of self.now) request.now.count) s) statements.now.items)
+            (map done_view noted.now.items))
             (option_map (λ t. t.now) table.entry)) }
     {
         let namespace = &request.namespace;
@@ -138,12 +138,12 @@ impl RouterNode {
         noted: DoneList,
     ) -> Result<StepPlan, Memory>
         ensures { (m : letters.Letter) (kind : writes.WriteKind) → time.0 ≡ rows.heard (router_of self.now) m →
-            IsNews (router_of self.now) m (id_meant id) (open_meant self.now.me.0 self.now.life request.now) kind ordered
-            (map (λ s. statement_meant (given_meant number) (rows.id_of (router_of self.now) request.now.count) s) statements.now.items)
-            (map done_meant noted.items) →
+            IsNews (router_of self.now) m (id_view id) (open_view self.now.me.0 self.now.life request.now) kind ordered
+            (map (λ s. statement_view (given_view number) (rows.id_of (router_of self.now) request.now.count) s) statements.now.items)
+            (map done_view noted.items) →
             rows.is_answered ordered
-            (map (λ s. statement_meant (given_meant number) (rows.id_of (router_of self.now) request.now.count) s) statements.now.items)
-            (map done_meant noted.items) ≡ false →
+            (map (λ s. statement_view (given_view number) (rows.id_of (router_of self.now) request.now.count) s) statements.now.items)
+            (map done_view noted.items) ≡ false →
             IfOk result (λ p. IsHeard (router_of self.now) m p) }
     {
         let table = self.table_of(&request.namespace);
@@ -165,9 +165,9 @@ impl RouterNode {
         noted: DoneList,
     ) -> Result<StepPlan, Memory>
         ensures { (m : letters.Letter) → time.0 ≡ rows.heard (router_of self.now) m →
-            IsNews (router_of self.now) m (id_meant id) (open_meant self.now.me.0 self.now.life request.now) (kind_meant kind) ordered
-            (map (λ s. statement_meant (given_meant number) (rows.id_of (router_of self.now) request.now.count) s) statements.now.items)
-            (map done_meant noted.items) →
+            IsNews (router_of self.now) m (id_view id) (open_view self.now.me.0 self.now.life request.now) (kind_view kind) ordered
+            (map (λ s. statement_view (given_view number) (rows.id_of (router_of self.now) request.now.count) s) statements.now.items)
+            (map done_view noted.items) →
             IfOk result (λ p. IsHeard (router_of self.now) m p) }
     {
         if is_all(ordered, statements, &noted) {
@@ -179,7 +179,7 @@ impl RouterNode {
 
     // What becomes of a write whose outcomes are told, at a time of the router. Fails for want of memory.
     pub(crate) fn plan_dones(&self, time: Time, told: &WriteDone) -> Result<StepPlan, Memory>
-        ensures { (m : letters.Letter) → m.body ≡ write_done_meant told.now → time.0 ≡ rows.heard (router_of self.now) m →
+        ensures { (m : letters.Letter) → m.body ≡ write_done_view told.now → time.0 ≡ rows.heard (router_of self.now) m →
             IfOk result (λ p. IsHeard (router_of self.now) m p) }
     {
         match self.open_of(told.id) {

@@ -21,15 +21,15 @@ use Rattle.opmsg_model.specs.Messages.{most_bytes}
 use Rattle.protocol_model.specs.Requests.{body_of, faulty_body_of}
 use Rattle.router_replies.specs.Bodies.{AreSmall, AreSmallSequences, IsTakenBody}
 
-fault_meant : (fault : BsonFault) → is_some (fault_offset fault) ≡ true → IsBody (Faulty fault) (faulty_body_of fault)
-fault_meant (Short offset) e = (short_fault, offset, refl, refl)
-fault_meant (BadLength offset) e = (length_fault, offset, refl, refl)
-fault_meant (BadType offset byte) e = (type_fault byte, offset, refl, refl)
-fault_meant (BadText offset) e = (string_fault, offset, refl, refl)
-fault_meant (BadBool offset) e = (boolean_fault, offset, refl, refl)
-fault_meant (Deep offset) e = (depth_fault, offset, refl, refl)
-fault_meant (Trailing offset) e = (trailing_fault, offset, refl, refl)
-fault_meant Memory e = absurd (cc e)
+fault_view : (fault : BsonFault) → is_some (fault_offset fault) ≡ true → IsBody (Faulty fault) (faulty_body_of fault)
+fault_view (Short offset) e = (short_fault, offset, refl, refl)
+fault_view (BadLength offset) e = (length_fault, offset, refl, refl)
+fault_view (BadType offset byte) e = (type_fault byte, offset, refl, refl)
+fault_view (BadText offset) e = (string_fault, offset, refl, refl)
+fault_view (BadBool offset) e = (boolean_fault, offset, refl, refl)
+fault_view (Deep offset) e = (depth_fault, offset, refl, refl)
+fault_view (Trailing offset) e = (trailing_fault, offset, refl, refl)
+fault_view Memory e = absurd (cc e)
 
 -- the offset of a fault that stands inside a message
 fault_small : (fault : BsonFault) (offset : ℕ) → fault_offset fault ≡ Some offset → offset ≤ most_bytes → IsSmallBody (faulty_body_of fault)
@@ -51,7 +51,7 @@ module _ (body : Body) where
   pub faulty_taken : (fault : BsonFault) → body ≡ Faulty fault → (offset : ℕ) × (fault_offset fault ≡ Some offset) × (offset ≤ most_bytes) → IsTakenBody body
   faulty_taken fault is inside =
       subst (λ (b : Body). IsTakenBody b) (sym is) (record {
-        meant = fault_meant fault (ap (λ (o : Option ℕ). is_some o) inside.1);
+        meant = fault_view fault (ap (λ (o : Option ℕ). is_some o) inside.1);
         small = fault_small fault inside.0 inside.1 inside.2;
       })
 

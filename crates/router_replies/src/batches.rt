@@ -2,20 +2,20 @@
 
 ghost use Rattle.std.specs.Prelude.{◌≡◌, ◌≤◌, ◌^◌, ◌⊎◌, [], pos, IfOk, map, true, false, if◌then◌else◌};
 ghost use Rattle.std.specs.Arc.{arc_value};
-ghost use Rattle.command_answers.specs.AnswerMeanings.{answer_meant};
+ghost use Rattle.command_replies.specs.AnswerMeanings.{answer_view};
 ghost use Rattle.node_model.specs.Answers as model;
 ghost use Rattle.node_model.specs.RouterRows as rows;
 ghost use Rattle.node_model.specs.States as states;
-ghost use Rattle.open_requests.specs.Works.{telling_meant};
+ghost use Rattle.router_requests.specs.Works.{telling_view};
 ghost use Rattle.router_cursors.specs.CursorLists.{batch_of};
 ghost use Rattle.router_cursors.specs.Marks.{is_left};
 
 use bson_values::{Document, Memory};
 use cluster_base::{Namespace, Time};
-use command_answers::{Answer, Batch};
+use command_replies::{Answer, Batch};
 use command_words::GetMore;
 use cursor_shelf::{Batch as Shown, FirstBatch};
-use open_requests::Telling;
+use router_requests::Telling;
 use std::alloc::Global;
 use std::sync::Arc;
 
@@ -29,8 +29,8 @@ pub fn empty_answer(
     time: Time,
     telling: Telling,
 ) -> Result<Answer, Memory>
-    ensures { (q : states.Open) → q.namespace ≡ namespace.now → IfOk result (λ answer. answer_meant answer
-        ≡ rows.empty_answer q time.0 (telling_meant telling)) }
+    ensures { (q : states.Open) → q.namespace ≡ namespace.now → IfOk result (λ answer. answer_view answer
+        ≡ rows.empty_answer q time.0 (telling_view telling)) }
 {
     match telling {
         Telling::Batches { .. } => Ok(Answer::First(Batch {
@@ -53,7 +53,7 @@ pub fn batch_answer(
 ) -> Result<Answer, Memory>
     requires { number ≤ 2 ^ 62 }
     ensures { (q : states.Open) → q.namespace ≡ namespace.now →
-        IfOk result (λ answer. answer_meant answer ≡ model.first_answer (rows.batch_of q time.0 (pos number) (map arc_value documents.items))) }
+        IfOk result (λ answer. answer_view answer ≡ model.first_answer (rows.batch_of q time.0 (pos number) (map arc_value documents.items))) }
 {
     Ok(Answer::First(Batch {
         cursor: number as i64,
@@ -80,7 +80,7 @@ fn number_told(last: bool, number: i64) -> i64
 
 /// The next batch of the cursor of that number.
 pub fn next_answer(more: GetMore, shown: Shown) -> Answer
-    ensures { answer_meant result ≡ model.next_answer (batch_of more.cursor more.namespace shown) }
+    ensures { answer_view result ≡ model.next_answer (batch_of more.cursor more.namespace shown) }
 {
     Answer::Next(Batch {
         cursor: number_told(shown.is_last, more.cursor),

@@ -1,17 +1,17 @@
 //! Replies.
 
 ghost use Rattle.std.specs.Prelude.{◌≡◌, ◌∷◌, [], ℕ, IfOk};
-ghost use Rattle.command_answers.specs.Answers.{answer_document};
-ghost use Rattle.command_answers.specs.AnswerMeanings.{answer_meant};
+ghost use Rattle.command_replies.specs.Answers.{answer_document};
+ghost use Rattle.command_replies.specs.AnswerMeanings.{answer_view};
 ghost use Rattle.node_model.specs.Exchanges as asked;
 ghost use Rattle.node_traits.specs.Effects.{puts_of};
 ghost use Rattle.node_traits.specs.Lists.{listed};
 ghost use Rattle.opmsg_frames.specs.Replies as wire;
-ghost use Rattle.opmsg_frames.specs.RequestMeanings.{form_meant};
+ghost use Rattle.opmsg_frames.specs.RequestMeanings.{form_view};
 ghost use Rattle.protocol_model.specs.Heads.{head_request};
 
 use bson_values::{Blob, Memory};
-use command_answers::{Answer, write_answer};
+use command_replies::{Answer, write_answer};
 use node_traits::ToLink;
 use opmsg_frames::write_reply;
 use protocol_model::Head;
@@ -25,7 +25,7 @@ const MOST_BYTES: usize = 300_000_000;
 
 /// The bytes of the reply of this number to a request. Fails for want of memory, and where the answer is larger than one may be.
 fn bytes_of(alloc: Global, head: &Head, number: i32, answer: &Answer) -> Result<Blob, Memory>
-    ensures { IfOk result (λ bytes. bytes ≡ wire.reply_bytes (form_meant head.now.form) head.now.id number (answer_document (answer_meant answer.now))) }
+    ensures { IfOk result (λ bytes. bytes ≡ wire.reply_bytes (form_view head.now.form) head.now.id number (answer_document (answer_view answer.now))) }
 {
     let document = write_answer(alloc, answer)?;
     if document.levels() > MOST_LEVELS || document.size() > MOST_BYTES {
@@ -51,7 +51,7 @@ pub fn reply_to(
       number = number;
       request = head_request head.now;
       time = time;
-      document = answer_document (answer_meant answer.now);
+      document = answer_document (answer_view answer.now);
     } ∷ [])) }
 {
     if head.more {

@@ -7,8 +7,8 @@ ghost use Rattle.command_model.specs.CommandSizes.{IsKeepable};
 ghost use Rattle.node_model.specs.Exchanges as asked;
 ghost use Rattle.node_model.specs.RouterRows as rows;
 ghost use Rattle.protocol_model.specs.Statements as protocol;
-ghost use Rattle.protocol_model.specs.Statements.{statement_meant};
-ghost use Rattle.shard_records.specs.Meanings.{operation_meant};
+ghost use Rattle.protocol_model.specs.Statements.{statement_view};
+ghost use Rattle.shard_records.specs.Meanings.{operation_view};
 
 use bson_values::Memory;
 use protocol_model::{NewChange, NewDocument, Operation, Statement, StatementList};
@@ -17,8 +17,8 @@ use value_compare::OpWords;
 
 /// The operation of these words, whose documents are moved. Fails for want of memory.
 fn operation_of(alloc: Global, words: OpWords) -> Result<Operation, Memory>
-    requires { IsKeepable (operation_meant words) }
-    ensures { IfOk result (λ operation. protocol.operation_meant operation ≡ operation_meant words) }
+    requires { IsKeepable (operation_view words) }
+    ensures { IfOk result (λ operation. protocol.operation_view operation ≡ operation_view words) }
 {
     match words {
         OpWords::Insert(document) => Ok(Operation::Insert(NewDocument::of(alloc, document)?)),
@@ -32,9 +32,9 @@ pub(crate) fn statements_of(
     alloc: Global,
     operations: Vec<OpWords>,
 ) -> Result<StatementList, Memory>
-    requires { AllByRecursion IsKeepable (map operation_meant operations.items) }
-    ensures { (given : Option ClientNumber) (id : asked.RequestId) → IfOk result (λ list. map (λ s. statement_meant given id s) list.items
-        ≡ rows.statements_from given id 0 (map operation_meant operations.items)) }
+    requires { AllByRecursion IsKeepable (map operation_view operations.items) }
+    ensures { (given : Option ClientNumber) (id : asked.RequestId) → IfOk result (λ list. map (λ s. statement_view given id s) list.items
+        ≡ rows.statements_from given id 0 (map operation_view operations.items)) }
 {
     let mut statements = Vec::new(alloc);
     let mut index: u32 = 0;

@@ -8,14 +8,14 @@ ghost use Rattle.known_tables.specs.Tables.{table_of};
 ghost use Rattle.node_model.specs.RouterRows as rows;
 ghost use Rattle.node_model.specs.RouterRows.{adopted};
 ghost use Rattle.node_model.specs.States.{Router};
-ghost use Rattle.open_requests.specs.Lists.{opens_of, taken_of};
-ghost use Rattle.protocol_model.specs.Bodies.{at_meant};
+ghost use Rattle.router_requests.specs.Lists.{opens_of, taken_of};
+ghost use Rattle.protocol_model.specs.Bodies.{at_view};
 
 use chunk_table::Table;
 use cluster_base::Namespace;
 use known_tables::TableList;
-use open_requests::OpenList;
 use protocol_model::At;
+use router_requests::OpenList;
 use std::alloc::Global;
 use std::sync::Arc;
 
@@ -52,7 +52,7 @@ pub fn learn(
     ensures tables { tables.new.tables ≡ adopted (option_map (λ t. arc_value t) told) tables.old.tables }
     ensures taken { taken_of requests.new ≡ taken_of requests.old }
     ensures opens { (r : Router) (time : ℕ) → opens_of r.me r.life requests.new
-        ≡ flat_map (λ q. rows.stay_in (rows.next_of r time (adopted (option_map (λ t. arc_value t) told) tables.old.tables) namespace.now (at_meant at) q))
+        ≡ flat_map (λ q. rows.stay_in (rows.next_of r time (adopted (option_map (λ t. arc_value t) told) tables.old.tables) namespace.now (at_view at) q))
         (opens_of r.me r.life requests.old) }
 {
     adopt_told(tables, told);

@@ -9,9 +9,9 @@ use Rattle.history_model.proofs.Noted.{same_session_is}
 use Rattle.cluster_base.specs.declared.identity.Stmt.{Stmt}
 use Rattle.cluster_base.specs.declared.time.Time.{Time}
 use Rattle.value_compare.specs.declared.words.Reply.{Reply}
-use Rattle.session_book.specs.Meanings.{session_meant}
+use Rattle.session_book.specs.Meanings.{session_view}
 use Rattle.session_book.specs.Statements.{Statements, seen_among, seen_after}
-use Rattle.session_book.specs.Books.{seen_of, room_of, note_meant}
+use Rattle.session_book.specs.Books.{seen_of, room_of, note_view}
 
 -- what is kept of a session, where w is what is kept of s from now on, and was what was before
 pub record Changes (s : history.Session) (old : history.Session → Option Statements) (new : history.Session → Option Statements) (was : Option Statements) (w : Statements) : Type 0 where
@@ -71,12 +71,12 @@ same_done w was transaction notes n = rw (transaction, notes) refl
 
 -- one note more
 pub seen_noted : (s : Stmt) (time : Time) (reply : Reply) (old new : history.Session → Option Statements) (was w : Statements) →
-    Changes (session_meant s.session) old new (Some was) w →
+    Changes (session_view s.session) old new (Some was) w →
     ((t : ℤ) (i : ℕ) → seen_among w t i ≡ seen_after s.txn (record { index = s.index; time = time; reply = reply }) t i (seen_among was t i)) →
-    (n : StatementNumber) → seen_of (new n.session) n ≡ seen_with (note_meant s time reply) n (seen_of (old n.session) n)
-seen_noted s time reply old new was w change sees n = by_test (same_session (session_meant s.session) n.session) refl
+    (n : StatementNumber) → seen_of (new n.session) n ≡ seen_with (note_view s time reply) n (seen_of (old n.session) n)
+seen_noted s time reply old new was w change sees n = by_test (same_session (session_view s.session) n.session) refl
   where
-    by_test : (b : Bool) → same_session (session_meant s.session) n.session ≡ b →
-        seen_of (new n.session) n ≡ seen_with (note_meant s time reply) n (seen_of (old n.session) n)
-    by_test true here = rw (new_here (session_meant s.session) old new (Some was) w change n.session here, old_here (session_meant s.session) old new (Some was) w change n.session here, here) (sees n.transaction n.index)
-    by_test false apart = rw (elsewhere (session_meant s.session) old new (Some was) w change n.session apart, apart) refl
+    by_test : (b : Bool) → same_session (session_view s.session) n.session ≡ b →
+        seen_of (new n.session) n ≡ seen_with (note_view s time reply) n (seen_of (old n.session) n)
+    by_test true here = rw (new_here (session_view s.session) old new (Some was) w change n.session here, old_here (session_view s.session) old new (Some was) w change n.session here, here) (sees n.transaction n.index)
+    by_test false apart = rw (elsewhere (session_view s.session) old new (Some was) w change n.session apart, apart) refl

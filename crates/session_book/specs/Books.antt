@@ -8,20 +8,20 @@ use Rattle.history_model.specs.History as history
 use Rattle.history_model.specs.History.{StatementNumber}
 use Rattle.history_model.specs.Notes as notes
 use Rattle.history_model.specs.Notes.{Note, new_statement, done_before, older_than, seen}
-use Rattle.session_book.specs.Meanings.{session_meant, number_meant}
+use Rattle.session_book.specs.Meanings.{session_view, number_view}
 use Rattle.session_book.specs.Statements.{Statements, seen_among}
 use Rattle.session_book.specs.Places.{place_of, statements_at}
 use Rattle.session_book.specs.declared.book.Seen.{Seen}
 use Rattle.session_book.specs.declared.book.Seen.TheVariants.{New, Done, Older}
 use Rattle.session_book.specs.declared.book.Book.{Book}
 
-abbrev pub seen_meant : Seen → notes.Seen Reply
-seen_meant New = new_statement
-seen_meant (Done time reply) = done_before time.0 reply.now
-seen_meant (Older transaction) = older_than transaction
+abbrev pub seen_view : Seen → notes.Seen Reply
+seen_view New = new_statement
+seen_view (Done time reply) = done_before time.0 reply.now
+seen_view (Older transaction) = older_than transaction
 
-abbrev pub note_meant : Stmt → Time → Reply → Note Reply
-note_meant s time reply = record { number = number_meant s; time = time.0; told = reply }
+abbrev pub note_view : Stmt → Time → Reply → Note Reply
+note_view s time reply = record { number = number_view s; time = time.0; told = reply }
 
 -- what is kept of a session
 abbrev pub kept_of : Book → history.Session → Option Statements
@@ -41,7 +41,7 @@ seen_in book number = seen_of (kept_of book number.session) number
 
 -- for how many more statements of a session there is room
 unfoldable pub room_in : Book → Session → ℕ
-room_in book session = room_of (kept_of book (session_meant session))
+room_in book session = room_of (kept_of book (session_view session))
 
 -- these were noted so far, in that order
 abbrev pub NotesAre : Book → List (Note Reply) → Type 0

@@ -5,12 +5,12 @@ use Rattle.std.specs.Map.{lookup}
 use Rattle.cluster_base.specs.declared.identity.Session.{Session}
 use Rattle.history_model.specs.History as history
 use Rattle.history_model.specs.Notes.{same_session}
-use Rattle.session_book.specs.Meanings.{session_meant}
+use Rattle.session_book.specs.Meanings.{session_view}
 use Rattle.session_book.specs.Statements.{Statements}
 
 -- the place of a session, if it has one
 abbrev pub place_of : List (Session × ℕ) → history.Session → Option ℕ
-place_of places session = lookup (λ s. same_session session (session_meant s)) places
+place_of places session = lookup (λ s. same_session session (session_view s)) places
 
 -- what is kept at the place, if there is one
 abbrev pub statements_at : List Statements → Option ℕ → Option Statements

@@ -8,7 +8,7 @@ ghost use Rattle.history_model.specs.History.{StatementNumber};
 ghost use Rattle.history_model.specs.Notes.{Note, new_statement, same_session, seen_with};
 ghost use Rattle.cluster_base.specs.declared.identity.Session.{Session};
 ghost use Rattle.value_compare.specs.declared.words.Reply.{Reply};
-ghost use Rattle.session_book.specs.Meanings.{number_meant, session_meant};
+ghost use Rattle.session_book.specs.Meanings.{number_view, session_view};
 ghost use Rattle.session_book.specs.Places.{AreApart, place_of};
 
 use crate::session::{Kept, Noted};
@@ -48,7 +48,7 @@ fn same_id(id: &[u8; 16], other: &[u8; 16]) -> bool
 
 // Whether both are a session of one identifier, or one of a router's.
 fn is_same(session: &Session, other: &Session) -> bool
-    ensures { IsTrue result → session_meant session.now ≡ session_meant other.now }
+    ensures { IsTrue result → session_view session.now ≡ session_view other.now }
 {
     match (session, other) {
         (Session::Client(id), Session::Client(other)) => same_id(id, other),
@@ -75,12 +75,12 @@ pub struct Book {
     kept: Vec<Kept>,
     // That of the session begun or noted in last: the statements of a message have one session, so that most need no search.
     latest: Option<Place>,
-    ghost known: { ForSome latest (λ p. place_of places.entries (session_meant p.session) ≡ Some p.place) },
+    ghost known: { ForSome latest (λ p. place_of places.entries (session_view p.session) ≡ Some p.place) },
     ghost apart: { AreApart places.entries kept.items },
 }
 
 impl Book {
-    ghost use Rattle.session_book.specs.Books.{NotesAre, kept_of, note_meant, room_in, seen_in, seen_meant};
+    ghost use Rattle.session_book.specs.Books.{NotesAre, kept_of, note_view, room_in, seen_in, seen_view};
 
     /// A book in which nothing is noted.
     pub fn new(alloc: Global) -> Book
@@ -96,7 +96,7 @@ impl Book {
 
     /// What the statement is against what was noted so far.
     pub fn look(&self, s: &Stmt) -> Seen
-        ensures { seen_meant result ≡ seen_in self.now (number_meant s.now) }
+        ensures { seen_view result ≡ seen_in self.now (number_view s.now) }
     {
         match self.place(&s.session) {
             Some(place) => self.kept[place as usize].look(s.txn, s.index),
@@ -106,7 +106,7 @@ impl Book {
 
     // The place of what is kept of a session, if something is.
     fn place(&self, session: &Session) -> Option<u32>
-        ensures { result ≡ place_of self.now.places.entries (session_meant session.now) }
+        ensures { result ≡ place_of self.now.places.entries (session_view session.now) }
     {
         match &self.latest {
             Some(latest) if is_same(&latest.session, session) => Some(latest.place),
@@ -152,8 +152,8 @@ impl Book {
 
     // Keeps this of a session of which nothing is kept. Fails for want of memory, and where 2^32 are known; then all is as it was.
     fn begin(&mut self, s: Session, kept: Kept) -> Result<(), Memory>
-        requires { place_of self.old.places.entries (session_meant s) ≡ None }
-        ensures ok { OnOk result ((x : history.Session) → kept_of self.new x ≡ (if same_session (session_meant s) x then Some kept else kept_of self.old x)) }
+        requires { place_of self.old.places.entries (session_view s) ≡ None }
+        ensures ok { OnOk result ((x : history.Session) → kept_of self.new x ≡ (if same_session (session_view s) x then Some kept else kept_of self.old x)) }
         ensures err { OnErr result ((x : history.Session) → kept_of self.new x ≡ kept_of self.old x) }
     {
         let Ok(place) = u32::try_from(self.kept.len()) else {
@@ -169,11 +169,11 @@ impl Book {
     /// Notes a statement that is new, with the time of its entry and what it was told, where there is room for it.
     pub fn note(&mut self, s: &Stmt, time: Time, reply: Reply)
         requires room { 1 ≤ room_in self.old s.now.session }
-        requires new { seen_in self.old (number_meant s.now) ≡ new_statement }
-        ensures seen { (n : StatementNumber) → seen_in self.new n ≡ seen_with (note_meant s.now time reply) n (seen_in self.old n) }
-        ensures so_far { (notes : List (Note Reply)) → NotesAre self.old notes → NotesAre self.new (notes ++ note_meant s.now time reply ∷ []) }
+        requires new { seen_in self.old (number_view s.now) ≡ new_statement }
+        ensures seen { (n : StatementNumber) → seen_in self.new n ≡ seen_with (note_view s.now time reply) n (seen_in self.old n) }
+        ensures so_far { (notes : List (Note Reply)) → NotesAre self.old notes → NotesAre self.new (notes ++ note_view s.now time reply ∷ []) }
         ensures room { (t : Session) → room_in self.old t ≤ room_in self.new t + 1 }
-        ensures other_rooms { (t : Session) → session_meant t ≢ session_meant s.now.session → room_in self.old t ≤ room_in self.new t }
+        ensures other_rooms { (t : Session) → session_view t ≢ session_view s.now.session → room_in self.old t ≤ room_in self.new t }
     {
         if let Some(place) = self.place(&s.session) {
             self.latest = Some(Place {

@@ -6,7 +6,7 @@ ghost use Rattle.std.specs.Option.{option_map};
 ghost use Rattle.std.specs.Vec.{vec_capacity, vec_len};
 ghost use Rattle.history_model.specs.Notes.{new_statement};
 ghost use Rattle.session_book.specs.Statements.{Holds, IsGapFor, IsRising, notes_in, seen_after, seen_among, with_index};
-ghost use Rattle.session_book.specs.Books.{seen_meant};
+ghost use Rattle.session_book.specs.Books.{seen_view};
 
 use crate::book::Seen;
 use bson_values::Memory;
@@ -78,7 +78,7 @@ impl Kept {
 
     /// What a statement of the session is.
     pub fn look(&self, txn: i64, index: u32) -> Seen
-        ensures { seen_meant result ≡ seen_among self.now txn index }
+        ensures { seen_view result ≡ seen_among self.now txn index }
     {
         if txn < self.txn && self.first.is_some() {
             return Seen::Older(self.txn);

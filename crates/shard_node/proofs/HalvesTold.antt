@@ -7,7 +7,7 @@ use Rattle.node_traits.specs.ShardRows.{ShardRow, shard_rows, shard_excess, shar
 use Rattle.node_traits.specs.States.{Shard}
 use Rattle.node_traits.specs.Tree.{Fields}
 use Rattle.pipeline_model.specs.Halves.{Half, Rows}
-use Rattle.shard_asks.specs.Halves.{TellsHalf}
+use Rattle.shard_requests.specs.Halves.{TellsHalf}
 
 pub half_row : (s : Shard) (m : Letter) (id : RequestId) (turn : ℕ) (namespace : List ℕ) (at : ℕ) (half : Half) (documents : List Fields)
     (told : Result Rows HalfFault) → m.body ≡ half_ask id turn namespace at half documents → TellsHalf half documents told →

@@ -1,7 +1,7 @@
 -- Rows that write nothing, as plans.
 use Rattle.std.proofs.Common.{◌≡◌, ◌≤◌, ◌+◌, ℕ, List, [], ◌∷◌, ◌++◌, refl, sym, ap, subst, ◌∙◌, arith, length}
 use Rattle.std.specs.Prelude.{map, Option, Some, None, Result, Ok, Err, IfOk, ◌==◌, Bool, true, false}
-use Rattle.node_traits.specs.Ids.{id_meant}
+use Rattle.node_traits.specs.Ids.{id_view}
 use Rattle.node_model.specs.History.{Entry}
 use Rattle.std.proofs.Math.Nat.{le-max_left}
 use Rattle.std.proofs.lemmas.Bool.{eqb-true}
@@ -20,12 +20,12 @@ use Rattle.shard_records.specs.RecordFormat.{spelled, IsSound}
 use Rattle.shard_node.specs.Writes.{AreKept, spellings_of}
 use Rattle.node_traits.specs.Letters as letters
 use Rattle.node_traits.specs.Letters.{Letter, Body, Input, letter_input, table_told, write_ask, write_done, Effect, sends, writes, nothing}
-use Rattle.command_answers.specs.Kinds.{given_meant}
+use Rattle.command_replies.specs.Kinds.{given_view}
 use Rattle.node_traits.specs.ShardRows.{Ask, AsksNothing, ShardRow, shard_write, shard_repeat, shard_empty, shard_park, shard_waits, shard_stale, shard_read, shard_rows, shard_excess, shard_overflow, shard_time, shard_learn, shard_known, shard_skip, shard_moment, shard_opened, shard_client, at_later, heard, says, ask_in, asks_again, asks_table}
 use Rattle.node_traits.specs.States.{Shard, shard_state}
-use Rattle.chunk_table.specs.VerdictMeanings.{sent_meant}
-use Rattle.protocol_model.specs.Bodies.{at_meant, body_meant, table_told_meant}
-use Rattle.protocol_model.specs.Statements.{statement_meant}
+use Rattle.chunk_table.specs.VerdictMeanings.{sent_view}
+use Rattle.protocol_model.specs.Bodies.{at_view, body_view, table_told_view}
+use Rattle.protocol_model.specs.Statements.{statement_view}
 use Rattle.protocol_model.specs.declared.body.Body as bodies
 use Rattle.protocol_model.specs.declared.body.Body.TheVariants as variants
 use Rattle.protocol_model.specs.declared.statement.Statement.{Statement as Asked}
@@ -40,14 +40,14 @@ use Rattle.protocol_model.specs.Messages.{letter_of}
 use Rattle.shard_node.specs.Plans.{changed, after, FollowsBy, IsPlanned, IsStep}
 use Rattle.shard_node.specs.declared.plan.Change.{Change}
 use Rattle.shard_node.specs.declared.plan.Change.TheVariants.{Nothing, Park, Learn, Write}
-use Rattle.shard_node.specs.declared.plan.Plan.{Plan}
+use Rattle.shard_node.specs.declared.plan.StepPlan.{StepPlan}
 
 -- the shard changes nothing but its time
-quiet_after : (s : Shard) (p : Plan) (time : ℕ) → p.time.0 ≡ time → p.change ≡ Nothing → at_later s time ≡ after s p
+quiet_after : (s : Shard) (p : StepPlan) (time : ℕ) → p.time.0 ≡ time → p.change ≡ Nothing → at_later s time ≡ after s p
 quiet_after s p time timed none = ap (λ (t : ℕ). at_later s t) (sym timed) ∙ ap (λ (c : Change). changed s p.time.0 c) (sym none)
 
 -- a row that sends messages, and changes nothing but the time
-pub sends_planned : (s : Shard) (i : Input) (p : Plan) (time : ℕ) (mail : List Letter) → p.time.0 ≡ time → p.change ≡ Nothing → p.records.items ≡ [] →
+pub sends_planned : (s : Shard) (i : Input) (p : StepPlan) (time : ℕ) (mail : List Letter) → p.time.0 ≡ time → p.change ≡ Nothing → p.records.items ≡ [] →
     mail ≡ map letter_of p.mail → ShardRow s i (sends mail) (at_later s time) → IsPlanned s i p
 sends_planned s i p time mail timed none unwritten sent row = record {
   effect = sends mail;
@@ -59,7 +59,7 @@ sends_planned s i p time mail timed none unwritten sent row = record {
 }
 
 -- a row that sends nothing either
-pub quiet_planned : (s : Shard) (i : Input) (p : Plan) (time : ℕ) → p.time.0 ≡ time → p.change ≡ Nothing → p.records.items ≡ [] →
+pub quiet_planned : (s : Shard) (i : Input) (p : StepPlan) (time : ℕ) → p.time.0 ≡ time → p.change ≡ Nothing → p.records.items ≡ [] →
     map letter_of p.mail ≡ [] → ShardRow s i nothing (at_later s time) → IsPlanned s i p
 quiet_planned s i p time timed none unwritten unsent row = record {
   effect = nothing;
@@ -71,7 +71,7 @@ quiet_planned s i p time timed none unwritten unsent row = record {
 }
 
 -- a row that sends one message
-pub told_planned : (s : Shard) (i : Input) (p : Plan) (to t time : ℕ) (body : Body) (l : Letter) → p.time.0 ≡ t → t ≡ time → p.change ≡ Nothing →
+pub told_planned : (s : Shard) (i : Input) (p : StepPlan) (to t time : ℕ) (body : Body) (l : Letter) → p.time.0 ≡ t → t ≡ time → p.change ≡ Nothing →
     p.records.items ≡ [] → map letter_of p.mail ≡ l ∷ [] → l ≡ says s to t body → ShardRow s i (sends (says s to time body ∷ [])) (at_later s time) → IsPlanned s i p
 told_planned s i p to t time body l timed is none unwritten sent said row =
     sends_planned s i p time (says s to time body ∷ []) (timed ∙ is) none unwritten
@@ -87,7 +87,7 @@ again_cons s time m parked = by_ask (ask_in m.body)
     by_ask (Some a) = refl
 
 -- statements are served, with the records of their entries
-pub write_planned : (s : Shard) (m : Letter) (p : Plan) (id : RequestId) (turn : ℕ) (ordered : Bool) (namespace : List ℕ) (statements : List letters.Statement) (sent : Sent) (time : ℕ)
+pub write_planned : (s : Shard) (m : Letter) (p : StepPlan) (id : RequestId) (turn : ℕ) (ordered : Bool) (namespace : List ℕ) (statements : List letters.Statement) (sent : Sent) (time : ℕ)
     (dones : List Done) (made : List Entry) (last : ℕ) → time ≡ heard s m → m.body ≡ write_ask id turn ordered namespace statements sent
     → verdict_of sent s.me (table_of namespace s.tables) ≡ fits → Serves s.me namespace ordered s.entries time statements dones made last → (dones ≡ [] → ⊥) → AreKept made p.records.items
     → map letter_of p.mail ≡ says s id.router last (write_done id dones) ∷ []
@@ -150,7 +150,7 @@ time_after s time (Learn table) = refl
 time_after s time (Write namespace entries) = refl
 
 -- a row is a step, where the input is none of another node
-pub row_step : (s : Shard) (i : Input) (p : Plan) → IsFor s.me i → IsPlanned s i p → IsStep s i p
+pub row_step : (s : Shard) (i : Input) (p : StepPlan) → IsFor s.me i → IsPlanned s i p → IsStep s i p
 row_step s i p for planned = (
   record {
     effect = planned.effect;
@@ -164,7 +164,7 @@ row_step s i p for planned = (
 )
 
 -- a message to another node
-pub other_planned : (s : Shard) (m : Letter) (p : Plan) → (m.receiver ≡ s.me → ⊥) → p.time.0 ≡ s.time → p.change ≡ Nothing → p.records.items ≡ [] → map letter_of p.mail ≡ []
+pub other_planned : (s : Shard) (m : Letter) (p : StepPlan) → (m.receiver ≡ s.me → ⊥) → p.time.0 ≡ s.time → p.change ≡ Nothing → p.records.items ≡ [] → map letter_of p.mail ≡ []
     → IsStep s (letter_input m) p
 other_planned s m p other timed none unwritten unsent = (
   record {
@@ -179,46 +179,46 @@ other_planned s m p other timed none unwritten unsent = (
 )
 
 -- no table is told
-pub none_told : (s : Shard) (m : Letter) (p : Plan) (told : TableTold) → m.body ≡ table_told_meant told → told.table ≡ None → p.time.0 ≡ heard s m → p.change ≡ Nothing
+pub none_told : (s : Shard) (m : Letter) (p : StepPlan) (told : TableTold) → m.body ≡ table_told_view told → told.table ≡ None → p.time.0 ≡ heard s m → p.change ≡ Nothing
     → p.records.items ≡ [] → map letter_of p.mail ≡ [] → IsPlanned s (letter_input m) p
 none_told s m p told body none timed still unwritten unsent =
     quiet_planned s (letter_input m) p (heard s m) timed still unwritten unsent
-    (shard_known s m told.namespace told.create (at_meant told.at) None
-    (body ∙ ap (λ o. table_told told.namespace told.create (at_meant told.at) (option_map (λ t. arc_value t) o)) none) tt)
+    (shard_known s m told.namespace told.create (at_view told.at) None
+    (body ∙ ap (λ o. table_told told.namespace told.create (at_view told.at) (option_map (λ t. arc_value t) o)) none) tt)
 
 -- an ask to write no statement
-pub empty_planned : (s : Shard) (m : Letter) (p : Plan) (ask : WriteAsk) (body : bodies.Body) → body ≡ variants.WriteAsk ask → ask_in (body_meant body) ≡ None → m.body ≡ body_meant body
+pub empty_planned : (s : Shard) (m : Letter) (p : StepPlan) (ask : WriteAsk) (body : bodies.Body) → body ≡ variants.WriteAsk ask → ask_in (body_view body) ≡ None → m.body ≡ body_view body
     → p.time.0 ≡ heard s m → p.change ≡ Nothing → p.records.items ≡ [] → map letter_of p.mail ≡ [] → IsPlanned s (letter_input m) p
 empty_planned s m p ask body is none said timed still unwritten unsent =
     quiet_planned s (letter_input m) p (heard s m) timed still unwritten unsent
-    (shard_empty s m (id_meant ask.id) ask.turn ask.ordered ask.namespace (sent_meant ask.sent)
-    (said ∙ ap (λ (b : bodies.Body). body_meant b) is
-    ∙ ap (λ (xs : List Asked). write_ask (id_meant ask.id) ask.turn ask.ordered ask.namespace (map (statement_meant (given_meant ask.number) (id_meant ask.id)) xs) (sent_meant ask.sent))
-    (no_statement ask.statements.items (ap (λ (b : bodies.Body). ask_in (body_meant b)) (sym is) ∙ none))))
+    (shard_empty s m (id_view ask.id) ask.turn ask.ordered ask.namespace (sent_view ask.sent)
+    (said ∙ ap (λ (b : bodies.Body). body_view b) is
+    ∙ ap (λ (xs : List Asked). write_ask (id_view ask.id) ask.turn ask.ordered ask.namespace (map (statement_view (given_view ask.number) (id_view ask.id)) xs) (sent_view ask.sent))
+    (no_statement ask.statements.items (ap (λ (b : bodies.Body). ask_in (body_view b)) (sym is) ∙ none))))
   where
-    no_statement : (items : List Asked) → ask_in (write_ask (id_meant ask.id) ask.turn ask.ordered ask.namespace (map (statement_meant (given_meant ask.number) (id_meant ask.id)) items) (sent_meant ask.sent)) ≡ None
+    no_statement : (items : List Asked) → ask_in (write_ask (id_view ask.id) ask.turn ask.ordered ask.namespace (map (statement_view (given_view ask.number) (id_view ask.id)) items) (sent_view ask.sent)) ≡ None
         → items ≡ []
     no_statement [] e = refl
     no_statement (x ∷ items) e = absurd cc
 
 -- a message that asks nothing
-pub skip_planned : (s : Shard) (m : Letter) (p : Plan) (body b : bodies.Body) → body ≡ b → AsksNothing (body_meant b) → m.body ≡ body_meant body
+pub skip_planned : (s : Shard) (m : Letter) (p : StepPlan) (body b : bodies.Body) → body ≡ b → AsksNothing (body_view b) → m.body ≡ body_view body
     → p.time.0 ≡ s.time → p.change ≡ Nothing → p.records.items ≡ [] → map letter_of p.mail ≡ [] → IsPlanned s (letter_input m) p
 skip_planned s m p body b is nothing_asked said timed still unwritten unsent =
     quiet_planned s (letter_input m) p s.time timed still unwritten unsent
-    (shard_skip s m (subst (λ (x : Body). AsksNothing x) (sym (said ∙ ap (λ (x : bodies.Body). body_meant x) is)) nothing_asked))
+    (shard_skip s m (subst (λ (x : Body). AsksNothing x) (sym (said ∙ ap (λ (x : bodies.Body). body_view x) is)) nothing_asked))
 
 -- an input that is no message comes to a step
-pub quiet_step : (s : Shard) (i j : Input) (p : Plan) → j ≡ i → IsFor s.me i → ShardRow s i nothing s → p.time.0 ≡ s.time → p.change ≡ Nothing → p.records.items ≡ [] → map letter_of p.mail ≡ []
+pub quiet_step : (s : Shard) (i j : Input) (p : StepPlan) → j ≡ i → IsFor s.me i → ShardRow s i nothing s → p.time.0 ≡ s.time → p.change ≡ Nothing → p.records.items ≡ [] → map letter_of p.mail ≡ []
     → IsStep s j p
 quiet_step s i j p is for row timed still unwritten unsent =
     subst (λ (x : Input). IsStep s x p) (sym is) (row_step s i p for (quiet_planned s i p s.time timed still unwritten unsent row))
 
-pub ok_steps : {E : Type 0} (s : Shard) (i j : Input) (r : Result Plan E) → j ≡ i → IsFor s.me i → IfOk r (λ p. IsPlanned s i p) → IfOk r (λ p. IsStep s j p)
+pub ok_steps : {E : Type 0} (s : Shard) (i j : Input) (r : Result StepPlan E) → j ≡ i → IsFor s.me i → IfOk r (λ p. IsPlanned s i p) → IfOk r (λ p. IsStep s j p)
 ok_steps s i j (Ok p) is for planned = subst (λ (x : Input). IsStep s x p) (sym is) (row_step s i p for planned)
 ok_steps s i j (Err e) is for planned = tt
 
-pub other_step_of : (s : Shard) (m : Letter) (j : Input) (p : Plan) → j ≡ letter_input m → (m.receiver ≡ s.me → ⊥) → p.time.0 ≡ s.time → p.change ≡ Nothing → p.records.items ≡ []
+pub other_step_of : (s : Shard) (m : Letter) (j : Input) (p : StepPlan) → j ≡ letter_input m → (m.receiver ≡ s.me → ⊥) → p.time.0 ≡ s.time → p.change ≡ Nothing → p.records.items ≡ []
     → map letter_of p.mail ≡ [] → IsStep s j p
 other_step_of s m j p is other timed still unwritten unsent = subst (λ (x : Input). IsStep s x p) (sym is) (other_planned s m p other timed still unwritten unsent)
 

@@ -20,9 +20,9 @@ use Rattle.protocol_model.specs.Statements as rust
 use Rattle.node_traits.specs.Exchanges.{RequestId, number_for}
 use Rattle.protocol_model.specs.declared.statement.Done.{Done as StatementDone}
 use Rattle.protocol_model.specs.declared.statement.Statement.{Statement as Asked}
-use Rattle.shard_asks.specs.declared.answers.StatementResult.{StatementResult}
+use Rattle.shard_requests.specs.declared.answers.StatementResult.{StatementResult}
 use Rattle.shard_node.specs.Progress.{GoesOn, GoesOrEnds}
-use Rattle.shard_asks.specs.Results.{record_in}
+use Rattle.shard_requests.specs.Results.{record_in}
 use Rattle.shard_node.specs.Writes.{AreKept, IsStep, spellings_of}
 
 module _ (shard : ℕ) (namespace : List ℕ) (entries : List Entry) (time : ℕ) (s : Statement) where
@@ -121,28 +121,28 @@ module _ (shard : ℕ) (namespace : List ℕ) (ordered : Bool) (entries : List E
       → GoesOn shard namespace ordered entries start all (s ∷ left) dones made now → IsStep shard namespace entries made now s r made_then after → r ≡ None
       → Serves shard namespace ordered entries start all dones made_then after
   none_goes s left dones made made_then now after r goes step is =
-      let none : option_map (λ x. rust.done_meant x.done) r ≡ None = ap (λ o. option_map (λ (x : StatementResult). rust.done_meant x.done) o) is in
-      let same = left_is shard namespace (entries ++ made) now s (option_map (λ x. rust.done_meant x.done) r) step.more after step.served_is none in
+      let none : option_map (λ x. rust.done_view x.done) r ≡ None = ap (λ o. option_map (λ (x : StatementResult). rust.done_view x.done) o) is in
+      let same = left_is shard namespace (entries ++ made) now s (option_map (λ x. rust.done_view x.done) r) step.more after step.served_is none in
       subst (λ (x : List Entry). Serves shard namespace ordered entries start all dones x after)
       (sym (step.grown ∙ ap (λ (x : List Entry). made ++ x) same.0 ∙ append-nil made))
       (subst (λ (n : ℕ). Serves shard namespace ordered entries start all dones made n) (sym same.1) (goes_no_more (s ∷ left) dones made now goes))
 
   -- one statement more was served
   pub some_goes : (s : Statement) (left : List Statement) (dones dones_then : List StatementDone) (made made_then : List Entry) (now after : ℕ) (r : Option StatementResult) (served : StatementResult) (ended : Bool)
-      → GoesOn shard namespace ordered entries start all (s ∷ left) (map (λ d. rust.done_meant d) dones) made now → IsStep shard namespace entries made now s r made_then after
-      → r ≡ Some served → ended ≡ ends ordered (rust.done_meant served.done) → dones_then ≡ dones ++ served.done ∷ []
-      → GoesOrEnds (not ended) shard namespace ordered entries start all left (map (λ d. rust.done_meant d) dones_then) made_then after
+      → GoesOn shard namespace ordered entries start all (s ∷ left) (map (λ d. rust.done_view d) dones) made now → IsStep shard namespace entries made now s r made_then after
+      → r ≡ Some served → ended ≡ ends ordered (rust.done_view served.done) → dones_then ≡ dones ++ served.done ∷ []
+      → GoesOrEnds (not ended) shard namespace ordered entries start all left (map (λ d. rust.done_view d) dones_then) made_then after
   some_goes s left dones dones_then made made_then now after r served ended goes step is on told =
-      let told_then : map (λ d. rust.done_meant d) dones_then ≡ map (λ d. rust.done_meant d) dones ++ rust.done_meant served.done ∷ [] =
-      ap (λ (ds : List StatementDone). map (λ d. rust.done_meant d) ds) told ∙ map-append (λ (d : StatementDone). rust.done_meant d) dones (served.done ∷ []) in
-      let either = goes_or_ends s left (map (λ d. rust.done_meant d) dones) (map (λ d. rust.done_meant d) dones_then) made made_then step.more now after
-      (option_map (λ x. rust.done_meant x.done) r) (rust.done_meant served.done) ended goes step.served_is
-      (ap (λ o. option_map (λ (x : StatementResult). rust.done_meant x.done) o) is) (sym on) step.grown told_then in
+      let told_then : map (λ d. rust.done_view d) dones_then ≡ map (λ d. rust.done_view d) dones ++ rust.done_view served.done ∷ [] =
+      ap (λ (ds : List StatementDone). map (λ d. rust.done_view d) ds) told ∙ map-append (λ (d : StatementDone). rust.done_view d) dones (served.done ∷ []) in
+      let either = goes_or_ends s left (map (λ d. rust.done_view d) dones) (map (λ d. rust.done_view d) dones_then) made made_then step.more now after
+      (option_map (λ x. rust.done_view x.done) r) (rust.done_view served.done) ended goes step.served_is
+      (ap (λ o. option_map (λ (x : StatementResult). rust.done_view x.done) o) is) (sym on) step.grown told_then in
       by_end ended either
     where
-      by_end : (b : Bool) → (b ≡ true → Serves shard namespace ordered entries start all (map (λ d. rust.done_meant d) dones_then) made_then after)
-          × (b ≡ false → GoesOn shard namespace ordered entries start all left (map (λ d. rust.done_meant d) dones_then) made_then after)
-          → GoesOrEnds (not b) shard namespace ordered entries start all left (map (λ d. rust.done_meant d) dones_then) made_then after
+      by_end : (b : Bool) → (b ≡ true → Serves shard namespace ordered entries start all (map (λ d. rust.done_view d) dones_then) made_then after)
+          × (b ≡ false → GoesOn shard namespace ordered entries start all left (map (λ d. rust.done_view d) dones_then) made_then after)
+          → GoesOrEnds (not b) shard namespace ordered entries start all left (map (λ d. rust.done_view d) dones_then) made_then after
       by_end true either = either.0 refl
       by_end false either = either.1 refl
 
@@ -176,33 +176,33 @@ not_none (x ∷ items) some none = absurd cc
 -- what the first statement of an ask is told unless it is new
 pub repeats_first : (ordered : Bool) (entries : List Entry) (given : Option ClientNumber) (id : RequestId) (items seen : List Asked) (x : Asked) (d : Done) → seen ≡ items →
     0 < length seen → x ≡ get_or seen 0 x → Some d ≡ seen_before (number_for given id x.index) entries →
-    Repeats ordered entries (map (rust.statement_meant given id) items) (d ∷ [])
+    Repeats ordered entries (map (rust.statement_view given id) items) (d ∷ [])
 repeats_first ordered entries given id items seen x d same some first told =
-    subst (λ (l : List Asked). Repeats ordered entries (map (rust.statement_meant given id) l) (d ∷ [])) same (by_list seen some first)
+    subst (λ (l : List Asked). Repeats ordered entries (map (rust.statement_view given id) l) (d ∷ [])) same (by_list seen some first)
   where
     by_end : (s : Statement) (rest : List Statement) (b : Bool) → seen_before s.number entries ≡ Some d → ends ordered d ≡ b → Repeats ordered entries (s ∷ rest) (d ∷ [])
     by_end s rest true before on = ends_repeat s rest d before on
     by_end s rest false before on = repeats s rest d [] before on (repeats_no_more rest)
 
-    by_list : (l : List Asked) → 0 < length l → x ≡ get_or l 0 x → Repeats ordered entries (map (rust.statement_meant given id) l) (d ∷ [])
+    by_list : (l : List Asked) → 0 < length l → x ≡ get_or l 0 x → Repeats ordered entries (map (rust.statement_view given id) l) (d ∷ [])
     by_list [] here is = absurd (omega (arith, here))
     by_list (y ∷ l) here is =
-        subst (λ (z : Asked). Repeats ordered entries (rust.statement_meant given id z ∷ map (rust.statement_meant given id) l) (d ∷ [])) is
-        (by_end (rust.statement_meant given id x) (map (rust.statement_meant given id) l) (ends ordered d) (sym told) refl)
+        subst (λ (z : Asked). Repeats ordered entries (rust.statement_view given id z ∷ map (rust.statement_view given id) l) (d ∷ [])) is
+        (by_end (rust.statement_view given id x) (map (rust.statement_view given id) l) (ends ordered d) (sym told) refl)
 
 -- an ask of statements whose table does not fit
 pub not_fitting : (me : ℕ) (tables : List Table) (given : Option ClientNumber) (id : RequestId) (turn : ℕ) (ordered : Bool) (namespace : List ℕ) (items seen : List Asked)
     (sent : Sent) → seen ≡ items → 0 < length seen
-    → ((a : Ask) → ask_in (write_ask id turn ordered namespace (map (rust.statement_meant given id) items) sent) ≡ Some a → verdict_of a.sent me (table_of a.namespace tables) ≢ fits)
+    → ((a : Ask) → ask_in (write_ask id turn ordered namespace (map (rust.statement_view given id) items) sent) ≡ Some a → verdict_of a.sent me (table_of a.namespace tables) ≢ fits)
     → verdict_of sent me (table_of namespace tables) ≢ fits
 not_fitting me tables given id turn ordered namespace items seen sent same some old =
     by_list seen some
-    (subst (λ (l : List Asked). (a : Ask) → ask_in (write_ask id turn ordered namespace (map (rust.statement_meant given id) l) sent) ≡ Some a
+    (subst (λ (l : List Asked). (a : Ask) → ask_in (write_ask id turn ordered namespace (map (rust.statement_view given id) l) sent) ≡ Some a
     → verdict_of a.sent me (table_of a.namespace tables) ≢ fits) (sym same) old)
   where
     by_list : (l : List Asked) → 0 < length l
-        → ((a : Ask) → ask_in (write_ask id turn ordered namespace (map (rust.statement_meant given id) l) sent) ≡ Some a → verdict_of a.sent me (table_of a.namespace tables) ≢ fits)
+        → ((a : Ask) → ask_in (write_ask id turn ordered namespace (map (rust.statement_view given id) l) sent) ≡ Some a → verdict_of a.sent me (table_of a.namespace tables) ≢ fits)
         → verdict_of sent me (table_of namespace tables) ≢ fits
     by_list [] here h = absurd (omega (arith, here))
     by_list (y ∷ l) here h =
-        h (record { id = id; turn = turn; first = Some (rust.statement_meant given id y).number.index; namespace = namespace; sent = sent }) refl
+        h (record { id = id; turn = turn; first = Some (rust.statement_view given id y).number.index; namespace = namespace; sent = sent }) refl

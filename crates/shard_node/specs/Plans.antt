@@ -13,7 +13,7 @@ use Rattle.shard_store.specs.Stores.{HasRoom, entries_of, last_of}
 use Rattle.shard_node.specs.declared.node.ShardNode.{ShardNode}
 use Rattle.shard_node.specs.declared.plan.Change.{Change}
 use Rattle.shard_node.specs.declared.plan.Change.TheVariants.{Nothing, Park, Learn, Write}
-use Rattle.shard_node.specs.declared.plan.Plan.{Plan}
+use Rattle.shard_node.specs.declared.plan.StepPlan.{StepPlan}
 
 -- the shard at a later time, and changed
 abbrev pub changed : Shard → ℕ → Change → Shard
@@ -34,11 +34,11 @@ changed s time (Write namespace entries) = record {
   parked = s.parked;
 }
 
-abbrev pub after : Shard → Plan → Shard
+abbrev pub after : Shard → StepPlan → Shard
 after s p = changed s p.time.0 p.change
 
 -- The plan is a row of the shard on this input: its messages and its records are those of the row, and nobody is replied to.
-pub record IsPlanned (s : Shard) (i : Input) (p : Plan) : Type 0 where
+pub record IsPlanned (s : Shard) (i : Input) (p : StepPlan) : Type 0 where
   pub effect : Effect
   pub row : ShardRow s i effect (after s p)
   pub sent : effect.mail ≡ map letter_of p.mail
@@ -47,7 +47,7 @@ pub record IsPlanned (s : Shard) (i : Input) (p : Plan) : Type 0 where
   pub spelled : p.records.items ≡ spellings effect.written
 
 -- The plan is a step of the shard: a row, if the input is none of another node.
-abbrev pub IsStep : Shard → Input → Plan → Type 0
+abbrev pub IsStep : Shard → Input → StepPlan → Type 0
 IsStep s i p = StepPlanned (shard_state s) i (map letter_of p.mail) [] p.records.items (shard_state (after s p)) × (s.time ≤ p.time.0)
 
 -- The entries of a plan, if it makes some, may follow those of the shard, and are no later than the plan.
@@ -57,7 +57,7 @@ FollowsBy n time (Park message) = Unit {0}
 FollowsBy n time (Learn table) = Unit {0}
 FollowsBy n time (Write namespace entries) = IsPlan (entries_of n.store) (last_of n.store) namespace entries × (time_of entries ≤ time)
 
-abbrev pub Follows : ShardNode → Plan → Type 0
+abbrev pub Follows : ShardNode → StepPlan → Type 0
 Follows n p = FollowsBy n p.time.0 p.change
 
 -- there is room for the change
@@ -68,7 +68,7 @@ HasRoomFor n (Learn table) = 1 ≤ n.tables.room
 HasRoomFor n (Write namespace entries) = HasRoom n.store namespace entries
 
 -- The shard may become what was planned, which takes no memory then.
-pub record IsReady (n : ShardNode) (p : Plan) : Type 0 where
+pub record IsReady (n : ShardNode) (p : StepPlan) : Type 0 where
   pub later : last_of n.store ≤ p.time.0
   pub follows : Follows n p
   pub room : HasRoomFor n p.change

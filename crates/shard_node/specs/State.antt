@@ -5,8 +5,8 @@ use Rattle.protocol_model.specs.Messages.{letter_of}
 use Rattle.shard_store.specs.Stores.{entries_of}
 use Rattle.shard_node.specs.declared.node.ShardNode.{ShardNode}
 
-abbrev pub shard_meant : ShardNode → Shard
-shard_meant n = record {
+abbrev pub shard_view : ShardNode → Shard
+shard_view n = record {
   me = n.me.0;
   time = n.time.0;
   tables = n.tables.tables;
@@ -15,4 +15,4 @@ shard_meant n = record {
 }
 
 abbrev pub state_of : ShardNode → NodeState
-state_of n = shard_state (shard_meant n)
+state_of n = shard_state (shard_view n)

@@ -4,9 +4,9 @@ use Rattle.std.specs.List.{AllByRecursion}
 use Rattle.std.specs.Option.{option_map}
 use Rattle.node_traits.specs.History.{Entry}
 use Rattle.node_traits.specs.Letters.{Statement}
-use Rattle.protocol_model.specs.Statements.{done_meant}
-use Rattle.shard_asks.specs.Results.{record_in}
-use Rattle.shard_asks.specs.declared.answers.StatementResult.{StatementResult}
+use Rattle.protocol_model.specs.Statements.{done_view}
+use Rattle.shard_requests.specs.Results.{record_in}
+use Rattle.shard_requests.specs.declared.answers.StatementResult.{StatementResult}
 use Rattle.shard_records.specs.Records.{record_of}
 use Rattle.shard_records.specs.RecordFormat.{spelled, IsSound}
 use Rattle.shard_store.specs.Plans.{IsServed}
@@ -24,5 +24,5 @@ pub record IsStep (shard : ℕ) (namespace : List ℕ) (entries made : List Entr
     (made_then : List Entry) (after : ℕ) : Type 0 where
   pub more : List Entry
   pub grown : made_then ≡ made ++ more
-  pub served_is : IsServed shard namespace (entries ++ made) time s (option_map (λ x. done_meant x.done) served) more after
+  pub served_is : IsServed shard namespace (entries ++ made) time s (option_map (λ x. done_view x.done) served) more after
   pub kept : AreKept more (record_in served)

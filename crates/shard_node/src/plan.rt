@@ -24,28 +24,28 @@ pub(crate) enum Change {
     /// The entries are made in the collection.
     Write {
         namespace: Namespace,
-        entries: shard_store::Plan,
+        entries: shard_store::StepPlan,
     },
 }
 
 /// What a step will write and send, and what the shard will then be.
 #[derive(Drop)]
-pub(crate) struct Plan {
+pub(crate) struct StepPlan {
     pub(crate) time: Time,
     pub(crate) mail: MailList<Message>,
     pub(crate) records: Vec<Blob>,
     pub(crate) change: Change,
 }
 
-impl Plan {
+impl StepPlan {
     /// Nothing but the time.
-    pub(crate) fn of_time(alloc: Global, time: Time) -> Plan
+    pub(crate) fn of_time(alloc: Global, time: Time) -> StepPlan
         ensures time { result.time ≡ time }
         ensures mail { map letter_of result.mail ≡ [] }
         ensures records { result.records.items ≡ [] }
         ensures change { result.change ≡ Nothing }
     {
-        Plan {
+        StepPlan {
             time,
             mail: MailList::new(alloc),
             records: Vec::new(alloc),
@@ -54,13 +54,13 @@ impl Plan {
     }
 
     /// One message, and nothing else but the time.
-    pub(crate) fn of_message(alloc: Global, time: Time, message: Message) -> Plan
+    pub(crate) fn of_message(alloc: Global, time: Time, message: Message) -> StepPlan
         ensures time { result.time ≡ time }
         ensures mail { map letter_of result.mail ≡ letter_of message ∷ [] }
         ensures records { result.records.items ≡ [] }
         ensures change { result.change ≡ Nothing }
     {
-        Plan {
+        StepPlan {
             time,
             mail: MailList::of_one(alloc, message),
             records: Vec::new(alloc),
@@ -69,13 +69,13 @@ impl Plan {
     }
 
     /// These messages, and nothing else but the time.
-    pub(crate) fn of_mail(alloc: Global, time: Time, mail: MailList<Message>) -> Plan
+    pub(crate) fn of_mail(alloc: Global, time: Time, mail: MailList<Message>) -> StepPlan
         ensures time { result.time ≡ time }
         ensures mail { map letter_of result.mail ≡ map letter_of mail }
         ensures records { result.records.items ≡ [] }
         ensures change { result.change ≡ Nothing }
     {
-        Plan {
+        StepPlan {
             time,
             mail,
             records: Vec::new(alloc),

@@ -1,30 +1,30 @@
 //! Reads at a shard.
 
 ghost use Rattle.std.specs.Prelude.{◌≡◌, IfOk};
-ghost use Rattle.chunk_table.specs.VerdictMeanings.{sent_meant};
+ghost use Rattle.chunk_table.specs.VerdictMeanings.{sent_view};
 ghost use Rattle.chunk_table.specs.Tables.{table_of};
 ghost use Rattle.chunk_table.specs.Verdicts.{fits, verdict_of};
 ghost use Rattle.node_traits.specs.Letters.{Letter, letter_input};
 ghost use Rattle.node_traits.specs.ShardRows.{heard, says};
-ghost use Rattle.protocol_model.specs.Bodies.{body_meant, half_ask_meant, read_ask_meant, time_ask_meant};
+ghost use Rattle.protocol_model.specs.Bodies.{body_view, half_ask_view, read_ask_view, time_ask_view};
 ghost use Rattle.protocol_model.specs.Messages.{letter_of};
 ghost use Rattle.shard_node.specs.Plans.{Follows, IsPlanned};
-ghost use Rattle.shard_node.specs.State.{shard_meant};
+ghost use Rattle.shard_node.specs.State.{shard_view};
 
 use crate::node::ShardNode;
-use crate::plan::Plan;
+use crate::plan::StepPlan;
 use bson_values::Memory;
 use cluster_base::{NodeId, Time};
 use pipeline_eval::share_kept;
 use pipeline_lang::Half;
 use protocol_model::{Body, HalfAsk, Message, ReadAsk, ReadRows, TimeAsk, TimeTold};
-use shard_asks::answer_half;
+use shard_requests::answer_half;
 use std::sync::Arc;
 
 impl ShardNode {
     // A message from this shard, at a time.
     pub(crate) fn message(&self, to: NodeId, time: Time, body: Body) -> Message
-        ensures { letter_of result ≡ says (shard_meant self.now) to.0 time.0 (body_meant body) }
+        ensures { letter_of result ≡ says (shard_view self.now) to.0 time.0 (body_view body) }
     {
         Message {
             sender: self.me,
@@ -36,10 +36,10 @@ impl ShardNode {
 
     // The documents of a read on the table that it was sent with, taken to make its half of: those that the filter at the head of the half
     // keeps, since it costs less to ask it than to share a document. Fails for want of memory.
-    pub(crate) fn plan_read(&self, time: Time, ask: &ReadAsk) -> Result<Plan, Memory>
-        requires fits { verdict_of (sent_meant ask.now.sent) self.now.me.0 (table_of ask.now.namespace self.now.tables.tables) ≡ fits }
-        ensures planned { (m : Letter) → m.body ≡ read_ask_meant ask.now → time.0 ≡ heard (shard_meant self.now) m →
-            IfOk result (λ p. IsPlanned (shard_meant self.now) (letter_input m) p) }
+    pub(crate) fn plan_read(&self, time: Time, ask: &ReadAsk) -> Result<StepPlan, Memory>
+        requires fits { verdict_of (sent_view ask.now.sent) self.now.me.0 (table_of ask.now.namespace self.now.tables.tables) ≡ fits }
+        ensures planned { (m : Letter) → m.body ≡ read_ask_view ask.now → time.0 ≡ heard (shard_view self.now) m →
+            IfOk result (λ p. IsPlanned (shard_view self.now) (letter_input m) p) }
         ensures follows { IfOk result (λ p. Follows self.now p) }
     {
         let asked: &Half = &ask.half;
@@ -56,13 +56,13 @@ impl ShardNode {
             documents,
         };
         let message = self.message(self.me, time, Body::HalfAsk(half));
-        Ok(Plan::of_message(self.alloc, time, message))
+        Ok(StepPlan::of_message(self.alloc, time, message))
     }
 
     // The half of the documents of a read. Fails for want of memory.
-    pub(crate) fn plan_rows(&self, time: Time, ask: HalfAsk) -> Result<Plan, Memory>
-        ensures planned { (m : Letter) → m.body ≡ half_ask_meant ask → time.0 ≡ heard (shard_meant self.now) m →
-            IfOk result (λ p. IsPlanned (shard_meant self.now) (letter_input m) p) }
+    pub(crate) fn plan_rows(&self, time: Time, ask: HalfAsk) -> Result<StepPlan, Memory>
+        ensures planned { (m : Letter) → m.body ≡ half_ask_view ask → time.0 ≡ heard (shard_view self.now) m →
+            IfOk result (λ p. IsPlanned (shard_view self.now) (letter_input m) p) }
         ensures follows { IfOk result (λ p. Follows self.now p) }
     {
         let HalfAsk {
@@ -75,17 +75,17 @@ impl ShardNode {
         let rows = answer_half(self.alloc, &half, documents)?;
         let told = ReadRows { id, turn, rows };
         let message = self.message(id.router, time, Body::ReadRows(told));
-        Ok(Plan::of_message(self.alloc, time, message))
+        Ok(StepPlan::of_message(self.alloc, time, message))
     }
 
     // The time is told.
-    pub(crate) fn plan_time(&self, time: Time, ask: TimeAsk) -> Plan
-        ensures planned { (m : Letter) → m.body ≡ time_ask_meant ask → time.0 ≡ heard (shard_meant self.now) m →
-            IsPlanned (shard_meant self.now) (letter_input m) result }
+    pub(crate) fn plan_time(&self, time: Time, ask: TimeAsk) -> StepPlan
+        ensures planned { (m : Letter) → m.body ≡ time_ask_view ask → time.0 ≡ heard (shard_view self.now) m →
+            IsPlanned (shard_view self.now) (letter_input m) result }
         ensures follows { Follows self.now result }
     {
         let told = TimeTold { id: ask.id };
         let message = self.message(ask.id.router, time, Body::TimeTold(told));
-        Plan::of_message(self.alloc, time, message)
+        StepPlan::of_message(self.alloc, time, message)
     }
 }

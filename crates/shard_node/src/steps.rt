@@ -7,32 +7,32 @@ ghost use Rattle.node_traits.specs.Effects.{StepPlanned, last_time, time_in};
 ghost use Rattle.node_traits.specs.Letters.{Letter, letter_input};
 ghost use Rattle.node_traits.specs.ShardRows.{Ask, ask_in, heard, was_seen};
 ghost use Rattle.node_traits.specs.States.{shard_state};
-ghost use Rattle.protocol_model.specs.Bodies.{body_meant, table_told_meant};
+ghost use Rattle.protocol_model.specs.Bodies.{body_view, table_told_view};
 ghost use Rattle.protocol_model.specs.Inputs.{input_of};
 ghost use Rattle.protocol_model.specs.Messages.{letter_of};
 ghost use Rattle.shard_node.specs.Plans.{Follows, FollowsBy, HasRoomFor, IsPlanned, IsReady, IsStep, after, changed};
-ghost use Rattle.shard_node.specs.State.{shard_meant, state_of};
-ghost use Rattle.shard_asks.specs.Standings.{Stands};
-ghost use Rattle.shard_asks.specs.declared.standings.Standing.TheVariants.{Fits, NoAsk, RouterOld, ShardOld};
+ghost use Rattle.shard_node.specs.State.{shard_view, state_of};
+ghost use Rattle.shard_requests.specs.Standings.{Stands};
+ghost use Rattle.shard_requests.specs.declared.standings.Standing.TheVariants.{Fits, NoAsk, RouterOld, ShardOld};
 ghost use Rattle.shard_store.specs.Stores.{entries_of, last_of};
 
 use crate::node::ShardNode;
-use crate::plan::{Change, Plan};
+use crate::plan::{Change, StepPlan};
 use bson_values::Memory;
 use chunk_table::Version;
 use cluster_base::Time;
 use node_traits::{Outputs, ReplyList};
 use protocol_model::{Body, Input, Message, TableTold};
-use shard_asks::{Standing, keep_others, later, standing_of};
+use shard_requests::{Standing, keep_others, later, standing_of};
 
 impl ShardNode {
     // A first statement that is not new is told so on any table.
-    fn plan_again(&self, time: Time, body: &Body) -> Result<Option<Plan>, Memory>
-        requires old { (a : Ask) → ask_in (body_meant body.now) ≡ Some a →
+    fn plan_again(&self, time: Time, body: &Body) -> Result<Option<StepPlan>, Memory>
+        requires old { (a : Ask) → ask_in (body_view body.now) ≡ Some a →
             verdict_of a.sent self.now.me.0 (table_of a.namespace self.now.tables.tables) ≢ fits }
-        ensures planned { (m : Letter) → m.body ≡ body_meant body.now → time.0 ≡ heard (shard_meant self.now) m →
-            IfOk result (λ p. IfSome p (λ p. IsPlanned (shard_meant self.now) (letter_input m) p)) }
-        ensures unseen { IfOk result (λ p. p ≡ None → was_seen (body_meant body.now) (entries_of self.now.store) ≡ false) }
+        ensures planned { (m : Letter) → m.body ≡ body_view body.now → time.0 ≡ heard (shard_view self.now) m →
+            IfOk result (λ p. IfSome p (λ p. IsPlanned (shard_view self.now) (letter_input m) p)) }
+        ensures unseen { IfOk result (λ p. p ≡ None → was_seen (body_view body.now) (entries_of self.now.store) ≡ false) }
         ensures follows { IfOk result (λ p. IfSome p (λ p. Follows self.now p)) }
     {
         match body {
@@ -50,10 +50,10 @@ impl ShardNode {
     }
 
     // An ask that was sent with a later table than the shard knows.
-    fn plan_unknown(&self, time: Time, message: Message) -> Result<Plan, Memory>
-        requires time { time.0 ≡ heard (shard_meant self.now) (letter_of message) }
+    fn plan_unknown(&self, time: Time, message: Message) -> Result<StepPlan, Memory>
+        requires time { time.0 ≡ heard (shard_view self.now) (letter_of message) }
         requires stands { Stands self.now.me.0 self.now.tables.tables ShardOld (letter_of message).body }
-        ensures planned { IfOk result (λ p. IsPlanned (shard_meant self.now) (letter_input (letter_of message)) p) }
+        ensures planned { IfOk result (λ p. IsPlanned (shard_view self.now) (letter_input (letter_of message)) p) }
         ensures follows { IfOk result (λ p. Follows self.now p) }
     {
         match self.plan_again(time, &message.body)? {
@@ -63,10 +63,10 @@ impl ShardNode {
     }
 
     // An ask that was sent with an older table.
-    fn plan_older(&self, time: Time, message: &Message, met: Version) -> Result<Plan, Memory>
-        requires time { time.0 ≡ heard (shard_meant self.now) (letter_of message.now) }
+    fn plan_older(&self, time: Time, message: &Message, met: Version) -> Result<StepPlan, Memory>
+        requires time { time.0 ≡ heard (shard_view self.now) (letter_of message.now) }
         requires stands { Stands self.now.me.0 self.now.tables.tables (RouterOld met) (letter_of message.now).body }
-        ensures planned { IfOk result (λ p. IsPlanned (shard_meant self.now) (letter_input (letter_of message.now)) p) }
+        ensures planned { IfOk result (λ p. IsPlanned (shard_view self.now) (letter_input (letter_of message.now)) p) }
         ensures follows { IfOk result (λ p. Follows self.now p) }
     {
         match self.plan_again(time, &message.body)? {
@@ -76,12 +76,12 @@ impl ShardNode {
     }
 
     // An ask of documents that was sent with the table that the shard knows.
-    fn plan_fitting(&self, time: Time, body: Body) -> Result<Plan, Memory>
+    fn plan_fitting(&self, time: Time, body: Body) -> Result<StepPlan, Memory>
         requires early { time.0 < last_time }
         requires later { last_of self.now.store ≤ time.0 }
-        requires stands { Stands self.now.me.0 self.now.tables.tables Fits (body_meant body) }
-        ensures planned { (m : Letter) → m.body ≡ body_meant body → time.0 ≡ heard (shard_meant self.now) m →
-            IfOk result (λ p. IsPlanned (shard_meant self.now) (letter_input m) p) }
+        requires stands { Stands self.now.me.0 self.now.tables.tables Fits (body_view body) }
+        ensures planned { (m : Letter) → m.body ≡ body_view body → time.0 ≡ heard (shard_view self.now) m →
+            IfOk result (λ p. IsPlanned (shard_view self.now) (letter_input m) p) }
         ensures follows { IfOk result (λ p. Follows self.now p) }
     {
         match body {
@@ -94,49 +94,49 @@ impl ShardNode {
             | Body::ReadRows(_)
             | Body::Stale(_)
             | Body::TimeAsk(_)
-            | Body::TimeTold(_) => Ok(Plan::of_time(self.alloc, time)),
+            | Body::TimeTold(_) => Ok(StepPlan::of_time(self.alloc, time)),
         }
     }
 
     // A table that is told, or none.
-    fn plan_told(&self, time: Time, told: TableTold) -> Result<Plan, Memory>
-        ensures planned { (m : Letter) → m.body ≡ table_told_meant told → time.0 ≡ heard (shard_meant self.now) m →
-            IfOk result (λ p. IsPlanned (shard_meant self.now) (letter_input m) p) }
+    fn plan_told(&self, time: Time, told: TableTold) -> Result<StepPlan, Memory>
+        ensures planned { (m : Letter) → m.body ≡ table_told_view told → time.0 ≡ heard (shard_view self.now) m →
+            IfOk result (λ p. IsPlanned (shard_view self.now) (letter_input m) p) }
         ensures follows { IfOk result (λ p. Follows self.now p) }
     {
         let TableTold { table, .. } = told;
         match table {
             Some(table) => self.plan_table(time, table),
-            None => Ok(Plan::of_time(self.alloc, time)),
+            None => Ok(StepPlan::of_time(self.alloc, time)),
         }
     }
 
     // A message that asks for no documents that stand on a table.
-    fn plan_other(&self, time: Time, body: Body) -> Result<Plan, Memory>
-        requires stands { Stands self.now.me.0 self.now.tables.tables NoAsk (body_meant body) }
-        ensures planned { (m : Letter) → m.body ≡ body_meant body → time.0 ≡ heard (shard_meant self.now) m →
-            IfOk result (λ p. IsPlanned (shard_meant self.now) (letter_input m) p) }
+    fn plan_other(&self, time: Time, body: Body) -> Result<StepPlan, Memory>
+        requires stands { Stands self.now.me.0 self.now.tables.tables NoAsk (body_view body) }
+        ensures planned { (m : Letter) → m.body ≡ body_view body → time.0 ≡ heard (shard_view self.now) m →
+            IfOk result (λ p. IsPlanned (shard_view self.now) (letter_input m) p) }
         ensures follows { IfOk result (λ p. Follows self.now p) }
     {
         match body {
             Body::TableTold(told) => self.plan_told(time, told),
             Body::HalfAsk(ask) => self.plan_rows(time, ask),
             Body::TimeAsk(ask) => Ok(self.plan_time(time, ask)),
-            Body::WriteAsk(_) => Ok(Plan::of_time(self.alloc, time)),
-            Body::ReadAsk(_) => Ok(Plan::of_time(self.alloc, time)),
-            Body::TableAsk(_) => Ok(Plan::of_time(self.alloc, self.time)),
-            Body::WriteDone(_) => Ok(Plan::of_time(self.alloc, self.time)),
-            Body::ReadRows(_) => Ok(Plan::of_time(self.alloc, self.time)),
-            Body::Stale(_) => Ok(Plan::of_time(self.alloc, self.time)),
-            Body::TimeTold(_) => Ok(Plan::of_time(self.alloc, self.time)),
+            Body::WriteAsk(_) => Ok(StepPlan::of_time(self.alloc, time)),
+            Body::ReadAsk(_) => Ok(StepPlan::of_time(self.alloc, time)),
+            Body::TableAsk(_) => Ok(StepPlan::of_time(self.alloc, self.time)),
+            Body::WriteDone(_) => Ok(StepPlan::of_time(self.alloc, self.time)),
+            Body::ReadRows(_) => Ok(StepPlan::of_time(self.alloc, self.time)),
+            Body::Stale(_) => Ok(StepPlan::of_time(self.alloc, self.time)),
+            Body::TimeTold(_) => Ok(StepPlan::of_time(self.alloc, self.time)),
         }
     }
 
     // A message to this shard.
-    fn plan_message(&self, message: Message) -> Result<Plan, Memory>
+    fn plan_message(&self, message: Message) -> Result<StepPlan, Memory>
         requires early { self.now.time.0 < last_time }
         requires brought { message.time.0 < last_time }
-        ensures planned { IfOk result (λ p. IsPlanned (shard_meant self.now) (letter_input (letter_of message)) p) }
+        ensures planned { IfOk result (λ p. IsPlanned (shard_view self.now) (letter_input (letter_of message)) p) }
         ensures follows { IfOk result (λ p. Follows self.now p) }
     {
         let time = later(self.time, message.time);
@@ -149,29 +149,29 @@ impl ShardNode {
     }
 
     // What an input comes to.
-    fn plan_input(&self, input: Input) -> Result<Plan, Memory>
+    fn plan_input(&self, input: Input) -> Result<StepPlan, Memory>
         requires early { self.now.time.0 < last_time }
         requires brought { time_in (input_of input) < last_time }
-        ensures planned { IfOk result (λ p. IsStep (shard_meant self.now) (input_of input) p) }
+        ensures planned { IfOk result (λ p. IsStep (shard_view self.now) (input_of input) p) }
         ensures follows { IfOk result (λ p. Follows self.now p) }
     {
         match input {
             Input::Deliver(message) => {
                 if message.receiver != self.me {
-                    return Ok(Plan::of_time(self.alloc, self.time));
+                    return Ok(StepPlan::of_time(self.alloc, self.time));
                 }
                 self.plan_message(message)
             }
             Input::Moment(moment) => self.plan_moment(moment),
-            Input::Client { .. } => Ok(Plan::of_time(self.alloc, self.time)),
-            Input::Opened => Ok(Plan::of_time(self.alloc, self.time)),
+            Input::Client { .. } => Ok(StepPlan::of_time(self.alloc, self.time)),
+            Input::Opened => Ok(StepPlan::of_time(self.alloc, self.time)),
         }
     }
 
     // Makes room for what was planned. Fails for want of memory. The shard is the same either way.
     fn make_room(&mut self, change: &Change) -> Result<(), Memory>
         ensures room { OnOk result (HasRoomFor self.new change.now) }
-        ensures same { shard_meant self.new ≡ shard_meant self.old }
+        ensures same { shard_view self.new ≡ shard_view self.old }
         ensures last { last_of self.new.store ≡ last_of self.old.store }
         ensures steps { self.new.steps ≡ self.old.steps }
     {
@@ -185,13 +185,13 @@ impl ShardNode {
     }
 
     // What an input comes to, with room for it. Else nothing changes.
-    pub(crate) fn plan(&mut self, input: Input) -> Result<Plan, Memory>
+    pub(crate) fn plan(&mut self, input: Input) -> Result<StepPlan, Memory>
         requires early { self.old.time.0 < last_time }
         requires brought { time_in (input_of input) < last_time }
         ensures planned { IfOk result (λ p. StepPlanned (state_of self.old) (input_of input) (map letter_of p.mail) [] p.records.items
-            (shard_state (after (shard_meant self.old) p))) }
+            (shard_state (after (shard_view self.old) p))) }
         ensures ready { IfOk result (λ p. IsReady self.new p) }
-        ensures same { shard_meant self.new ≡ shard_meant self.old }
+        ensures same { shard_view self.new ≡ shard_view self.old }
         ensures steps { self.new.steps ≡ self.old.steps }
     {
         let plan = self.plan_input(input)?;
@@ -200,14 +200,14 @@ impl ShardNode {
     }
 
     // Becomes what was planned, and gives out its messages. Takes no memory.
-    pub(crate) fn take(&mut self, plan: Plan) -> Outputs<Message>
+    pub(crate) fn take(&mut self, plan: StepPlan) -> Outputs<Message>
         requires ready { IsReady self.old plan }
-        ensures state { shard_meant self.new ≡ after (shard_meant self.old) plan }
+        ensures state { shard_view self.new ≡ after (shard_view self.old) plan }
         ensures mail { result.mail ≡ plan.mail }
         ensures replies { result.replies ≡ [] }
         ensures steps { self.new.steps ≡ self.old.steps }
     {
-        let Plan {
+        let StepPlan {
             time,
             mail,
             records: _,
@@ -225,7 +225,7 @@ impl ShardNode {
     fn change(&mut self, change: Change)
         requires follows { FollowsBy self.old self.old.time.0 change }
         requires room { HasRoomFor self.old change }
-        ensures state { shard_meant self.new ≡ changed (shard_meant self.old) self.old.time.0 change }
+        ensures state { shard_view self.new ≡ changed (shard_view self.old) self.old.time.0 change }
         ensures steps { self.new.steps ≡ self.old.steps }
     {
         match change {

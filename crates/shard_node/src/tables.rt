@@ -2,7 +2,7 @@
 
 ghost use Rattle.std.specs.Prelude.{◌≡◌, ◌++◌, ◌∷◌, [], ℕ, Bool, List, IfOk, OnOk, Some, false, true, filter, map};
 ghost use Rattle.std.specs.Arc.{arc_value};
-ghost use Rattle.chunk_table.specs.Meanings.{version_meant};
+ghost use Rattle.chunk_table.specs.Meanings.{version_view};
 ghost use Rattle.chunk_table.specs.Tables.{table_of};
 ghost use Rattle.chunk_table.specs.Verdicts.{router_is_old, shard_is_old, verdict_of};
 ghost use Rattle.node_traits.specs.Letters as letters;
@@ -10,16 +10,16 @@ ghost use Rattle.node_traits.specs.Letters.{Letter, letter_input, moment_input, 
 ghost use Rattle.node_traits.specs.ShardRows.{Ask, ask_in, asks_again, asks_table, heard, is_news, tries, wants_table, was_seen};
 ghost use Rattle.protocol_model.specs.Messages.{letter_of};
 ghost use Rattle.shard_node.specs.Plans.{Follows, IsPlanned};
-ghost use Rattle.shard_node.specs.State.{shard_meant};
+ghost use Rattle.shard_node.specs.State.{shard_view};
 
 use crate::node::ShardNode;
-use crate::plan::{Change, Plan};
+use crate::plan::{Change, StepPlan};
 use bson_values::Memory;
 use chunk_table::{Table, Version};
 use cluster_base::{Namespace, NodeId, Time, moment_time};
 use node_traits::MailList;
 use protocol_model::{At, Body, Message, Stale, TableAsk};
-use shard_asks::{ask_in, is_news, is_parked, later, table_records, wants_table};
+use shard_requests::{ask_in, is_news, is_parked, later, table_records, wants_table};
 use std::alloc::Global;
 use std::sync::Arc;
 
@@ -29,7 +29,7 @@ const CATALOGUE: NodeId = NodeId(0);
 impl ShardNode {
     // The ask for a table. Fails for want of memory.
     fn ask_table(&self, time: Time, namespace: &Namespace) -> Result<Message, Memory>
-        ensures { IfOk result (λ m. letter_of m ≡ asks_table (shard_meant self.now) time.0 namespace.now) }
+        ensures { IfOk result (λ m. letter_of m ≡ asks_table (shard_view self.now) time.0 namespace.now) }
     {
         let ask = TableAsk {
             namespace: namespace.copy()?,
@@ -40,22 +40,22 @@ impl ShardNode {
     }
 
     // An ask that wants a table waits for it, and the table is asked for once. Fails for want of memory.
-    pub(crate) fn plan_wait(&self, time: Time, message: Message) -> Result<Plan, Memory>
-        requires time { time.0 ≡ heard (shard_meant self.now) (letter_of message) }
-        requires unseen { was_seen (letter_of message).body (shard_meant self.now).entries ≡ false }
+    pub(crate) fn plan_wait(&self, time: Time, message: Message) -> Result<StepPlan, Memory>
+        requires time { time.0 ≡ heard (shard_view self.now) (letter_of message) }
+        requires unseen { was_seen (letter_of message).body (shard_view self.now).entries ≡ false }
         requires old { (a : Ask) × (ask_in (letter_of message).body ≡ Some a)
             × (verdict_of a.sent self.now.me.0 (table_of a.namespace self.now.tables.tables) ≡ shard_is_old) }
-        ensures planned { IfOk result (λ p. IsPlanned (shard_meant self.now) (letter_input (letter_of message)) p) }
+        ensures planned { IfOk result (λ p. IsPlanned (shard_view self.now) (letter_input (letter_of message)) p) }
         ensures follows { IfOk result (λ p. Follows self.now p) }
     {
         let Some(ask) = ask_in(&message.body) else {
-            return Ok(Plan::of_time(self.alloc, time));
+            return Ok(StepPlan::of_time(self.alloc, time));
         };
         if is_parked(&self.parked, &ask) {
-            return Ok(Plan::of_time(self.alloc, time));
+            return Ok(StepPlan::of_time(self.alloc, time));
         }
         let asked = self.ask_table(time, ask.namespace)?;
-        Ok(Plan {
+        Ok(StepPlan {
             time,
             mail: MailList::of_one(self.alloc, asked),
             records: Vec::new(self.alloc),
@@ -64,16 +64,16 @@ impl ShardNode {
     }
 
     // An ask that was sent with an older table is not served.
-    pub(crate) fn plan_stale(&self, time: Time, message: &Message, met: Version) -> Plan
-        requires time { time.0 ≡ heard (shard_meant self.now) (letter_of message.now) }
-        requires unseen { was_seen (letter_of message.now).body (shard_meant self.now).entries ≡ false }
+    pub(crate) fn plan_stale(&self, time: Time, message: &Message, met: Version) -> StepPlan
+        requires time { time.0 ≡ heard (shard_view self.now) (letter_of message.now) }
+        requires unseen { was_seen (letter_of message.now).body (shard_view self.now).entries ≡ false }
         requires old { (a : Ask) × (ask_in (letter_of message.now).body ≡ Some a)
-            × (verdict_of a.sent self.now.me.0 (table_of a.namespace self.now.tables.tables) ≡ router_is_old (version_meant met)) }
-        ensures planned { IsPlanned (shard_meant self.now) (letter_input (letter_of message.now)) result }
+            × (verdict_of a.sent self.now.me.0 (table_of a.namespace self.now.tables.tables) ≡ router_is_old (version_view met)) }
+        ensures planned { IsPlanned (shard_view self.now) (letter_input (letter_of message.now)) result }
         ensures follows { Follows self.now result }
     {
         let Some(ask) = ask_in(&message.body) else {
-            return Plan::of_time(self.alloc, time);
+            return StepPlan::of_time(self.alloc, time);
         };
         let stale = Stale {
             id: ask.id,
@@ -81,7 +81,7 @@ impl ShardNode {
             met,
         };
         let told = self.message(ask.id.router, time, Body::Stale(stale));
-        Plan::of_message(self.alloc, time, told)
+        StepPlan::of_message(self.alloc, time, told)
     }
 
     // Asks for the table of an ask that waits, behind other messages. Fails for want of memory.
@@ -91,7 +91,7 @@ impl ShardNode {
         parked: &Message,
         mail: &mut MailList<Message>,
     ) -> Result<(), Memory>
-        ensures { OnOk result (map letter_of mail.new ≡ map letter_of mail.old ++ asks_again (shard_meant self.now) time.0 (letter_of parked.now ∷ [])) }
+        ensures { OnOk result (map letter_of mail.new ≡ map letter_of mail.old ++ asks_again (shard_view self.now) time.0 (letter_of parked.now ∷ [])) }
     {
         if let Some(ask) = ask_in(&parked.body) {
             mail.push(self.ask_table(time, ask.namespace)?)?;
@@ -100,8 +100,8 @@ impl ShardNode {
     }
 
     // At a moment the table of each ask that waits is asked again. Fails for want of memory.
-    pub(crate) fn plan_moment(&self, moment: u64) -> Result<Plan, Memory>
-        ensures planned { IfOk result (λ p. IsPlanned (shard_meant self.now) (moment_input moment) p) }
+    pub(crate) fn plan_moment(&self, moment: u64) -> Result<StepPlan, Memory>
+        ensures planned { IfOk result (λ p. IsPlanned (shard_view self.now) (moment_input moment) p) }
         ensures follows { IfOk result (λ p. Follows self.now p) }
     {
         let time = later(self.time, moment_time(moment));
@@ -109,7 +109,7 @@ impl ShardNode {
         for message in &self.parked {
             self.ask_again(time, message, &mut mail)?;
         }
-        Ok(Plan::of_mail(self.alloc, time, mail))
+        Ok(StepPlan::of_mail(self.alloc, time, mail))
     }
 
     // What waited is tried again, if it waited for this table, behind other messages. Fails for want of memory.
@@ -121,7 +121,7 @@ impl ShardNode {
         mail: &mut MailList<Message>,
     ) -> Result<(), Memory>
         ensures { OnOk result (map letter_of mail.new
-            ≡ map letter_of mail.old ++ tries (shard_meant self.now) time.0 (filter (wants_table namespace.now) (letter_of parked.now ∷ []))) }
+            ≡ map letter_of mail.old ++ tries (shard_view self.now) time.0 (filter (wants_table namespace.now) (letter_of parked.now ∷ []))) }
     {
         if wants_table(parked, namespace) {
             let body = parked.body.copy(self.alloc)?;
@@ -133,7 +133,7 @@ impl ShardNode {
     // All that waited for the table of a collection, in order, as messages to the shard itself. Fails for want of memory.
     fn tries(&self, time: Time, namespace: &Namespace) -> Result<MailList<Message>, Memory>
         ensures { IfOk result (λ mail. map letter_of mail
-            ≡ tries (shard_meant self.now) time.0 (filter (wants_table namespace.now) (shard_meant self.now).parked)) }
+            ≡ tries (shard_view self.now) time.0 (filter (wants_table namespace.now) (shard_view self.now).parked)) }
     {
         let mut mail = MailList::new(self.alloc);
         for message in &self.parked {
@@ -143,27 +143,31 @@ impl ShardNode {
     }
 
     // A table is told: one that is news is kept, and what waited for it is tried again. Fails for want of memory.
-    pub(crate) fn plan_table(&self, time: Time, table: Arc<Table, Global>) -> Result<Plan, Memory>
+    pub(crate) fn plan_table(
+        &self,
+        time: Time,
+        table: Arc<Table, Global>,
+    ) -> Result<StepPlan, Memory>
         ensures planned { (m : Letter) (namespace : List ℕ) (create : Bool) (at : letters.At) → m.body ≡ table_told namespace create at (Some (arc_value table))
-            → time.0 ≡ heard (shard_meant self.now) m → IfOk result (λ p. IsPlanned (shard_meant self.now) (letter_input m) p) }
+            → time.0 ≡ heard (shard_view self.now) m → IfOk result (λ p. IsPlanned (shard_view self.now) (letter_input m) p) }
         ensures follows { IfOk result (λ p. Follows self.now p) }
     {
         if is_news(&self.tables, &table) {
             return self.learn(time, table);
         }
-        Ok(Plan::of_time(self.alloc, time))
+        Ok(StepPlan::of_time(self.alloc, time))
     }
 
     // A table that is news is kept, and what waited for it is tried again. Fails for want of memory.
-    fn learn(&self, time: Time, table: Arc<Table, Global>) -> Result<Plan, Memory>
+    fn learn(&self, time: Time, table: Arc<Table, Global>) -> Result<StepPlan, Memory>
         requires news { is_news (arc_value table) (table_of (arc_value table).namespace self.now.tables.tables) ≡ true }
         ensures planned { (m : Letter) (namespace : List ℕ) (create : Bool) (at : letters.At) → m.body ≡ table_told namespace create at (Some (arc_value table))
-            → time.0 ≡ heard (shard_meant self.now) m → IfOk result (λ p. IsPlanned (shard_meant self.now) (letter_input m) p) }
+            → time.0 ≡ heard (shard_view self.now) m → IfOk result (λ p. IsPlanned (shard_view self.now) (letter_input m) p) }
         ensures follows { IfOk result (λ p. Follows self.now p) }
     {
         let records = table_records(self.alloc, &table)?;
         let mail = self.tries(time, table.namespace())?;
-        Ok(Plan {
+        Ok(StepPlan {
             time,
             mail,
             records,

@@ -2,33 +2,33 @@
 
 ghost use Rattle.std.specs.Prelude.{◌≡◌, ◌≢◌, ◌≤◌, ◌<◌, ◌+◌, ◌-◌, ◌^◌, ◌∷◌, [], ℕ, List, IfOk, IfSome, OnOk, None, Some, false, map, length};
 ghost use Rattle.std.specs.Option.{IsSome};
-ghost use Rattle.chunk_table.specs.VerdictMeanings.{sent_meant};
+ghost use Rattle.chunk_table.specs.VerdictMeanings.{sent_view};
 ghost use Rattle.chunk_table.specs.Tables.{table_of};
 ghost use Rattle.chunk_table.specs.Verdicts.{fits, verdict_of};
-ghost use Rattle.command_answers.specs.Kinds.{given_meant};
+ghost use Rattle.command_replies.specs.Kinds.{given_view};
 ghost use Rattle.node_model.specs.Service.{Serves};
 ghost use Rattle.node_traits.specs.Effects.{last_time};
 ghost use Rattle.node_traits.specs.Letters as letters;
 ghost use Rattle.node_traits.specs.Letters.{Letter, letter_input};
 ghost use Rattle.node_traits.specs.ShardRows.{Ask, ask_in, heard, was_seen};
-ghost use Rattle.node_traits.specs.Ids.{id_meant};
-ghost use Rattle.protocol_model.specs.Bodies.{write_ask_meant};
-ghost use Rattle.protocol_model.specs.Statements.{done_meant, statement_meant};
+ghost use Rattle.node_traits.specs.Ids.{id_view};
+ghost use Rattle.protocol_model.specs.Bodies.{write_ask_view};
+ghost use Rattle.protocol_model.specs.Statements.{done_view, statement_view};
 ghost use Rattle.shard_node.specs.Plans.{Follows, IsPlanned};
 ghost use Rattle.shard_node.specs.Progress.{GoesOn, GoesOrEnds};
-ghost use Rattle.shard_node.specs.State.{shard_meant};
+ghost use Rattle.shard_node.specs.State.{shard_view};
 ghost use Rattle.shard_node.specs.Writes.{AreKept, IsStep};
 ghost use Rattle.shard_store.specs.Plans.{IsPlan, made_by, planned_in, time_of};
 ghost use Rattle.shard_store.specs.Stores.{entries_of, last_of};
 
 use crate::node::ShardNode;
-use crate::plan::{Change, Plan};
+use crate::plan::{Change, StepPlan};
 use bson_values::Memory;
 use cluster_base::Time;
 use node_traits::MailList;
 use protocol_model::{Body, Statement, WriteAsk, WriteDone};
-use shard_asks::{StatementResult, WriteResult, done_of, ends, entry_bytes, lend_words};
-use shard_store::{Plan as Entries, StatementAnswer, statement_number};
+use shard_requests::{StatementResult, WriteReply, done_of, ends, entry_bytes, lend_words};
+use shard_store::{EntryPlan as Entries, StatementOutcome, statement_number};
 
 /// So many statements of an ask are served in one step at most.
 const MOST_SERVED: usize = 100_000;
@@ -49,7 +49,7 @@ impl ShardNode {
         ensures plan { OnOk result (IsPlan (entries_of self.now.store) (last_of self.now.store) ask.now.namespace entries.new) }
         ensures served { IfOk result (λ served. IsStep self.now.me.0 ask.now.namespace (entries_of self.now.store)
             (made_by self.now.me.0 ask.now.namespace entries.old) (time_of entries.old)
-            (statement_meant (given_meant ask.now.number) (id_meant ask.now.id) statement.now) served
+            (statement_view (given_view ask.now.number) (id_view ask.now.id) statement.now) served
             (made_by self.now.me.0 ask.now.namespace entries.new) (time_of entries.new)) }
         ensures first { planned_in entries.old ≡ [] → IfOk result (λ served. IsSome served) }
         ensures id { entries.new.id ≡ entries.old.id }
@@ -65,7 +65,7 @@ impl ShardNode {
             let done = done_of(self.alloc, statement.index, told)?;
             return Ok(Some(StatementResult { done, record: None }));
         }
-        let StatementAnswer::WasDone(entry) = told else {
+        let StatementOutcome::WasDone(entry) = told else {
             // A statement that makes an entry is done.
             return Err(Memory);
         };
@@ -77,7 +77,11 @@ impl ShardNode {
             &number,
             &statement.operation,
         )?;
-        let done = done_of(self.alloc, statement.index, StatementAnswer::WasDone(entry))?;
+        let done = done_of(
+            self.alloc,
+            statement.index,
+            StatementOutcome::WasDone(entry),
+        )?;
         Ok(Some(StatementResult {
             done,
             record: Some(record),
@@ -91,7 +95,7 @@ impl ShardNode {
         entries: &mut Entries,
         ask: &WriteAsk,
         statement: &Statement,
-        all: &mut WriteResult,
+        all: &mut WriteReply,
     ) -> Result<bool, Memory>
         requires plan { IsPlan (entries_of self.now.store) (last_of self.now.store) ask.now.namespace entries.old }
         requires id { entries.old.id ≡ ask.now.id }
@@ -107,10 +111,10 @@ impl ShardNode {
             → OnOk result (AreKept (made_by self.now.me.0 ask.now.namespace entries.new) all.new.records.items) }
         ensures goes { (start : ℕ) (whole left : List letters.Statement) →
             GoesOn self.now.me.0 ask.now.namespace ask.now.ordered (entries_of self.now.store) start whole
-            (statement_meant (given_meant ask.now.number) (id_meant ask.now.id) statement.now ∷ left)
-            (map (λ d. done_meant d) all.old.dones.items) (made_by self.now.me.0 ask.now.namespace entries.old) (time_of entries.old) →
+            (statement_view (given_view ask.now.number) (id_view ask.now.id) statement.now ∷ left)
+            (map (λ d. done_view d) all.old.dones.items) (made_by self.now.me.0 ask.now.namespace entries.old) (time_of entries.old) →
             IfOk result (λ more. GoesOrEnds more self.now.me.0 ask.now.namespace ask.now.ordered (entries_of self.now.store) start whole left
-            (map (λ d. done_meant d) all.new.dones.items) (made_by self.now.me.0 ask.now.namespace entries.new) (time_of entries.new)) }
+            (map (λ d. done_view d) all.new.dones.items) (made_by self.now.me.0 ask.now.namespace entries.new) (time_of entries.new)) }
     {
         if all.dones.len() >= MOST_SERVED {
             return Ok(false);
@@ -124,7 +128,7 @@ impl ShardNode {
     }
 
     // Serves the statements of an ask in order, as many as one step may, and at least one of them. Fails for want of memory.
-    fn serve_all(&self, entries: &mut Entries, ask: &WriteAsk) -> Result<WriteResult, Memory>
+    fn serve_all(&self, entries: &mut Entries, ask: &WriteAsk) -> Result<WriteReply, Memory>
         requires plan { IsPlan (entries_of self.now.store) (last_of self.now.store) ask.now.namespace entries.old }
         requires id { entries.old.id ≡ ask.now.id }
         requires number { entries.old.number ≡ ask.now.number }
@@ -134,10 +138,10 @@ impl ShardNode {
         ensures some { IfOk result (λ all. all.dones.items ≡ [] → ask.now.statements.items ≡ []) }
         ensures kept { IfOk result (λ all. AreKept (made_by self.now.me.0 ask.now.namespace entries.new) all.records.items) }
         ensures served { IfOk result (λ all. Serves self.now.me.0 ask.now.namespace ask.now.ordered (entries_of self.now.store) (time_of entries.old)
-            (map (statement_meant (given_meant ask.now.number) (id_meant ask.now.id)) ask.now.statements.items) (map (λ d. done_meant d) all.dones.items)
+            (map (statement_view (given_view ask.now.number) (id_view ask.now.id)) ask.now.statements.items) (map (λ d. done_view d) all.dones.items)
             (made_by self.now.me.0 ask.now.namespace entries.new) (time_of entries.new)) }
     {
-        let mut all = WriteResult::new(self.alloc);
+        let mut all = WriteReply::new(self.alloc);
         for statement in &ask.statements {
             if !self.serve_next(entries, ask, statement, &mut all)? {
                 return Ok(all);
@@ -148,23 +152,23 @@ impl ShardNode {
 
     // The statements of an ask are served on the table that it was sent with, or as many of them as one step may. Fails for want of
     // memory.
-    pub(crate) fn plan_write(&self, time: Time, ask: WriteAsk) -> Result<Plan, Memory>
-        requires fits { verdict_of (sent_meant ask.sent) self.now.me.0 (table_of ask.namespace self.now.tables.tables) ≡ fits }
+    pub(crate) fn plan_write(&self, time: Time, ask: WriteAsk) -> Result<StepPlan, Memory>
+        requires fits { verdict_of (sent_view ask.sent) self.now.me.0 (table_of ask.namespace self.now.tables.tables) ≡ fits }
         requires early { time.0 < last_time }
         requires later { last_of self.now.store ≤ time.0 }
-        ensures planned { (m : Letter) → m.body ≡ write_ask_meant ask → time.0 ≡ heard (shard_meant self.now) m →
-            IfOk result (λ p. IsPlanned (shard_meant self.now) (letter_input m) p) }
+        ensures planned { (m : Letter) → m.body ≡ write_ask_view ask → time.0 ≡ heard (shard_view self.now) m →
+            IfOk result (λ p. IsPlanned (shard_view self.now) (letter_input m) p) }
         ensures follows { IfOk result (λ p. Follows self.now p) }
     {
         let mut entries = Entries::new(self.alloc, ask.number, ask.id, time);
-        let WriteResult { dones, records } = self.serve_all(&mut entries, &ask)?;
+        let WriteReply { dones, records } = self.serve_all(&mut entries, &ask)?;
         if dones.is_empty() {
-            return Ok(Plan::of_time(self.alloc, time));
+            return Ok(StepPlan::of_time(self.alloc, time));
         }
         let last = entries.time();
         let done = WriteDone { id: ask.id, dones };
         let told = self.message(ask.id.router, last, Body::WriteDone(done));
-        Ok(Plan {
+        Ok(StepPlan {
             time: last,
             mail: MailList::of_one(self.alloc, told),
             records,
@@ -176,12 +180,12 @@ impl ShardNode {
     }
 
     // A first statement that is not new is told so on any table: it alone is looked up, and what is left of the ask is asked for again.
-    pub(crate) fn plan_repeat(&self, time: Time, ask: &WriteAsk) -> Result<Option<Plan>, Memory>
-        requires old { (a : Ask) → ask_in (write_ask_meant ask.now) ≡ Some a →
+    pub(crate) fn plan_repeat(&self, time: Time, ask: &WriteAsk) -> Result<Option<StepPlan>, Memory>
+        requires old { (a : Ask) → ask_in (write_ask_view ask.now) ≡ Some a →
             verdict_of a.sent self.now.me.0 (table_of a.namespace self.now.tables.tables) ≢ fits }
-        ensures planned { (m : Letter) → m.body ≡ write_ask_meant ask.now → time.0 ≡ heard (shard_meant self.now) m →
-            IfOk result (λ p. IfSome p (λ p. IsPlanned (shard_meant self.now) (letter_input m) p)) }
-        ensures unseen { IfOk result (λ p. p ≡ None → was_seen (write_ask_meant ask.now) (entries_of self.now.store) ≡ false) }
+        ensures planned { (m : Letter) → m.body ≡ write_ask_view ask.now → time.0 ≡ heard (shard_view self.now) m →
+            IfOk result (λ p. IfSome p (λ p. IsPlanned (shard_view self.now) (letter_input m) p)) }
+        ensures unseen { IfOk result (λ p. p ≡ None → was_seen (write_ask_view ask.now) (entries_of self.now.store) ≡ false) }
         ensures follows { IfOk result (λ p. IfSome p (λ p. Follows self.now p)) }
     {
         let Some(statement) = ask.statements.first() else {
@@ -194,6 +198,6 @@ impl ShardNode {
         dones.push(done_of(self.alloc, statement.index, told)?)?;
         let done = WriteDone { id: ask.id, dones };
         let answer = self.message(ask.id.router, time, Body::WriteDone(done));
-        Ok(Some(Plan::of_message(self.alloc, time, answer)))
+        Ok(Some(StepPlan::of_message(self.alloc, time, answer)))
     }
 }

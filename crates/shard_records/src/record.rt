@@ -1,7 +1,7 @@
 //! The records of a journal as values.
 
 ghost use Rattle.std.specs.Prelude.{◌≡◌};
-ghost use Rattle.shard_records.specs.Meanings.{operation_lent, operation_meant};
+ghost use Rattle.shard_records.specs.Meanings.{operation_lent, operation_view};
 
 use bson_values::Document;
 use chunk_table::Table;
@@ -61,7 +61,7 @@ pub enum WordsRef<'a> {
 impl<'a> WordsRef<'a> {
     /// These words, lent.
     pub fn of(op: &'a OpWords) -> WordsRef<'a>
-        ensures { operation_lent result ≡ operation_meant op.now }
+        ensures { operation_lent result ≡ operation_view op.now }
     {
         match op {
             OpWords::Insert(document) => WordsRef::Insert(document),

@@ -4,7 +4,7 @@
 
 ghost use Rattle.std.specs.Prelude.{◌≡◌, ◌<◌, ◌^◌, ◌++◌, length, map, take, OnErr, OnOk};
 ghost use Rattle.std.specs.List.{AllByRecursion, flat_map};
-ghost use Rattle.chunk_table.specs.Meanings.{chunk_meant, owned_meant, version_meant};
+ghost use Rattle.chunk_table.specs.Meanings.{chunk_view, owned_view, version_view};
 ghost use Rattle.chunk_table.specs.Whole.{IsWritableBound, IsWritableChunk};
 ghost use Rattle.record_model.specs.Records.{table_record};
 ghost use Rattle.record_model.specs.RecordFormat.{IsSound, IsSoundBound, IsSoundChunk, IsSoundOwned, IsSoundVersion, spelled, spelled_bound, spelled_chunk, spelled_list, spelled_owned, spelled_version};
@@ -50,8 +50,8 @@ fn put_bound(bound: &Bound, out: &mut Vec<u8>) -> Result<(), Memory>
 
 /// Puts a version.
 fn put_version(version: &Version, out: &mut Vec<u8>) -> Result<(), Memory>
-    ensures ok { OnOk result (out.new.items ≡ out.old.items ++ spelled_version (version_meant version.now)) }
-    ensures sound { OnOk result (IsSoundVersion (version_meant version.now)) }
+    ensures ok { OnOk result (out.new.items ≡ out.old.items ++ spelled_version (version_view version.now)) }
+    ensures sound { OnOk result (IsSoundVersion (version_view version.now)) }
     ensures kept { take (length out.old.items) out.new.items ≡ out.old.items }
 {
     put_u64(version.epoch, out)?;
@@ -61,8 +61,8 @@ fn put_version(version: &Version, out: &mut Vec<u8>) -> Result<(), Memory>
 
 /// Puts one owner of a chunk.
 fn put_owned(owned: &Owned, out: &mut Vec<u8>) -> Result<(), Memory>
-    ensures ok { OnOk result (out.new.items ≡ out.old.items ++ spelled_owned (owned_meant owned.now)) }
-    ensures sound { OnOk result (IsSoundOwned (owned_meant owned.now)) }
+    ensures ok { OnOk result (out.new.items ≡ out.old.items ++ spelled_owned (owned_view owned.now)) }
+    ensures sound { OnOk result (IsSoundOwned (owned_view owned.now)) }
     ensures kept { take (length out.old.items) out.new.items ≡ out.old.items }
 {
     put_u64(owned.valid_after.0, out)?;
@@ -71,8 +71,8 @@ fn put_owned(owned: &Owned, out: &mut Vec<u8>) -> Result<(), Memory>
 
 /// Puts these owners of a chunk, one behind another.
 fn put_each_owned(owners: &[Owned], out: &mut Vec<u8>) -> Result<(), Memory>
-    ensures ok { OnOk result (out.new.items ≡ out.old.items ++ flat_map spelled_owned (map owned_meant owners.now)) }
-    ensures sound { OnOk result (AllByRecursion IsSoundOwned (map owned_meant owners.now)) }
+    ensures ok { OnOk result (out.new.items ≡ out.old.items ++ flat_map spelled_owned (map owned_view owners.now)) }
+    ensures sound { OnOk result (AllByRecursion IsSoundOwned (map owned_view owners.now)) }
     ensures kept { take (length out.old.items) out.new.items ≡ out.old.items }
 {
     for owned in owners {
@@ -84,8 +84,8 @@ fn put_each_owned(owners: &[Owned], out: &mut Vec<u8>) -> Result<(), Memory>
 /// Puts the owners of a chunk: how many, and each.
 fn put_owners(owners: &[Owned], out: &mut Vec<u8>) -> Result<(), Memory>
     requires { length owners.now < 2 ^ 32 }
-    ensures ok { OnOk result (out.new.items ≡ out.old.items ++ spelled_list spelled_owned (map owned_meant owners.now)) }
-    ensures sound { OnOk result (AllByRecursion IsSoundOwned (map owned_meant owners.now)) }
+    ensures ok { OnOk result (out.new.items ≡ out.old.items ++ spelled_list spelled_owned (map owned_view owners.now)) }
+    ensures sound { OnOk result (AllByRecursion IsSoundOwned (map owned_view owners.now)) }
     ensures kept { take (length out.old.items) out.new.items ≡ out.old.items }
 {
     put_u32(owners.len() as u32, out)?;
@@ -94,9 +94,9 @@ fn put_owners(owners: &[Owned], out: &mut Vec<u8>) -> Result<(), Memory>
 
 /// Puts a chunk.
 fn put_chunk(chunk: &Chunk, out: &mut Vec<u8>) -> Result<(), Memory>
-    requires { IsWritableChunk (chunk_meant chunk.now) }
-    ensures ok { OnOk result (out.new.items ≡ out.old.items ++ spelled_chunk (chunk_meant chunk.now)) }
-    ensures sound { OnOk result (IsSoundChunk (chunk_meant chunk.now)) }
+    requires { IsWritableChunk (chunk_view chunk.now) }
+    ensures ok { OnOk result (out.new.items ≡ out.old.items ++ spelled_chunk (chunk_view chunk.now)) }
+    ensures sound { OnOk result (IsSoundChunk (chunk_view chunk.now)) }
     ensures kept { take (length out.old.items) out.new.items ≡ out.old.items }
 {
     put_bound(chunk.range.min(), out)?;
@@ -107,9 +107,9 @@ fn put_chunk(chunk: &Chunk, out: &mut Vec<u8>) -> Result<(), Memory>
 
 /// Puts these chunks, one behind another.
 fn put_each_chunk(chunks: &[Chunk], out: &mut Vec<u8>) -> Result<(), Memory>
-    requires { AllByRecursion IsWritableChunk (map chunk_meant chunks.now) }
-    ensures ok { OnOk result (out.new.items ≡ out.old.items ++ flat_map spelled_chunk (map chunk_meant chunks.now)) }
-    ensures sound { OnOk result (AllByRecursion IsSoundChunk (map chunk_meant chunks.now)) }
+    requires { AllByRecursion IsWritableChunk (map chunk_view chunks.now) }
+    ensures ok { OnOk result (out.new.items ≡ out.old.items ++ flat_map spelled_chunk (map chunk_view chunks.now)) }
+    ensures sound { OnOk result (AllByRecursion IsSoundChunk (map chunk_view chunks.now)) }
     ensures kept { take (length out.old.items) out.new.items ≡ out.old.items }
 {
     for chunk in chunks {
@@ -121,9 +121,9 @@ fn put_each_chunk(chunks: &[Chunk], out: &mut Vec<u8>) -> Result<(), Memory>
 /// Puts the chunks of a table: how many, and each.
 fn put_chunks(chunks: &[Chunk], out: &mut Vec<u8>) -> Result<(), Memory>
     requires count { length chunks.now < 2 ^ 32 }
-    requires writable { AllByRecursion IsWritableChunk (map chunk_meant chunks.now) }
-    ensures ok { OnOk result (out.new.items ≡ out.old.items ++ spelled_list spelled_chunk (map chunk_meant chunks.now)) }
-    ensures sound { OnOk result (AllByRecursion IsSoundChunk (map chunk_meant chunks.now)) }
+    requires writable { AllByRecursion IsWritableChunk (map chunk_view chunks.now) }
+    ensures ok { OnOk result (out.new.items ≡ out.old.items ++ spelled_list spelled_chunk (map chunk_view chunks.now)) }
+    ensures sound { OnOk result (AllByRecursion IsSoundChunk (map chunk_view chunks.now)) }
     ensures kept { take (length out.old.items) out.new.items ≡ out.old.items }
 {
     put_u32(chunks.len() as u32, out)?;

@@ -8,7 +8,7 @@ ghost use Rattle.record_model.specs.Names.{IsNamespace};
 ghost use Rattle.bson_values.specs.Spelling.{written};
 ghost use Rattle.record_model.specs.RecordFormat.{IsSoundOperation, IsSound, IsSoundKey, IsSoundNumber, IsSoundOutcome, IsSoundSession, IsSoundDocument, IsSoundKeyValue, eight, four, key_document, spelled, spelled_creation, spelled_entry, spelled_key, spelled_number, spelled_outcome, spelled_session, spelled_string, spelled_operation};
 ghost use Rattle.record_model.specs.Records.{create_record, entry_record};
-ghost use Rattle.shard_records.specs.Meanings.{entry_meant, number_meant, outcome_meant, record_meant, session_meant, operation_lent};
+ghost use Rattle.shard_records.specs.Meanings.{entry_view, number_view, outcome_view, record_view, session_view, operation_lent};
 ghost use Rattle.shard_records.specs.Sizes.{FitsRecord, IsWritableOperation, IsWritableKey, IsWritableRecord};
 ghost use Rattle.bson_values.specs.Limits.{IsWritable};
 
@@ -28,10 +28,10 @@ pub(crate) const NEWEST_FORMAT: u8 = 0x01;
 /// # Errors
 /// `Memory` for want of memory, and then the bytes are as they were.
 pub fn write_record(kept: &Record, out: &mut Vec<u8>) -> Result<(), Memory>
-    requires { IsWritableRecord (record_meant kept.now) }
-    ensures ok { OnOk result (out.new.items ≡ out.old.items ++ spelled 1 (record_meant kept.now)) }
+    requires { IsWritableRecord (record_view kept.now) }
+    ensures ok { OnOk result (out.new.items ≡ out.old.items ++ spelled 1 (record_view kept.now)) }
     // Where it is sound, its bytes spell no other record.
-    ensures sound { OnOk result (IsSound (record_meant kept.now)) }
+    ensures sound { OnOk result (IsSound (record_view kept.now)) }
     ensures err { OnErr result (out.new.items ≡ out.old.items) }
 {
     let len = out.len();
@@ -53,9 +53,9 @@ pub fn write_entry(
     out: &mut Vec<u8>,
 ) -> Result<(), Memory>
     requires words { IsWritableOperation (operation_lent words.now) }
-    requires upserted { IsWritableKey (outcome_meant reply.now).upserted }
-    ensures ok { OnOk result (out.new.items ≡ out.old.items ++ spelled 1 (entry_record (entry_meant time namespace.now statement.now (operation_lent words.now) reply.now))) }
-    ensures sound { OnOk result (IsSound (entry_record (entry_meant time namespace.now statement.now (operation_lent words.now) reply.now))) }
+    requires upserted { IsWritableKey (outcome_view reply.now).upserted }
+    ensures ok { OnOk result (out.new.items ≡ out.old.items ++ spelled 1 (entry_record (entry_view time namespace.now statement.now (operation_lent words.now) reply.now))) }
+    ensures sound { OnOk result (IsSound (entry_record (entry_view time namespace.now statement.now (operation_lent words.now) reply.now))) }
     ensures err { OnErr result (out.new.items ≡ out.old.items) }
 {
     let len = out.len();
@@ -160,8 +160,8 @@ pub(crate) fn put_some_key(key: &Key, out: &mut Vec<u8>) -> Result<(), Memory>
 
 /// Puts whose statement it is.
 fn put_session(session: &Session, out: &mut Vec<u8>) -> Result<(), Memory>
-    ensures ok { OnOk result (out.new.items ≡ out.old.items ++ spelled_session (session_meant session.now)) }
-    ensures sound { OnOk result (IsSoundSession (session_meant session.now)) }
+    ensures ok { OnOk result (out.new.items ≡ out.old.items ++ spelled_session (session_view session.now)) }
+    ensures sound { OnOk result (IsSoundSession (session_view session.now)) }
     ensures kept { take (length out.old.items) out.new.items ≡ out.old.items }
 {
     match session {
@@ -193,8 +193,8 @@ fn put_txn(statement: &Stmt, out: &mut Vec<u8>) -> Result<(), Memory>
 
 /// Puts the number of a statement.
 fn put_statement(statement: &Stmt, out: &mut Vec<u8>) -> Result<(), Memory>
-    ensures ok { OnOk result (out.new.items ≡ out.old.items ++ spelled_number (number_meant statement.now)) }
-    ensures sound { OnOk result (IsSoundNumber (number_meant statement.now)) }
+    ensures ok { OnOk result (out.new.items ≡ out.old.items ++ spelled_number (number_view statement.now)) }
+    ensures sound { OnOk result (IsSoundNumber (number_view statement.now)) }
     ensures kept { take (length out.old.items) out.new.items ≡ out.old.items }
 {
     put_session(&statement.session, out)?;
@@ -233,9 +233,9 @@ fn put_operation(words: &WordsRef<'_>, out: &mut Vec<u8>) -> Result<(), Memory>
 
 /// Puts what a statement is told.
 fn put_reply(reply: &Reply, out: &mut Vec<u8>) -> Result<(), Memory>
-    requires { IsWritableKey (outcome_meant reply.now).upserted }
-    ensures ok { OnOk result (out.new.items ≡ out.old.items ++ spelled_outcome (outcome_meant reply.now)) }
-    ensures sound { OnOk result (IsSoundOutcome (outcome_meant reply.now)) }
+    requires { IsWritableKey (outcome_view reply.now).upserted }
+    ensures ok { OnOk result (out.new.items ≡ out.old.items ++ spelled_outcome (outcome_view reply.now)) }
+    ensures sound { OnOk result (IsSoundOutcome (outcome_view reply.now)) }
     ensures kept { take (length out.old.items) out.new.items ≡ out.old.items }
 {
     put_u32(reply.n, out)?;
@@ -254,9 +254,9 @@ fn put_entry(
     out: &mut Vec<u8>,
 ) -> Result<(), Memory>
     requires words { IsWritableOperation (operation_lent words.now) }
-    requires upserted { IsWritableKey (outcome_meant reply.now).upserted }
-    ensures ok { OnOk result (out.new.items ≡ out.old.items ++ spelled 1 (entry_record (entry_meant time namespace.now statement.now (operation_lent words.now) reply.now))) }
-    ensures sound { OnOk result (IsSound (entry_record (entry_meant time namespace.now statement.now (operation_lent words.now) reply.now))) }
+    requires upserted { IsWritableKey (outcome_view reply.now).upserted }
+    ensures ok { OnOk result (out.new.items ≡ out.old.items ++ spelled 1 (entry_record (entry_view time namespace.now statement.now (operation_lent words.now) reply.now))) }
+    ensures sound { OnOk result (IsSound (entry_record (entry_view time namespace.now statement.now (operation_lent words.now) reply.now))) }
     ensures kept { take (length out.old.items) out.new.items ≡ out.old.items }
 {
     put(&[NEWEST_FORMAT, 0x02], out)?;
@@ -286,9 +286,9 @@ fn put_creation(
 
 /// Puts a record.
 fn put_record(kept: &Record, out: &mut Vec<u8>) -> Result<(), Memory>
-    requires { IsWritableRecord (record_meant kept.now) }
-    ensures ok { OnOk result (out.new.items ≡ out.old.items ++ spelled 1 (record_meant kept.now)) }
-    ensures sound { OnOk result (IsSound (record_meant kept.now)) }
+    requires { IsWritableRecord (record_view kept.now) }
+    ensures ok { OnOk result (out.new.items ≡ out.old.items ++ spelled 1 (record_view kept.now)) }
+    ensures sound { OnOk result (IsSound (record_view kept.now)) }
     ensures kept { take (length out.old.items) out.new.items ≡ out.old.items }
 {
     match kept {

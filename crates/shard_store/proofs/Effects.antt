@@ -22,11 +22,11 @@ use Rattle.update_ops.specs.ApplyFaults.{Fails}
 use Rattle.update_ops.specs.Ops.{effect_shown, read_words}
 use Rattle.update_ops.specs.declared.effect.Applied.{Applied}
 use Rattle.update_ops.specs.declared.fault.ApplyFault.{ApplyFault}
-use Rattle.shard_records.specs.Meanings.{operation_meant}
+use Rattle.shard_records.specs.Meanings.{operation_view}
 use Rattle.shard_store.specs.Effects.{Does}
 use Rattle.shard_store.specs.Entries.{left_behind}
-use Rattle.shard_store.specs.Faults.{IsFault, applied_as, error_meant}
-use Rattle.shard_store.specs.Outcomes.{outcome_meant}
+use Rattle.shard_store.specs.Faults.{IsFault, applied_as, error_view}
+use Rattle.shard_store.specs.Outcomes.{outcome_view}
 use Rattle.shard_store.specs.Plans.{IsEffect}
 use Rattle.shard_store.specs.declared.effect.Effect as program
 use Rattle.shard_store.specs.declared.entry.Left.{Left}
@@ -36,7 +36,7 @@ use Rattle.shard_store.specs.declared.fault.WriteFault.TheVariants.{Duplicate, I
 use Rattle.shard_store.specs.declared.outcome.EntryOutcome.{EntryOutcome}
 
 -- words read as their operation does
-pub read_same : (w : OpWords) → read_words w ≡ read_operation (operation_meant w)
+pub read_same : (w : OpWords) → read_words w ≡ read_operation (operation_view w)
 read_same (words.Insert document) = refl
 read_same (words.Update filter change upsert) = refl
 read_same (words.Delete filter) = refl
@@ -111,7 +111,7 @@ unmet_stays (delete_write asked) None e is none = unmet_is None e is
 
 pub done_does : (write : Write) (before : Option Fields) (a : Applied) (left : Left) (outcome : EntryOutcome) → effect_of write before ≡ Ok (effect_shown a) →
     left_behind left before ≡ a.after →
-    outcome_meant outcome ≡ record { count = a.reply.n; modified = a.reply.modified; upserted = a.reply.upserted; error = None } → Does write before left outcome
+    outcome_view outcome ≡ record { count = a.reply.n; modified = a.reply.modified; upserted = a.reply.upserted; error = None } → Does write before left outcome
 done_does write before a left outcome made after told = record {
   leaves = after ∙ ap (λ (r : Result Effect edits.WriteFault). left_by before r) (sym made);
   told = told ∙ ap (λ (r : Result Effect edits.WriteFault). outcome_of r) (sym made);
@@ -121,7 +121,7 @@ done_does write before a left outcome made after told = record {
 record IsToldAs (fault : WriteFault) (made : Result Effect edits.WriteFault) : Type 0 where
   pub error : edits.WriteFault
   pub made_is : made ≡ Err error
-  pub same : error_meant fault ≡ error_of error
+  pub same : error_view fault ≡ error_of error
 
 told_as : (fault : WriteFault) (made : Result Effect edits.WriteFault) → Fails (applied_as fault) made → IsToldAs fault made
 told_as Duplicate made is = record { error = duplicate_fault; made_is = is; same = refl }
@@ -132,14 +132,14 @@ told_as NotNumber made is = record { error = edits.not_number_fault; made_is = i
 told_as NotDocument made is = record { error = edits.not_document_fault; made_is = is; same = refl }
 
 pub refused_does : (write : Write) (before : Option Fields) (error : edits.WriteFault) (left : Left) (outcome : EntryOutcome) → effect_of write before ≡ Err error → left ≡ Same →
-    outcome_meant outcome ≡ fails_with (error_of error) → Does write before left outcome
+    outcome_view outcome ≡ fails_with (error_of error) → Does write before left outcome
 refused_does write before error left outcome made same told = record {
   leaves = ap (λ (l : Left). left_behind l before) same ∙ ap (λ (r : Result Effect edits.WriteFault). left_by before r) (sym made);
   told = told ∙ ap (λ (r : Result Effect edits.WriteFault). outcome_of r) (sym made);
 }
 
 pub fault_does : (write : Write) (before : Option Fields) (fault : WriteFault) (was : ApplyFault) (left : Left) (outcome : EntryOutcome) → Fails was (effect_of write before) →
-    IsFault fault was → left ≡ Same → outcome_meant outcome ≡ fails_with (error_meant fault) → Does write before left outcome
+    IsFault fault was → left ≡ Same → outcome_view outcome ≡ fails_with (error_view fault) → Does write before left outcome
 fault_does write before fault was left outcome fails is same told =
     let as_told = told_as fault (effect_of write before) (subst (λ (f : ApplyFault). Fails f (effect_of write before)) is fails) in
     refused_does write before as_told.error left outcome as_told.made_is same (told ∙ ap (λ e. fails_with e) as_told.same)
@@ -147,7 +147,7 @@ fault_does write before fault was left outcome fails is same told =
 -- INSERTS
 
 pub insert_stands : (document : Fields) (before : Option Fields) (left : Left) (outcome : EntryOutcome) → true ≡ is_some before → left ≡ Same →
-    outcome_meant outcome ≡ fails_with duplicate_key → Does (insert_write document) before left outcome
+    outcome_view outcome ≡ fails_with duplicate_key → Does (insert_write document) before left outcome
 insert_stands document None left outcome stands same told = absurd cc
 insert_stands document (Some before) left outcome stands same told =
     refused_does (insert_write document) (Some before) duplicate_fault left outcome refl same told
@@ -158,12 +158,12 @@ insert_sized document None large none sized = ap (λ (b : Bool). if b then Err t
 insert_sized document (Some before) large none sized = absurd cc
 
 pub insert_large : (document : Fields) (before : Option Fields) (left : Left) (outcome : EntryOutcome) → false ≡ is_some before →
-    most_bytes_kept < length (written document) → left ≡ Same → outcome_meant outcome ≡ fails_with object_too_large → Does (insert_write document) before left outcome
+    most_bytes_kept < length (written document) → left ≡ Same → outcome_view outcome ≡ fails_with object_too_large → Does (insert_write document) before left outcome
 insert_large document before left outcome none long same told =
     refused_does (insert_write document) before too_large_fault left outcome (insert_sized document before true none (too_long document long)) same told
 
 pub insert_puts : (document : Fields) (before : Option Fields) (left : Left) (outcome : EntryOutcome) → false ≡ is_some before →
-    IsSmall document → length (written document) ≤ most_bytes_kept → left_behind left before ≡ Some document → outcome_meant outcome ≡ done →
+    IsSmall document → length (written document) ≤ most_bytes_kept → left_behind left before ≡ Some document → outcome_view outcome ≡ done →
     Does (insert_write document) before left outcome
 insert_puts document before left outcome none small short put told =
     let made : effect_of (insert_write document) before ≡ Ok (inserted document) = insert_sized document before false none (not_large document short small.0) in

@@ -13,12 +13,12 @@ use Rattle.history_model.proofs.Lists.{in_push}
 use Rattle.history_model.proofs.Keyed.{written_is_key}
 use Rattle.shard_store.specs.Collections.{room_under}
 use Rattle.shard_store.specs.declared.collections.Collections.{Collections}
-use Rattle.shard_store.specs.Entries.{Kept, entry_meant, entries_kept, note_kept, notes_kept}
+use Rattle.shard_store.specs.Entries.{Kept, entry_view, entries_kept, note_kept, notes_kept}
 use Rattle.shard_store.specs.declared.entry.Planned.{Planned}
 
 module _ (shard : ℕ) (kept new : List Kept) (namespace : List ℕ) (p : Planned) (grown : new ≡ kept ++ (namespace, p) ∷ []) where
-  pub entries_grown : entries_kept shard new ≡ entries_kept shard kept ++ entry_meant shard namespace p ∷ []
-  entries_grown = ap (λ (l : List Kept). entries_kept shard l) grown ∙ map-append (λ (k : Kept). entry_meant shard k.0 k.1) kept ((namespace, p) ∷ [])
+  pub entries_grown : entries_kept shard new ≡ entries_kept shard kept ++ entry_view shard namespace p ∷ []
+  entries_grown = ap (λ (l : List Kept). entries_kept shard l) grown ∙ map-append (λ (k : Kept). entry_view shard k.0 k.1) kept ((namespace, p) ∷ [])
 
   pub notes_grown : notes_kept new ≡ notes_kept kept ++ note_kept (namespace, p) ∷ []
   notes_grown = ap (λ (l : List Kept). notes_kept l) grown ∙ map-append note_kept kept ((namespace, p) ∷ [])
@@ -26,9 +26,9 @@ module _ (shard : ℕ) (kept new : List Kept) (namespace : List ℕ) (p : Planne
   pub past_grown : (last : ℕ) → ((e : Entry) → IsIn e (entries_kept shard kept) → e.time ≤ last) → last < p.time.0 →
       (e : Entry) → IsIn e (entries_kept shard new) → e.time ≤ p.time.0
   past_grown last past later e i =
-      by_part (in_push e (entries_kept shard kept) (entry_meant shard namespace p) (subst (λ (l : List Entry). IsIn e l) entries_grown i))
+      by_part (in_push e (entries_kept shard kept) (entry_view shard namespace p) (subst (λ (l : List Entry). IsIn e l) entries_grown i))
     where
-      by_part : IsIn e (entries_kept shard kept) ⊎ (e ≡ entry_meant shard namespace p) → e.time ≤ p.time.0
+      by_part : IsIn e (entries_kept shard kept) ⊎ (e ≡ entry_view shard namespace p) → e.time ≤ p.time.0
       by_part (inl j) = omega (arith, past e j, later)
       by_part (inr same) = omega (arith, ap (λ (d : Entry). d.time) same)
 

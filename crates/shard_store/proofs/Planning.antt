@@ -9,7 +9,7 @@ use Rattle.node_model.specs.History.{Entry}
 use Rattle.history_model.proofs.Lists.{all_push, all_weaken}
 use Rattle.shard_store.proofs.Lists.{any_push}
 use Rattle.shard_store.specs.Plans.{IsNext, IsBehind, AreInTurn, IsOf, IsPlan}
-use Rattle.shard_store.specs.declared.plan.Plan.{Plan}
+use Rattle.shard_store.specs.declared.plan.EntryPlan.{EntryPlan}
 use Rattle.shard_store.specs.declared.entry.Planned.{Planned}
 
 turn_push : (ps : List Planned) (q : Planned) → AreInTurn ps → AllByRecursion (λ (p : Planned). IsBehind p q) ps → AreInTurn (ps ++ q ∷ [])
@@ -40,7 +40,7 @@ taken_by true (Some u) = refl
 taken_by false None = refl
 taken_by false (Some u) = refl
 
-pub pushed : (entries : List Entry) (last : ℕ) (namespace : List ℕ) (old new : Plan) (q : Planned) → IsPlan entries last namespace old →
+pub pushed : (entries : List Entry) (last : ℕ) (namespace : List ℕ) (old new : EntryPlan) (q : Planned) → IsPlan entries last namespace old →
     IsNext entries last namespace q → IsOf old.number old.id q → old.last.0 < q.time.0 → old.free ≤ q.statement.index →
     list_any (λ (p : Planned). same_value p.key q.key) old.planned.items ≡ false → new.number ≡ old.number → new.id ≡ old.id → new.last ≡ q.time →
     new.free ≡ q.statement.index + 1 → new.planned.items ≡ old.planned.items ++ q ∷ [] →

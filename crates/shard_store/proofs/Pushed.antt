@@ -13,7 +13,7 @@ use Rattle.history_model.proofs.LegalHistories.{same_written}
 use Rattle.history_model.proofs.Lists.{in_first, in_later}
 use Rattle.history_model.proofs.Stores.{document_after_push}
 use Rattle.history_model.specs.Versions.{one_more}
-use Rattle.shard_store.specs.Entries.{entry_meant, is_other, left_behind, operation_of, put_of}
+use Rattle.shard_store.specs.Entries.{entry_view, is_other, left_behind, operation_of, put_of}
 use Rattle.shard_store.specs.Plans.{IsNext}
 use Rattle.shard_store.specs.declared.entry.Left.{Left}
 use Rattle.shard_store.specs.declared.entry.Left.TheVariants.{Same, Other}
@@ -95,7 +95,7 @@ module _ (shard : ℕ) (entries : List Entry) (last : ℕ) (namespace : List ℕ
   -- the collections show the entry too
   pub shown_after : (n : List ℕ) (k : Datum) (t : ℕ) (was now : Option Fields) → was ≡ document_at entries n (Some k) t →
       now ≡ (if is_other p.left && bytes_eq namespace n then one_more (put_of p.key p.time p.left) k t was else was) →
-      now ≡ document_at (entries ++ entry_meant shard namespace p ∷ []) n (Some k) t
+      now ≡ document_at (entries ++ entry_view shard namespace p ∷ []) n (Some k) t
   shown_after n k t was now e is =
       is
       ∙ by_tests p.left (bytes_eq namespace n) (same_value p.key k) (nat_le p.time.0 t) was (document_at entries n (Some k) t)
@@ -103,4 +103,4 @@ module _ (shard : ℕ) (entries : List Entry) (last : ℕ) (namespace : List ℕ
       ∙ ap (λ (written : Option Datum). if nat_le p.time.0 t
       then (if bytes_eq namespace n && same_key written (Some k) then (effect operation (document_at entries n (Some k) t)).0 else document_at entries n (Some k) t)
       else document_at entries n (Some k) t) (sym next.does.under)
-      ∙ sym (at_push n (Some k) t entries (entry_meant shard namespace p))
+      ∙ sym (at_push n (Some k) t entries (entry_view shard namespace p))

@@ -8,19 +8,19 @@ use Rattle.std.proofs.lemmas.List.{map-append}
 use Rattle.cluster_base.specs.declared.identity.RequestId.{RequestId}
 use Rattle.cluster_base.specs.declared.identity.Stmt.{Stmt}
 use Rattle.value_compare.specs.declared.words.Reply.{Reply}
-use Rattle.command_answers.specs.Kinds.{given_meant}
-use Rattle.command_answers.specs.declared.answer.ClientNumber.{ClientNumber}
+use Rattle.command_replies.specs.Kinds.{given_view}
+use Rattle.command_replies.specs.declared.answer.ClientNumber.{ClientNumber}
 use Rattle.node_model.specs.Exchanges.{number_for}
 use Rattle.node_model.specs.History.{Session, StatementNumber, Outcome, Entry}
 use Rattle.node_model.specs.Outcomes.{Done}
 use Rattle.node_model.specs.Service.{seen_by, told_again, seen_before}
-use Rattle.node_traits.specs.Ids.{id_meant}
+use Rattle.node_traits.specs.Ids.{id_view}
 use Rattle.history_model.specs.Notes.{Note, Seen, new_statement, done_before, older_than, same_session, same_number, greatest_of, noted, seen_beside, seen, notes_of}
 use Rattle.history_model.proofs.Noted.{one_more_note, same_number_is}
-use Rattle.session_book.specs.Meanings.{session_meant, number_meant}
+use Rattle.session_book.specs.Meanings.{session_view, number_view}
 use Rattle.shard_store.specs.declared.outcome.EntryResult.{EntryResult}
-use Rattle.shard_store.specs.declared.outcome.StatementAnswer.TheVariants.{WasDone, Older}
-use Rattle.shard_store.specs.Outcomes.{outcome_meant, reply_meant, done_meant, statement_of}
+use Rattle.shard_store.specs.declared.outcome.StatementOutcome.TheVariants.{WasDone, Older}
+use Rattle.shard_store.specs.Outcomes.{outcome_view, reply_view, done_view, statement_of}
 use Rattle.shard_store.specs.Entries.{Kept, entries_kept, notes_kept}
 
 -- THE SAME IS SEEN, WHATEVER IS TOLD
@@ -31,7 +31,7 @@ itself k = k
 module _ {A : Type 0} (tell : Kept → A) where
   -- the note of an entry, which tells this of it
   abbrev note_telling : Kept → Note A
-  note_telling k = record { number = number_meant k.1.statement; time = k.1.time.0; told = tell k }
+  note_telling k = record { number = number_view k.1.statement; time = k.1.time.0; told = tell k }
 
   abbrev notes_telling : List Kept → List (Note A)
   notes_telling kept = map note_telling kept
@@ -48,13 +48,13 @@ module _ {A : Type 0} (tell : Kept → A) where
   greatest_same : (session : Session) (kept : List Kept) → greatest_of session (notes_telling tell kept) ≡ greatest_of session (notes_telling itself kept)
   greatest_same session [] = refl
   greatest_same session (k ∷ kept) =
-      ap (λ (g : Option ℤ). if same_session (session_meant k.1.statement.session) session then Some (int_max k.1.statement.txn (unwrap_or g k.1.statement.txn)) else g)
+      ap (λ (g : Option ℤ). if same_session (session_view k.1.statement.session) session then Some (int_max k.1.statement.txn (unwrap_or g k.1.statement.txn)) else g)
       (greatest_same session kept)
 
   noted_same : (number : StatementNumber) (kept : List Kept) →
       noted number (notes_telling tell kept) ≡ option_map (as_told tell) (noted number (notes_telling itself kept))
   noted_same number [] = refl
-  noted_same number (k ∷ kept) = by_test (same_number (number_meant k.1.statement) number) (noted_same number kept)
+  noted_same number (k ∷ kept) = by_test (same_number (number_view k.1.statement) number) (noted_same number kept)
     where
       by_test : (b : Bool) → noted number (notes_telling tell kept) ≡ option_map (as_told tell) (noted number (notes_telling itself kept)) →
           (if b then Some (note_telling tell k) else noted number (notes_telling tell kept))
@@ -85,10 +85,10 @@ module _ {A : Type 0} (tell : Kept → A) where
 -- WHAT THE BOOK SEES AND WHAT THE ENTRIES TELL
 
 abbrev outcome_told : Kept → Outcome
-outcome_told k = outcome_meant k.1.outcome
+outcome_told k = outcome_view k.1.outcome
 
 abbrev reply_told : Kept → Reply
-reply_told k = reply_meant (outcome_meant k.1.outcome)
+reply_told k = reply_view (outcome_view k.1.outcome)
 
 -- which entry a number finds
 abbrev found_among : List Kept → StatementNumber → Seen Kept
@@ -126,27 +126,27 @@ module _ (shard : ℕ) (number : StatementNumber) (kept : List Kept) where
 
   -- what was done is told again
   pub look_done : (told : EntryResult) (reply : Reply) → seen (notes_kept kept) number ≡ done_before told.time.0 reply →
-      ((k : Kept) → reply ≡ reply_meant (outcome_meant k.1.outcome) → outcome_meant told.outcome ≡ outcome_meant k.1.outcome) →
-      Some (done_meant number.index (WasDone told)) ≡ seen_before number (entries_kept shard kept)
+      ((k : Kept) → reply ≡ reply_view (outcome_view k.1.outcome) → outcome_view told.outcome ≡ outcome_view k.1.outcome) →
+      Some (done_view number.index (WasDone told)) ≡ seen_before number (entries_kept shard kept)
   look_done told reply done outcome = by_found (found_among kept number) (sym (seen_same reply_told number kept) ∙ done) ∙ sym (told_is shard number kept)
     where
       by_found : (found : Seen Kept) → seen_as reply_told found ≡ done_before told.time.0 reply →
-          Some (done_meant number.index (WasDone told)) ≡ told_again number (seen_as outcome_told found)
+          Some (done_view number.index (WasDone told)) ≡ told_again number (seen_as outcome_told found)
       by_found new_statement e = absurd cc
       by_found (done_before time k) e =
           let timed : told.time.0 ≡ time = cc in
-          let words : reply ≡ reply_meant (outcome_meant k.1.outcome) = cc in
-          let is : outcome_meant told.outcome ≡ outcome_meant k.1.outcome = outcome k words in
+          let words : reply ≡ reply_view (outcome_view k.1.outcome) = cc in
+          let is : outcome_view told.outcome ≡ outcome_view k.1.outcome = outcome k words in
           cc
       by_found (older_than greatest) e = absurd cc
 
   -- and of what is older, which transaction is greater
   pub look_older : (greatest : ℤ) → seen (notes_kept kept) number ≡ older_than greatest →
-      Some (done_meant number.index (Older greatest)) ≡ seen_before number (entries_kept shard kept)
+      Some (done_view number.index (Older greatest)) ≡ seen_before number (entries_kept shard kept)
   look_older greatest older = by_found (found_among kept number) (sym (seen_same reply_told number kept) ∙ older) ∙ sym (told_is shard number kept)
     where
       by_found : (found : Seen Kept) → seen_as reply_told found ≡ older_than greatest →
-          Some (done_meant number.index (Older greatest)) ≡ told_again number (seen_as outcome_told found)
+          Some (done_view number.index (Older greatest)) ≡ told_again number (seen_as outcome_told found)
       by_found new_statement e = absurd cc
       by_found (done_before time k) e = absurd cc
       by_found (older_than other) e = let same : greatest ≡ other = cc in cc
@@ -154,7 +154,7 @@ module _ (shard : ℕ) (number : StatementNumber) (kept : List Kept) where
 -- THE NUMBERS OF ONE REQUEST
 
 -- the number of a statement is that of the definitions
-pub number_is : (given : Option ClientNumber) (id : RequestId) (index : ℕ) → number_meant (statement_of given id index) ≡ number_for (given_meant given) (id_meant id) index
+pub number_is : (given : Option ClientNumber) (id : RequestId) (index : ℕ) → number_view (statement_of given id index) ≡ number_for (given_view given) (id_view id) index
 number_is None id index = refl
 number_is (Some given) id index = refl
 
@@ -166,9 +166,9 @@ pub index_from : (given : Option ClientNumber) (id : RequestId) (index : ℕ) (s
 index_from given id index s own = ap (λ (x : Stmt). x.index) own ∙ index_is given id index
 
 pub seen_number : (entries : List Entry) (given : Option ClientNumber) (id : RequestId) (index : ℕ) (s : Stmt) → s ≡ statement_of given id index →
-    seen_before (number_meant s) entries ≡ seen_before (number_for (given_meant given) (id_meant id) index) entries
+    seen_before (number_view s) entries ≡ seen_before (number_for (given_view given) (id_view id) index) entries
 seen_number entries given id index s own =
-    ap (λ (x : Stmt). seen_before (number_meant x) entries) own ∙ ap (λ (n : StatementNumber). seen_before n entries) (number_is given id index)
+    ap (λ (x : Stmt). seen_before (number_view x) entries) own ∙ ap (λ (n : StatementNumber). seen_before n entries) (number_is given id index)
 
 pub transactions_same : (given : Option ClientNumber) (id : RequestId) (i j : ℕ) → (statement_of given id i).txn ≡ (statement_of given id j).txn
 transactions_same None id i j = refl

@@ -8,9 +8,9 @@ use Rattle.value_compare.specs.declared.words.Reply.{Reply}
 use Rattle.node_model.specs.History.{Operation, insert_operation, Entry}
 use Rattle.history_model.specs.Notes.{Note}
 use Rattle.history_model.specs.Versions.{Put}
-use Rattle.session_book.specs.Books.{note_meant}
-use Rattle.session_book.specs.Meanings.{number_meant}
-use Rattle.shard_records.specs.Meanings.{operation_meant}
+use Rattle.session_book.specs.Books.{note_view}
+use Rattle.session_book.specs.Meanings.{number_view}
+use Rattle.shard_records.specs.Meanings.{operation_view}
 use Rattle.shard_store.specs.declared.entry.Words.{Words}
 use Rattle.shard_store.specs.declared.entry.Words.TheVariants.{Insert, Change}
 use Rattle.shard_store.specs.declared.entry.LentWords.{LentWords}
@@ -18,17 +18,17 @@ use Rattle.shard_store.specs.declared.entry.LentWords.TheVariants as lent
 use Rattle.shard_store.specs.declared.entry.Left.{Left}
 use Rattle.shard_store.specs.declared.entry.Left.TheVariants.{Same, Other}
 use Rattle.shard_store.specs.declared.entry.Planned.{Planned}
-use Rattle.shard_store.specs.Outcomes.{outcome_meant, reply_meant}
+use Rattle.shard_store.specs.Outcomes.{outcome_view, reply_view}
 
 -- what a statement does
 abbrev pub operation_of : Words → Operation
 operation_of (Insert document) = insert_operation (arc_value document)
-operation_of (Change words) = operation_meant (arc_value words)
+operation_of (Change words) = operation_view (arc_value words)
 
 -- what a statement does whose words are lent
 abbrev pub operation_in : LentWords → Operation
 operation_in (lent.Insert document) = insert_operation (arc_value document.now)
-operation_in (lent.Change words) = operation_meant (arc_value words.now)
+operation_in (lent.Change words) = operation_view (arc_value words.now)
 
 -- what stands once a statement left this, where that stood before
 abbrev pub left_behind : Left → Option Fields → Option Fields
@@ -36,14 +36,14 @@ left_behind Same before = before
 left_behind (Other document) before = option_map arc_value document
 
 -- the entry that was planned, of a shard and in a namespace
-abbrev pub entry_meant : (shard : ℕ) → (namespace : List ℕ) → Planned → Entry
-entry_meant shard namespace p = record {
+abbrev pub entry_view : (shard : ℕ) → (namespace : List ℕ) → Planned → Entry
+entry_view shard namespace p = record {
   time = p.time.0;
   shard = shard;
-  number = number_meant p.statement;
+  number = number_view p.statement;
   namespace = namespace;
   operation = operation_of p.words;
-  outcome = outcome_meant p.outcome;
+  outcome = outcome_view p.outcome;
 }
 
 -- what is kept of an entry: its namespace, and what was planned
@@ -51,10 +51,10 @@ abbrev pub Kept : Type 0
 Kept = List ℕ × Planned
 
 abbrev pub entries_kept : (shard : ℕ) → List Kept → List Entry
-entries_kept shard kept = map (λ (k : Kept). entry_meant shard k.0 k.1) kept
+entries_kept shard kept = map (λ (k : Kept). entry_view shard k.0 k.1) kept
 
 abbrev pub note_kept : Kept → Note Reply
-note_kept k = note_meant k.1.statement k.1.time (reply_meant (outcome_meant k.1.outcome))
+note_kept k = note_view k.1.statement k.1.time (reply_view (outcome_view k.1.outcome))
 
 -- what the statements were told, in order
 abbrev pub notes_kept : List Kept → List (Note Reply)

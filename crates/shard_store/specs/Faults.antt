@@ -10,17 +10,17 @@ use Rattle.shard_store.specs.declared.fault.WriteFault.{WriteFault}
 use Rattle.shard_store.specs.declared.fault.WriteFault.TheVariants.{Duplicate, Immutable, Overflow, TooLarge, NotNumber, NotDocument}
 
 -- the error that is told
-abbrev pub error_meant : WriteFault → ErrorCode
-error_meant Duplicate = duplicate_key
-error_meant Immutable = immutable_field
-error_meant Overflow = bad_value
-error_meant TooLarge = object_too_large
-error_meant NotNumber = type_mismatch
-error_meant NotDocument = path_not_viable
+abbrev pub error_view : WriteFault → ErrorCode
+error_view Duplicate = duplicate_key
+error_view Immutable = immutable_field
+error_view Overflow = bad_value
+error_view TooLarge = object_too_large
+error_view NotNumber = type_mismatch
+error_view NotDocument = path_not_viable
 
 -- its number, or 0
 abbrev pub code_told : Option WriteFault → ℤ
-code_told fault = code_of (option_map error_meant fault)
+code_told fault = code_of (option_map error_view fault)
 
 -- the fault whose error has that number
 abbrev pub fault_told : ℤ → Option WriteFault

@@ -8,33 +8,33 @@ use Rattle.value_compare.specs.declared.words.Reply.{Reply}
 use Rattle.node_model.specs.History as history
 use Rattle.node_model.specs.Outcomes as answers
 use Rattle.node_model.specs.Outcomes.{Done, is_older, was_done}
-use Rattle.command_answers.specs.declared.answer.ClientNumber.{ClientNumber}
+use Rattle.command_replies.specs.declared.answer.ClientNumber.{ClientNumber}
 use Rattle.shard_records.specs.Records.{code_of}
-use Rattle.shard_store.specs.Faults.{error_meant}
+use Rattle.shard_store.specs.Faults.{error_view}
 use Rattle.shard_store.specs.declared.outcome.EntryOutcome.{EntryOutcome}
-use Rattle.shard_store.specs.declared.outcome.StatementAnswer.{StatementAnswer}
-use Rattle.shard_store.specs.declared.outcome.StatementAnswer.TheVariants.{WasDone, Older}
+use Rattle.shard_store.specs.declared.outcome.StatementOutcome.{StatementOutcome}
+use Rattle.shard_store.specs.declared.outcome.StatementOutcome.TheVariants.{WasDone, Older}
 
-abbrev pub outcome_meant : EntryOutcome → history.Outcome
-outcome_meant o = record {
+abbrev pub outcome_view : EntryOutcome → history.Outcome
+outcome_view o = record {
   count = o.reply.n;
   modified = o.reply.modified;
   upserted = o.reply.upserted;
   error = option_map
-      error_meant o.fault;
+      error_view o.fault;
 }
 
 -- the reply that tells an outcome: its error by its number, or 0
-abbrev pub reply_meant : history.Outcome → Reply
-reply_meant o = record { n = o.count; modified = o.modified; upserted = o.upserted; code = code_of o.error }
+abbrev pub reply_view : history.Outcome → Reply
+reply_view o = record { n = o.count; modified = o.modified; upserted = o.upserted; code = code_of o.error }
 
-abbrev pub answer_meant : StatementAnswer → answers.StatementAnswer
-answer_meant (WasDone told) = was_done told.time.0 (outcome_meant told.outcome)
-answer_meant (Older greatest) = is_older greatest
+abbrev pub answer_view : StatementOutcome → answers.StatementOutcome
+answer_view (WasDone told) = was_done told.time.0 (outcome_view told.outcome)
+answer_view (Older greatest) = is_older greatest
 
 -- the statement with this index is told that
-abbrev pub done_meant : (index : ℕ) → StatementAnswer → Done
-done_meant index told = record { index = index; answer = answer_meant told }
+abbrev pub done_view : (index : ℕ) → StatementOutcome → Done
+done_view index told = record { index = index; answer = answer_view told }
 
 -- the statement with this index of a request, with the number that its client gave or the router's own
 abbrev pub statement_of : Option ClientNumber → RequestId → ℕ → Stmt

@@ -3,17 +3,17 @@ use Rattle.std.specs.Prelude.{◌≡◌, ◌<◌, ◌≤◌, ◌+◌, ℕ, List,
 use Rattle.std.specs.BTreeMap.{get_by}
 use Rattle.std.specs.List.{AllByRecursion, list_any}
 use Rattle.cluster_base.specs.declared.identity.RequestId.{RequestId}
-use Rattle.command_answers.specs.declared.answer.ClientNumber.{ClientNumber}
+use Rattle.command_replies.specs.declared.answer.ClientNumber.{ClientNumber}
 use Rattle.value_compare.specs.Order.{order, same_value}
 use Rattle.bson_values.specs.Tree.{Datum}
 use Rattle.node_model.specs.History.{Operation, key_written, effect, Entry, document_left}
 use Rattle.node_model.specs.Letters.{Statement}
 use Rattle.node_model.specs.Outcomes.{Done, done_of}
 use Rattle.node_model.specs.Service.{seen_before, entry_for}
-use Rattle.session_book.specs.Meanings.{number_meant}
-use Rattle.shard_store.specs.Entries.{entry_meant, left_behind, operation_of}
-use Rattle.shard_store.specs.Outcomes.{outcome_meant, statement_of}
-use Rattle.shard_store.specs.declared.plan.Plan.{Plan}
+use Rattle.session_book.specs.Meanings.{number_view}
+use Rattle.shard_store.specs.Entries.{entry_view, left_behind, operation_of}
+use Rattle.shard_store.specs.Outcomes.{outcome_view, statement_of}
+use Rattle.shard_store.specs.declared.plan.EntryPlan.{EntryPlan}
 use Rattle.shard_store.specs.declared.entry.Left.{Left}
 use Rattle.shard_store.specs.declared.entry.Planned.{Planned}
 use Rattle.shard_store.specs.declared.outcome.EntryOutcome.{EntryOutcome}
@@ -22,14 +22,14 @@ use Rattle.shard_store.specs.declared.outcome.EntryOutcome.{EntryOutcome}
 pub record IsEffect (entries : List Entry) (namespace : List ℕ) (operation : Operation) (key : Datum) (left : Left) (outcome : EntryOutcome) : Type 0 where
   pub under : key_written operation ≡ Some key
   pub leaves : left_behind left (document_left namespace (Some key) entries) ≡ (effect operation (document_left namespace (Some key) entries)).0
-  pub told : outcome_meant outcome ≡ (effect operation (document_left namespace (Some key) entries)).1
+  pub told : outcome_view outcome ≡ (effect operation (document_left namespace (Some key) entries)).1
 
 -- The entry may follow these, the last of which is no later than `last`: it does what its operation does behind them, and its statement
 -- is none of theirs.
 pub record IsNext (entries : List Entry) (last : ℕ) (namespace : List ℕ) (p : Planned) : Type 0 where
   pub later : last < p.time.0
   pub does : IsEffect entries namespace (operation_of p.words) p.key p.left p.outcome
-  pub unseen : seen_before (number_meant p.statement) entries ≡ None
+  pub unseen : seen_before (number_view p.statement) entries ≡ None
 
 -- q comes later than p, is another statement, and has another key
 pub record IsBehind (p q : Planned) : Type 0 where
@@ -54,7 +54,7 @@ pub record AreNext (entries : List Entry) (last : ℕ) (namespace : List ℕ) (n
   pub own : AllByRecursion (IsOf number id) planned
 
 -- A plan of entries behind these. What it says of itself is so: its time, the least index that is free, the keys that are taken.
-pub record IsPlan (entries : List Entry) (last : ℕ) (namespace : List ℕ) (plan : Plan) : Type 0 where
+pub record IsPlan (entries : List Entry) (last : ℕ) (namespace : List ℕ) (plan : EntryPlan) : Type 0 where
   pub next : AreNext entries last namespace plan.number plan.id plan.planned.items
   pub before : last ≤ plan.last.0
   pub past : AllByRecursion (λ p. p.time.0 ≤ plan.last.0) plan.planned.items
@@ -63,14 +63,14 @@ pub record IsPlan (entries : List Entry) (last : ℕ) (namespace : List ℕ) (pl
   pub empty : plan.planned.items ≡ [] → plan.free ≡ 0
 
 -- the entries of a plan
-abbrev pub made_by : (shard : ℕ) → (namespace : List ℕ) → Plan → List Entry
-made_by shard namespace plan = map (entry_meant shard namespace) plan.planned.items
+abbrev pub made_by : (shard : ℕ) → (namespace : List ℕ) → EntryPlan → List Entry
+made_by shard namespace plan = map (entry_view shard namespace) plan.planned.items
 
 -- the time of its last entry, or that behind which its first comes
-abbrev pub time_of : Plan → ℕ
+abbrev pub time_of : EntryPlan → ℕ
 time_of plan = plan.last.0
 
-abbrev pub planned_in : Plan → List Planned
+abbrev pub planned_in : EntryPlan → List Planned
 planned_in plan = plan.planned.items
 
 -- A statement is served behind these entries at this time: it is told what it was told before, or that it is older; or it is new, and makes

@@ -12,7 +12,7 @@ ghost use Rattle.value_compare.specs.Spans.{span_of};
 ghost use Rattle.bson_values.specs.Tree.{Datum};
 ghost use Rattle.history_model.specs.Documents.{ListsDocuments};
 ghost use Rattle.history_model.specs.Versions.{one_more};
-ghost use Rattle.mvcc_collection.specs.Collections.{put_meant};
+ghost use Rattle.mvcc_collection.specs.Collections.{put_view};
 
 use crate::entry::{Left, Planned};
 use bson_values::{Document, Memory};
@@ -111,7 +111,7 @@ impl Collections {
         requires room { 1 ≤ room_under self.old namespace.now key.now }
         requires later { IfSome (last_under self.old namespace.now key.now) (λ t. t < time.0) }
         ensures shown { (n : List ℕ) (k : Datum) (t : ℕ) → shown_in self.new n k t
-            ≡ (if bytes_eq namespace.now n then one_more (put_meant key.now time document) k t (shown_in self.old n k t) else shown_in self.old n k t) }
+            ≡ (if bytes_eq namespace.now n then one_more (put_view key.now time document) k t (shown_in self.old n k t) else shown_in self.old n k t) }
         ensures last { (n : List ℕ) (k : Datum) → last_under self.new n k
             ≡ (if bytes_eq namespace.now n && same_value key.now k then Some time.0 else last_under self.old n k) }
         ensures rooms { (n : List ℕ) (k : Datum) → room_under self.old n k

@@ -10,8 +10,8 @@ ghost use Rattle.query_model.specs.KeySpans.{key_equal};
 ghost use Rattle.query_model.specs.Writes.{Write, insert_write};
 ghost use Rattle.update_ops.specs.Ops.{effect_shown, write_of};
 ghost use Rattle.shard_store.specs.Entries.{left_behind};
-ghost use Rattle.shard_store.specs.Faults.{error_meant};
-ghost use Rattle.shard_store.specs.Outcomes.{outcome_meant};
+ghost use Rattle.shard_store.specs.Faults.{error_view};
+ghost use Rattle.shard_store.specs.Outcomes.{outcome_view};
 ghost use Rattle.shard_store.specs.declared.entry.Left.TheVariants.{Same};
 
 use crate::entry::Left;
@@ -79,7 +79,7 @@ impl Effect {
     fn refused(key: Key, fault: WriteFault) -> Effect
         ensures key { result.key ≡ key }
         ensures left { result.left ≡ Same }
-        ensures told { outcome_meant result.outcome ≡ fails_with (error_meant fault) }
+        ensures told { outcome_view result.outcome ≡ fails_with (error_view fault) }
     {
         Effect {
             key,

@@ -6,7 +6,7 @@ ghost use Rattle.shard_store.specs.Outcomes.{statement_of};
 use crate::outcome::EntryOutcome;
 use bson_values::{Document, Memory};
 use cluster_base::{RequestId, Session, Stmt, Time};
-use command_answers::ClientNumber;
+use command_replies::ClientNumber;
 use std::alloc::Global;
 use std::sync::Arc;
 use value_compare::{Key, OpWords};

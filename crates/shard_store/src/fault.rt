@@ -2,7 +2,7 @@
 
 ghost use Rattle.std.specs.Prelude.{◌≡◌, IfOk};
 ghost use Rattle.cluster_base.specs.Codes.{meaning_of};
-ghost use Rattle.shard_store.specs.Faults.{code_told, error_meant, fault_told, IsFault};
+ghost use Rattle.shard_store.specs.Faults.{code_told, error_view, fault_told, IsFault};
 
 use bson_values::Memory;
 use cluster_base::Code;
@@ -43,7 +43,7 @@ pub(crate) fn code_of(fault: Option<WriteFault>) -> i32
 impl WriteFault {
     /// The error that is told.
     pub fn error(self) -> Code
-        ensures { meaning_of result ≡ error_meant self }
+        ensures { meaning_of result ≡ error_view self }
     {
         match self {
             WriteFault::Duplicate => Code::DuplicateKey,

@@ -11,6 +11,6 @@ mod store;
 
 pub use entry::{Left, LentWords, Planned, statement_number};
 pub use fault::WriteFault;
-pub use outcome::{EntryOutcome, EntryResult, StatementAnswer};
-pub use plan::Plan;
+pub use outcome::{EntryOutcome, EntryResult, StatementOutcome};
+pub use plan::EntryPlan;
 pub use store::ShardStore;

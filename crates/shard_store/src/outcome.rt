@@ -4,7 +4,7 @@ ghost use Rattle.std.specs.Prelude.{◌≡◌, IfOk, None};
 ghost use Rattle.std.specs.Option.{option_map};
 ghost use Rattle.cluster_base.specs.Codes.{meaning_of};
 ghost use Rattle.node_model.specs.History.{done, fails_with};
-ghost use Rattle.shard_store.specs.Faults.{code_told, error_meant};
+ghost use Rattle.shard_store.specs.Faults.{code_told, error_view};
 
 use crate::fault::{WriteFault, code_of};
 use bson_values::Memory;
@@ -32,7 +32,7 @@ pub struct EntryResult {
 
 /// What a statement is told.
 #[derive(Drop)]
-pub enum StatementAnswer {
+pub enum StatementOutcome {
     /// It was done.
     WasDone(EntryResult),
     /// It was not done: its session has this greater transaction.
@@ -50,11 +50,11 @@ fn copy_key(key: &Option<Key>) -> Result<Option<Key>, Memory>
 }
 
 impl EntryOutcome {
-    ghost use Rattle.shard_store.specs.Outcomes.{outcome_meant, reply_meant};
+    ghost use Rattle.shard_store.specs.Outcomes.{outcome_view, reply_view};
 
     // So many documents were put in, met or taken out, so many of them changed, this key was put in, and this is the fault.
     fn new(n: u32, modified: u32, upserted: Option<Key>, fault: Option<WriteFault>) -> EntryOutcome
-        ensures { outcome_meant result ≡ record { count = n; modified = modified; upserted = upserted; error = option_map error_meant fault } }
+        ensures { outcome_view result ≡ record { count = n; modified = modified; upserted = upserted; error = option_map error_view fault } }
     {
         let reply = Reply {
             n,
@@ -67,21 +67,21 @@ impl EntryOutcome {
 
     // One document was put in.
     pub(crate) fn inserted() -> EntryOutcome
-        ensures { outcome_meant result ≡ done }
+        ensures { outcome_view result ≡ done }
     {
         EntryOutcome::new(1, 0, None, None)
     }
 
     // Nothing was changed.
     pub(crate) fn refused(fault: WriteFault) -> EntryOutcome
-        ensures { outcome_meant result ≡ fails_with (error_meant fault) }
+        ensures { outcome_view result ≡ fails_with (error_view fault) }
     {
         EntryOutcome::new(0, 0, None, Some(fault))
     }
 
     // What a reply tells beside its code: there was no fault.
     pub(crate) fn done(reply: Reply) -> EntryOutcome
-        ensures { outcome_meant result ≡ record { count = reply.n; modified = reply.modified; upserted = reply.upserted; error = None } }
+        ensures { outcome_view result ≡ record { count = reply.n; modified = reply.modified; upserted = reply.upserted; error = None } }
     {
         let Reply {
             n,
@@ -94,8 +94,8 @@ impl EntryOutcome {
 
     // What a reply tells. Fails for want of memory.
     pub(crate) fn of(reply: &Reply) -> Result<EntryOutcome, Memory>
-        ensures { (outcome : EntryOutcome) → reply.now ≡ reply_meant (outcome_meant outcome) →
-            IfOk result (λ told. outcome_meant told ≡ outcome_meant outcome) }
+        ensures { (outcome : EntryOutcome) → reply.now ≡ reply_view (outcome_view outcome) →
+            IfOk result (λ told. outcome_view told ≡ outcome_view outcome) }
     {
         let fault = WriteFault::told(reply.code);
         let upserted = copy_key(&reply.upserted)?;
@@ -104,7 +104,7 @@ impl EntryOutcome {
 
     // The same once more. Fails for want of memory.
     pub(crate) fn copy(&self) -> Result<EntryOutcome, Memory>
-        ensures { IfOk result (λ outcome. outcome_meant outcome ≡ outcome_meant self.now) }
+        ensures { IfOk result (λ outcome. outcome_view outcome ≡ outcome_view self.now) }
     {
         let reply = &self.reply;
         let upserted = copy_key(&reply.upserted)?;
@@ -113,7 +113,7 @@ impl EntryOutcome {
 
     /// The error that is told, if one is.
     pub fn error(&self) -> Option<Code>
-        ensures { option_map meaning_of result ≡ (outcome_meant self.now).error }
+        ensures { option_map meaning_of result ≡ (outcome_view self.now).error }
     {
         match self.fault {
             Some(fault) => Some(fault.error()),
@@ -123,14 +123,14 @@ impl EntryOutcome {
 
     /// The reply that tells it.
     pub fn reply(&self) -> &Reply
-        ensures { result.now ≡ reply_meant (outcome_meant self.now) }
+        ensures { result.now ≡ reply_view (outcome_view self.now) }
     {
         &self.reply
     }
 
     /// The reply that tells it; nothing else is left.
     pub fn into_reply(self) -> Reply
-        ensures { result ≡ reply_meant (outcome_meant self) }
+        ensures { result ≡ reply_view (outcome_view self) }
     {
         self.reply
     }

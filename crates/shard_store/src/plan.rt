@@ -8,7 +8,7 @@ ghost use Rattle.node_model.specs.History.{Entry};
 use crate::entry::Planned;
 use bson_values::Memory;
 use cluster_base::{RequestId, Time};
-use command_answers::ClientNumber;
+use command_replies::ClientNumber;
 use std::alloc::Global;
 use std::collections::BTreeMap;
 use value_compare::Key;
@@ -16,7 +16,7 @@ use value_compare::Key;
 /// The entries that a shard is about to make in one collection for one request, in order: each at a later time, of a greater index
 /// and under another key than those before it. So none of them changes what another is told.
 #[derive(Drop)]
-pub struct Plan {
+pub struct EntryPlan {
     pub(crate) number: Option<ClientNumber>,
     pub(crate) id: RequestId,
     // The time of the last entry, or that behind which the first comes.
@@ -27,18 +27,18 @@ pub struct Plan {
     pub(crate) planned: Vec<Planned>,
 }
 
-impl Plan {
+impl EntryPlan {
     ghost use Rattle.shard_store.specs.Plans.{IsNext, IsOf, IsPlan, planned_in, time_of};
 
     /// A plan of no entries for a request with the number that its client gave, if it gave one. The first is to come behind this time.
-    pub fn new(alloc: Global, number: Option<ClientNumber>, id: RequestId, time: Time) -> Plan
+    pub fn new(alloc: Global, number: Option<ClientNumber>, id: RequestId, time: Time) -> EntryPlan
         ensures plan { (entries : List Entry) (last : ℕ) (namespace : List ℕ) → last ≤ time.0 → IsPlan entries last namespace result }
         ensures empty { planned_in result ≡ [] }
         ensures time { time_of result ≡ time.0 }
         ensures id { result.id ≡ id }
         ensures number { result.number ≡ number }
     {
-        Plan {
+        EntryPlan {
             number,
             id,
             last: time,

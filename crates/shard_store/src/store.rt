@@ -12,13 +12,13 @@ ghost use Rattle.node_model.specs.Halves.{may_stand_in};
 ghost use Rattle.node_model.specs.History.{Entry, IsIn, document_left, insert_operation};
 ghost use Rattle.node_model.specs.Exchanges.{number_for};
 ghost use Rattle.node_model.specs.Service.{seen_before};
-ghost use Rattle.command_answers.specs.Kinds.{given_meant};
+ghost use Rattle.command_replies.specs.Kinds.{given_view};
 ghost use Rattle.command_model.specs.CommandSizes.{IsKeepable};
 ghost use Rattle.session_book.specs.Books.{NotesAre, room_in};
-ghost use Rattle.node_traits.specs.Ids.{id_meant};
-ghost use Rattle.shard_records.specs.Meanings.{operation_meant};
-ghost use Rattle.shard_store.specs.Outcomes.{done_meant};
-ghost use Rattle.shard_store.specs.Entries.{Kept, entries_kept, entry_meant, notes_kept, operation_in};
+ghost use Rattle.node_traits.specs.Ids.{id_view};
+ghost use Rattle.shard_records.specs.Meanings.{operation_view};
+ghost use Rattle.shard_store.specs.Outcomes.{done_view};
+ghost use Rattle.shard_store.specs.Entries.{Kept, entries_kept, entry_view, notes_kept, operation_in};
 ghost use Rattle.shard_store.specs.Codes.{AreShown, noted-prop, shown-prop};
 ghost use Rattle.shard_store.specs.Collections.{last_under, room_under};
 ghost use Rattle.shard_store.specs.Plans.{AreNext, IsEffect, IsNext, IsOf, IsPlan, IsServed, made_by, planned_in, time_of};
@@ -26,11 +26,11 @@ ghost use Rattle.shard_store.specs.Plans.{AreNext, IsEffect, IsNext, IsOf, IsPla
 use crate::collections::Collections;
 use crate::effect::{Effect, key_of_op};
 use crate::entry::{LentWords, Planned, statement_number};
-use crate::outcome::{EntryOutcome, EntryResult, StatementAnswer};
-use crate::plan::Plan;
+use crate::outcome::{EntryOutcome, EntryResult, StatementOutcome};
+use crate::plan::EntryPlan;
 use bson_values::{Document, Memory};
 use cluster_base::{Namespace, NodeId, RequestId, Time};
-use command_answers::ClientNumber;
+use command_replies::ClientNumber;
 use ghost_list::GhostList;
 use session_book::{Book, Seen};
 use std::alloc::Global;
@@ -86,17 +86,17 @@ impl ShardStore {
         number: Option<ClientNumber>,
         id: RequestId,
         index: u32,
-    ) -> Result<Option<StatementAnswer>, Memory>
-        ensures { IfOk result (λ told. option_map (done_meant index) told
-            ≡ seen_before (number_for (given_meant number) (id_meant id) index) (entries_of self.now)) }
+    ) -> Result<Option<StatementOutcome>, Memory>
+        ensures { IfOk result (λ told. option_map (done_view index) told
+            ≡ seen_before (number_for (given_view number) (id_view id) index) (entries_of self.now)) }
     {
         match self.book.look(&statement_number(number, id, index)) {
             Seen::New => Ok(None),
             Seen::Done { time, reply } => {
                 let outcome = EntryOutcome::of(reply)?;
-                Ok(Some(StatementAnswer::WasDone(EntryResult { time, outcome })))
+                Ok(Some(StatementOutcome::WasDone(EntryResult { time, outcome })))
             }
-            Seen::Older(greatest) => Ok(Some(StatementAnswer::Older(greatest))),
+            Seen::Older(greatest) => Ok(Some(StatementOutcome::Older(greatest))),
         }
     }
 
@@ -145,7 +145,7 @@ impl ShardStore {
         namespace: &Namespace,
         words: &Arc<OpWords, Global>,
     ) -> Result<Effect, Memory>
-        ensures { IfOk result (λ e. IsEffect (entries_of self.now) namespace.now (operation_meant (arc_value words.now)) e.key e.left e.outcome) }
+        ensures { IfOk result (λ e. IsEffect (entries_of self.now) namespace.now (operation_view (arc_value words.now)) e.key e.left e.outcome) }
     {
         let Ok(op) = Op::read(alloc, words) else {
             // Words that may be kept read as a statement.
@@ -182,12 +182,12 @@ impl ShardStore {
     /// Fails for want of memory, and the plan is of no more use then.
     pub fn serve(
         &self,
-        plan: &mut Plan,
+        plan: &mut EntryPlan,
         alloc: Global,
         namespace: &Namespace,
         index: u32,
         words: LentWords,
-    ) -> Result<Option<StatementAnswer>, Memory>
+    ) -> Result<Option<StatementOutcome>, Memory>
         requires plan { IsPlan (entries_of self.now) (last_of self.now) namespace.now plan.old }
         requires keepable { IsKeepable (operation_in words) }
         requires room { time_of plan.old < 2 ^ 64 - 1 }
@@ -195,8 +195,8 @@ impl ShardStore {
         ensures served { IfOk result (λ told. (made : List Entry)
             × (made_by (shard_of self.now) namespace.now plan.new ≡ made_by (shard_of self.now) namespace.now plan.old ++ made)
             × IsServed (shard_of self.now) namespace.now (entries_of self.now ++ made_by (shard_of self.now) namespace.now plan.old) (time_of plan.old)
-            (record { number = number_for (given_meant plan.old.number) (id_meant plan.old.id) index; operation = operation_in words.entry })
-            (option_map (done_meant index) told) made (time_of plan.new)) }
+            (record { number = number_for (given_view plan.old.number) (id_view plan.old.id) index; operation = operation_in words.entry })
+            (option_map (done_view index) told) made (time_of plan.new)) }
         ensures first { planned_in plan.old ≡ [] → IfOk result (λ told. IsSome told) }
         ensures id { plan.new.id ≡ plan.old.id }
         ensures number { plan.new.number ≡ plan.old.number }
@@ -225,11 +225,11 @@ impl ShardStore {
             left,
             outcome,
         })?;
-        Ok(Some(StatementAnswer::WasDone(told)))
+        Ok(Some(StatementOutcome::WasDone(told)))
     }
 
     /// Makes room for the entries of a plan. Fails for want of memory. Either way nothing else is to be seen of it.
-    pub fn reserve(&mut self, namespace: &Namespace, plan: &Plan) -> Result<(), Memory>
+    pub fn reserve(&mut self, namespace: &Namespace, plan: &EntryPlan) -> Result<(), Memory>
         ensures room { OnOk result (HasRoom self.new namespace.now plan.now) }
         ensures entries { entries_of self.new ≡ entries_of self.old }
         ensures last { last_of self.new ≡ last_of self.old }
@@ -248,7 +248,7 @@ impl ShardStore {
         requires next { IsNext (entries_of self.old) (last_of self.old) namespace.now planned }
         requires version { 1 ≤ room_under self.old.collections namespace.now planned.key }
         requires note { 1 ≤ room_in self.old.book planned.statement.session }
-        ensures entries { entries_of self.new ≡ entries_of self.old ++ entry_meant (shard_of self.old) namespace.now planned ∷ [] }
+        ensures entries { entries_of self.new ≡ entries_of self.old ++ entry_view (shard_of self.old) namespace.now planned ∷ [] }
         ensures last { last_of self.new ≡ planned.time.0 }
         ensures shard { shard_of self.new ≡ shard_of self.old }
         ensures versions { (k : Datum) → room_under self.old.collections namespace.now k
@@ -270,7 +270,7 @@ impl ShardStore {
     }
 
     /// Makes the entries of a plan, for which there is room. Takes no memory.
-    pub fn commit(&mut self, namespace: &Namespace, plan: Plan)
+    pub fn commit(&mut self, namespace: &Namespace, plan: EntryPlan)
         requires plan { IsPlan (entries_of self.old) (last_of self.old) namespace.now plan }
         requires room { HasRoom self.old namespace.now plan }
         ensures entries { entries_of self.new ≡ entries_of self.old ++ made_by (shard_of self.old) namespace.now plan }

@@ -10,7 +10,7 @@ use Rattle.node_model.proofs.Schedules.{run_then}
 use Rattle.node_traits.specs.declared.outputs.StepFault.{StepFault}
 use Rattle.node_traits.specs.declared.outputs.ToLink.{ToLink}
 use Rattle.driver_steps.specs.Seats.{SeatView}
-use Rattle.driver_steps.specs.Worlds.{PostView, StandsFor}
+use Rattle.driver_steps.specs.Worlds.{NetworkView, StandsFor}
 use Rattle.driver_steps.specs.Moves.{BeginWith, HasHappened, HasStopped}
 use Rattle.pipe_driver.specs.Progress.{AreAsked}
 use Rattle.pipe_driver.specs.Rounds.{first_router, number_behind, replies_after, replies_behind}
@@ -30,7 +30,7 @@ events_more link replied (p ∷ requests) q =
     ap (λ (l : List Event). client_event first_router link (number_behind replied) p ∷ l) (events_more link (replies_after p.more replied) requests q)
 
 -- so far
-pub record AreAsking {S : Type 0} (view : S → SeatView) (seats : List S) (post : PostView) (handed : List ToLink) (before : World)
+pub record AreAsking {S : Type 0} (view : S → SeatView) (seats : List S) (network : NetworkView) (handed : List ToLink) (before : World)
     (link replied_before : ℕ) (bytes left : List ℕ) (replied : ℕ) : Type 0 where
   pub consumed : List ℕ
   pub requests : List Request
@@ -40,12 +40,12 @@ pub record AreAsking {S : Type 0} (view : S → SeatView) (seats : List S) (post
   pub run : Run before (client_events link replied_before requests) end
   pub count : replied ≡ replies_behind replied_before requests
   pub router : IsRouter end.nodes first_router
-  pub stands : StandsFor view seats post handed end 0
+  pub stands : StandsFor view seats network handed end 0
 
 module _ {S : Type 0} (view : S → SeatView) (handed : List ToLink) (w : World) (link replied_before : ℕ) (bytes : List ℕ) where
-  pub asking_none : (seats : List S) (post : PostView) → IsRouter w.nodes first_router → StandsFor view seats post handed w 0
-      → AreAsking view seats post handed w link replied_before bytes bytes replied_before
-  asking_none seats post router s = record {
+  pub asking_none : (seats : List S) (network : NetworkView) → IsRouter w.nodes first_router → StandsFor view seats network handed w 0
+      → AreAsking view seats network handed w link replied_before bytes bytes replied_before
+  asking_none seats network router s = record {
     consumed = [];
     requests = [];
     end = w;
@@ -57,11 +57,11 @@ module _ {S : Type 0} (view : S → SeatView) (handed : List ToLink) (w : World)
     stands = s;
   }
 
-  module _ (seats : List S) (post : PostView) (left : List ℕ) (replied : ℕ)
-      (a : AreAsking view seats post handed w link replied_before bytes left replied) where
+  module _ (seats : List S) (network : NetworkView) (left : List ℕ) (replied : ℕ)
+      (a : AreAsking view seats network handed w link replied_before bytes left replied) where
     -- the framer gave no more
     pub asking_ends : (rest : List ℕ) → rest ≡ left → outline rest ≡ partial_outline
-        → HasAsked view seats post handed w link replied_before bytes rest replied false
+        → HasAsked view seats network handed w link replied_before bytes rest replied false
     asking_ends rest same partial = record {
       requests = a.requests ++ [];
       fault = None;
@@ -78,7 +78,7 @@ module _ {S : Type 0} (view : S → SeatView) (handed : List ToLink) (w : World)
         whole = a.all ∙ (ap (λ (b : List ℕ). b ++ left) a.asked.all ∙ ap (λ (b : List ℕ). bytes_of a.requests ++ b) (sym same))
 
     -- what is left is no request
-    pub asking_fails : (rest : List ℕ) → rest ≡ left → IsMalformed rest → HasAsked view seats post handed w link replied_before bytes rest replied true
+    pub asking_fails : (rest : List ℕ) → rest ≡ left → IsMalformed rest → HasAsked view seats network handed w link replied_before bytes rest replied true
     asking_fails rest same malformed = record {
       requests = a.requests ++ [];
       fault = Some (malformed.0, 0 + length (bytes_of a.requests));
@@ -106,7 +106,7 @@ module _ {S : Type 0} (view : S → SeatView) (handed : List ToLink) (w : World)
           all = a.all;
           asked = a.asked;
           first = ([], sym (append-nil (client_events link replied_before a.requests)));
-        }) (still view seats post handed a.end a.stands)
+        }) (still view seats network handed a.end a.stands)
 
     module _ (q asked : Request) (behind : List ℕ) (number : ℤ) (split : left ≡ q.bytes ++ behind) (is : IsRequest q) (same : asked ≡ q)
         (numbered : number ≡ number_behind replied) where
@@ -118,7 +118,7 @@ module _ {S : Type 0} (view : S → SeatView) (handed : List ToLink) (w : World)
       all_then = a.all ∙ (ap (λ (b : List ℕ). a.consumed ++ b) split ∙ sym (append_assoc a.consumed q.bytes behind))
 
       -- one request more came
-      pub asking_more : (seats_after : List S) (post_after : PostView) (after : ℕ)
+      pub asking_more : (seats_after : List S) (post_after : NetworkView) (after : ℕ)
           → HasHappened view seats_after post_after handed a.end 0 (client_event first_router link number asked)
           → after ≡ replies_after q.more replied
           → AreAsking view seats_after post_after handed w link replied_before bytes behind after

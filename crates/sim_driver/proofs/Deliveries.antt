@@ -8,7 +8,7 @@ use Rattle.node_model.specs.Letters.{Letter}
 use Rattle.node_model.specs.World.{World, Event, deliver_event, Happens, delivers, Run, stands, goes}
 use Rattle.node_traits.specs.declared.outputs.ToLink.{ToLink}
 use Rattle.driver_steps.specs.Seats.{SeatView}
-use Rattle.driver_steps.specs.Worlds.{PostView, StandsFor}
+use Rattle.driver_steps.specs.Worlds.{NetworkView, StandsFor}
 use Rattle.driver_steps.specs.Moves.{DeliversOrLoses}
 use Rattle.pipe_driver.specs.declared.status.Status.{Status}
 use Rattle.sim_driver.specs.Moves.{HasDeliveredOne, HasSettledBut, IsCut, IsPartOfDelivery, PassesOrDelivers}
@@ -61,32 +61,32 @@ message_at (m ∷ letters) (suc at) within = message_at letters at (omega (arith
 -- SO FAR
 
 -- all that waits was ever sent
-pub all_sent : {S : Type 0} (view : S → SeatView) (seats : List S) (post : PostView) (handed : List ToLink) (u : World)
-    → StandsFor view seats post handed u 0 → u.sent ≡ post.waiting
-all_sent view seats post handed u s = s.sent ∙ ap (λ (l : List Letter). l ++ post.waiting) (empty s.past s.place)
+pub all_sent : {S : Type 0} (view : S → SeatView) (seats : List S) (network : NetworkView) (handed : List ToLink) (u : World)
+    → StandsFor view seats network handed u 0 → u.sent ≡ network.waiting
+all_sent view seats network handed u s = s.sent ∙ ap (λ (l : List Letter). l ++ network.waiting) (empty s.past s.place)
   where
     empty : (past : List Letter) → length past ≡ 0 → past ≡ []
     empty [] none = refl
     empty (m ∷ past) none = absurd (omega (arith, none))
 
-pub record IsSettling {S : Type 0} (view : S → SeatView) (seats : List S) (post : PostView) (handed : List ToLink) (before : World) (early : List ℕ)
+pub record IsSettling {S : Type 0} (view : S → SeatView) (seats : List S) (network : NetworkView) (handed : List ToLink) (before : World) (early : List ℕ)
     (next later : ℕ) : Type 0 where
   pub events : List Event
   pub end : World
   pub settles : SettlesBut early before next events end later
   pub within : later ≤ length end.sent
-  pub stands : StandsFor view seats post handed end 0
+  pub stands : StandsFor view seats network handed end 0
 
-pub settling_none : {S : Type 0} (view : S → SeatView) (seats : List S) (post : PostView) (handed : List ToLink) (u : World) (early : List ℕ) (next : ℕ)
-    → next ≤ length u.sent → StandsFor view seats post handed u 0 → IsSettling view seats post handed u early next next
-settling_none view seats post handed u early next within s =
+pub settling_none : {S : Type 0} (view : S → SeatView) (seats : List S) (network : NetworkView) (handed : List ToLink) (u : World) (early : List ℕ) (next : ℕ)
+    → next ≤ length u.sent → StandsFor view seats network handed u 0 → IsSettling view seats network handed u early next next
+settling_none view seats network handed u early next within s =
     record { events = []; end = u; settles = but_none u next; within = within; stands = s }
 
-settling_early : {S : Type 0} (view : S → SeatView) (seats seats_after : List S) (post post_after : PostView) (handed : List ToLink) (u : World)
-    (early : List ℕ) (next later : ℕ) → (s : IsSettling view seats post handed u early next later) → is_early early later ≡ true → later < length post.waiting
+settling_early : {S : Type 0} (view : S → SeatView) (seats seats_after : List S) (network post_after : NetworkView) (handed : List ToLink) (u : World)
+    (early : List ℕ) (next later : ℕ) → (s : IsSettling view seats network handed u early next later) → is_early early later ≡ true → later < length network.waiting
     → StandsFor view seats_after post_after handed s.end 0 → IsSettling view seats_after post_after handed u early next (later + 1)
-settling_early view seats seats_after post post_after handed u early next later s is within there =
-    let all = ap (λ (l : List Letter). length l) (all_sent view seats post handed s.end s.stands) in
+settling_early view seats seats_after network post_after handed u early next later s is within there =
+    let all = ap (λ (l : List Letter). length l) (all_sent view seats network handed s.end s.stands) in
     record {
       events = s.events;
       end = s.end;
@@ -99,10 +99,10 @@ deliver_grows : (u v : World) (at which : ℕ) → Happens u (deliver_event at w
 deliver_grows _ _ _ _ (delivers u v at which m got to moves) =
     subst (λ (x : World). length u.sent ≤ length x.sent) (sym moves.then) (omega (arith, length-append u.sent moves.f.mail))
 
-settling_on : {S : Type 0} (view : S → SeatView) (seats seats_after : List S) (post post_after : PostView) (handed : List ToLink) (u : World)
-    (early : List ℕ) (next later : ℕ) → (s : IsSettling view seats post handed u early next later) → is_early early later ≡ false
+settling_on : {S : Type 0} (view : S → SeatView) (seats seats_after : List S) (network post_after : NetworkView) (handed : List ToLink) (u : World)
+    (early : List ℕ) (next later : ℕ) → (s : IsSettling view seats network handed u early next later) → is_early early later ≡ false
     → HasDeliveredOne view seats_after post_after handed s.end later → IsSettling view seats_after post_after handed u early next (later + 1)
-settling_on view seats seats_after post post_after handed u early next later s new d = by_kind d.delivers
+settling_on view seats seats_after network post_after handed u early next later s new d = by_kind d.delivers
   where
     by_kind : DeliversOrLoses s.end later d.message.receiver d.end → IsSettling view seats_after post_after handed u early next (later + 1)
     by_kind (inl h) = record {
@@ -121,18 +121,18 @@ settling_on view seats seats_after post post_after handed u early next later s n
       stands = d.stands;
     }
 
-pub settling_step : {S : Type 0} (view : S → SeatView) (seats seats_after : List S) (post post_after : PostView) (handed : List ToLink) (u : World)
-    (early : List ℕ) (next later : ℕ) → (s : IsSettling view seats post handed u early next later) → later < length post.waiting
+pub settling_step : {S : Type 0} (view : S → SeatView) (seats seats_after : List S) (network post_after : NetworkView) (handed : List ToLink) (u : World)
+    (early : List ℕ) (next later : ℕ) → (s : IsSettling view seats network handed u early next later) → later < length network.waiting
     → PassesOrDelivers view seats_after post_after handed s.end early later → IsSettling view seats_after post_after handed u early next (later + 1)
-settling_step view seats seats_after post post_after handed u early next later s within (inl (is, there)) =
-    settling_early view seats seats_after post post_after handed u early next later s is within there
-settling_step view seats seats_after post post_after handed u early next later s within (inr (new, d)) =
-    settling_on view seats seats_after post post_after handed u early next later s new d
+settling_step view seats seats_after network post_after handed u early next later s within (inl (is, there)) =
+    settling_early view seats seats_after network post_after handed u early next later s is within there
+settling_step view seats seats_after network post_after handed u early next later s within (inr (new, d)) =
+    settling_on view seats seats_after network post_after handed u early next later s new d
 
-pub settling_cut : {S : Type 0} (view : S → SeatView) (seats seats_after : List S) (post : PostView) (handed : List ToLink) (u : World)
-    (early : List ℕ) (next later : ℕ) (status : Status) → (s : IsSettling view seats post handed u early next later)
+pub settling_cut : {S : Type 0} (view : S → SeatView) (seats seats_after : List S) (network : NetworkView) (handed : List ToLink) (u : World)
+    (early : List ℕ) (next later : ℕ) (status : Status) → (s : IsSettling view seats network handed u early next later)
     → IsCut view seats_after s.end (IsPartOfDelivery s.end later) status → IsCut view seats_after u (IsPartOfSettling early u next) status
-settling_cut view seats seats_after post handed u early next later status s c =
+settling_cut view seats seats_after network handed u early next later status s c =
     cut_then view seats_after u s.events s.end (IsPartOfDelivery s.end later) (IsPartOfSettling early u next) status
     (but_run early u next s.events s.end later s.settles)
     (λ more part. record {
@@ -156,11 +156,11 @@ less_to_do {M} left left_after at count count_after waiting after (inr (same, st
     let as_many : length after ≡ length waiting = ap (λ (l : List M). length l) stays in
     omega arith
 
-pub settling_end : {S : Type 0} (view : S → SeatView) (seats : List S) (post : PostView) (handed : List ToLink) (u : World) (early : List ℕ)
-    (next later : ℕ) → IsSettling view seats post handed u early next later → length post.waiting ≤ later
-    → HasSettledBut view seats post handed u early next
-settling_end view seats post handed u early next later s past =
-    let all = ap (λ (l : List Letter). length l) (all_sent view seats post handed s.end s.stands) in
+pub settling_end : {S : Type 0} (view : S → SeatView) (seats : List S) (network : NetworkView) (handed : List ToLink) (u : World) (early : List ℕ)
+    (next later : ℕ) → IsSettling view seats network handed u early next later → length network.waiting ≤ later
+    → HasSettledBut view seats network handed u early next
+settling_end view seats network handed u early next later s past =
+    let all = ap (λ (l : List Letter). length l) (all_sent view seats network handed s.end s.stands) in
     let end : later ≡ length s.end.sent = omega (arith, all, past, s.within) in
     record {
       events = s.events;

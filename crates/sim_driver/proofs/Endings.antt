@@ -5,7 +5,7 @@ use Rattle.outside.specs.Streams.{Took}
 use Rattle.outside.specs.Devices.{SourceCall, SinkCall}
 use Rattle.node_model.specs.World.{Held, World}
 use Rattle.driver_steps.specs.Seats.{SeatView, AreKept, LeaveKept}
-use Rattle.driver_steps.specs.Worlds.{PostView}
+use Rattle.driver_steps.specs.Worlds.{NetworkView}
 use Rattle.driver_steps.proofs.Seats.{held_kept}
 use Rattle.outside.proofs.Relations.{took_then}
 use Rattle.pipe_driver.specs.Counts.{RoseWhere}
@@ -31,13 +31,13 @@ module _ {S : Type 0} (view : S → SeatView) (seats : List S) (source : SourceC
       subst (λ (n : Status). Cause routers limit (IsTrue source.tells → source.left_after ≡ []) (consumed ++ left) lines left put end n) (sym is) cause
 
   -- all whole lines were played
-  ended : (post : PostView) (s : ScriptView) (known : Status) → status ≡ known
-      → (p : Playing view seats post routers sink.tells sink.held_before sink.held_after s consumed)
+  ended : (network : NetworkView) (s : ScriptView) (known : Status) → status ≡ known
+      → (p : Playing view seats network routers sink.tells sink.held_before sink.held_after s consumed)
       → Took source.tells source.left_before (consumed ++ left) source.left_after → length consumed + length left ≤ limit
       → (AllPlayed routers p.lines p.out p.world
       → Cause routers limit (IsTrue source.tells → source.left_after ≡ []) (consumed ++ left) p.lines left p.out p.world known)
       → IsSimulated source sink (AreKept view seats) (LeaveKept view seats) routers limit status
-  ended post s known is p took most cause = record {
+  ended network s known is p took most cause = record {
     taken = consumed ++ left;
     put = p.out;
     lines = p.lines;
@@ -85,13 +85,13 @@ module _ {S : Type 0} (view : S → SeatView) (seats : List S) (source : SourceC
       by_cause _ (at_disk_fault came) = disk_failed came
       by_cause _ (at_no_memory came) = no_memory came
 
-  module _ (post : PostView) (s : ScriptView) (p : Playing view seats post routers sink.tells sink.held_before sink.held_after s consumed)
+  module _ (network : NetworkView) (s : ScriptView) (p : Playing view seats network routers sink.tells sink.held_before sink.held_after s consumed)
       (took : Took source.tells source.left_before (consumed ++ left) source.left_after) (none : HasNone newline left) where
     -- the input is at its limit
     pub ended_at_limit : status ≡ statuses.InputTooLong → length consumed + length left ≡ limit
         → IsSimulated source sink (AreKept view seats) (LeaveKept view seats) routers limit status
     ended_at_limit is full =
-        ended post s statuses.InputTooLong is p took (omega (arith, full))
+        ended network s statuses.InputTooLong is p took (omega (arith, full))
         (λ all. too_long (omega (arith, full, length-append consumed left)) none all)
 
     -- no more is taken
@@ -103,16 +103,16 @@ module _ {S : Type 0} (view : S → SeatView) (seats : List S) (source : SourceC
       at_end : (b : List ℕ) → left ≡ b → told ≡ statuses.InputEnded → (IsTrue source.tells → source.left_after ≡ [])
           → IsSimulated source sink (AreKept view seats) (LeaveKept view seats) routers limit status
       at_end [] is ends source_end =
-          ended post s statuses.InputEnded (whole is ∙ ends) p took (omega (arith, most)) (λ all. input_ended source_end below is all)
+          ended network s statuses.InputEnded (whole is ∙ ends) p took (omega (arith, most)) (λ all. input_ended source_end below is all)
       at_end (x ∷ b) is ends source_end =
           let some : left ≢ [] = λ e. let clash : x ∷ b ≡ [] = sym is ∙ e in absurd (cc clash) in
-          ended post s statuses.BadInput (begun some ends) p took (omega (arith, most)) (λ all. line_unended source_end below some none all)
+          ended network s statuses.BadInput (begun some ends) p took (omega (arith, most)) (λ all. line_unended source_end below some none all)
 
       by_taking : (n : Status) → told ≡ n → EndsTaking source.tells source.left_after n
           → IsSimulated source sink (AreKept view seats) (LeaveKept view seats) routers limit status
       by_taking _ is (at_source_end source_end) = at_end left refl is source_end
       by_taking _ is at_read_fault =
-          ended post s statuses.ReadFailed (other (λ e. let clash : statuses.ReadFailed ≡ statuses.InputEnded = sym is ∙ e in absurd (cc clash)) ∙ is) p took
+          ended network s statuses.ReadFailed (other (λ e. let clash : statuses.ReadFailed ≡ statuses.InputEnded = sym is ∙ e in absurd (cc clash)) ∙ is) p took
           (omega (arith, most)) (λ all. read_failed below none all)
 
       pub ended_taking : EndsTaking source.tells source.left_after told

@@ -6,7 +6,7 @@ use Rattle.node_traits.specs.declared.outputs.StepFault.{StepFault}
 use Rattle.node_traits.specs.declared.outputs.StepFault.TheVariants.{Disk, Steps, Memory}
 use Rattle.node_traits.specs.declared.outputs.ToLink.{ToLink}
 use Rattle.driver_steps.specs.Seats.{SeatView}
-use Rattle.driver_steps.specs.Worlds.{PostView, StandsFor}
+use Rattle.driver_steps.specs.Worlds.{NetworkView, StandsFor}
 use Rattle.driver_steps.specs.Moves.{HasStopped, IsUpTo}
 use Rattle.driver_steps.proofs.Seats.{held_kept}
 use Rattle.pipe_driver.specs.Stops.{status_for}
@@ -16,9 +16,9 @@ use Rattle.pipe_driver.proofs.Serving.{kept_at}
 use Rattle.sim_driver.specs.Moves.{AreStill, IsCut, IsLastOf}
 
 -- nothing happened where all stands for the world
-pub still : {S : Type 0} (view : S → SeatView) (seats : List S) (post : PostView) (handed : List ToLink) (w : World)
-    → StandsFor view seats post handed w 0 → AreStill view seats w
-still view seats post handed w s = record { nodes = s.nodes; crashes = s.crashes }
+pub still : {S : Type 0} (view : S → SeatView) (seats : List S) (network : NetworkView) (handed : List ToLink) (w : World)
+    → StandsFor view seats network handed w 0 → AreStill view seats w
+still view seats network handed w s = record { nodes = s.nodes; crashes = s.crashes }
 
 -- one event more
 pub run_more : (u : World) (events : List Event) (v : World) (e : Event) (w : World) → Run u events v → Happens v e w → Run u (events ++ e ∷ []) w

@@ -8,7 +8,7 @@ use Rattle.node_model.specs.Letters.{Letter}
 use Rattle.node_model.specs.World.{World, Event, deliver_event, Happens, stands, goes}
 use Rattle.node_traits.specs.declared.outputs.ToLink.{ToLink}
 use Rattle.driver_steps.specs.Seats.{SeatView}
-use Rattle.driver_steps.specs.Worlds.{PostView}
+use Rattle.driver_steps.specs.Worlds.{NetworkView}
 use Rattle.driver_steps.specs.Moves.{BeginWith, DeliversOrLoses}
 use Rattle.script_lines.specs.Lines.{Line, Says, client_line, deliver_line, settle_line}
 use Rattle.sim_driver.specs.Moves.{HasAsked, HasFault, HasDeliveredOne, HasSettledBut, AreStill, IsCut, IsFirstAsked, IsPartOfDelivery}
@@ -48,15 +48,15 @@ pub true_if : (b : Bool) → not b ≡ false → b ≡ true
 true_if true e = refl
 true_if false e = absurd (cc e)
 
-module _ {S : Type 0} (view : S → SeatView) (seats : List S) (post : PostView) (handed : List ToLink) (w : World) (s : ScriptView)
+module _ {S : Type 0} (view : S → SeatView) (seats : List S) (network : NetworkView) (handed : List ToLink) (w : World) (s : ScriptView)
     (bytes all left : List ℕ) (whole : all ≡ s.left ++ bytes) (replied : ℕ) where
-  pub client_played : HasAsked view seats post handed w s.link s.replied all left replied false
-      → HasPlayed view seats post handed w (client_line 0 bytes) s
+  pub client_played : HasAsked view seats network handed w s.link s.replied all left replied false
+      → HasPlayed view seats network handed w (client_line 0 bytes) s
       (record { link = s.link; left = left; replied = replied; next = s.next; early = s.early }) false
   client_played a = by_fault a.fault a.frames a.ends
     where
       by_fault : (fault : Option (FrameFault × ℕ)) → FramesFrom 0 all a.requests left fault → HasFault fault false
-          → HasPlayed view seats post handed w (client_line 0 bytes) s
+          → HasPlayed view seats network handed w (client_line 0 bytes) s
           (record { link = s.link; left = left; replied = replied; next = s.next; early = s.early }) false
       by_fault (Some fault) frames e = absurd (cc e)
       by_fault None frames e = record {
@@ -69,15 +69,15 @@ module _ {S : Type 0} (view : S → SeatView) (seats : List S) (post : PostView)
         stands = a.stands;
       }
 
-  pub client_closed : (fresh : List ℕ) → fresh ≡ [] → HasAsked view seats post handed w s.link s.replied all left replied true
-      → HasPlayed view seats post handed w (client_line 0 bytes) s
+  pub client_closed : (fresh : List ℕ) → fresh ≡ [] → HasAsked view seats network handed w s.link s.replied all left replied true
+      → HasPlayed view seats network handed w (client_line 0 bytes) s
       (record { link = s.link + 1; left = fresh; replied = 0; next = s.next; early = s.early }) true
   client_closed fresh none a =
-      subst (λ (b : List ℕ). HasPlayed view seats post handed w (client_line 0 bytes) s
+      subst (λ (b : List ℕ). HasPlayed view seats network handed w (client_line 0 bytes) s
       (record { link = s.link + 1; left = b; replied = 0; next = s.next; early = s.early }) true) (sym none) (by_fault a.fault a.frames a.ends)
     where
       by_fault : (fault : Option (FrameFault × ℕ)) → FramesFrom 0 all a.requests left fault → HasFault fault true
-          → HasPlayed view seats post handed w (client_line 0 bytes) s
+          → HasPlayed view seats network handed w (client_line 0 bytes) s
           (record { link = s.link + 1; left = []; replied = 0; next = s.next; early = s.early }) true
       by_fault None frames e = absurd (cc e)
       by_fault (Some fault) frames e = record {
@@ -92,12 +92,12 @@ module _ {S : Type 0} (view : S → SeatView) (seats : List S) (post : PostView)
   client_part events f = part_of_client bytes f.consumed f.rest f.requests events (sym whole ∙ f.all) f.asked f.first
 
   -- a link can't be numbered any more
-  pub client_full : HasAsked view seats post handed w s.link s.replied all left replied true
+  pub client_full : HasAsked view seats network handed w s.link s.replied all left replied true
       → IsCut view seats w (IsPartOfLine w s (client_line 0 bytes)) statuses.OutOfMemory
   client_full a =
       cut_here view seats w (client_events s.link s.replied a.requests) a.end (IsPartOfLine w s (client_line 0 bytes)) statuses.OutOfMemory a.run
       (client_is_part w s bytes left a.requests a.fault (subst (λ (b : List ℕ). FramesFrom 0 b a.requests left a.fault) whole a.frames))
-      (still view seats post handed a.end a.stands)
+      (still view seats network handed a.end a.stands)
 
 module _ {S : Type 0} (view : S → SeatView) (seats : List S) (w : World) (s : ScriptView) (bytes : List ℕ) where
   -- no request came
@@ -107,17 +107,17 @@ module _ {S : Type 0} (view : S → SeatView) (seats : List S) (w : World) (s : 
       (part_of_client bytes [] (s.left ++ bytes) [] [] refl (record { all = refl; each = tt }) ([], refl)) are
 
   module _ (router : ℕ) (first : router ≡ 0) where
-    pub played_at : (post : PostView) (handed : List ToLink) (t : ScriptView) (closed : Bool)
-        → HasPlayed view seats post handed w (client_line 0 bytes) s t closed → HasPlayed view seats post handed w (client_line router bytes) s t closed
-    played_at post handed t closed h =
-        subst (λ (n : ℕ). HasPlayed view seats post handed w (client_line n bytes) s t closed) (sym first) h
+    pub played_at : (network : NetworkView) (handed : List ToLink) (t : ScriptView) (closed : Bool)
+        → HasPlayed view seats network handed w (client_line 0 bytes) s t closed → HasPlayed view seats network handed w (client_line router bytes) s t closed
+    played_at network handed t closed h =
+        subst (λ (n : ℕ). HasPlayed view seats network handed w (client_line n bytes) s t closed) (sym first) h
 
     pub stops_at_link : (status : Status) → StopsLine view seats w (client_line 0 bytes) s status → StopsLine view seats w (client_line router bytes) s status
     stops_at_link status stops = subst (λ (n : ℕ). StopsLine view seats w (client_line n bytes) s status) (sym first) stops
 
 -- DELIVERIES
 
-module _ {S : Type 0} (view : S → SeatView) (seats : List S) (post : PostView) (handed : List ToLink) (w : World) (s : ScriptView) where
+module _ {S : Type 0} (view : S → SeatView) (seats : List S) (network : NetworkView) (handed : List ToLink) (w : World) (s : ScriptView) where
   -- the message at the place of the k-th message to a node goes to that node
   pub goes_there : (node k which : ℕ) (m : Letter) → place_from 0 node k w.sent ≡ Some which → slice_get w.sent which ≡ Some m → m.receiver ≡ node
   goes_there node k which m place got =
@@ -128,8 +128,8 @@ module _ {S : Type 0} (view : S → SeatView) (seats : List S) (post : PostView)
       ap (λ (l : Letter). l.receiver) (sym one) ∙ there.4
 
   pub deliver_played : (node k which : ℕ) → place_from 0 node k w.sent ≡ Some which → node < length w.nodes
-      → HasDeliveredOne view seats post handed w which
-      → HasPlayed view seats post handed w (deliver_line node k) s
+      → HasDeliveredOne view seats network handed w which
+      → HasPlayed view seats network handed w (deliver_line node k) s
       (record { link = s.link; left = s.left; replied = s.replied; next = s.next; early = s.early ++ which ∷ [] }) false
   deliver_played node k which place inside d = by_kind d.delivers
     where
@@ -137,7 +137,7 @@ module _ {S : Type 0} (view : S → SeatView) (seats : List S) (post : PostView)
       to = goes_there node k which d.message place d.got
 
       by_kind : DeliversOrLoses w which d.message.receiver d.end
-          → HasPlayed view seats post handed w (deliver_line node k) s
+          → HasPlayed view seats network handed w (deliver_line node k) s
           (record { link = s.link; left = s.left; replied = s.replied; next = s.next; early = s.early ++ which ∷ [] }) false
       by_kind (inl h) =
           let there : Happens w (deliver_event node which) d.end = subst (λ (n : ℕ). Happens w (deliver_event n which) d.end) to h in
@@ -152,11 +152,11 @@ module _ {S : Type 0} (view : S → SeatView) (seats : List S) (post : PostView)
 
   -- and its place is noted
   pub deliver_noted : (node k which : ℕ) (early : List ℕ) → early ≡ s.early ++ which ∷ [] → place_from 0 node k w.sent ≡ Some which → node < length w.nodes
-      → HasDeliveredOne view seats post handed w which
-      → HasPlayed view seats post handed w (deliver_line node k) s
+      → HasDeliveredOne view seats network handed w which
+      → HasPlayed view seats network handed w (deliver_line node k) s
       (record { link = s.link; left = s.left; replied = s.replied; next = s.next; early = early }) false
   deliver_noted node k which early noted place inside d =
-      subst (λ (l : List ℕ). HasPlayed view seats post handed w (deliver_line node k) s
+      subst (λ (l : List ℕ). HasPlayed view seats network handed w (deliver_line node k) s
       (record { link = s.link; left = s.left; replied = s.replied; next = s.next; early = l }) false) (sym noted)
       (deliver_played node k which place inside d)
 
@@ -168,14 +168,14 @@ module _ {S : Type 0} (view : S → SeatView) (seats : List S) (post : PostView)
 
   -- the message was delivered, and there was no memory to note it
   pub deliver_full : (node k which : ℕ) → place_from 0 node k w.sent ≡ Some which → node < length w.nodes
-      → HasDeliveredOne view seats post handed w which → IsCut view seats w (IsPartOfLine w s (deliver_line node k)) statuses.OutOfMemory
+      → HasDeliveredOne view seats network handed w which → IsCut view seats w (IsPartOfLine w s (deliver_line node k)) statuses.OutOfMemory
   deliver_full node k which place inside d =
       let h = deliver_played node k which place inside d in
       cut_here view seats w h.events h.end (IsPartOfLine w s (deliver_line node k)) statuses.OutOfMemory h.run
-      (whole_is_part w s (deliver_line node k) h.events h.end _ false h.played) (still view seats post handed h.end h.stands)
+      (whole_is_part w s (deliver_line node k) h.events h.end _ false h.played) (still view seats network handed h.end h.stands)
 
-  pub settle_played : (count : ℕ) (early : List ℕ) → early ≡ [] → (h : HasSettledBut view seats post handed w s.early s.next) → count ≡ length h.end.sent
-      → HasPlayed view seats post handed w settle_line s (record { link = s.link; left = s.left; replied = s.replied; next = count; early = early }) false
+  pub settle_played : (count : ℕ) (early : List ℕ) → early ≡ [] → (h : HasSettledBut view seats network handed w s.early s.next) → count ≡ length h.end.sent
+      → HasPlayed view seats network handed w settle_line s (record { link = s.link; left = s.left; replied = s.replied; next = count; early = early }) false
   settle_played count early none h counted = record {
     events = h.events;
     end = h.end;
@@ -206,10 +206,10 @@ bytes_unread view seats w bytes old are =
     bytes_at_memory (cut_here view seats w [] w (IsPartOfBytes w old bytes) statuses.OutOfMemory (stands w) part_unread are)
 
 -- the same of a line that is known
-pub played_as : {S : Type 0} (view : S → SeatView) (seats : List S) (post : PostView) (handed : List ToLink) (w : World) (known line : Line)
-    (s t : ScriptView) (closed : Bool) → known ≡ line → HasPlayed view seats post handed w known s t closed
-    → HasPlayed view seats post handed w line s t closed
-played_as view seats post handed w known line s t closed same h = subst (λ (l : Line). HasPlayed view seats post handed w l s t closed) same h
+pub played_as : {S : Type 0} (view : S → SeatView) (seats : List S) (network : NetworkView) (handed : List ToLink) (w : World) (known line : Line)
+    (s t : ScriptView) (closed : Bool) → known ≡ line → HasPlayed view seats network handed w known s t closed
+    → HasPlayed view seats network handed w line s t closed
+played_as view seats network handed w known line s t closed same h = subst (λ (l : Line). HasPlayed view seats network handed w l s t closed) same h
 
 pub stops_as : {S : Type 0} (view : S → SeatView) (seats : List S) (w : World) (known line : Line) (old : ScriptView) (status : Status) → known ≡ line
     → StopsLine view seats w known old status → StopsLine view seats w line old status

@@ -10,9 +10,9 @@ use Rattle.node_model.specs.Schedule.{openings}
 use Rattle.node_traits.specs.declared.outputs.StepFault.{StepFault}
 use Rattle.node_traits.specs.declared.outputs.StepFault.TheVariants.{Disk, Steps, Memory}
 use Rattle.node_traits.specs.declared.outputs.ToLink.{ToLink}
-use Rattle.driver_steps.specs.declared.post.Post.{Post}
+use Rattle.driver_steps.specs.declared.network.Network.{Network}
 use Rattle.driver_steps.specs.Seats.{SeatView}
-use Rattle.driver_steps.specs.Worlds.{PostView, StandsFor, post_view, puts_given}
+use Rattle.driver_steps.specs.Worlds.{NetworkView, StandsFor, network_view, puts_given}
 use Rattle.driver_steps.specs.Moves.{BeginWith, HasRun, HasStopped, IsUpTo}
 use Rattle.driver_steps.proofs.Seats.{held_kept}
 use Rattle.driver_steps.proofs.Runs.{handed_on}
@@ -59,9 +59,9 @@ last_in_line status end last events P goes_on on (inr (is, e, has, h)) = inr (is
 
 module _ {S : Type 0} (view : S → SeatView) (seats : List S) (routers : ℕ) (tells : Bool) (held : List ℕ) (count : ℕ)
     (as_many : count ≡ length (start routers).nodes) where
-  pub opened_playing : (post : PostView) → HasRun view seats post [] (start routers) 0 (openings 0 count)
-      → Playing view seats post routers tells held held new_script []
-  opened_playing post r =
+  pub opened_playing : (network : NetworkView) → HasRun view seats network [] (start routers) 0 (openings 0 count)
+      → Playing view seats network routers tells held held new_script []
+  opened_playing network r =
       let none : r.end.answered ≡ [] = nothing_told routers count r.end r.run in
       let silent : puts_given r.end.answered ≡ [] = ap puts_given none in
       let run : Run (start routers) (openings 0 (length (start routers).nodes)) r.end =
@@ -72,7 +72,7 @@ module _ {S : Type 0} (view : S → SeatView) (seats : List S) (routers : ℕ) (
         world = r.end;
         out = [];
         plays = plays_none r.end run;
-        stands = subst (λ (l : List ToLink). StandsFor view seats post l r.end 0) (sym silent) r.stands;
+        stands = subst (λ (l : List ToLink). StandsFor view seats network l r.end 0) (sym silent) r.stands;
         put = λ told. sym (append-nil held);
         all = refl;
         each = tt;
@@ -112,7 +112,7 @@ module _ {S : Type 0} (view : S → SeatView) (seats : List S) (routers : ℕ) (
 
 -- ONE LINE
 
-module _ {S : Type 0} (view : S → SeatView) (seats seats_after : List S) (before : PostView) (routers : ℕ) (tells : Bool)
+module _ {S : Type 0} (view : S → SeatView) (seats seats_after : List S) (before : NetworkView) (routers : ℕ) (tells : Bool)
     (held_before held consumed : List ℕ) (s : ScriptView) (p : Playing view seats before routers tells held_before held s consumed)
     (bytes : List ℕ) (none : HasNone newline bytes) where
   came_in : (others : List ℕ) (events : List Event) (end : World) → IsPartOfBytes p.world s bytes events → Run p.world events end
@@ -164,15 +164,15 @@ module _ {S : Type 0} (view : S → SeatView) (seats seats_after : List S) (befo
   line_stopped others _ (bytes_at_disk c) = stops_within others statuses.DiskFailed c (at_disk_fault (came_in others c.events c.end c.which c.run))
   line_stopped others _ (bytes_at_memory c) = stops_within others statuses.OutOfMemory c (at_no_memory (came_in others c.events c.end c.which c.run))
 
-  module _ {M : Type 0} (letter : M → Letter) (old new : Post M) (t : ScriptView) (closed : Bool)
-      (h : HasPlayedBytes view seats_after (post_view letter old) (puts_given p.world.answered) p.world bytes s t closed) where
+  module _ {M : Type 0} (letter : M → Letter) (old new : Network M) (t : ScriptView) (closed : Bool)
+      (h : HasPlayedBytes view seats_after (network_view letter old) (puts_given p.world.answered) p.world bytes s t closed) where
     puts_are : puts_given h.played.end.answered ≡ puts_given p.world.answered ++ old.replies.items
     puts_are = h.played.stands.given
 
     -- what it prints was put
     pub line_answered : (held' : List ℕ) → new.waiting.items ≡ old.waiting.items → new.replies.items ≡ []
         → Put tells held (printed s.link old.replies.items closed) held'
-        → Playing view seats_after (post_view letter new) routers tells held_before held' t (consumed ++ (bytes ++ newline ∷ []))
+        → Playing view seats_after (network_view letter new) routers tells held_before held' t (consumed ++ (bytes ++ newline ∷ []))
     line_answered held' waits silent put = record {
       lines = p.lines ++ bytes ∷ [];
       events = p.events ++ h.played.events;
@@ -180,7 +180,7 @@ module _ {S : Type 0} (view : S → SeatView) (seats seats_after : List S) (befo
       out = p.out ++ printed s.link old.replies.items closed;
       plays = plays_more p.lines p.events h.played.events p.world h.played.end s t p.out bytes h.line closed old.replies.items p.plays h.says
           h.played.played puts_are;
-      stands = subst (λ (l : List ToLink). StandsFor view seats_after (post_view letter new) l h.played.end 0) (sym puts_are)
+      stands = subst (λ (l : List ToLink). StandsFor view seats_after (network_view letter new) l h.played.end 0) (sym puts_are)
           (handed_on view letter seats_after (puts_given p.world.answered) h.played.end 0 old new h.played.stands waits silent);
       put = put_then tells held_before p.out held (printed s.link old.replies.items closed) held' p.put put;
       all = ap (λ (b : List ℕ). b ++ (bytes ++ newline ∷ [])) p.all ∙ sym (lines_more p.lines bytes);
@@ -230,16 +230,16 @@ module _ {S : Type 0} (view : S → SeatView) (seats seats_after : List S) (befo
         stops_here others statuses.OutOfMemory h.played.end
         (at_no_memory (came_in others h.played.events h.played.end
         (part_read h.line h.played.events h.says (whole_is_part p.world s h.line h.played.events h.played.end t closed h.played.played)) h.played.run))
-        (still view seats_after (post_view letter old) (puts_given p.world.answered) h.played.end h.played.stands)
+        (still view seats_after (network_view letter old) (puts_given p.world.answered) h.played.end h.played.stands)
 
 -- BETWEEN LINES
 
 -- there was no memory for the next line
-pub playing_full : {S : Type 0} (view : S → SeatView) (seats : List S) (post : PostView) (routers : ℕ) (tells : Bool)
+pub playing_full : {S : Type 0} (view : S → SeatView) (seats : List S) (network : NetworkView) (routers : ℕ) (tells : Bool)
     (held_before held consumed left : List ℕ)
-    (s : ScriptView) → Playing view seats post routers tells held_before held s consumed
+    (s : ScriptView) → Playing view seats network routers tells held_before held s consumed
     → Stopped view seats routers tells held_before held consumed left statuses.OutOfMemory
-playing_full view seats post routers tells held_before held consumed left s p = record {
+playing_full view seats network routers tells held_before held consumed left s p = record {
   lines = p.lines;
   end = p.world;
   out = p.out;
@@ -274,8 +274,8 @@ bytes_next all more begun rest first behind grown whole cut grows =
     ∙ ap (λ (b : List ℕ). more ++ (b ++ newline ∷ behind)) (sym grows)))
 
 -- what the script has, said otherwise
-pub playing_from : {S : Type 0} (view : S → SeatView) (seats : List S) (post : PostView) (routers : ℕ) (tells : Bool) (held_before held consumed : List ℕ)
-    (s t : ScriptView) → s ≡ t → Playing view seats post routers tells held_before held s consumed
-    → Playing view seats post routers tells held_before held t consumed
-playing_from view seats post routers tells held_before held consumed s t same p =
-    subst (λ (x : ScriptView). Playing view seats post routers tells held_before held x consumed) same p
+pub playing_from : {S : Type 0} (view : S → SeatView) (seats : List S) (network : NetworkView) (routers : ℕ) (tells : Bool) (held_before held consumed : List ℕ)
+    (s t : ScriptView) → s ≡ t → Playing view seats network routers tells held_before held s consumed
+    → Playing view seats network routers tells held_before held t consumed
+playing_from view seats network routers tells held_before held consumed s t same p =
+    subst (λ (x : ScriptView). Playing view seats network routers tells held_before held x consumed) same p

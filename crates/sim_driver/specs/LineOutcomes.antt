@@ -3,7 +3,7 @@ use Rattle.std.specs.Prelude.{◌≡◌, ◌⊎◌, ℕ, List, [], Bool}
 use Rattle.node_model.specs.World.{World, Event, Run}
 use Rattle.node_traits.specs.declared.outputs.ToLink.{ToLink}
 use Rattle.driver_steps.specs.Seats.{SeatView}
-use Rattle.driver_steps.specs.Worlds.{PostView, StandsFor}
+use Rattle.driver_steps.specs.Worlds.{NetworkView, StandsFor}
 use Rattle.pipe_driver.specs.declared.status.Status.{Status}
 use Rattle.pipe_driver.specs.declared.status.Status.TheVariants as statuses
 use Rattle.script_lines.specs.Lines.{Line, Says}
@@ -11,13 +11,13 @@ use Rattle.sim_driver.specs.Scripts.{ScriptView}
 use Rattle.sim_driver.specs.Plays.{IsPlayed, IsPartOfLine, NamesNothing}
 use Rattle.sim_driver.specs.Moves.{AreStill, IsCut}
 
-pub record HasPlayed {S : Type 0} (view : S → SeatView) (seats : List S) (post : PostView) (handed : List ToLink) (before : World) (line : Line)
+pub record HasPlayed {S : Type 0} (view : S → SeatView) (seats : List S) (network : NetworkView) (handed : List ToLink) (before : World) (line : Line)
     (old new : ScriptView) (closed : Bool) : Type 0 where
   pub events : List Event
   pub end : World
   pub run : Run before events end
   pub played : IsPlayed before old line events end new closed
-  pub stands : StandsFor view seats post handed end 0
+  pub stands : StandsFor view seats network handed end 0
 
 -- why a line is not played to its end
 pub data StopsLine {S : Type 0} (view : S → SeatView) (seats : List S) (before : World) (line : Line) (old : ScriptView) : Status → Type 0 where
@@ -32,11 +32,11 @@ IsOfLine status = (status ≡ statuses.BadInput) ⊎ ((status ≡ statuses.DiskF
 -- THE BYTES OF A LINE
 
 -- the bytes say a line, which was played
-pub record HasPlayedBytes {S : Type 0} (view : S → SeatView) (seats : List S) (post : PostView) (handed : List ToLink) (before : World) (bytes : List ℕ)
+pub record HasPlayedBytes {S : Type 0} (view : S → SeatView) (seats : List S) (network : NetworkView) (handed : List ToLink) (before : World) (bytes : List ℕ)
     (old new : ScriptView) (closed : Bool) : Type 0 where
   pub line : Line
   pub says : Says bytes line
-  pub played : HasPlayed view seats post handed before line old new closed
+  pub played : HasPlayed view seats network handed before line old new closed
 
 -- the bytes say no line, or one that names what is not there
 pub data IsRefused (u : World) (bytes : List ℕ) : Type 0 where

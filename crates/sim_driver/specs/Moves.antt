@@ -8,7 +8,7 @@ use Rattle.node_model.specs.Requests.{Request}
 use Rattle.node_model.specs.World.{World, Event, deliver_event, Happens, Run}
 use Rattle.node_traits.specs.declared.outputs.ToLink.{ToLink}
 use Rattle.driver_steps.specs.Seats.{SeatView, AreHeld, AreKept, LeaveKept}
-use Rattle.driver_steps.specs.Worlds.{PostView, StandsFor}
+use Rattle.driver_steps.specs.Worlds.{NetworkView, StandsFor}
 use Rattle.driver_steps.specs.Moves.{BeginWith, DeliversOrLoses}
 use Rattle.pipe_driver.specs.Progress.{AreAsked}
 use Rattle.pipe_driver.specs.Rounds.{replies_behind}
@@ -17,13 +17,13 @@ use Rattle.pipe_driver.specs.declared.status.Status.TheVariants as statuses
 use Rattle.sim_driver.specs.Plays.{SettlesBut, client_events, is_early}
 
 -- the message at a place among all that were sent was delivered, or lost where it goes to no node
-pub record HasDeliveredOne {S : Type 0} (view : S → SeatView) (seats : List S) (post : PostView) (handed : List ToLink) (before : World)
+pub record HasDeliveredOne {S : Type 0} (view : S → SeatView) (seats : List S) (network : NetworkView) (handed : List ToLink) (before : World)
     (which : ℕ) : Type 0 where
   pub message : Letter
   pub end : World
   pub got : slice_get before.sent which ≡ Some message
   pub delivers : DeliversOrLoses before which message.receiver end
-  pub stands : StandsFor view seats post handed end 0
+  pub stands : StandsFor view seats network handed end 0
 
 -- the message at a place is delivered, or is about to be
 pub record IsPartOfDelivery (u : World) (which : ℕ) (events : List Event) : Type 0 where
@@ -32,18 +32,18 @@ pub record IsPartOfDelivery (u : World) (which : ℕ) (events : List Event) : Ty
   pub first : BeginWith events (deliver_event message.receiver which ∷ [])
 
 -- the message at a place was delivered before, or now
-abbrev pub PassesOrDelivers : {S : Type 0} → (S → SeatView) → List S → PostView → List ToLink → World → (early : List ℕ) → (which : ℕ) → Type 0
-PassesOrDelivers view seats post handed before early which =
-    ((is_early early which ≡ true) × StandsFor view seats post handed before 0)
-    ⊎ ((is_early early which ≡ false) × HasDeliveredOne view seats post handed before which)
+abbrev pub PassesOrDelivers : {S : Type 0} → (S → SeatView) → List S → NetworkView → List ToLink → World → (early : List ℕ) → (which : ℕ) → Type 0
+PassesOrDelivers view seats network handed before early which =
+    ((is_early early which ≡ true) × StandsFor view seats network handed before 0)
+    ⊎ ((is_early early which ≡ false) × HasDeliveredOne view seats network handed before which)
 
 -- all that was not delivered was
-pub record HasSettledBut {S : Type 0} (view : S → SeatView) (seats : List S) (post : PostView) (handed : List ToLink) (before : World)
+pub record HasSettledBut {S : Type 0} (view : S → SeatView) (seats : List S) (network : NetworkView) (handed : List ToLink) (before : World)
     (early : List ℕ) (next : ℕ) : Type 0 where
   pub events : List Event
   pub end : World
   pub settles : SettlesBut early before next events end (length end.sent)
-  pub stands : StandsFor view seats post handed end 0
+  pub stands : StandsFor view seats network handed end 0
 
 -- nothing happened
 pub record AreStill {S : Type 0} (view : S → SeatView) (seats : List S) (w : World) : Type 0 where
@@ -72,7 +72,7 @@ HasFault None malformed = malformed ≡ false
 HasFault (Some fault) malformed = malformed ≡ true
 
 -- the whole requests in the bytes of a link came
-pub record HasAsked {S : Type 0} (view : S → SeatView) (seats : List S) (post : PostView) (handed : List ToLink) (before : World)
+pub record HasAsked {S : Type 0} (view : S → SeatView) (seats : List S) (network : NetworkView) (handed : List ToLink) (before : World)
     (link replied_before : ℕ) (bytes left : List ℕ) (replied : ℕ) (malformed : Bool) : Type 0 where
   pub requests : List Request
   pub fault : Option (FrameFault × ℕ)
@@ -81,7 +81,7 @@ pub record HasAsked {S : Type 0} (view : S → SeatView) (seats : List S) (post 
   pub run : Run before (client_events link replied_before requests) end
   pub count : replied ≡ replies_behind replied_before requests
   pub ends : HasFault fault malformed
-  pub stands : StandsFor view seats post handed end 0
+  pub stands : StandsFor view seats network handed end 0
 
 -- first requests of these bytes came
 pub record IsFirstAsked (link replied : ℕ) (bytes : List ℕ) (events : List Event) : Type 0 where

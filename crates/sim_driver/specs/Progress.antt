@@ -4,7 +4,7 @@ use Rattle.std.specs.List.{AllByRecursion}
 use Rattle.outside.specs.Streams.{Put}
 use Rattle.node_model.specs.World.{World, Event}
 use Rattle.driver_steps.specs.Seats.{SeatView, AreKept, LeaveKept}
-use Rattle.driver_steps.specs.Worlds.{PostView, StandsFor, puts_given}
+use Rattle.driver_steps.specs.Worlds.{NetworkView, StandsFor, puts_given}
 use Rattle.pipe_driver.specs.Schedules.{IsLast}
 use Rattle.pipe_driver.specs.declared.status.Status.{Status}
 use Rattle.pipe_driver.specs.declared.status.Status.TheVariants as statuses
@@ -14,14 +14,14 @@ use Rattle.sim_driver.specs.LineOutcomes.{IsRefused}
 use Rattle.sim_driver.specs.Simulations.{newline, bytes_of_lines, Plays, AllPlayed, CameTo, LastPutShort}
 
 -- These bytes were played, in whole lines: nodes, logs and messages are those of the world behind them, and what they print was put.
-pub record Playing {S : Type 0} (view : S → SeatView) (seats : List S) (post : PostView) (routers : ℕ) (tells : Bool) (held_before held : List ℕ)
+pub record Playing {S : Type 0} (view : S → SeatView) (seats : List S) (network : NetworkView) (routers : ℕ) (tells : Bool) (held_before held : List ℕ)
     (script : ScriptView) (consumed : List ℕ) : Type 0 where
   pub lines : List (List ℕ)
   pub events : List Event
   pub world : World
   pub out : List ℕ
   pub plays : Plays routers lines events world script out
-  pub stands : StandsFor view seats post (puts_given world.answered) world 0
+  pub stands : StandsFor view seats network (puts_given world.answered) world 0
   pub put : Put tells held_before out held
   pub all : consumed ≡ bytes_of_lines lines
   pub each : AllByRecursion (HasNone newline) lines
@@ -51,11 +51,11 @@ pub record Stopped {S : Type 0} (view : S → SeatView) (seats : List S) (router
   pub crashes : LeaveKept view seats last
 
 -- The lines that end in these bytes were played; behind them stands the beginning of one.
-pub record HasPlayedLines {S : Type 0} (view : S → SeatView) (seats : List S) (post : PostView) (routers : ℕ) (tells : Bool) (held_before held : List ℕ)
+pub record HasPlayedLines {S : Type 0} (view : S → SeatView) (seats : List S) (network : NetworkView) (routers : ℕ) (tells : Bool) (held_before held : List ℕ)
     (script : ScriptView) (bytes begun : List ℕ) : Type 0 where
   pub consumed : List ℕ
   pub whole : bytes ≡ consumed ++ begun
-  pub playing : Playing view seats post routers tells held_before held script consumed
+  pub playing : Playing view seats network routers tells held_before held script consumed
 
 -- Some lines that end in these bytes were played, and with what is left the script stops.
 pub record HasStoppedIn {S : Type 0} (view : S → SeatView) (seats : List S) (routers : ℕ) (tells : Bool) (held_before held bytes : List ℕ) (status : Status)

@@ -5,14 +5,14 @@ ghost use Rattle.node_model.specs.World.{IsRouter, World};
 ghost use Rattle.node_traits.specs.declared.outputs.ToLink.{ToLink};
 ghost use Rattle.driver_steps.specs.Crashes.{Since};
 ghost use Rattle.driver_steps.specs.Seats.{AreOpen, faults_of, places_of, seat_since};
-ghost use Rattle.driver_steps.specs.Worlds.{StandsFor, post_view};
+ghost use Rattle.driver_steps.specs.Worlds.{StandsFor, network_view};
 ghost use Rattle.pipe_driver.specs.Counts.{HaveRisenWhere};
 ghost use Rattle.pipe_driver.specs.Progress.{AreAskedAsRead};
 ghost use Rattle.pipe_driver.specs.Rounds.{first_router};
 ghost use Rattle.pipe_driver.specs.declared.status.Status.TheVariants as statuses;
 ghost use Rattle.sim_driver.specs.Moves.{HasAsked, IsCut, IsFirstAsked};
 
-use driver_steps::{Post, Seat, ask};
+use driver_steps::{Network, Seat, ask};
 use node_traits::Node;
 use opmsg_frames::{FrameFault, Framer, Request};
 use outside::log::Log;
@@ -39,7 +39,7 @@ pub struct Asked {
 pub fn ask_all<N: Node<Request = Request>, L: Log>(
     framer: &mut Framer,
     seats: &mut Vec<Seat<N, L>>,
-    post: &mut Post<N::Mail>,
+    network: &mut Network<N::Mail>,
     link: u32,
     replied: u64,
 ) -> Result<Asked, Status>
@@ -47,14 +47,14 @@ pub fn ask_all<N: Node<Request = Request>, L: Log>(
     requires open { AreOpen L.is_open seats.old.items }
     requires fault { framer.old.fault ≡ None }
     ensures asked { AreAskedAsRead N.asks → (since : Since L) (w : World) (handed : List ToLink) → IsRouter w.nodes first_router →
-        StandsFor (seat_since N.state L.tells L.records L.holds L.finds L.moment L.left_since since) seats.old.items (post_view
-        (λ m. N.Mail.letter m) post.old) handed w 0 →
-        IfOk result (λ asked. HasAsked (seat_since N.state L.tells L.records L.holds L.finds L.moment L.left_since since) seats.new.items (post_view
-        (λ m. N.Mail.letter m) post.new) handed w
+        StandsFor (seat_since N.state L.tells L.records L.holds L.finds L.moment L.left_since since) seats.old.items (network_view
+        (λ m. N.Mail.letter m) network.old) handed w 0 →
+        IfOk result (λ asked. HasAsked (seat_since N.state L.tells L.records L.holds L.finds L.moment L.left_since since) seats.new.items (network_view
+        (λ m. N.Mail.letter m) network.new) handed w
         link replied framer.old.bytes framer.new.bytes asked.replied asked.malformed) }
     ensures cut { AreAskedAsRead N.asks → (since : Since L) (w : World) (handed : List ToLink) → IsRouter w.nodes first_router →
-        StandsFor (seat_since N.state L.tells L.records L.holds L.finds L.moment L.left_since since) seats.old.items (post_view
-        (λ m. N.Mail.letter m) post.old) handed w 0 →
+        StandsFor (seat_since N.state L.tells L.records L.holds L.finds L.moment L.left_since since) seats.old.items (network_view
+        (λ m. N.Mail.letter m) network.old) handed w 0 →
         IfErr result (λ status. IsCut (seat_since N.state L.tells L.records L.holds L.finds L.moment L.left_since since) seats.new.items w
         (IsFirstAsked link replied framer.old.bytes) status) }
     ensures fault { IfOk result (λ asked. asked.malformed ≡ false → framer.new.fault ≡ None) }
@@ -85,7 +85,7 @@ pub fn ask_all<N: Node<Request = Request>, L: Log>(
         }
         let more = request.more;
         let number = next_number(replied);
-        match ask(seats, post, FIRST_ROUTER, link, number, request) {
+        match ask(seats, network, FIRST_ROUTER, link, number, request) {
             Ok(()) => replied = replied_after(more, replied),
             Err(e) => return Err(Status::of(e)),
         }

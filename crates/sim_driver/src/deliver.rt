@@ -7,7 +7,7 @@ ghost use Rattle.node_model.specs.World.{World};
 ghost use Rattle.node_traits.specs.declared.outputs.ToLink.{ToLink};
 ghost use Rattle.driver_steps.specs.Crashes.{Since};
 ghost use Rattle.driver_steps.specs.Seats.{AreOpen, faults_of, left_of, places_of, seat_since};
-ghost use Rattle.driver_steps.specs.Worlds.{StandsFor, post_view};
+ghost use Rattle.driver_steps.specs.Worlds.{StandsFor, network_view};
 ghost use Rattle.pipe_driver.specs.Counts.{HaveRisenWhere};
 ghost use Rattle.pipe_driver.specs.declared.status.Status.TheVariants as statuses;
 ghost use Rattle.sim_driver.specs.Moves.{HasDeliveredOne, HasSettledBut, IsCut, IsPartOfDelivery, IsReceiverAt, PassesOrDelivers};
@@ -15,7 +15,7 @@ ghost use Rattle.sim_driver.specs.Plays.{IsPartOfSettling};
 ghost use Rattle.sim_driver.specs.Scripts.{place_from};
 
 use bson_values::Memory;
-use driver_steps::{Post, Seat, deliver};
+use driver_steps::{Network, Seat, deliver};
 use node_traits::{Mail, Node};
 use outside::log::Log;
 use pipe_driver::Status;
@@ -76,36 +76,36 @@ pub fn deliver_at<R: Threads + Sync, N: Node, L: Log>(
     rt: &R,
     alloc: Global,
     seats: &mut Vec<Seat<N, L>>,
-    post: &mut Post<N::Mail>,
+    network: &mut Network<N::Mail>,
     at: usize,
 ) -> Result<(), Status>
-    requires at { at < deque_len post.old.waiting }
+    requires at { at < deque_len network.old.waiting }
     requires open { AreOpen L.is_open seats.old.items }
     ensures delivered { (since : Since L) (w : World) (handed : List ToLink) →
-        StandsFor (seat_since N.state L.tells L.records L.holds L.finds L.moment L.left_since since) seats.old.items (post_view
-        (λ m. N.Mail.letter m) post.old) handed w 0 →
+        StandsFor (seat_since N.state L.tells L.records L.holds L.finds L.moment L.left_since since) seats.old.items (network_view
+        (λ m. N.Mail.letter m) network.old) handed w 0 →
         OnOk result (HasDeliveredOne (seat_since N.state L.tells L.records L.holds L.finds L.moment L.left_since since) seats.new.items
-        (post_view (λ m. N.Mail.letter m) post.new) handed w at) }
+        (network_view (λ m. N.Mail.letter m) network.new) handed w at) }
     ensures cut { (since : Since L) (w : World) (handed : List ToLink) →
-        StandsFor (seat_since N.state L.tells L.records L.holds L.finds L.moment L.left_since since) seats.old.items (post_view
-        (λ m. N.Mail.letter m) post.old) handed w 0 →
+        StandsFor (seat_since N.state L.tells L.records L.holds L.finds L.moment L.left_since since) seats.old.items (network_view
+        (λ m. N.Mail.letter m) network.old) handed w 0 →
         IfErr result (λ status. IsCut (seat_since N.state L.tells L.records L.holds L.finds L.moment L.left_since since) seats.new.items w
         (IsPartOfDelivery w at) status) }
     ensures len { vec_len seats.new ≡ vec_len seats.old }
     ensures open { OnOk result (AreOpen L.is_open seats.new.items) }
     ensures falls { OnOk result ((left_of N.steps seats.new.items + 1 ≡ left_of N.steps seats.old.items) ⊎
-        ((left_of N.steps seats.new.items ≡ left_of N.steps seats.old.items) × (post.new.waiting.items ≡ post.old.waiting.items))) }
+        ((left_of N.steps seats.new.items ≡ left_of N.steps seats.old.items) × (network.new.waiting.items ≡ network.old.waiting.items))) }
 
     // Of the logs' disks.
     ensures other { IfErr result (λ status. (status ≡ statuses.DiskFailed) ⊎ (status ≡ statuses.OutOfMemory)) }
     ensures disk_fault { HaveRisenWhere (result ≡ Err statuses.DiskFailed) (faults_of L.fault_count seats.old.items) (faults_of L.fault_count seats.new.items) }
     ensures places { places_of L.place seats.new.items ≡ places_of L.place seats.old.items }
 {
-    let message = match copy_at(alloc, &post.waiting, at) {
+    let message = match copy_at(alloc, &network.waiting, at) {
         Ok(message) => message,
         Err(_) => return Err(Status::OutOfMemory),
     };
-    match deliver(rt, alloc, seats, post, message) {
+    match deliver(rt, alloc, seats, network, message) {
         Ok(()) => Ok(()),
         Err(e) => Err(Status::of(e)),
     }
@@ -119,26 +119,26 @@ fn deliver_unless<R: Threads + Sync, N: Node, L: Log>(
     rt: &R,
     alloc: Global,
     seats: &mut Vec<Seat<N, L>>,
-    post: &mut Post<N::Mail>,
+    network: &mut Network<N::Mail>,
     at: usize,
     early: &[usize],
 ) -> Result<(), Status>
-    requires at { at < deque_len post.old.waiting }
+    requires at { at < deque_len network.old.waiting }
     requires open { AreOpen L.is_open seats.old.items }
     ensures delivered { (since : Since L) (w : World) (handed : List ToLink) →
-        StandsFor (seat_since N.state L.tells L.records L.holds L.finds L.moment L.left_since since) seats.old.items (post_view
-        (λ m. N.Mail.letter m) post.old) handed w 0 →
+        StandsFor (seat_since N.state L.tells L.records L.holds L.finds L.moment L.left_since since) seats.old.items (network_view
+        (λ m. N.Mail.letter m) network.old) handed w 0 →
         OnOk result (PassesOrDelivers (seat_since N.state L.tells L.records L.holds L.finds L.moment L.left_since since) seats.new.items
-        (post_view (λ m. N.Mail.letter m) post.new) handed w early.now at) }
+        (network_view (λ m. N.Mail.letter m) network.new) handed w early.now at) }
     ensures cut { (since : Since L) (w : World) (handed : List ToLink) →
-        StandsFor (seat_since N.state L.tells L.records L.holds L.finds L.moment L.left_since since) seats.old.items (post_view
-        (λ m. N.Mail.letter m) post.old) handed w 0 →
+        StandsFor (seat_since N.state L.tells L.records L.holds L.finds L.moment L.left_since since) seats.old.items (network_view
+        (λ m. N.Mail.letter m) network.old) handed w 0 →
         IfErr result (λ status. IsCut (seat_since N.state L.tells L.records L.holds L.finds L.moment L.left_since since) seats.new.items w
         (IsPartOfDelivery w at) status) }
     ensures len { vec_len seats.new ≡ vec_len seats.old }
     ensures open { OnOk result (AreOpen L.is_open seats.new.items) }
     ensures falls { OnOk result ((left_of N.steps seats.new.items + 1 ≡ left_of N.steps seats.old.items) ⊎
-        ((left_of N.steps seats.new.items ≡ left_of N.steps seats.old.items) × (post.new.waiting.items ≡ post.old.waiting.items))) }
+        ((left_of N.steps seats.new.items ≡ left_of N.steps seats.old.items) × (network.new.waiting.items ≡ network.old.waiting.items))) }
 
     // Of the logs' disks.
     ensures other { IfErr result (λ status. (status ≡ statuses.DiskFailed) ⊎ (status ≡ statuses.OutOfMemory)) }
@@ -148,7 +148,7 @@ fn deliver_unless<R: Threads + Sync, N: Node, L: Log>(
     if early.contains(&at) {
         return Ok(());
     }
-    match deliver_at(rt, alloc, seats, post, at) {
+    match deliver_at(rt, alloc, seats, network, at) {
         Ok(()) => Ok(()),
         Err(status) => Err(status),
     }
@@ -163,19 +163,19 @@ pub fn settle_but<R: Threads + Sync, N: Node, L: Log>(
     rt: &R,
     alloc: Global,
     seats: &mut Vec<Seat<N, L>>,
-    post: &mut Post<N::Mail>,
+    network: &mut Network<N::Mail>,
     next: usize,
     early: &[usize],
 ) -> Result<(), Status>
     requires open { AreOpen L.is_open seats.old.items }
     ensures settled { (since : Since L) (w : World) (handed : List ToLink) → next ≤ length w.sent →
-        StandsFor (seat_since N.state L.tells L.records L.holds L.finds L.moment L.left_since since) seats.old.items (post_view
-        (λ m. N.Mail.letter m) post.old) handed w 0 →
+        StandsFor (seat_since N.state L.tells L.records L.holds L.finds L.moment L.left_since since) seats.old.items (network_view
+        (λ m. N.Mail.letter m) network.old) handed w 0 →
         OnOk result (HasSettledBut (seat_since N.state L.tells L.records L.holds L.finds L.moment L.left_since since) seats.new.items
-        (post_view (λ m. N.Mail.letter m) post.new) handed w early.now next) }
+        (network_view (λ m. N.Mail.letter m) network.new) handed w early.now next) }
     ensures cut { (since : Since L) (w : World) (handed : List ToLink) → next ≤ length w.sent →
-        StandsFor (seat_since N.state L.tells L.records L.holds L.finds L.moment L.left_since since) seats.old.items (post_view
-        (λ m. N.Mail.letter m) post.old) handed w 0 →
+        StandsFor (seat_since N.state L.tells L.records L.holds L.finds L.moment L.left_since since) seats.old.items (network_view
+        (λ m. N.Mail.letter m) network.old) handed w 0 →
         IfErr result (λ status. IsCut (seat_since N.state L.tells L.records L.holds L.finds L.moment L.left_since since) seats.new.items w
         (IsPartOfSettling early.now w next) status) }
     ensures len { vec_len seats.new ≡ vec_len seats.old }
@@ -187,8 +187,8 @@ pub fn settle_but<R: Threads + Sync, N: Node, L: Log>(
     ensures places { places_of L.place seats.new.items ≡ places_of L.place seats.old.items }
 {
     let mut at = next;
-    'messages: while at < post.waiting.len() {
-        match deliver_unless(rt, alloc, seats, post, at, early) {
+    'messages: while at < network.waiting.len() {
+        match deliver_unless(rt, alloc, seats, network, at, early) {
             Ok(()) => at += 1,
             Err(status) => return Err(status),
         }

@@ -3,7 +3,7 @@
 ghost use Rattle.std.specs.Prelude.{◌≡◌, ◌≢◌, ℕ, ◌<◌, List, [], ◌∷◌, ◌++◌, None, vec_len, IfErr, OnOk, Err};
 ghost use Rattle.driver_steps.specs.Crashes.{Since};
 ghost use Rattle.driver_steps.specs.Seats.{AreOpen, faults_of, places_of, seat_since};
-ghost use Rattle.driver_steps.specs.Worlds.{post_view};
+ghost use Rattle.driver_steps.specs.Worlds.{network_view};
 ghost use Rattle.pipe_driver.specs.Counts.{HaveRisenWhere, RoseWhere};
 ghost use Rattle.pipe_driver.specs.Progress.{AreAskedAsRead};
 ghost use Rattle.pipe_driver.specs.Rounds.{first_router};
@@ -16,7 +16,7 @@ ghost use Rattle.sim_driver.specs.Simulations.{newline};
 use crate::play::play_line;
 use crate::report::text_of;
 use crate::script::Script;
-use driver_steps::{Post, Seat};
+use driver_steps::{Network, Seat};
 use node_traits::Node;
 use opmsg_frames::Request;
 use outside::log::Log;
@@ -39,7 +39,7 @@ pub fn answer_line<R: Threads + Sync, N: Node<Request = Request>, L: Log, K: Sin
     alloc: Global,
     line: &[u8],
     seats: &mut Vec<Seat<N, L>>,
-    post: &mut Post<N::Mail>,
+    network: &mut Network<N::Mail>,
     script: &mut Script,
     out: &mut K,
 ) -> Result<(), Status>
@@ -48,13 +48,13 @@ pub fn answer_line<R: Threads + Sync, N: Node<Request = Request>, L: Log, K: Sin
     requires fault { script.old.framer.fault ≡ None }
     requires line { HasNone newline line.now }
     ensures answered { AreAskedAsRead N.asks → (since : Since L) (routers : ℕ) → 0 < routers → (held_before consumed : List ℕ) →
-        Playing (seat_since N.state L.tells L.records L.holds L.finds L.moment L.left_since since) seats.old.items (post_view (λ m. N.Mail.letter m) post.old)
+        Playing (seat_since N.state L.tells L.records L.holds L.finds L.moment L.left_since since) seats.old.items (network_view (λ m. N.Mail.letter m) network.old)
         routers K.tells held_before (K.held out.old) (script_view script.old) consumed →
-        OnOk result (Playing (seat_since N.state L.tells L.records L.holds L.finds L.moment L.left_since since) seats.new.items (post_view
-        (λ m. N.Mail.letter m) post.new)
+        OnOk result (Playing (seat_since N.state L.tells L.records L.holds L.finds L.moment L.left_since since) seats.new.items (network_view
+        (λ m. N.Mail.letter m) network.new)
         routers K.tells held_before (K.held out.new) (script_view script.new) (consumed ++ (line.now ++ newline ∷ []))) }
     ensures stopped { AreAskedAsRead N.asks → (since : Since L) (routers : ℕ) → 0 < routers → (held_before consumed others : List ℕ) →
-        Playing (seat_since N.state L.tells L.records L.holds L.finds L.moment L.left_since since) seats.old.items (post_view (λ m. N.Mail.letter m) post.old)
+        Playing (seat_since N.state L.tells L.records L.holds L.finds L.moment L.left_since since) seats.old.items (network_view (λ m. N.Mail.letter m) network.old)
         routers K.tells held_before (K.held out.old) (script_view script.old) consumed →
         IfErr result (Stopped (seat_since N.state L.tells L.records L.holds L.finds L.moment L.left_since since) seats.new.items routers K.tells held_before
         (K.held out.new) consumed
@@ -71,11 +71,11 @@ pub fn answer_line<R: Threads + Sync, N: Node<Request = Request>, L: Log, K: Sin
     ensures places { places_of L.place seats.new.items ≡ places_of L.place seats.old.items }
 {
     let link = script.link;
-    let closed = match play_line(rt, alloc, line, seats, post, script) {
+    let closed = match play_line(rt, alloc, line, seats, network, script) {
         Ok(closed) => closed,
         Err(status) => return Err(status),
     };
-    let replies = post.hand_on(alloc);
+    let replies = network.hand_on(alloc);
     let text = match text_of(alloc, link, &replies, closed) {
         Ok(text) => text,
         Err(_) => return Err(Status::OutOfMemory),
@@ -96,7 +96,7 @@ pub fn play_piece<R: Threads + Sync, N: Node<Request = Request>, L: Log, K: Sink
     piece: &[u8],
     begun: &mut Vec<u8>,
     seats: &mut Vec<Seat<N, L>>,
-    post: &mut Post<N::Mail>,
+    network: &mut Network<N::Mail>,
     script: &mut Script,
     out: &mut K,
 ) -> Result<(), Status>
@@ -105,13 +105,13 @@ pub fn play_piece<R: Threads + Sync, N: Node<Request = Request>, L: Log, K: Sink
     requires fault { script.old.framer.fault ≡ None }
     requires begun { HasNone newline begun.old.items }
     ensures played { AreAskedAsRead N.asks → (since : Since L) (routers : ℕ) → 0 < routers → (held_before consumed : List ℕ) →
-        Playing (seat_since N.state L.tells L.records L.holds L.finds L.moment L.left_since since) seats.old.items (post_view (λ m. N.Mail.letter m) post.old)
+        Playing (seat_since N.state L.tells L.records L.holds L.finds L.moment L.left_since since) seats.old.items (network_view (λ m. N.Mail.letter m) network.old)
         routers K.tells held_before (K.held out.old) (script_view script.old) consumed →
-        OnOk result (HasPlayedLines (seat_since N.state L.tells L.records L.holds L.finds L.moment L.left_since since) seats.new.items (post_view
-        (λ m. N.Mail.letter m) post.new)
+        OnOk result (HasPlayedLines (seat_since N.state L.tells L.records L.holds L.finds L.moment L.left_since since) seats.new.items (network_view
+        (λ m. N.Mail.letter m) network.new)
         routers K.tells held_before (K.held out.new) (script_view script.new) (consumed ++ (begun.old.items ++ piece.now)) begun.new.items) }
     ensures stopped { AreAskedAsRead N.asks → (since : Since L) (routers : ℕ) → 0 < routers → (held_before consumed : List ℕ) →
-        Playing (seat_since N.state L.tells L.records L.holds L.finds L.moment L.left_since since) seats.old.items (post_view (λ m. N.Mail.letter m) post.old)
+        Playing (seat_since N.state L.tells L.records L.holds L.finds L.moment L.left_since since) seats.old.items (network_view (λ m. N.Mail.letter m) network.old)
         routers K.tells held_before (K.held out.old) (script_view script.old) consumed →
         IfErr result (HasStoppedIn (seat_since N.state L.tells L.records L.holds L.finds L.moment L.left_since since) seats.new.items routers K.tells
         held_before (K.held out.new)
@@ -134,7 +134,7 @@ pub fn play_piece<R: Threads + Sync, N: Node<Request = Request>, L: Log, K: Sink
             Ok(()) => {}
             Err(_) => return Err(Status::OutOfMemory),
         }
-        match answer_line(rt, alloc, begun.as_slice(), seats, post, script, out) {
+        match answer_line(rt, alloc, begun.as_slice(), seats, network, script, out) {
             Ok(()) => {}
             Err(status) => return Err(status),
         }

@@ -5,7 +5,7 @@ ghost use Rattle.node_model.specs.World.{IsRouter, World};
 ghost use Rattle.node_traits.specs.declared.outputs.ToLink.{ToLink};
 ghost use Rattle.driver_steps.specs.Crashes.{Since};
 ghost use Rattle.driver_steps.specs.Seats.{AreOpen, faults_of, places_of, seat_since};
-ghost use Rattle.driver_steps.specs.Worlds.{StandsFor, post_view};
+ghost use Rattle.driver_steps.specs.Worlds.{StandsFor, network_view};
 ghost use Rattle.pipe_driver.specs.Counts.{HaveRisenWhere};
 ghost use Rattle.pipe_driver.specs.Progress.{AreAskedAsRead};
 ghost use Rattle.pipe_driver.specs.Rounds.{first_router};
@@ -18,7 +18,7 @@ ghost use Rattle.sim_driver.specs.Scripts.{script_view};
 use crate::client::ask_all;
 use crate::deliver::{deliver_at, find, settle_but};
 use crate::script::Script;
-use driver_steps::{Post, Seat};
+use driver_steps::{Network, Seat};
 use node_traits::Node;
 use opmsg_frames::{Framer, Request};
 use outside::log::Log;
@@ -39,21 +39,21 @@ pub fn play_client<N: Node<Request = Request>, L: Log>(
     router: u64,
     bytes: &[u8],
     seats: &mut Vec<Seat<N, L>>,
-    post: &mut Post<N::Mail>,
+    network: &mut Network<N::Mail>,
     script: &mut Script,
 ) -> Result<bool, Status>
     requires at { first_router < vec_len seats.old }
     requires open { AreOpen L.is_open seats.old.items }
     requires fault { script.old.framer.fault ≡ None }
     ensures played { AreAskedAsRead N.asks → (since : Since L) (w : World) (handed : List ToLink) → IsRouter w.nodes first_router →
-        StandsFor (seat_since N.state L.tells L.records L.holds L.finds L.moment L.left_since since) seats.old.items (post_view
-        (λ m. N.Mail.letter m) post.old) handed w 0 →
-        IfOk result (λ closed. HasPlayed (seat_since N.state L.tells L.records L.holds L.finds L.moment L.left_since since) seats.new.items (post_view
-        (λ m. N.Mail.letter m) post.new) handed w
+        StandsFor (seat_since N.state L.tells L.records L.holds L.finds L.moment L.left_since since) seats.old.items (network_view
+        (λ m. N.Mail.letter m) network.old) handed w 0 →
+        IfOk result (λ closed. HasPlayed (seat_since N.state L.tells L.records L.holds L.finds L.moment L.left_since since) seats.new.items (network_view
+        (λ m. N.Mail.letter m) network.new) handed w
         (client_line router bytes.now) (script_view script.old) (script_view script.new) closed) }
     ensures stops { AreAskedAsRead N.asks → (since : Since L) (w : World) (handed : List ToLink) → IsRouter w.nodes first_router →
-        StandsFor (seat_since N.state L.tells L.records L.holds L.finds L.moment L.left_since since) seats.old.items (post_view
-        (λ m. N.Mail.letter m) post.old) handed w 0 →
+        StandsFor (seat_since N.state L.tells L.records L.holds L.finds L.moment L.left_since since) seats.old.items (network_view
+        (λ m. N.Mail.letter m) network.old) handed w 0 →
         IfErr result (StopsLine (seat_since N.state L.tells L.records L.holds L.finds L.moment L.left_since since) seats.new.items w
         (client_line router bytes.now) (script_view script.old)) }
     ensures fault { OnOk result (script.new.framer.fault ≡ None) }
@@ -73,7 +73,13 @@ pub fn play_client<N: Node<Request = Request>, L: Log>(
         Ok(()) => {}
         Err(_) => return Err(Status::OutOfMemory),
     }
-    let asked = match ask_all(&mut script.framer, seats, post, script.link, script.replied) {
+    let asked = match ask_all(
+        &mut script.framer,
+        seats,
+        network,
+        script.link,
+        script.replied,
+    ) {
         Ok(asked) => asked,
         Err(status) => return Err(status),
     };
@@ -102,19 +108,19 @@ pub fn play_deliver<R: Threads + Sync, N: Node, L: Log>(
     node: u64,
     k: u64,
     seats: &mut Vec<Seat<N, L>>,
-    post: &mut Post<N::Mail>,
+    network: &mut Network<N::Mail>,
     script: &mut Script,
 ) -> Result<(), Status>
     requires open { AreOpen L.is_open seats.old.items }
     ensures played { (since : Since L) (w : World) (handed : List ToLink) →
-        StandsFor (seat_since N.state L.tells L.records L.holds L.finds L.moment L.left_since since) seats.old.items (post_view
-        (λ m. N.Mail.letter m) post.old) handed w 0 →
-        OnOk result (HasPlayed (seat_since N.state L.tells L.records L.holds L.finds L.moment L.left_since since) seats.new.items (post_view
-        (λ m. N.Mail.letter m) post.new) handed w
+        StandsFor (seat_since N.state L.tells L.records L.holds L.finds L.moment L.left_since since) seats.old.items (network_view
+        (λ m. N.Mail.letter m) network.old) handed w 0 →
+        OnOk result (HasPlayed (seat_since N.state L.tells L.records L.holds L.finds L.moment L.left_since since) seats.new.items (network_view
+        (λ m. N.Mail.letter m) network.new) handed w
         (deliver_line node k) (script_view script.old) (script_view script.new) false) }
     ensures stops { (since : Since L) (w : World) (handed : List ToLink) →
-        StandsFor (seat_since N.state L.tells L.records L.holds L.finds L.moment L.left_since since) seats.old.items (post_view
-        (λ m. N.Mail.letter m) post.old) handed w 0 →
+        StandsFor (seat_since N.state L.tells L.records L.holds L.finds L.moment L.left_since since) seats.old.items (network_view
+        (λ m. N.Mail.letter m) network.old) handed w 0 →
         IfErr result (StopsLine (seat_since N.state L.tells L.records L.holds L.finds L.moment L.left_since since) seats.new.items w (deliver_line node k)
         (script_view script.old)) }
     ensures framer { script.new.framer ≡ script.old.framer }
@@ -130,11 +136,11 @@ pub fn play_deliver<R: Threads + Sync, N: Node, L: Log>(
     if node >= seats.len() as u64 {
         return Err(Status::BadInput);
     }
-    let at = match find(&post.waiting, node, k) {
+    let at = match find(&network.waiting, node, k) {
         Some(at) => at,
         None => return Err(Status::BadInput),
     };
-    match deliver_at(rt, alloc, seats, post, at) {
+    match deliver_at(rt, alloc, seats, network, at) {
         Ok(()) => {}
         Err(status) => return Err(status),
     }
@@ -153,19 +159,19 @@ pub fn play_settle<R: Threads + Sync, N: Node, L: Log>(
     rt: &R,
     alloc: Global,
     seats: &mut Vec<Seat<N, L>>,
-    post: &mut Post<N::Mail>,
+    network: &mut Network<N::Mail>,
     script: &mut Script,
 ) -> Result<(), Status>
     requires open { AreOpen L.is_open seats.old.items }
     ensures played { (since : Since L) (w : World) (handed : List ToLink) → script.old.next ≤ length w.sent →
-        StandsFor (seat_since N.state L.tells L.records L.holds L.finds L.moment L.left_since since) seats.old.items (post_view
-        (λ m. N.Mail.letter m) post.old) handed w 0 →
-        OnOk result (HasPlayed (seat_since N.state L.tells L.records L.holds L.finds L.moment L.left_since since) seats.new.items (post_view
-        (λ m. N.Mail.letter m) post.new) handed w
+        StandsFor (seat_since N.state L.tells L.records L.holds L.finds L.moment L.left_since since) seats.old.items (network_view
+        (λ m. N.Mail.letter m) network.old) handed w 0 →
+        OnOk result (HasPlayed (seat_since N.state L.tells L.records L.holds L.finds L.moment L.left_since since) seats.new.items (network_view
+        (λ m. N.Mail.letter m) network.new) handed w
         settle_line (script_view script.old) (script_view script.new) false) }
     ensures stops { (since : Since L) (w : World) (handed : List ToLink) → script.old.next ≤ length w.sent →
-        StandsFor (seat_since N.state L.tells L.records L.holds L.finds L.moment L.left_since since) seats.old.items (post_view
-        (λ m. N.Mail.letter m) post.old) handed w 0 →
+        StandsFor (seat_since N.state L.tells L.records L.holds L.finds L.moment L.left_since since) seats.old.items (network_view
+        (λ m. N.Mail.letter m) network.old) handed w 0 →
         IfErr result (StopsLine (seat_since N.state L.tells L.records L.holds L.finds L.moment L.left_since since) seats.new.items w settle_line
         (script_view script.old)) }
     ensures framer { script.new.framer ≡ script.old.framer }
@@ -177,11 +183,11 @@ pub fn play_settle<R: Threads + Sync, N: Node, L: Log>(
     ensures disk_fault { HaveRisenWhere (result ≡ Err statuses.DiskFailed) (faults_of L.fault_count seats.old.items) (faults_of L.fault_count seats.new.items) }
     ensures places { places_of L.place seats.new.items ≡ places_of L.place seats.old.items }
 {
-    match settle_but(rt, alloc, seats, post, script.next, &script.early) {
+    match settle_but(rt, alloc, seats, network, script.next, &script.early) {
         Ok(()) => {}
         Err(status) => return Err(status),
     }
-    script.next = post.waiting.len();
+    script.next = network.waiting.len();
     script.early.clear();
     Ok(())
 }
@@ -195,7 +201,7 @@ pub fn play_said<R: Threads + Sync, N: Node<Request = Request>, L: Log>(
     alloc: Global,
     line: Line,
     seats: &mut Vec<Seat<N, L>>,
-    post: &mut Post<N::Mail>,
+    network: &mut Network<N::Mail>,
     script: &mut Script,
 ) -> Result<bool, Status>
     requires at { first_router < vec_len seats.old }
@@ -203,15 +209,15 @@ pub fn play_said<R: Threads + Sync, N: Node<Request = Request>, L: Log>(
     requires fault { script.old.framer.fault ≡ None }
     ensures played { AreAskedAsRead N.asks → (since : Since L) (w : World) (handed : List ToLink) → IsRouter w.nodes first_router
         → script.old.next ≤ length w.sent →
-        StandsFor (seat_since N.state L.tells L.records L.holds L.finds L.moment L.left_since since) seats.old.items (post_view
-        (λ m. N.Mail.letter m) post.old) handed w 0 →
-        IfOk result (λ closed. HasPlayed (seat_since N.state L.tells L.records L.holds L.finds L.moment L.left_since since) seats.new.items (post_view
-        (λ m. N.Mail.letter m) post.new) handed w
+        StandsFor (seat_since N.state L.tells L.records L.holds L.finds L.moment L.left_since since) seats.old.items (network_view
+        (λ m. N.Mail.letter m) network.old) handed w 0 →
+        IfOk result (λ closed. HasPlayed (seat_since N.state L.tells L.records L.holds L.finds L.moment L.left_since since) seats.new.items (network_view
+        (λ m. N.Mail.letter m) network.new) handed w
         (meaning_of line) (script_view script.old) (script_view script.new) closed) }
     ensures stops { AreAskedAsRead N.asks → (since : Since L) (w : World) (handed : List ToLink) → IsRouter w.nodes first_router
         → script.old.next ≤ length w.sent →
-        StandsFor (seat_since N.state L.tells L.records L.holds L.finds L.moment L.left_since since) seats.old.items (post_view
-        (λ m. N.Mail.letter m) post.old) handed w 0 →
+        StandsFor (seat_since N.state L.tells L.records L.holds L.finds L.moment L.left_since since) seats.old.items (network_view
+        (λ m. N.Mail.letter m) network.old) handed w 0 →
         IfErr result (StopsLine (seat_since N.state L.tells L.records L.holds L.finds L.moment L.left_since since) seats.new.items w (meaning_of line)
         (script_view script.old)) }
     ensures fault { OnOk result (script.new.framer.fault ≡ None) }
@@ -226,16 +232,18 @@ pub fn play_said<R: Threads + Sync, N: Node<Request = Request>, L: Log>(
 {
     match line {
         Line::Client { router, bytes } => {
-            match play_client(alloc, router, &bytes, seats, post, script) {
+            match play_client(alloc, router, &bytes, seats, network, script) {
                 Ok(closed) => Ok(closed),
                 Err(status) => Err(status),
             }
         }
-        Line::Deliver { node, k } => match play_deliver(rt, alloc, node, k, seats, post, script) {
+        Line::Deliver { node, k } => match play_deliver(
+            rt, alloc, node, k, seats, network, script,
+        ) {
             Ok(()) => Ok(false),
             Err(status) => Err(status),
         },
-        Line::Settle => match play_settle(rt, alloc, seats, post, script) {
+        Line::Settle => match play_settle(rt, alloc, seats, network, script) {
             Ok(()) => Ok(false),
             Err(status) => Err(status),
         },
@@ -253,7 +261,7 @@ pub fn play_line<R: Threads + Sync, N: Node<Request = Request>, L: Log>(
     alloc: Global,
     line: &[u8],
     seats: &mut Vec<Seat<N, L>>,
-    post: &mut Post<N::Mail>,
+    network: &mut Network<N::Mail>,
     script: &mut Script,
 ) -> Result<bool, Status>
     requires at { first_router < vec_len seats.old }
@@ -261,15 +269,15 @@ pub fn play_line<R: Threads + Sync, N: Node<Request = Request>, L: Log>(
     requires fault { script.old.framer.fault ≡ None }
     ensures played { AreAskedAsRead N.asks → (since : Since L) (w : World) (handed : List ToLink) → IsRouter w.nodes first_router
         → script.old.next ≤ length w.sent →
-        StandsFor (seat_since N.state L.tells L.records L.holds L.finds L.moment L.left_since since) seats.old.items (post_view
-        (λ m. N.Mail.letter m) post.old) handed w 0 →
-        IfOk result (λ closed. HasPlayedBytes (seat_since N.state L.tells L.records L.holds L.finds L.moment L.left_since since) seats.new.items (post_view
-        (λ m. N.Mail.letter m) post.new)
+        StandsFor (seat_since N.state L.tells L.records L.holds L.finds L.moment L.left_since since) seats.old.items (network_view
+        (λ m. N.Mail.letter m) network.old) handed w 0 →
+        IfOk result (λ closed. HasPlayedBytes (seat_since N.state L.tells L.records L.holds L.finds L.moment L.left_since since) seats.new.items (network_view
+        (λ m. N.Mail.letter m) network.new)
         handed w line.now (script_view script.old) (script_view script.new) closed) }
     ensures stops { AreAskedAsRead N.asks → (since : Since L) (w : World) (handed : List ToLink) → IsRouter w.nodes first_router
         → script.old.next ≤ length w.sent →
-        StandsFor (seat_since N.state L.tells L.records L.holds L.finds L.moment L.left_since since) seats.old.items (post_view
-        (λ m. N.Mail.letter m) post.old) handed w 0 →
+        StandsFor (seat_since N.state L.tells L.records L.holds L.finds L.moment L.left_since since) seats.old.items (network_view
+        (λ m. N.Mail.letter m) network.old) handed w 0 →
         IfErr result (StopsBytes (seat_since N.state L.tells L.records L.holds L.finds L.moment L.left_since since) seats.new.items w line.now
         (script_view script.old)) }
     ensures fault { OnOk result (script.new.framer.fault ≡ None) }
@@ -283,7 +291,7 @@ pub fn play_line<R: Threads + Sync, N: Node<Request = Request>, L: Log>(
     ensures places { places_of L.place seats.new.items ≡ places_of L.place seats.old.items }
 {
     match read_line(alloc, line) {
-        Ok(said) => match play_said(rt, alloc, said, seats, post, script) {
+        Ok(said) => match play_said(rt, alloc, said, seats, network, script) {
             Ok(closed) => Ok(closed),
             Err(status) => Err(status),
         },

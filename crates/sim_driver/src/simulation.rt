@@ -5,7 +5,7 @@ ghost use Rattle.outside.specs.Devices.{sink_call, source_call};
 ghost use Rattle.node_model.specs.World.{start};
 ghost use Rattle.driver_steps.specs.Crashes.{Since};
 ghost use Rattle.driver_steps.specs.Seats.{AreHeld, AreKept, AreOpen, LeaveKept, faults_of, places_of, seat_since, seat_view, since_then};
-ghost use Rattle.driver_steps.specs.Worlds.{post_view};
+ghost use Rattle.driver_steps.specs.Worlds.{network_view};
 ghost use Rattle.pipe_driver.specs.Counts.{HaveRisenWhere, RoseWhere};
 ghost use Rattle.pipe_driver.specs.Progress.{AreAskedAsRead};
 ghost use Rattle.pipe_driver.specs.Rounds.{first_router};
@@ -16,7 +16,7 @@ ghost use Rattle.sim_driver.specs.Simulations.{IsSimulated};
 
 use crate::lines::play_piece;
 use crate::script::Script;
-use driver_steps::{Post, Seat, open_all};
+use driver_steps::{Network, Seat, open_all};
 use node_traits::Node;
 use opmsg_frames::Request;
 use outside::log::Log;
@@ -71,9 +71,9 @@ pub fn simulate<R: Threads + Sync, N: Node<Request = Request>, L: Log, S: Source
     ensures disk_fault { HaveRisenWhere (result ≡ statuses.DiskFailed) (faults_of L.fault_count seats.old.items) (faults_of L.fault_count seats.new.items) }
     ensures places { places_of L.place seats.new.items ≡ places_of L.place seats.old.items }
 {
-    let mut post = Post::new(alloc);
-    match open_all(seats, &mut post) {
-        Ok(()) => play_all(rt, alloc, input, out, seats, post, limit),
+    let mut network = Network::new(alloc);
+    match open_all(seats, &mut network) {
+        Ok(()) => play_all(rt, alloc, input, out, seats, network, limit),
         Err(e) => Status::of(e),
     }
 }
@@ -85,13 +85,13 @@ fn play_all<R: Threads + Sync, N: Node<Request = Request>, L: Log, S: Source, K:
     input: &mut S,
     out: &mut K,
     seats: &mut Vec<Seat<N, L>>,
-    post: Post<N::Mail>,
+    network: Network<N::Mail>,
     limit: u64,
 ) -> Status
     requires at { first_router < vec_len seats.old }
     requires open { AreOpen L.is_open seats.old.items }
     ensures simulated { AreAskedAsRead N.asks → (since : Since L) (routers : ℕ) → 0 < routers →
-        Playing (seat_since N.state L.tells L.records L.holds L.finds L.moment L.left_since since) seats.old.items (post_view (λ m. N.Mail.letter m) post)
+        Playing (seat_since N.state L.tells L.records L.holds L.finds L.moment L.left_since since) seats.old.items (network_view (λ m. N.Mail.letter m) network)
         routers K.tells (K.held out.old) (K.held out.old) new_script [] →
         IsSimulated (source_call S.tells S.left S.fault_count input.old input.new) (sink_call K.tells K.held K.fault_count out.old out.new)
         (AreKept (seat_since N.state L.tells L.records L.holds L.finds L.moment L.left_since since) seats.new.items)
@@ -103,7 +103,7 @@ fn play_all<R: Threads + Sync, N: Node<Request = Request>, L: Log, S: Source, K:
     ensures disk_fault { HaveRisenWhere (result ≡ statuses.DiskFailed) (faults_of L.fault_count seats.old.items) (faults_of L.fault_count seats.new.items) }
     ensures places { places_of L.place seats.new.items ≡ places_of L.place seats.old.items }
 {
-    let mut post = post;
+    let mut network = network;
     let mut script = Script::new(alloc);
     let Ok(mut piece) = new_piece(alloc) else {
         return Status::OutOfMemory;
@@ -123,7 +123,7 @@ fn play_all<R: Threads + Sync, N: Node<Request = Request>, L: Log, S: Source, K:
             &piece[..count],
             &mut begun,
             seats,
-            &mut post,
+            &mut network,
             &mut script,
             out,
         ) {

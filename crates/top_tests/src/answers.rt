@@ -2,7 +2,7 @@
 
 use bson_values::{Aligned, Document, Text, Value, read};
 use cluster_base::{Code, Namespace, Time};
-use command_answers::{
+use command_replies::{
     Answer, Batch, Evidence, Refusal, StatementIndex, Upserted, WriteError, WriteKind, write_answer,
 };
 use std::alloc::Global;

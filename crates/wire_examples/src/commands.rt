@@ -2,7 +2,7 @@
 
 use crate::faults::RowFault;
 use bson_values::Document;
-use command_answers::{ClientNumber, Evidence, Refusal, WriteKind};
+use command_replies::{ClientNumber, Evidence, Refusal, WriteKind};
 use command_words::{
     Command, CommandFault, Find, GetMore, KillCursors, Legacy, Reading, WriteCommand,
 };

@@ -1,8 +1,8 @@
 use Rattle.std.proofs.Common.{◌≡◌, drop, map}
 use Rattle.chunk_model.specs.Tables.{chunks_on, greatest_version}
-use Rattle.chunk_table.specs.Meanings.{chunk_meant, version_meant}
+use Rattle.chunk_table.specs.Meanings.{chunk_view, version_view}
 use Rattle.chunk_table.proofs.chunk.greatest_on.Given as goal
 
 abbrev pub invariant-loop-chunk : goal.invariant-loop-chunk
 invariant-loop-chunk l =
-    greatest_version (version_meant l.greatest) (chunks_on l.shard.0 (map chunk_meant (drop l.chunk-index l.chunks))) ≡ greatest_version (version_meant l.fn.so_far) (chunks_on l.shard.0 (map chunk_meant l.chunks))
+    greatest_version (version_view l.greatest) (chunks_on l.shard.0 (map chunk_view (drop l.chunk-index l.chunks))) ≡ greatest_version (version_view l.fn.so_far) (chunks_on l.shard.0 (map chunk_view l.chunks))

@@ -1,6 +1,6 @@
 use Rattle.std.proofs.Common.{◌∙◌}
 use Rattle.driver_steps.specs.Seats.{seat_since}
-use Rattle.driver_steps.specs.Worlds.{post_view}
+use Rattle.driver_steps.specs.Worlds.{network_view}
 use Rattle.driver_steps.proofs.Seats.{held_len}
 use Rattle.driver_steps.proofs.Runs.{delivered, delivery_stopped, lost}
 use Rattle.driver_steps.proofs.deliveries.deliver.Goals as goal
@@ -8,7 +8,7 @@ use Rattle.driver_steps.proofs.deliveries.deliver.Goals as goal
 pub returns-then-at-len-clause-delivered : goal.returns-then-at-len-clause-delivered
 returns-then-at-len-clause-delivered g c since w next which handed s got =
     lost (seat_since g.N.Node.state g.L.Log.tells g.L.Log.records g.L.Log.holds g.L.Log.finds g.L.Log.moment g.L.Log.left_since since) c.args.seats.now.items
-    (post_view (λ m. g.N.Mail.Mail.letter m) c.args.post.now) handed w next which
+    (network_view (λ m. g.N.Mail.Mail.letter m) c.args.network.now) handed w next which
     (g.N.Mail.Mail.letter c.args.message).receiver c.len.result c.to-at.result.0
     (held_len (seat_since g.N.Node.state g.L.Log.tells g.L.Log.records g.L.Log.holds g.L.Log.finds g.L.Log.moment g.L.Log.left_since since)
     c.args.seats.now.items w.nodes s.nodes)

@@ -22,23 +22,23 @@ messages-preserved g c = record {
   places = c.in-Ok.ensures.places ∙ c.messages.invariant.places;
   run = λ since w next handed s.
       settling_step (seat_since g.N.Node.state g.L.Log.tells g.L.Log.records g.L.Log.holds g.L.Log.finds g.L.Log.moment g.L.Log.left_since since)
-      (λ m. g.N.Mail.Mail.letter m) c.messages.seats.items c.deliver.new.seats.items _ handed w next c.in-Some.message c.messages.post
-      (record { waiting = c.pop_front.new.self; replies = c.messages.post.replies })
+      (λ m. g.N.Mail.Mail.letter m) c.messages.seats.items c.deliver.new.seats.items _ handed w next c.in-Some.message c.messages.network
+      (record { waiting = c.pop_front.new.self; replies = c.messages.network.replies })
       (c.messages.invariant.run since w next handed s) c.in-Some.ensures.items refl
       (λ v n which stands got. c.in-Ok.ensures.delivered since v n which handed stands got);
 }
 
 pub messages-smaller : goal.messages-smaller
 messages-smaller g c =
-    let fits : c.deliver.new.post.waiting.len < 2 ^ 64 = omega (arith, c.deliver.new.post.waiting.small.0, c.deliver.new.post.waiting.small.1) in
-    less_left _ _ _ _ _ c.pop_front.new.self.items c.deliver.new.post.waiting.items c.in-Ok.ensures.falls c.in-Some.ensures.cases c.pop_front.new.self.ok.0
-    c.deliver.new.post.waiting.ok.0 fits
+    let fits : c.deliver.new.network.waiting.len < 2 ^ 64 = omega (arith, c.deliver.new.network.waiting.small.0, c.deliver.new.network.waiting.small.1) in
+    less_left _ _ _ _ _ c.pop_front.new.self.items c.deliver.new.network.waiting.items c.in-Ok.ensures.falls c.in-Some.ensures.cases c.pop_front.new.self.ok.0
+    c.deliver.new.network.waiting.ok.0 fits
 
 pub returns-in-Err-clause-stopped : goal.returns-in-Err-clause-stopped
 returns-in-Err-clause-stopped g c since w next handed s =
     settling_stopped (seat_since g.N.Node.state g.L.Log.tells g.L.Log.records g.L.Log.holds g.L.Log.finds g.L.Log.moment g.L.Log.left_since since)
-    (λ m. g.N.Mail.Mail.letter m) c.messages.seats.items c.deliver.new.seats.items _ handed w next c.in-Some.message c.messages.post
-    (record { waiting = c.pop_front.new.self; replies = c.messages.post.replies }) c.in-Err.e
+    (λ m. g.N.Mail.Mail.letter m) c.messages.seats.items c.deliver.new.seats.items _ handed w next c.in-Some.message c.messages.network
+    (record { waiting = c.pop_front.new.self; replies = c.messages.network.replies }) c.in-Err.e
     (c.messages.invariant.run since w next handed s) c.in-Some.ensures.items refl
     (λ v n which stands got. c.in-Err.ensures.stopped since v n which handed stands got)
 
@@ -47,5 +47,5 @@ returns-clause-settled g c since w next handed s =
     let none : c.pop_front.result ≡ None = search (rules, c.in_default.is) in
     settled_at_end (seat_since g.N.Node.state g.L.Log.tells g.L.Log.records g.L.Log.holds g.L.Log.finds g.L.Log.moment g.L.Log.left_since since)
     (λ m. g.N.Mail.Mail.letter m) c.messages.seats.items handed w next
-    c.messages.post (record { waiting = c.pop_front.new.self; replies = c.messages.post.replies }) c.pop_front.result
+    c.messages.network (record { waiting = c.pop_front.new.self; replies = c.messages.network.replies }) c.pop_front.result
     (c.messages.invariant.run since w next handed s) none c.pop_front.ensures.items c.pop_front.ensures.cases c.pop_front.new.self.ok.0 refl

@@ -5,7 +5,7 @@ use Rattle.node_model.specs.World.{World}
 use Rattle.node_traits.specs.declared.outputs.ToLink.{ToLink}
 use Rattle.driver_steps.specs.Crashes.{Since}
 use Rattle.driver_steps.specs.Seats.{AreOpen, faults_of, left_of, places_of, seat_since}
-use Rattle.driver_steps.specs.Worlds.{StandsFor, post_view}
+use Rattle.driver_steps.specs.Worlds.{StandsFor, network_view}
 use Rattle.driver_steps.proofs.Runs.{IsSettling}
 use Rattle.driver_steps.proofs.deliveries.settle.Given as goal
 
@@ -17,10 +17,10 @@ invariant-messages g l = record {
   places : places_of g.L.Log.place l.seats.items ≡ places_of g.L.Log.place l.fn.seats.items;
   run : (since : Since g.row.L.Denot) (w : World) (next : ℕ) (handed : List ToLink) → StandsFor
       (seat_since g.N.Node.state g.L.Log.tells g.L.Log.records g.L.Log.holds g.L.Log.finds g.L.Log.moment g.L.Log.left_since since)
-      l.fn.seats.items (post_view (λ m. g.N.Mail.Mail.letter m) l.fn.post) handed w next
+      l.fn.seats.items (network_view (λ m. g.N.Mail.Mail.letter m) l.fn.network) handed w next
       → IsSettling (seat_since g.N.Node.state g.L.Log.tells g.L.Log.records g.L.Log.holds g.L.Log.finds g.L.Log.moment g.L.Log.left_since since) l.seats.items
-      (post_view (λ m. g.N.Mail.Mail.letter m) l.post) handed w next;
+      (network_view (λ m. g.N.Mail.Mail.letter m) l.network) handed w next;
 }
 
 abbrev pub decreases-messages : goal.decreases-messages
-decreases-messages g l = left_of g.N.Node.steps l.seats.items * 2 ^ 66 + deque_len l.post.waiting
+decreases-messages g l = left_of g.N.Node.steps l.seats.items * 2 ^ 66 + deque_len l.network.waiting

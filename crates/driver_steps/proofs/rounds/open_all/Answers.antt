@@ -2,7 +2,7 @@ use Rattle.std.proofs.Common.{◌≡◌, ℕ, refl, subst, arith, ◌∙◌}
 use Rattle.std.specs.Prelude.{vec_len}
 use Rattle.node_model.specs.Schedule.{openings}
 use Rattle.driver_steps.specs.Seats.{seat_since}
-use Rattle.driver_steps.specs.Worlds.{post_view}
+use Rattle.driver_steps.specs.Worlds.{network_view}
 use Rattle.driver_steps.specs.Moves.{HasRun}
 use Rattle.driver_steps.proofs.Runs.{opened_more, opened_stopped, run_none}
 use Rattle.driver_steps.proofs.rounds.open_all.Goals as goal
@@ -43,5 +43,5 @@ returns-clause-opened g c since w next handed s =
     let all : c.nodes.at ≡ vec_len c.args.seats.now = omega (arith, c.nodes.auto.at-end, c.nodes-test.false, c.len-count.ensures) in
     subst (λ (n : ℕ). HasRun (seat_since g.N.Node.state g.L.Log.tells g.L.Log.records g.L.Log.holds g.L.Log.finds g.L.Log.moment g.L.Log.left_since since)
     c.nodes.seats.items
-    (post_view (λ m. g.N.Mail.Mail.letter m) c.nodes.post) handed w next (openings 0 n)) all
+    (network_view (λ m. g.N.Mail.Mail.letter m) c.nodes.network) handed w next (openings 0 n)) all
     (c.nodes.invariant.run since w next handed s)

@@ -6,11 +6,11 @@ pub returns-in-Ok-take-clause-moved : goal.returns-in-Ok-take-clause-moved
 returns-in-Ok-take-clause-moved g c since w next handed s =
     moved (seat_since g.N.Node.state g.L.Log.tells g.L.Log.records g.L.Log.holds g.L.Log.finds g.L.Log.moment g.L.Log.left_since since)
     (λ m. g.N.Mail.Mail.letter m) c.args.seats.now.items c.step_node.new.seats.items handed w next c.args.at
-    (g.N.Node.meaning c.args.input) c.args.post.now c.take.new.self s c.in-Ok.outputs.mail c.in-Ok.outputs.replies
+    (g.N.Node.meaning c.args.input) c.args.network.now c.take.new.self s c.in-Ok.outputs.mail c.in-Ok.outputs.replies
     (c.in-Ok.ensures.stepped since w s.nodes s.crashes) c.in-Ok-take.ensures.waiting c.in-Ok-take.ensures.replies
 
 pub returns-in-Err-clause-cut : goal.returns-in-Err-clause-cut
 returns-in-Err-clause-cut g c since w next handed s =
     cut_short (seat_since g.N.Node.state g.L.Log.tells g.L.Log.records g.L.Log.holds g.L.Log.finds g.L.Log.moment g.L.Log.left_since since)
     (λ m. g.N.Mail.Mail.letter m) c.args.seats.now.items _ handed w next c.args.at
-    (g.N.Node.meaning c.args.input) c.args.post.now c.args.post.now s c.in-Err.e (c.in-Err.ensures.failed since w s.nodes s.crashes)
+    (g.N.Node.meaning c.args.input) c.args.network.now c.args.network.now s c.in-Err.e (c.in-Err.ensures.failed since w s.nodes s.crashes)

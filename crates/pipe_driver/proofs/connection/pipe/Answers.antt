@@ -4,7 +4,7 @@ use Rattle.outside.specs.Devices.{sink_call, source_call}
 use Rattle.opmsg_frames.specs.Frames.{ends}
 use Rattle.node_model.specs.World.{start}
 use Rattle.driver_steps.specs.Seats.{seat_since, since_then}
-use Rattle.driver_steps.specs.Worlds.{post_view}
+use Rattle.driver_steps.specs.Worlds.{network_view}
 use Rattle.driver_steps.proofs.Crashes.{held_since, kept_plain, start_leaves}
 use Rattle.driver_steps.proofs.Seats.{held_len}
 use Rattle.pipe_driver.proofs.Endings.{ended_serving, piped_with}
@@ -21,7 +21,7 @@ returns-in-Ok-clause-piped g c = λ asks routers some are.
     c.args.seats.now.items (start routers) in
     let as_many = c.args.seats.now.ok.0 ∙ held_len _ c.args.seats.now.items (start routers).nodes seated in
     let s = starts _ (λ m. g.N.Mail.Mail.letter m) c.args.seats.now.items routers
-    c.new-post.result seated leave c.new-post.ensures.waiting c.new-post.ensures.replies in
+    c.new-network.result seated leave c.new-network.ensures.waiting c.new-network.ensures.replies in
     piped_with _ _ _ _ _ _ routers _ _ _
     (c.serve.ensures.piped asks since routers some
     (opened_serving _ _ _ routers _ _ (vec_len c.args.seats.now) as_many _ (c.in-Ok.ensures.opened since (start routers) 0 [] s)))
@@ -36,7 +36,7 @@ returns-in-Err-clause-piped g c = λ asks routers some are.
     c.args.seats.now.items (start routers) in
     let as_many = c.args.seats.now.ok.0 ∙ held_len _ c.args.seats.now.items (start routers).nodes seated in
     let s = starts _ (λ m. g.N.Mail.Mail.letter m) c.args.seats.now.items routers
-    c.new-post.result seated leave c.new-post.ensures.waiting c.new-post.ensures.replies in
+    c.new-network.result seated leave c.new-network.ensures.waiting c.new-network.ensures.replies in
     let cut = opening_cut _ c.open_all.new.seats.items (g.C.Clock.gives c.args.clock.now)
     routers g.K.Sink.tells (g.K.Sink.held c.args.out.now) (vec_len c.args.seats.now) as_many _ c.in-Err.e
     (c.in-Err.ensures.stopped since (start routers) 0 [] s) in
@@ -46,7 +46,7 @@ returns-in-Err-clause-piped g c = λ asks routers some are.
     (ended_serving _ c.open_all.new.seats.items
     (source_call g.S.Source.tells g.S.Source.left g.S.Source.fault_count c.args.input.now c.args.input.now)
     (sink_call g.K.Sink.tells g.K.Sink.held g.K.Sink.fault_count c.args.out.now c.args.out.now) (g.C.Clock.gives c.args.clock.now) routers c.args.limit
-    c.ended.result.rest c.ended.result.status [] [] (post_view (λ m. g.N.Mail.Mail.letter m) c.open_all.new.post) c.of.result c.ended.ensures.status
+    c.ended.result.rest c.ended.result.status [] [] (network_view (λ m. g.N.Mail.Mail.letter m) c.open_all.new.network) c.of.result c.ended.ensures.status
     (inr (stops_by _ _ _ routers _ _ _ _ c.in-Err.e _ c.of.ensures cut))
     (λ told. refl) few (λ place. ([], [], None, ends place [] refl, none)))
     (λ nodes kept. kept_plain g.N.Node.state g.L.Log.tells g.L.Log.records g.L.Log.holds g.L.Log.finds g.L.Log.moment g.L.Log.left_since since _ nodes kept)

@@ -4,7 +4,7 @@ use Rattle.outside.specs.Streams.{Took}
 use Rattle.opmsg_frames.specs.Outline.{outline, partial_outline}
 use Rattle.driver_steps.specs.Crashes.{Since}
 use Rattle.driver_steps.specs.Seats.{AreOpen, faults_of, places_of, seat_since}
-use Rattle.driver_steps.specs.Worlds.{post_view}
+use Rattle.driver_steps.specs.Worlds.{network_view}
 use Rattle.pipe_driver.specs.Buffers.{piece_room}
 use Rattle.pipe_driver.specs.Progress.{AreAskedAsRead, Serving}
 use Rattle.pipe_driver.proofs.connection.serve.Given as goal
@@ -29,11 +29,11 @@ invariant-pieces g l = record {
   places : places_of g.L.Log.place l.seats.items ≡ places_of g.L.Log.place l.fn.seats.items;
   went : AreAskedAsRead g.N.Node.asks → (since : Since g.row.L.Denot) (routers : ℕ) → 0 < routers
       → Serving (seat_since g.N.Node.state g.L.Log.tells g.L.Log.records g.L.Log.holds g.L.Log.finds g.L.Log.moment g.L.Log.left_since since)
-      l.fn.seats.items (post_view (λ m. g.N.Mail.Mail.letter m) l.fn.post)
+      l.fn.seats.items (network_view (λ m. g.N.Mail.Mail.letter m) l.fn.network)
       (g.C.Clock.gives l.clock) routers g.K.Sink.tells (g.K.Sink.held l.fn.out) (g.K.Sink.held l.fn.out) [] 0
       → (consumed : List ℕ) × (length consumed + length l.framer.bytes ≡ l.taken)
       × Took g.S.Source.tells (g.S.Source.left l.fn.input) (consumed ++ l.framer.bytes) (g.S.Source.left l.input)
       × Serving (seat_since g.N.Node.state g.L.Log.tells g.L.Log.records g.L.Log.holds g.L.Log.finds g.L.Log.moment g.L.Log.left_since since)
-      l.seats.items (post_view (λ m. g.N.Mail.Mail.letter m) l.post)
+      l.seats.items (network_view (λ m. g.N.Mail.Mail.letter m) l.network)
       (g.C.Clock.gives l.clock) routers g.K.Sink.tells (g.K.Sink.held l.fn.out) (g.K.Sink.held l.out) consumed l.puts;
 }

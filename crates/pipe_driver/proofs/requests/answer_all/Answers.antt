@@ -1,7 +1,7 @@
 use Rattle.std.proofs.Common.{◌++◌, ◌∙◌, refl, inl, inr, arith}
-use Rattle.opmsg_frames.specs.Outlines.{fault_meant}
+use Rattle.opmsg_frames.specs.Outlines.{fault_view}
 use Rattle.driver_steps.specs.Seats.{seat_since}
-use Rattle.driver_steps.specs.Worlds.{post_view}
+use Rattle.driver_steps.specs.Worlds.{network_view}
 use Rattle.pipe_driver.proofs.Frames.{some_bytes}
 use Rattle.pipe_driver.proofs.Framings.{left_behind, next_given, next_malformed, next_memory, next_none, none_given, one_given, same_bytes, still_partial}
 use Rattle.pipe_driver.proofs.Framings.{told_malformed}
@@ -28,7 +28,7 @@ returns-in-Err-Malformed-clause-served g c = λ asks since routers some held_bef
       none_given (consumed ++ c.args.framer.now.bytes) was.0 c.requests.framer c.next.new.self was.1 told.bytes,
       inl (
         refl,
-        told_malformed c.requests.framer c.next.new.self (fault_meant c.in-Err-Malformed.field-0-0) c.in-Err-Malformed.field-0-1
+        told_malformed c.requests.framer c.next.new.self (fault_view c.in-Err-Malformed.field-0-0) c.in-Err-Malformed.field-0-1
             c.requests.invariant.fault told,
         (c.requests.replied, was.2),
       ),

@@ -2,7 +2,7 @@ use Rattle.std.proofs.Common.{◌≡◌, ℕ, List, ◌+◌, ◌<◌, ◌≤◌,
 use Rattle.std.specs.Prelude.{None, vec_len}
 use Rattle.driver_steps.specs.Crashes.{Since}
 use Rattle.driver_steps.specs.Seats.{AreOpen, faults_of, places_of, seat_since}
-use Rattle.driver_steps.specs.Worlds.{post_view}
+use Rattle.driver_steps.specs.Worlds.{network_view}
 use Rattle.pipe_driver.specs.Progress.{AreAskedAsRead, Serving}
 use Rattle.pipe_driver.proofs.requests.answer_all.Given as goal
 
@@ -22,10 +22,10 @@ invariant-requests g l = record {
   places : places_of g.L.Log.place l.seats.items ≡ places_of g.L.Log.place l.fn.seats.items;
   served : AreAskedAsRead g.N.Node.asks → (since : Since g.row.L.Denot) (routers : ℕ) → 0 < routers → (held_before consumed : List ℕ) →
       Serving (seat_since g.N.Node.state g.L.Log.tells g.L.Log.records g.L.Log.holds g.L.Log.finds g.L.Log.moment g.L.Log.left_since since)
-      l.fn.seats.items (post_view (λ m. g.N.Mail.Mail.letter m) l.fn.post)
+      l.fn.seats.items (network_view (λ m. g.N.Mail.Mail.letter m) l.fn.network)
       (g.C.Clock.gives l.clock) routers g.K.Sink.tells held_before (g.K.Sink.held l.fn.out) consumed l.fn.replied
       → (more : List ℕ) × (consumed ++ l.fn.framer.bytes ≡ more ++ l.framer.bytes)
       × Serving (seat_since g.N.Node.state g.L.Log.tells g.L.Log.records g.L.Log.holds g.L.Log.finds g.L.Log.moment g.L.Log.left_since since)
-      l.seats.items (post_view (λ m. g.N.Mail.Mail.letter m) l.post)
+      l.seats.items (network_view (λ m. g.N.Mail.Mail.letter m) l.network)
       (g.C.Clock.gives l.clock) routers g.K.Sink.tells held_before (g.K.Sink.held l.out) more l.replied;
 }

@@ -30,7 +30,7 @@ returns-in-Ok-put_replies-clause-served g c asks q is reads since routers some h
     _ _ _ (g.C.Clock.gives c.args.clock.now) routers _ held_before _ consumed
     c.args.replied s c.now-moment.result (to_z w32 (of_z w32 c.next_number-number.result)) (g.N.Node.asks c.args.request) q c.now-moment.ensures
     (number_is c.next_number-number.result c.args.replied c.next_number-number.ensures) (asks c.args.request q is) reads
-    (λ m. g.N.Mail.Mail.letter m) c.serve_round.new.post c.hand_on-replies.new.self h c.hand_on-replies.ensures.waiting c.hand_on-replies.ensures.none _ _
+    (λ m. g.N.Mail.Mail.letter m) c.serve_round.new.network c.hand_on-replies.new.self h c.hand_on-replies.ensures.waiting c.hand_on-replies.ensures.none _ _
     (rw (c.deref.ensures.value, c.hand_on-replies.ensures.replies) at c.in-Ok-put_replies.ensures.put)
     (c.replied_after.ensures ∙ ap (λ (b : Bool). replies_after b c.args.replied) (sym is.more))
 
@@ -42,7 +42,7 @@ returns-clause-served g c asks q is reads since routers some held_before consume
     held_before _
     consumed c.args.replied s c.now-moment.result (to_z w32 (of_z w32 c.next_number-number.result)) (g.N.Node.asks c.args.request) q c.now-moment.ensures
     (number_is c.next_number-number.result c.args.replied c.next_number-number.ensures) (asks c.args.request q is) reads
-    (λ m. g.N.Mail.Mail.letter m) c.serve_round.new.post c.hand_on-replies.new.self h c.hand_on-replies.ensures.waiting c.hand_on-replies.ensures.none _
+    (λ m. g.N.Mail.Mail.letter m) c.serve_round.new.network c.hand_on-replies.new.self h c.hand_on-replies.ensures.waiting c.hand_on-replies.ensures.none _
     (rw (c.deref.ensures.value, c.hand_on-replies.ensures.replies) at c.in-Err-put_replies.ensures.prefix))
 
 pub returns-in-Err-clause-open_err : goal.returns-in-Err-clause-open_err

@@ -2,7 +2,7 @@ use Rattle.std.proofs.Common.{◌≡◌, ◌∙◌, ℤ, refl, sym, subst, w32, 
 use Rattle.std.specs.Prelude.{vec_len}
 use Rattle.std.proofs.lemmas.Int.{to_z-of_z}
 use Rattle.driver_steps.specs.Seats.{seat_since}
-use Rattle.driver_steps.specs.Worlds.{post_view}
+use Rattle.driver_steps.specs.Worlds.{network_view}
 use Rattle.driver_steps.specs.Moves.{HasStopped}
 use Rattle.driver_steps.proofs.Seats.{held_len}
 use Rattle.pipe_driver.specs.Schedules.{HasServed, IsPart, round_of}
@@ -27,7 +27,7 @@ returns-in-Err-ask-clause-stopped g c since routers rounds events w next handed 
     (vec_len c.args.seats.now) (round_of c.args.moment c.args.number (g.N.Node.asks c.args.request)) some pipes as_many refl r.end r.run in
     subst (λ (z : ℤ). HasStopped
     (seat_since g.N.Node.state g.L.Log.tells g.L.Log.records g.L.Log.holds g.L.Log.finds g.L.Log.moment g.L.Log.left_since since) c.ask.new.seats.items
-    c.ask.new.post.replies.items handed w
+    c.ask.new.network.replies.items handed w
     (IsPart (vec_len c.args.seats.now) (round_of c.args.moment z (g.N.Node.asks c.args.request))) c.in-Err-ask.e) same
     (stopped_in_asking (seat_since g.N.Node.state g.L.Log.tells g.L.Log.records g.L.Log.holds g.L.Log.finds g.L.Log.moment g.L.Log.left_since since)
     _ _ handed w (vec_len c.args.seats.now)
@@ -47,7 +47,7 @@ returns-in-Err-settle-clause-stopped g c since routers rounds events w next hand
     let a = c.in-Ok-ask.ensures.asked since r.end next handed r.stands router in
     subst (λ (z : ℤ). HasStopped
     (seat_since g.N.Node.state g.L.Log.tells g.L.Log.records g.L.Log.holds g.L.Log.finds g.L.Log.moment g.L.Log.left_since since) c.settle.new.seats.items
-    c.settle.new.post.replies.items handed w
+    c.settle.new.network.replies.items handed w
     (IsPart (vec_len c.args.seats.now) (round_of c.args.moment z (g.N.Node.asks c.args.request))) c.in-Err-settle.e) same
     (stopped_in_deliveries (seat_since g.N.Node.state g.L.Log.tells g.L.Log.records g.L.Log.holds g.L.Log.finds g.L.Log.moment g.L.Log.left_since since)
     _ _ handed w (vec_len c.args.seats.now)
@@ -67,7 +67,7 @@ returns-in-Ok-settle-clause-served g c since routers rounds events w next handed
     let a = c.in-Ok-ask.ensures.asked since r.end next handed r.stands router in
     subst (λ (z : ℤ). HasServed
     (seat_since g.N.Node.state g.L.Log.tells g.L.Log.records g.L.Log.holds g.L.Log.finds g.L.Log.moment g.L.Log.left_since since) c.settle.new.seats.items
-    (post_view (λ m. g.N.Mail.Mail.letter m) c.settle.new.post) handed w next (round_of c.args.moment z (g.N.Node.asks c.args.request))) same
+    (network_view (λ m. g.N.Mail.Mail.letter m) c.settle.new.network) handed w next (round_of c.args.moment z (g.N.Node.asks c.args.request))) same
     (round_served (seat_since g.N.Node.state g.L.Log.tells g.L.Log.records g.L.Log.holds g.L.Log.finds g.L.Log.moment g.L.Log.left_since since)
     handed routers rounds events w next
     (vec_len c.args.seats.now) (round_of c.args.moment (to_z w32 (of_z w32 c.args.number)) (g.N.Node.asks c.args.request))

@@ -1,13 +1,13 @@
 use Rattle.std.proofs.Common.{map}
 use Rattle.std.specs.List.{AllByRecursion}
 use Rattle.record_reader.specs.SoundRecords.{IsHeldChunk}
-use Rattle.chunk_table.specs.Meanings.{chunk_meant}
+use Rattle.chunk_table.specs.Meanings.{chunk_view}
 use Rattle.record_reader.specs.Readers.{chunk_at}
 use Rattle.record_reader.proofs.Items.{ReadSoFar}
 use Rattle.record_reader.proofs.chunks.read_each_chunk.Given as goal
 
 abbrev pub invariant-loop : goal.invariant-loop
 invariant-loop l = record {
-  so_far : ReadSoFar chunk_at l.count l.counter (map chunk_meant l.chunks.items) l.left l.bytes;
-  held : AllByRecursion IsHeldChunk (map chunk_meant l.chunks.items);
+  so_far : ReadSoFar chunk_at l.count l.counter (map chunk_view l.chunks.items) l.left l.bytes;
+  held : AllByRecursion IsHeldChunk (map chunk_view l.chunks.items);
 }

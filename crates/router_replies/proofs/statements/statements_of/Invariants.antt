@@ -5,14 +5,14 @@ use Rattle.command_model.specs.Writes.{ClientNumber}
 use Rattle.command_model.specs.CommandSizes.{IsKeepable}
 use Rattle.node_model.specs.Exchanges as asked
 use Rattle.node_model.specs.RouterRows as rows
-use Rattle.protocol_model.specs.Statements.{statement_meant}
-use Rattle.shard_records.specs.Meanings.{operation_meant}
+use Rattle.protocol_model.specs.Statements.{statement_view}
+use Rattle.shard_records.specs.Meanings.{operation_view}
 use Rattle.router_replies.proofs.statements.statements_of.Given as goal
 
 abbrev pub invariant-loop-words : goal.invariant-loop-words
 invariant-loop-words l = record {
   fits : l.index < 2 ^ 32;
-  keepable : AllByRecursion IsKeepable (map operation_meant (into_iter_items l.words-iterator));
-  puts : (given : Option ClientNumber) (id : asked.RequestId) → map (λ s. statement_meant given id s) l.statements.items ++ rows.statements_from given id l.index (map operation_meant (into_iter_items l.words-iterator))
-      ≡ rows.statements_from given id 0 (map operation_meant l.fn.operations.items);
+  keepable : AllByRecursion IsKeepable (map operation_view (into_iter_items l.words-iterator));
+  puts : (given : Option ClientNumber) (id : asked.RequestId) → map (λ s. statement_view given id s) l.statements.items ++ rows.statements_from given id l.index (map operation_view (into_iter_items l.words-iterator))
+      ≡ rows.statements_from given id 0 (map operation_view l.fn.operations.items);
 }

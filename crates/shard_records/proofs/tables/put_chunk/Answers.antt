@@ -1,6 +1,6 @@
 use Rattle.std.proofs.Common.{ap, ◌∙◌, ◌++◌, List, ℕ}
 use Rattle.std.proofs.lemmas.Result.{on_ok_weaker}
-use Rattle.chunk_table.specs.Meanings.{version_meant}
+use Rattle.chunk_table.specs.Meanings.{version_view}
 use Rattle.record_model.specs.RecordFormat.{spelled_bound, spelled_version, spelled_list, spelled_owned}
 use Rattle.shard_records.proofs.Puts.{then}
 use Rattle.shard_records.proofs.tables.put_chunk.Goals as goal
@@ -12,7 +12,7 @@ returns-clause-ok c =
     let behind_min = c.put_bound.new.out.items in
     let behind_version = c.put_version.new.out.items in
     let greatest = spelled_bound chunk.range.max in
-    let version = spelled_version (version_meant chunk.version) in
+    let version = spelled_version (version_view chunk.version) in
     let owners = spelled_list spelled_owned chunk.history in
     on_ok_weaker c.put_owners.result
     (λ last. then old (spelled_bound chunk.range.min) (greatest ++ (version ++ owners)) (c.in_ok-put_bound.ensures.ok ∙ ap (λ b. old ++ spelled_bound b) c.min.ensures.min)

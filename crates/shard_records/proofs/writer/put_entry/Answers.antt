@@ -1,7 +1,7 @@
 use Rattle.std.specs.Prelude.{[], ◌∷◌, ◌++◌}
 use Rattle.std.proofs.lemmas.Result.{on_ok_weaker}
 use Rattle.record_model.specs.RecordFormat.{eight, spelled_string, spelled_number, spelled_operation, spelled_outcome}
-use Rattle.shard_records.specs.Meanings.{number_meant, operation_lent, outcome_meant}
+use Rattle.shard_records.specs.Meanings.{number_view, operation_lent, outcome_view}
 use Rattle.shard_records.proofs.Puts.{then}
 use Rattle.shard_records.proofs.writer.put_entry.Goals as goal
 
@@ -9,9 +9,9 @@ pub returns-clause-ok : goal.returns-clause-ok
 returns-clause-ok c =
     let time = eight c.args.time.0 in
     let namespace = spelled_string c.args.namespace.now in
-    let number = spelled_number (number_meant c.args.statement.now) in
+    let number = spelled_number (number_view c.args.statement.now) in
     let words = spelled_operation (operation_lent c.args.words.now) in
-    let outcome = spelled_outcome (outcome_meant c.args.reply.now) in
+    let outcome = spelled_outcome (outcome_view c.args.reply.now) in
     on_ok_weaker c.put_reply.result
     (λ last. then c.args.out.now.items (1 ∷ 0x02 ∷ []) (time ++ (namespace ++ (number ++ (words ++ outcome)))) c.in_ok-put.ensures.ok
     (then c.put.new.out.items time (namespace ++ (number ++ (words ++ outcome))) c.in_ok-put_u64.ensures.ok

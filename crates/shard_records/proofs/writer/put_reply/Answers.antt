@@ -3,7 +3,7 @@ use Rattle.std.proofs.lemmas.Grind.{common_steps}
 use Rattle.std.specs.Int.{cast_unsigned, w64}
 use Rattle.bson_values.specs.Spelling.{written}
 use Rattle.record_model.specs.RecordFormat.{IsSoundOperation, IsSound, IsSoundKey, IsSoundNumber, IsSoundOutcome, IsSoundSession, IsSoundDocument, IsSoundKeyValue, eight, four, key_document, spelled, spelled_creation, spelled_entry, spelled_key, spelled_number, spelled_outcome, spelled_session, spelled_string, spelled_operation}
-use Rattle.shard_records.specs.Meanings.{entry_meant, number_meant, outcome_meant, record_meant, session_meant, operation_meant}
+use Rattle.shard_records.specs.Meanings.{entry_view, number_view, outcome_view, record_view, session_view, operation_view}
 use Rattle.shard_records.specs.Sizes.{IsWritableOperation, IsWritableKey, IsWritableRecord}
 use Rattle.bson_values.specs.Limits.{IsWritable}
 use Rattle.shard_records.proofs.writer.put_reply.Goals as goal

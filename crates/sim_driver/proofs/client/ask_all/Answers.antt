@@ -1,5 +1,5 @@
 use Rattle.std.proofs.Common.{◌∙◌, Bool, refl, sym, ap, arith, w32, to_z, of_z}
-use Rattle.opmsg_frames.specs.Outlines.{fault_meant}
+use Rattle.opmsg_frames.specs.Outlines.{fault_view}
 use Rattle.driver_steps.specs.Seats.{seat_since}
 use Rattle.pipe_driver.specs.Rounds.{replies_after}
 use Rattle.pipe_driver.proofs.Frames.{some_bytes}
@@ -38,7 +38,7 @@ returns-in-Err-Malformed-clause-asked g c asks since w handed router s =
     asking_fails (seat_since g.N.Node.state g.L.Log.tells g.L.Log.records g.L.Log.holds g.L.Log.finds g.L.Log.moment g.L.Log.left_since since) handed w
     c.args.link c.args.replied c.args.framer.now.bytes
     _ _ _ c.requests.replied was c.next.new.self.bytes told.bytes
-    (told_malformed c.requests.framer c.next.new.self (fault_meant c.in-Err-Malformed.field-0-0) c.in-Err-Malformed.field-0-1
+    (told_malformed c.requests.framer c.next.new.self (fault_view c.in-Err-Malformed.field-0-0) c.in-Err-Malformed.field-0-1
     c.requests.invariant.fault told)
 
 pub returns-in-Err-Memory-clause-cut : goal.returns-in-Err-Memory-clause-cut

@@ -4,7 +4,7 @@ use Rattle.node_model.specs.World.{IsRouter, World}
 use Rattle.node_traits.specs.declared.outputs.ToLink.{ToLink}
 use Rattle.driver_steps.specs.Crashes.{Since}
 use Rattle.driver_steps.specs.Seats.{AreOpen, faults_of, places_of, seat_since}
-use Rattle.driver_steps.specs.Worlds.{StandsFor, post_view}
+use Rattle.driver_steps.specs.Worlds.{StandsFor, network_view}
 use Rattle.pipe_driver.specs.Progress.{AreAskedAsRead}
 use Rattle.pipe_driver.specs.Rounds.{first_router}
 use Rattle.sim_driver.proofs.Asks.{AreAsking}
@@ -23,7 +23,7 @@ invariant-requests g l = record {
   went : AreAskedAsRead g.N.Node.asks → (since : Since g.row.L.Denot) (w : World) (handed : List ToLink) → IsRouter w.nodes first_router
       → StandsFor (seat_since g.N.Node.state g.L.Log.tells g.L.Log.records g.L.Log.holds g.L.Log.finds g.L.Log.moment g.L.Log.left_since since)
       l.fn.seats.items
-      (post_view (λ m. g.N.Mail.Mail.letter m) l.fn.post) handed w 0
+      (network_view (λ m. g.N.Mail.Mail.letter m) l.fn.network) handed w 0
       → AreAsking (seat_since g.N.Node.state g.L.Log.tells g.L.Log.records g.L.Log.holds g.L.Log.finds g.L.Log.moment g.L.Log.left_since since) l.seats.items
-      (post_view (λ m. g.N.Mail.Mail.letter m) l.post) handed w l.link l.fn.replied l.fn.framer.bytes l.framer.bytes l.replied;
+      (network_view (λ m. g.N.Mail.Mail.letter m) l.network) handed w l.link l.fn.replied l.fn.framer.bytes l.framer.bytes l.replied;
 }

@@ -11,8 +11,8 @@ use Rattle.sim_driver.proofs.deliver.deliver_at.Goals as goal
 
 pub returns-in-Err-clause-cut : goal.returns-in-Err-clause-cut
 returns-in-Err-clause-cut g c since w handed s =
-    let m = message_at (map (λ m. g.N.Mail.Mail.letter m) c.args.post.now.waiting.items) c.args.at
-    (omega (arith, c.requires.at, c.args.post.now.waiting.ok.0, length-map c.args.post.now.waiting.items (λ m. g.N.Mail.Mail.letter m))) in
+    let m = message_at (map (λ m. g.N.Mail.Mail.letter m) c.args.network.now.waiting.items) c.args.at
+    (omega (arith, c.requires.at, c.args.network.now.waiting.ok.0, length-map c.args.network.now.waiting.items (λ m. g.N.Mail.Mail.letter m))) in
     let got = ap (λ l. slice_get l c.args.at) (all_sent (seat_since g.N.Node.state g.L.Log.tells g.L.Log.records g.L.Log.holds g.L.Log.finds g.L.Log.moment
     g.L.Log.left_since since) _ _ handed w s) ∙ m.1 in
     cut_here (seat_since g.N.Node.state g.L.Log.tells g.L.Log.records g.L.Log.holds g.L.Log.finds g.L.Log.moment g.L.Log.left_since since) _ w [] w

@@ -1,7 +1,7 @@
 use Rattle.std.proofs.Common.{◌∙◌, ◌<◌, ◌^◌, refl, arith}
 use Rattle.std.proofs.lemmas.List.{length-map}
 use Rattle.driver_steps.specs.Seats.{seat_since}
-use Rattle.driver_steps.specs.Worlds.{post_view}
+use Rattle.driver_steps.specs.Worlds.{network_view}
 use Rattle.sim_driver.proofs.Deliveries.{less_to_do, settling_cut, settling_end, settling_none, settling_step}
 use Rattle.sim_driver.proofs.deliver.settle_but.Goals as goal
 
@@ -13,7 +13,7 @@ messages-init g c = record {
   places = refl;
   run = λ since w handed known s.
       settling_none (seat_since g.N.Node.state g.L.Log.tells g.L.Log.records g.L.Log.holds g.L.Log.finds g.L.Log.moment g.L.Log.left_since since) _
-      (post_view (λ m. g.N.Mail.Mail.letter m) c.args.post.now) handed w c.args.early.now c.args.next
+      (network_view (λ m. g.N.Mail.Mail.letter m) c.args.network.now) handed w c.args.early.now c.args.next
       known s;
 }
 
@@ -26,42 +26,42 @@ messages-preserved g c = record {
   run = λ since w handed known s.
       let so_far = c.messages.invariant.run since w handed known s in
       settling_step (seat_since g.N.Node.state g.L.Log.tells g.L.Log.records g.L.Log.holds g.L.Log.finds g.L.Log.moment g.L.Log.left_since since) _ _
-      (post_view (λ m. g.N.Mail.Mail.letter m) c.messages.post) _ handed w c.args.early.now c.args.next c.messages.at so_far
+      (network_view (λ m. g.N.Mail.Mail.letter m) c.messages.network) _ handed w c.args.early.now c.args.next c.messages.at so_far
       (omega (
         arith,
         c.messages-test.true,
         c.len.ensures,
-        c.messages.post.waiting.ok.0,
-        length-map c.messages.post.waiting.items (λ m. g.N.Mail.Mail.letter m),
+        c.messages.network.waiting.ok.0,
+        length-map c.messages.network.waiting.items (λ m. g.N.Mail.Mail.letter m),
       ))
       (c.in-Ok.ensures.delivered since so_far.end handed so_far.stands);
 }
 
 pub messages-smaller : goal.messages-smaller
 messages-smaller g c =
-    let fits : c.deliver_unless.new.post.waiting.len < 2 ^ 64 =
-    omega (arith, c.deliver_unless.new.post.waiting.small.0, c.deliver_unless.new.post.waiting.small.1) in
-    less_to_do _ _ c.messages.at _ _ c.messages.post.waiting.items c.deliver_unless.new.post.waiting.items c.in-Ok.ensures.falls
-    c.messages.post.waiting.ok.0 c.deliver_unless.new.post.waiting.ok.0 (omega (arith, c.messages-test.true, c.len.ensures)) fits
+    let fits : c.deliver_unless.new.network.waiting.len < 2 ^ 64 =
+    omega (arith, c.deliver_unless.new.network.waiting.small.0, c.deliver_unless.new.network.waiting.small.1) in
+    less_to_do _ _ c.messages.at _ _ c.messages.network.waiting.items c.deliver_unless.new.network.waiting.items c.in-Ok.ensures.falls
+    c.messages.network.waiting.ok.0 c.deliver_unless.new.network.waiting.ok.0 (omega (arith, c.messages-test.true, c.len.ensures)) fits
 
 pub returns-in-Err-clause-cut : goal.returns-in-Err-clause-cut
 returns-in-Err-clause-cut g c since w handed known s =
     let so_far = c.messages.invariant.run since w handed known s in
     settling_cut (seat_since g.N.Node.state g.L.Log.tells g.L.Log.records g.L.Log.holds g.L.Log.finds g.L.Log.moment g.L.Log.left_since since)
     c.messages.seats.items _
-    (post_view (λ m. g.N.Mail.Mail.letter m) c.messages.post) handed w c.args.early.now c.args.next c.messages.at c.in-Err.status so_far
+    (network_view (λ m. g.N.Mail.Mail.letter m) c.messages.network) handed w c.args.early.now c.args.next c.messages.at c.in-Err.status so_far
     (c.in-Err.ensures.cut since so_far.end handed so_far.stands)
 
 pub returns-clause-settled : goal.returns-clause-settled
 returns-clause-settled g c since w handed known s =
     settling_end (seat_since g.N.Node.state g.L.Log.tells g.L.Log.records g.L.Log.holds g.L.Log.finds g.L.Log.moment g.L.Log.left_since since)
     c.messages.seats.items
-    (post_view (λ m. g.N.Mail.Mail.letter m) c.messages.post) handed w c.args.early.now c.args.next c.messages.at
+    (network_view (λ m. g.N.Mail.Mail.letter m) c.messages.network) handed w c.args.early.now c.args.next c.messages.at
     (c.messages.invariant.run since w handed known s)
     (omega (
       arith,
       c.messages-test.false,
       c.len.ensures,
-      c.messages.post.waiting.ok.0,
-      length-map c.messages.post.waiting.items (λ m. g.N.Mail.Mail.letter m),
+      c.messages.network.waiting.ok.0,
+      length-map c.messages.network.waiting.items (λ m. g.N.Mail.Mail.letter m),
     ))

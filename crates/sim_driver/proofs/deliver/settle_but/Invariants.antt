@@ -5,12 +5,12 @@ use Rattle.node_model.specs.World.{World}
 use Rattle.node_traits.specs.declared.outputs.ToLink.{ToLink}
 use Rattle.driver_steps.specs.Crashes.{Since}
 use Rattle.driver_steps.specs.Seats.{AreOpen, faults_of, left_of, places_of, seat_since}
-use Rattle.driver_steps.specs.Worlds.{StandsFor, post_view}
+use Rattle.driver_steps.specs.Worlds.{StandsFor, network_view}
 use Rattle.sim_driver.proofs.Deliveries.{IsSettling}
 use Rattle.sim_driver.proofs.deliver.settle_but.Given as goal
 
 abbrev pub decreases-messages : goal.decreases-messages
-decreases-messages g l = left_of g.N.Node.steps l.seats.items * 2 ^ 66 + (deque_len l.post.waiting - l.at)
+decreases-messages g l = left_of g.N.Node.steps l.seats.items * 2 ^ 66 + (deque_len l.network.waiting - l.at)
 
 abbrev pub invariant-messages : goal.invariant-messages
 invariant-messages g l = record {
@@ -20,7 +20,7 @@ invariant-messages g l = record {
   places : places_of g.L.Log.place l.seats.items ≡ places_of g.L.Log.place l.fn.seats.items;
   run : (since : Since g.row.L.Denot) (w : World) (handed : List ToLink) → l.fn.next ≤ length w.sent
       → StandsFor (seat_since g.N.Node.state g.L.Log.tells g.L.Log.records g.L.Log.holds g.L.Log.finds g.L.Log.moment g.L.Log.left_since since)
-      l.fn.seats.items (post_view (λ m. g.N.Mail.Mail.letter m) l.fn.post) handed w 0
+      l.fn.seats.items (network_view (λ m. g.N.Mail.Mail.letter m) l.fn.network) handed w 0
       → IsSettling (seat_since g.N.Node.state g.L.Log.tells g.L.Log.records g.L.Log.holds g.L.Log.finds g.L.Log.moment g.L.Log.left_since since) l.seats.items
-      (post_view (λ m. g.N.Mail.Mail.letter m) l.post) handed w l.early l.fn.next l.at;
+      (network_view (λ m. g.N.Mail.Mail.letter m) l.network) handed w l.early l.fn.next l.at;
 }

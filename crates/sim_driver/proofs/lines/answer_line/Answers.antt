@@ -20,7 +20,7 @@ returns-in-Err-text_of-clause-stopped g c asks since routers some held_before co
     let h = c.in-Ok.ensures.played asks since p.world (puts_given p.world.answered) router next p.stands in
     line_unprinted (seat_since g.N.Node.state g.L.Log.tells g.L.Log.records g.L.Log.holds g.L.Log.finds g.L.Log.moment g.L.Log.left_since since) _ _ _
     routers _ held_before _ consumed (script_view c.args.script.now) p c.args.line.now
-    c.requires.line (λ m. g.N.Mail.Mail.letter m) c.play_line.new.post c.hand_on-replies.new.self (script_view c.play_line.new.script) c.in-Ok.closed h others
+    c.requires.line (λ m. g.N.Mail.Mail.letter m) c.play_line.new.network c.hand_on-replies.new.self (script_view c.play_line.new.script) c.in-Ok.closed h others
 
 pub returns-in-Ok-put_all-clause-answered : goal.returns-in-Ok-put_all-clause-answered
 returns-in-Ok-put_all-clause-answered g c asks since routers some held_before consumed p =
@@ -29,7 +29,7 @@ returns-in-Ok-put_all-clause-answered g c asks since routers some held_before co
     let h = c.in-Ok.ensures.played asks since p.world (puts_given p.world.answered) router next p.stands in
     line_answered (seat_since g.N.Node.state g.L.Log.tells g.L.Log.records g.L.Log.holds g.L.Log.finds g.L.Log.moment g.L.Log.left_since since) _ _ _ routers
     _ held_before _ consumed (script_view c.args.script.now) p c.args.line.now
-    c.requires.line (λ m. g.N.Mail.Mail.letter m) c.play_line.new.post c.hand_on-replies.new.self (script_view c.play_line.new.script) c.in-Ok.closed h _
+    c.requires.line (λ m. g.N.Mail.Mail.letter m) c.play_line.new.network c.hand_on-replies.new.self (script_view c.play_line.new.script) c.in-Ok.closed h _
     c.hand_on-replies.ensures.waiting c.hand_on-replies.ensures.none
     (rw (c.as_slice.ensures.value, c.in-Ok-text_of.ensures, c.deref.ensures.value, c.hand_on-replies.ensures.replies) at c.in-Ok-put_all.ensures.put)
 
@@ -40,6 +40,6 @@ returns-clause-stopped g c asks since routers some held_before consumed others p
     let h = c.in-Ok.ensures.played asks since p.world (puts_given p.world.answered) router next p.stands in
     line_put_short (seat_since g.N.Node.state g.L.Log.tells g.L.Log.records g.L.Log.holds g.L.Log.finds g.L.Log.moment g.L.Log.left_since since) _ _ _
     routers _ held_before _ consumed (script_view c.args.script.now) p c.args.line.now
-    c.requires.line (λ m. g.N.Mail.Mail.letter m) c.play_line.new.post c.hand_on-replies.new.self
+    c.requires.line (λ m. g.N.Mail.Mail.letter m) c.play_line.new.network c.hand_on-replies.new.self
     (script_view c.play_line.new.script) c.in-Ok.closed h others _
     (rw (c.as_slice.ensures.value, c.in-Ok-text_of.ensures, c.deref.ensures.value, c.hand_on-replies.ensures.replies) at c.in-Err-put_all.ensures.prefix)

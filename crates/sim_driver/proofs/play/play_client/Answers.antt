@@ -1,6 +1,6 @@
 use Rattle.std.proofs.Common.{◌≡◌, [], refl, subst, arith, Bool, true, false}
 use Rattle.driver_steps.specs.Seats.{seat_since}
-use Rattle.driver_steps.specs.Worlds.{post_view}
+use Rattle.driver_steps.specs.Worlds.{network_view}
 use Rattle.script_lines.specs.Lines.{client_line}
 use Rattle.sim_driver.specs.Moves.{HasAsked, IsFirstAsked}
 use Rattle.sim_driver.specs.LineOutcomes.{stops_unplayed, stops_at_memory}
@@ -36,7 +36,7 @@ returns-in-Err-ask_all-clause-stops g c asks since w handed router s =
     (IsFirstAsked c.args.script.now.link c.args.script.now.replied c.feed.new.self.bytes)
     (IsPartOfLine w (script_view c.args.script.now) (client_line 0 c.args.bytes.now)) c.in-Err-ask_all.status
     (client_part (seat_since g.N.Node.state g.L.Log.tells g.L.Log.records g.L.Log.holds g.L.Log.finds g.L.Log.moment g.L.Log.left_since since)
-    c.args.seats.now.items (post_view (λ m. g.N.Mail.Mail.letter m) c.args.post.now) handed w (script_view c.args.script.now)
+    c.args.seats.now.items (network_view (λ m. g.N.Mail.Mail.letter m) c.args.network.now) handed w (script_view c.args.script.now)
     c.args.bytes.now c.feed.new.self.bytes [] c.in-Ok.ensures.taken.0 0) cut))
 
 pub returns-then-not-asked-clause-played : goal.returns-then-not-asked-clause-played
@@ -44,12 +44,12 @@ returns-then-not-asked-clause-played g c asks since w handed router s =
     let told : c.in-Ok-ask_all.asked.malformed ≡ false = false_if c.in-Ok-ask_all.asked.malformed c.if-not-asked.true in
     let a = subst (λ (b : Bool). HasAsked (seat_since g.N.Node.state g.L.Log.tells g.L.Log.records g.L.Log.holds g.L.Log.finds g.L.Log.moment
     g.L.Log.left_since since) c.ask_all.new.seats.items
-    (post_view (λ m. g.N.Mail.Mail.letter m) c.ask_all.new.post) handed w c.args.script.now.link c.args.script.now.replied c.feed.new.self.bytes
+    (network_view (λ m. g.N.Mail.Mail.letter m) c.ask_all.new.network) handed w c.args.script.now.link c.args.script.now.replied c.feed.new.self.bytes
     c.ask_all.new.framer.bytes c.in-Ok-ask_all.asked.replied b) told (c.in-Ok-ask_all.ensures.asked asks since w handed router s) in
     played_at (seat_since g.N.Node.state g.L.Log.tells g.L.Log.records g.L.Log.holds g.L.Log.finds g.L.Log.moment g.L.Log.left_since since) _ w
     (script_view c.args.script.now) c.args.bytes.now c.args.router c.if-router-ne0.false _ handed _ false
     (client_played (seat_since g.N.Node.state g.L.Log.tells g.L.Log.records g.L.Log.holds g.L.Log.finds g.L.Log.moment g.L.Log.left_since since)
-    c.ask_all.new.seats.items (post_view (λ m. g.N.Mail.Mail.letter m) c.ask_all.new.post) handed w
+    c.ask_all.new.seats.items (network_view (λ m. g.N.Mail.Mail.letter m) c.ask_all.new.network) handed w
     (script_view c.args.script.now) c.args.bytes.now c.feed.new.self.bytes c.ask_all.new.framer.bytes c.in-Ok.ensures.taken.0 c.in-Ok-ask_all.asked.replied a)
 
 pub returns-then-script-clause-stops : goal.returns-then-script-clause-stops
@@ -57,12 +57,12 @@ returns-then-script-clause-stops g c asks since w handed router s =
     let told : c.in-Ok-ask_all.asked.malformed ≡ true = true_if c.in-Ok-ask_all.asked.malformed c.if-not-asked.false in
     let a = subst (λ (b : Bool). HasAsked (seat_since g.N.Node.state g.L.Log.tells g.L.Log.records g.L.Log.holds g.L.Log.finds g.L.Log.moment
     g.L.Log.left_since since) c.ask_all.new.seats.items
-    (post_view (λ m. g.N.Mail.Mail.letter m) c.ask_all.new.post) handed w c.args.script.now.link c.args.script.now.replied c.feed.new.self.bytes
+    (network_view (λ m. g.N.Mail.Mail.letter m) c.ask_all.new.network) handed w c.args.script.now.link c.args.script.now.replied c.feed.new.self.bytes
     c.ask_all.new.framer.bytes c.in-Ok-ask_all.asked.replied b) told (c.in-Ok-ask_all.ensures.asked asks since w handed router s) in
     stops_at_link (seat_since g.N.Node.state g.L.Log.tells g.L.Log.records g.L.Log.holds g.L.Log.finds g.L.Log.moment g.L.Log.left_since since) _ w
     (script_view c.args.script.now) c.args.bytes.now c.args.router c.if-router-ne0.false _
     (stops_at_memory (client_full (seat_since g.N.Node.state g.L.Log.tells g.L.Log.records g.L.Log.holds g.L.Log.finds g.L.Log.moment g.L.Log.left_since
-    since) c.ask_all.new.seats.items (post_view (λ m. g.N.Mail.Mail.letter m) c.ask_all.new.post) handed w
+    since) c.ask_all.new.seats.items (network_view (λ m. g.N.Mail.Mail.letter m) c.ask_all.new.network) handed w
     (script_view c.args.script.now) c.args.bytes.now c.feed.new.self.bytes c.ask_all.new.framer.bytes c.in-Ok.ensures.taken.0 c.in-Ok-ask_all.asked.replied
     a))
 
@@ -71,11 +71,11 @@ returns-clause-played g c asks since w handed router s =
     let told : c.in-Ok-ask_all.asked.malformed ≡ true = true_if c.in-Ok-ask_all.asked.malformed c.if-not-asked.false in
     let a = subst (λ (b : Bool). HasAsked (seat_since g.N.Node.state g.L.Log.tells g.L.Log.records g.L.Log.holds g.L.Log.finds g.L.Log.moment
     g.L.Log.left_since since) c.ask_all.new.seats.items
-    (post_view (λ m. g.N.Mail.Mail.letter m) c.ask_all.new.post) handed w c.args.script.now.link c.args.script.now.replied c.feed.new.self.bytes
+    (network_view (λ m. g.N.Mail.Mail.letter m) c.ask_all.new.network) handed w c.args.script.now.link c.args.script.now.replied c.feed.new.self.bytes
     c.ask_all.new.framer.bytes c.in-Ok-ask_all.asked.replied b) told (c.in-Ok-ask_all.ensures.asked asks since w handed router s) in
     played_at (seat_since g.N.Node.state g.L.Log.tells g.L.Log.records g.L.Log.holds g.L.Log.finds g.L.Log.moment g.L.Log.left_since since) _ w
     (script_view c.args.script.now) c.args.bytes.now c.args.router c.if-router-ne0.false _ handed _ true
     (client_closed (seat_since g.N.Node.state g.L.Log.tells g.L.Log.records g.L.Log.holds g.L.Log.finds g.L.Log.moment g.L.Log.left_since since)
-    c.ask_all.new.seats.items (post_view (λ m. g.N.Mail.Mail.letter m) c.ask_all.new.post) handed w
+    c.ask_all.new.seats.items (network_view (λ m. g.N.Mail.Mail.letter m) c.ask_all.new.network) handed w
     (script_view c.args.script.now) c.args.bytes.now c.feed.new.self.bytes c.ask_all.new.framer.bytes c.in-Ok.ensures.taken.0 c.in-Ok-ask_all.asked.replied
     c.new.result.bytes (rw c.new.ensures refl) a)

@@ -1,6 +1,6 @@
 use Rattle.std.proofs.Common.{◌∙◌, ◌<◌, length, sym, ap, arith}
 use Rattle.driver_steps.specs.Seats.{seat_since}
-use Rattle.driver_steps.specs.Worlds.{post_view}
+use Rattle.driver_steps.specs.Worlds.{network_view}
 use Rattle.driver_steps.proofs.Seats.{held_len}
 use Rattle.script_lines.specs.Lines.{deliver_line}
 use Rattle.sim_driver.specs.Moves.{IsPartOfDelivery}
@@ -39,7 +39,7 @@ returns-in-Err-clause-stops g c since w handed s =
     (IsPartOfDelivery w c.in-Some.at)
     (IsPartOfLine w (script_view c.args.script.now) (deliver_line c.args.node c.args.k)) c.in-Err.status
     (λ events p. deliver_part (seat_since g.N.Node.state g.L.Log.tells g.L.Log.records g.L.Log.holds g.L.Log.finds g.L.Log.moment g.L.Log.left_since since)
-    c.args.seats.now.items (post_view (λ m. g.N.Mail.Mail.letter m) c.args.post.now) handed w
+    c.args.seats.now.items (network_view (λ m. g.N.Mail.Mail.letter m) c.args.network.now) handed w
     (script_view c.args.script.now) c.args.node c.args.k c.in-Some.at events place p)
     (c.in-Err.ensures.cut since w handed s))
 
@@ -53,7 +53,7 @@ returns-in-Ok-push-clause-played g c since w handed s =
     let inside : c.args.node < length w.nodes = omega (arith, count, c.args.seats.now.ok.0, c.len.ensures, c.if-node-len.false) in
     deliver_noted (seat_since g.N.Node.state g.L.Log.tells g.L.Log.records g.L.Log.holds g.L.Log.finds g.L.Log.moment g.L.Log.left_since since)
     c.deliver_at.new.seats.items
-    (post_view (λ m. g.N.Mail.Mail.letter m) c.deliver_at.new.post) handed w (script_view c.args.script.now) c.args.node c.args.k c.in-Some.at
+    (network_view (λ m. g.N.Mail.Mail.letter m) c.deliver_at.new.network) handed w (script_view c.args.script.now) c.args.node c.args.k c.in-Some.at
     c.push.new.self.items c.in-Ok-push.ensures.items place inside (c.in-Ok.ensures.delivered since w handed s)
 
 pub returns-in-Err-push-clause-stops : goal.returns-in-Err-push-clause-stops
@@ -66,5 +66,5 @@ returns-in-Err-push-clause-stops g c since w handed s =
     let inside : c.args.node < length w.nodes = omega (arith, count, c.args.seats.now.ok.0, c.len.ensures, c.if-node-len.false) in
     stops_at_memory (deliver_full (seat_since g.N.Node.state g.L.Log.tells g.L.Log.records g.L.Log.holds g.L.Log.finds g.L.Log.moment g.L.Log.left_since
     since) c.deliver_at.new.seats.items
-    (post_view (λ m. g.N.Mail.Mail.letter m) c.deliver_at.new.post) handed w (script_view c.args.script.now) c.args.node c.args.k c.in-Some.at
+    (network_view (λ m. g.N.Mail.Mail.letter m) c.deliver_at.new.network) handed w (script_view c.args.script.now) c.args.node c.args.k c.in-Some.at
     place inside (c.in-Ok.ensures.delivered since w handed s))

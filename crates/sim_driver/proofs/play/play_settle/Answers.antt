@@ -20,8 +20,8 @@ returns-clause-played g c since w handed known s =
       arith,
       all,
       c.len-script.ensures,
-      c.settle_but.new.post.waiting.ok.0,
-      length-map c.settle_but.new.post.waiting.items (λ m. g.N.Mail.Mail.letter m),
+      c.settle_but.new.network.waiting.ok.0,
+      length-map c.settle_but.new.network.waiting.items (λ m. g.N.Mail.Mail.letter m),
     ))
 
 pub returns-in-Err-clause-stops : goal.returns-in-Err-clause-stops

@@ -3,7 +3,7 @@ use Rattle.std.proofs.Common.{◌≡◌, take, ◌∙◌, List, [], ℕ, length,
 use Rattle.outside.specs.Devices.{sink_call, source_call}
 use Rattle.outside.specs.Streams.{Took}
 use Rattle.driver_steps.specs.Seats.{seat_since}
-use Rattle.driver_steps.specs.Worlds.{post_view}
+use Rattle.driver_steps.specs.Worlds.{network_view}
 use Rattle.pipe_driver.specs.declared.status.Status.TheVariants as statuses
 use Rattle.pipe_driver.proofs.Counts.{have_risen_by, none_has_risen, rose_by, still}
 use Rattle.pipe_driver.proofs.Endings.{took_no_more}
@@ -41,7 +41,7 @@ returns-in_default-clause-simulated g c asks since routers some p =
     (source_call g.S.Source.tells g.S.Source.left g.S.Source.fault_count c.args.input.now c.args.input.now)
     (sink_call g.K.Sink.tells g.K.Sink.held g.K.Sink.fault_count c.args.out.now c.args.out.now) routers c.args.limit
     statuses.OutOfMemory [] [] statuses.OutOfMemory refl
-    (playing_full view c.args.seats.now.items (post_view (λ m. g.N.Mail.Mail.letter m) c.args.post) routers g.K.Sink.tells (g.K.Sink.held c.args.out.now)
+    (playing_full view c.args.seats.now.items (network_view (λ m. g.N.Mail.Mail.letter m) c.args.network) routers g.K.Sink.tells (g.K.Sink.held c.args.out.now)
     (g.K.Sink.held c.args.out.now) [] [] new_script p) (λ told. refl) (omega arith)
 
 pub returns-in-Err-clause-simulated : goal.returns-in-Err-clause-simulated
@@ -51,7 +51,7 @@ returns-in-Err-clause-simulated g c asks since routers some p =
     c.pieces.seats.items
     (source_call g.S.Source.tells g.S.Source.left g.S.Source.fault_count c.args.input.now c.take_more.new.input)
     (sink_call g.K.Sink.tells g.K.Sink.held g.K.Sink.fault_count c.args.out.now c.pieces.out) routers c.args.limit c.unended.result
-    went.0 c.pieces.begun.items (post_view (λ m. g.N.Mail.Mail.letter m) c.pieces.post) (script_view c.pieces.script) went.3
+    went.0 c.pieces.begun.items (network_view (λ m. g.N.Mail.Mail.letter m) c.pieces.network) (script_view c.pieces.script) went.3
     (took_no_more _ _ _ _ _ went.2 c.in-Err.ensures.taken.0) c.pieces.invariant.begun
     (omega (arith, went.1, c.pieces-test.true)) c.in-Err.status (λ e. c.unended.ensures.none (c.as_slice.ensures.value ∙ e))
     (λ ne. c.unended.ensures.some (λ e. ne (sym c.as_slice.ensures.value ∙ e))) c.unended.ensures.other c.in-Err.ensures.taken.1
@@ -163,5 +163,5 @@ returns-clause-simulated g c asks since routers some p =
     c.pieces.seats.items
     (source_call g.S.Source.tells g.S.Source.left g.S.Source.fault_count c.args.input.now c.pieces.input)
     (sink_call g.K.Sink.tells g.K.Sink.held g.K.Sink.fault_count c.args.out.now c.pieces.out) routers c.args.limit
-    statuses.InputTooLong went.0 c.pieces.begun.items (post_view (λ m. g.N.Mail.Mail.letter m) c.pieces.post) (script_view c.pieces.script) went.3
+    statuses.InputTooLong went.0 c.pieces.begun.items (network_view (λ m. g.N.Mail.Mail.letter m) c.pieces.network) (script_view c.pieces.script) went.3
     went.2 c.pieces.invariant.begun refl (omega (arith, went.1, c.pieces.invariant.most, c.pieces-test.false))

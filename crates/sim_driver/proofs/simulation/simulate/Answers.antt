@@ -19,7 +19,7 @@ returns-in-Ok-clause-simulated g c = λ asks routers some are.
     c.args.seats.now.items (start routers) in
     let as_many = c.args.seats.now.ok.0 ∙ held_len _ c.args.seats.now.items (start routers).nodes seated in
     let s = starts _ (λ m. g.N.Mail.Mail.letter m) c.args.seats.now.items routers
-    c.new-post.result seated leave c.new-post.ensures.waiting c.new-post.ensures.replies in
+    c.new-network.result seated leave c.new-network.ensures.waiting c.new-network.ensures.replies in
     simulated_as _ _ _ _ _ routers _ _
     (λ nodes kept. kept_plain g.N.Node.state g.L.Log.tells g.L.Log.records g.L.Log.holds g.L.Log.finds g.L.Log.moment g.L.Log.left_since since _ nodes kept)
     (c.play_all.ensures.simulated asks since routers some
@@ -34,7 +34,7 @@ returns-in-Err-clause-simulated g c = λ asks routers some are.
     c.args.seats.now.items (start routers) in
     let as_many = c.args.seats.now.ok.0 ∙ held_len _ c.args.seats.now.items (start routers).nodes seated in
     let s = starts _ (λ m. g.N.Mail.Mail.letter m) c.args.seats.now.items routers
-    c.new-post.result seated leave c.new-post.ensures.waiting c.new-post.ensures.replies in
+    c.new-network.result seated leave c.new-network.ensures.waiting c.new-network.ensures.replies in
     simulated_as _ _ _ _ _ routers _ _
     (λ nodes kept. kept_plain g.N.Node.state g.L.Log.tells g.L.Log.records g.L.Log.holds g.L.Log.finds g.L.Log.moment g.L.Log.left_since since _ nodes kept)
     (ended_stopped _ c.open_all.new.seats.items

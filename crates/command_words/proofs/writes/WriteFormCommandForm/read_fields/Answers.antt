@@ -1,7 +1,7 @@
-use Rattle.command_fields.specs.Verdicts.{verdict_meant}
+use Rattle.command_fields.specs.Verdicts.{verdict_view}
 use Rattle.command_words.proofs.Sessions.{session_read}
 use Rattle.command_words.proofs.writes.WriteFormCommandForm.read_fields.Goals as goal
 
 pub returns : goal.returns
 returns c = λ own value others named is.
-    session_read c.args.self.now.kind own value others c.args.document.now c.passed.result (verdict_meant c.check_behind_own.result) named is (c.check_behind_own.ensures own value others is) c.passed.ensures
+    session_read c.args.self.now.kind own value others c.args.document.now c.passed.result (verdict_view c.check_behind_own.result) named is (c.check_behind_own.ensures own value others is) c.passed.ensures

@@ -4,7 +4,7 @@ use Rattle.std.specs.List.{slice_set}
 use Rattle.std.specs.Option.{option_map}
 use Rattle.history_model.specs.Versions.{one_more}
 use Rattle.history_model.proofs.Versions.{one_more_put}
-use Rattle.mvcc_collection.specs.Collections.{at_in, last_in, room_in, put_meant}
+use Rattle.mvcc_collection.specs.Collections.{at_in, last_in, room_in, put_view}
 use Rattle.mvcc_collection.proofs.Places.{alike_at, changed_at, had_at, pasts_at}
 use Rattle.mvcc_collection.proofs.Puts.{documents_put, last_put_time, one_room}
 use Rattle.mvcc_collection.proofs.collection.Collection.put.Goals as goal
@@ -36,8 +36,8 @@ returns-in-Some-clause-so_far c = λ puts are k t.
     documents_put (pasts_at places cs) (pasts_at places (slice_set cs place c.push.new.self)) (alike_at places cs) key chain
     (had_at places cs apart key place at c.push.new.self chain c.index_mut-chain.ensures.value) c.push.new.self
     (changed_at places cs apart key place at c.push.new.self) (c.args.time.0, option_map arc_value c.args.document) c.push.ensures.versions k t
-    ∙ ap (λ b. one_more (put_meant key c.args.time c.args.document) k t b) (are k t)
-    ∙ sym (one_more_put puts (put_meant key c.args.time c.args.document) k t)
+    ∙ ap (λ b. one_more (put_view key c.args.time c.args.document) k t b) (are k t)
+    ∙ sym (one_more_put puts (put_view key c.args.time c.args.document) k t)
 
 pub returns-in-Some-clause-last : goal.returns-in-Some-clause-last
 unfolding last_in

@@ -5,9 +5,9 @@ use Rattle.node_model.specs.Letters.{Letter}
 use Rattle.node_model.specs.RouterRows as rows
 use Rattle.node_model.specs.States as states
 use Rattle.node_model.specs.Tables.{table_of}
-use Rattle.open_requests.proofs.Askers.{shards_alike}
-use Rattle.open_requests.specs.Askers.{letters_of}
-use Rattle.open_requests.specs.Works.{open_meant, wait_meant, work_meant}
+use Rattle.router_requests.proofs.Askers.{shards_alike}
+use Rattle.router_requests.specs.Askers.{letters_of}
+use Rattle.router_requests.specs.Works.{open_view, wait_view, work_view}
 use Rattle.router_node.specs.RouterStates.{router_of}
 use Rattle.router_node.specs.Rows.{started}
 use Rattle.router_node.proofs.Again.{shards_again}
@@ -17,12 +17,12 @@ pub returns-in-Some : goal.returns-in-Some
 returns-in-Some c =
     let n = c.args.self.now in
     let r = started (router_of n) in
-    let q = open_meant n.me.0 n.life c.args.request.now in
+    let q = open_view n.me.0 n.life c.args.request.now in
     let time = c.args.time.0 in
     let table = c.in-Some.table.now in
     let known : table_of q.namespace r.tables ≡ Some table = sym c.table_of.ensures ∙ ap (λ o. option_map (λ t. t.now) o) c.in-Some.is in
     subst (λ (ls : List Letter). IfOk c.asks_shards.result (λ m. letters_of m ≡ ls))
-    (ap (λ (x : states.Router). rows.asks_shards x time q.count q.namespace table (work_meant (rows.id_of x q.count) c.args.request.now.work)) c.asker-asker.ensures
+    (ap (λ (x : states.Router). rows.asks_shards x time q.count q.namespace table (work_view (rows.id_of x q.count) c.args.request.now.work)) c.asker-asker.ensures
     ∙ shards_alike r time q.count q.namespace table q.work
-    ∙ sym (shards_again r time q table (ap wait_meant c.in-ForShards.is) known))
+    ∙ sym (shards_again r time q table (ap wait_view c.in-ForShards.is) known))
     c.asks_shards.ensures

@@ -2,14 +2,14 @@ use Rattle.std.proofs.Common.{◌≡◌, ap, sym, subst, ◌∙◌, List}
 use Rattle.node_model.specs.Letters.{Letter}
 use Rattle.node_model.specs.RouterRows as rows
 use Rattle.node_model.specs.States as states
-use Rattle.open_requests.specs.Askers.{letters_of}
-use Rattle.open_requests.specs.Works.{open_meant, work_meant}
+use Rattle.router_requests.specs.Askers.{letters_of}
+use Rattle.router_requests.specs.Works.{open_view, work_view}
 use Rattle.router_node.specs.RouterStates.{router_of}
 use Rattle.router_node.proofs.Puts.{some_same}
 use Rattle.std.specs.Prelude.{IfOk}
 use Rattle.std.specs.Option.{option_map}
 use Rattle.node_model.specs.Tables.{Table}
-use Rattle.open_requests.proofs.Askers.{shards_alike}
+use Rattle.router_requests.proofs.Askers.{shards_alike}
 use Rattle.router_node.specs.Nexts.{tables_told}
 use Rattle.router_node.proofs.node.RouterNode.asks_next.Goals as goal
 
@@ -27,12 +27,12 @@ pub returns-in-Some : goal.returns-in-Some
 returns-in-Some c =
     let n = c.args.self.now in
     let r = router_of n in
-    let q = open_meant n.me.0 n.life c.args.request.now in
+    let q = open_view n.me.0 n.life c.args.request.now in
     let time = c.args.time.0 in
     let next = c.in-GoesOn.ensures r time (tables_told c.args.told.now r.tables) c.requires in
     let same : c.in-Some.table.now ≡ next.0 = some_same c.in-Some.table.now next.0 (sym (ap (λ o. option_map (λ t. t.now) o) c.in-Some.is) ∙ next.1) in
     subst (λ (ls : List Letter). IfOk c.asks_shards.result (λ m. letters_of m ≡ ls))
-    (ap (λ (x : states.Router). rows.asks_shards x time q.count q.namespace c.in-Some.table.now (work_meant (rows.id_of x q.count) c.args.request.now.work)) c.asker.ensures
+    (ap (λ (x : states.Router). rows.asks_shards x time q.count q.namespace c.in-Some.table.now (work_view (rows.id_of x q.count) c.args.request.now.work)) c.asker.ensures
     ∙ shards_alike r time q.count q.namespace c.in-Some.table.now q.work
     ∙ ap (λ (t : Table). rows.asks_shards r time q.count q.namespace t q.work) same
     ∙ sym (ap (λ (x : rows.Next). rows.letters_in x) next.2))

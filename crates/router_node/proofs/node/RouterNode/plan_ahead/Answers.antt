@@ -2,12 +2,12 @@ use Rattle.std.proofs.Common.{ap, ◌∙◌, ℕ, [], ◌∷◌, arith, rules}
 use Rattle.node_model.specs.Answers.{refusal_answer}
 use Rattle.node_model.specs.RouterRows as rows
 use Rattle.node_traits.specs.Effects.{puts_of}
-use Rattle.node_traits.specs.Ids.{id_meant}
-use Rattle.open_requests.specs.Works.{open_meant, stages_of, telling_meant}
+use Rattle.node_traits.specs.Ids.{id_view}
+use Rattle.router_requests.specs.Works.{open_view, stages_of, telling_view}
 use Rattle.router_node.specs.RouterStates.{router_of}
 use Rattle.router_node.proofs.Heard.{heard_by}
 use Rattle.node_model.specs.Answers.{answer_document}
-use Rattle.command_answers.specs.Refusals.{refusal_meant}
+use Rattle.command_replies.specs.Refusals.{refusal_view}
 use Rattle.std.proofs.Common.{w32}
 use mir.Val.{SFits}
 use Rattle.node_model.specs.Refusals.{Refusal, time_ahead}
@@ -19,10 +19,10 @@ pub returns : goal.returns
 returns c = λ m is late.
     let n = c.args.self.now in
     let r = router_of n in
-    let q = open_meant n.me.0 n.life c.args.request.now in
-    let id = id_meant c.args.id in
+    let q = open_view n.me.0 n.life c.args.request.now in
+    let id = id_view c.args.id in
     let fits : SFits w32 c.args.request.now.number = search rules in
     heard_by r m c.hears.result c.args.time.0 late _ _ _ c.hears.ensures (λ e. e)
-    (time_ahead_told r m id q c.requires.open c.args.read.now.named c.args.read.now.at.0 (stages_of c.args.read.now.parts) (telling_meant c.args.read.now.telling) _ is c.requires.work c.requires.waits (omega (arith, c.requires.ahead, late))
-    (told_as _ (rows.id_of r q.count) (rows.heard r m) q.link q.number q.request (answer_document (refusal_answer (refusal_meant c.time_ahead.result))) fits (c.in_ok-reply.ensures (rows.id_of r q.count) (rows.heard r m))
+    (time_ahead_told r m id q c.requires.open c.args.read.now.named c.args.read.now.at.0 (stages_of c.args.read.now.parts) (telling_view c.args.read.now.telling) _ is c.requires.work c.requires.waits (omega (arith, c.requires.ahead, late))
+    (told_as _ (rows.id_of r q.count) (rows.heard r m) q.link q.number q.request (answer_document (refusal_answer (refusal_view c.time_ahead.result))) fits (c.in_ok-reply.ensures (rows.id_of r q.count) (rows.heard r m))
     ∙ ap (λ (x : Refusal). puts_of (rows.reply_to r (rows.heard r m) q (refusal_answer x) ∷ [])) (c.time_ahead.ensures ∙ ap (λ (t : ℕ). time_ahead t) late)))

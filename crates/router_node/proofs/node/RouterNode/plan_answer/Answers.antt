@@ -1,10 +1,10 @@
 use Rattle.std.proofs.Common.{rules, w32}
 use mir.Val.{SFits}
-use Rattle.command_answers.specs.AnswerMeanings.{answer_meant}
+use Rattle.command_replies.specs.AnswerMeanings.{answer_view}
 use Rattle.node_model.specs.Answers.{answer_document}
 use Rattle.node_model.specs.RouterRows as rows
 use Rattle.node_traits.specs.Lists.{listed}
-use Rattle.open_requests.specs.Works.{open_meant}
+use Rattle.router_requests.specs.Works.{open_view}
 use Rattle.router_node.specs.RouterStates.{router_of}
 use Rattle.router_node.proofs.Puts.{told_as}
 use Rattle.router_node.proofs.Shown.{told_plain}
@@ -14,8 +14,8 @@ pub returns : goal.returns
 returns c = λ m late may.
     let n = c.args.self.now in
     let r = router_of n in
-    let q = open_meant n.me.0 n.life c.args.request.now in
-    let answer = answer_meant c.args.answer.now in
+    let q = open_view n.me.0 n.life c.args.request.now in
+    let answer = answer_view c.args.answer.now in
     let fits : SFits w32 c.args.request.now.number = search rules in
     told_plain r m c.hears.result c.args.time.0 late q answer (listed c.in_ok-reply.reply)
     (told_as _ (rows.id_of r q.count) (rows.heard r m) q.link q.number q.request (answer_document answer) fits (c.in_ok-reply.ensures (rows.id_of r q.count) (rows.heard r m)))

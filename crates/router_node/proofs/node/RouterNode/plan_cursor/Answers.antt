@@ -2,12 +2,12 @@ use Rattle.std.proofs.Common.{◌≡◌, refl, ap, sym, subst, ◌∙◌, ℕ, L
 use mir.Val.{SFits}
 use Rattle.std.specs.Prelude.{Option, pos}
 use Rattle.std.specs.Arc.{arc_value}
-use Rattle.command_answers.specs.AnswerMeanings.{answer_meant}
+use Rattle.command_replies.specs.AnswerMeanings.{answer_view}
 use Rattle.node_model.specs.Answers.{Answer, answer_document, first_answer}
 use Rattle.node_model.specs.RouterRows as rows
 use Rattle.node_traits.specs.Effects.{AreSound, spellings}
 use Rattle.node_traits.specs.Lists.{listed}
-use Rattle.open_requests.specs.Works.{open_meant}
+use Rattle.router_requests.specs.Works.{open_view}
 use Rattle.router_cursors.specs.Numbers.{block_given, block_kept}
 use Rattle.router_node.specs.RouterStates.{router_of}
 use Rattle.router_node.specs.Tellings.{MayTell}
@@ -20,11 +20,11 @@ pub returns : goal.returns
 returns c = λ m late left may.
     let n = c.args.self.now in
     let r = router_of n in
-    let q = open_meant n.me.0 n.life c.args.request.now in
+    let q = open_view n.me.0 n.life c.args.request.now in
     let at = c.args.at.0 in
     let batch = map arc_value c.args.batch.documents.items in
     let rest = map arc_value c.args.batch.rest.items in
-    let answer = answer_meant c.in_ok-answer.answer in
+    let answer = answer_view c.in_ok-answer.answer in
     let fits : SFits w32 c.args.request.now.number = search rules in
     let opened : NewCursor = record { namespace = c.in_ok-copy.field-0; time = c.args.at; rest = c.args.batch.rest } in
     let told : answer ≡ first_answer (rows.batch_of q at (pos (rows.next_number r)) batch) =

@@ -14,7 +14,7 @@ use Rattle.router_node.specs.declared.step_plan.Change.{Change}
 use Rattle.router_node.proofs.Puts.{told_as}
 use Rattle.router_node.proofs.Started.{ok_starts}
 use Rattle.router_node.specs.declared.step_plan.Change.TheVariants.{Ends}
-use Rattle.command_words.specs.Commands.{kill_meant}
+use Rattle.command_words.specs.Commands.{kill_view}
 use Rattle.node_model.specs.Answers.{killed_answer}
 use Rattle.node_model.specs.Cursors.{Kills}
 use Rattle.router_cursors.specs.CursorLists.{closed_all}
@@ -34,7 +34,7 @@ returns c =
     let change : Change = Ends c.in_ok-closed.closed in
     ok_starts r c.starts.result n.quiet i r.time r.moment change (map letter_of c.new-mail.result) reply tt tt (refl, c.requires.few)
     (subst (λ (ls : List Letter). TookRow (started r) i ls reply (changed r r.time true r.moment change)) (sym (ap (λ (ms : List Message). map letter_of ms) c.new-mail.ensures))
-    (took_end r c.args.asked.link number request reply (kill_meant c.args.kill) c.in_ok-closing.closing.killed.items c.in_ok-closing.closing.missing.items c.in_ok-closed.closed c.requires.plan
+    (took_end r c.args.asked.link number request reply (kill_view c.args.kill) c.in_ok-closing.closing.killed.items c.in_ok-closing.closing.missing.items c.in_ok-closed.closed c.requires.plan
     (subst (λ (ns : List ℤ). Kills id c.args.kill.namespace r.cursors ns c.in_ok-closing.closing.killed.items c.in_ok-closing.closing.missing.items (closed_all id c.in_ok-closing.closing.killed.items r.cursors)) c.deref.ensures.value
     (c.in_ok-closing.ensures r.me r.life (r.count + 1)))
     (search rules)

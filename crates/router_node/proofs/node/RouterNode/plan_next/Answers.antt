@@ -1,7 +1,7 @@
 use Rattle.std.proofs.Common.{◌≡◌, ap, sym, subst, ◌∙◌, List, ℕ, ℤ, [], ◌∷◌, refl, map, rules, true, ◌+◌, w32, w64}
 use Rattle.std.proofs.lemmas.Int.{to_z-of_z}
 use mir.Val.{SFits, of_z, to_z}
-use Rattle.command_answers.specs.AnswerMeanings.{answer_meant}
+use Rattle.command_replies.specs.AnswerMeanings.{answer_view}
 use Rattle.node_model.specs.Answers.{Answer, answer_document}
 use Rattle.node_model.specs.Cursors.{ShowsNext}
 use Rattle.node_model.specs.Letters.{Letter, client_input}
@@ -18,7 +18,7 @@ use Rattle.router_node.specs.declared.step_plan.Change.{Change}
 use Rattle.router_node.proofs.Puts.{told_as}
 use Rattle.router_node.proofs.Started.{ok_starts}
 use Rattle.router_node.specs.declared.step_plan.Change.TheVariants.{Counts, Advances}
-use Rattle.command_words.specs.Commands.{more_meant}
+use Rattle.command_words.specs.Commands.{more_view}
 use Rattle.router_cursors.specs.CursorLists.{advanced, batch_of}
 use Rattle.router_node.proofs.Shown.{took_silent, took_batch}
 use Rattle.router_node.proofs.node.RouterNode.plan_next.Goals as goal
@@ -36,8 +36,8 @@ returns-then-head c =
     let change : Change = Counts in
     ok_starts r c.starts.result n.quiet i r.time r.moment change (map letter_of c.new-mail.result) reply tt tt (refl, c.requires.few)
     (subst (λ (ls : List Letter). TookRow (started r) i ls reply (changed r r.time true r.moment change)) (sym (ap (λ (ms : List Message). map letter_of ms) c.new-mail.ensures))
-    (took_silent r c.args.asked.link number request reply (more_meant c.args.more) c.requires.plan c.requires.shows.0 (batch_of c.args.more.cursor c.args.more.namespace c.args.shown) _ c.if-head.true c.requires.shows.1 c.requires.shows.2
-    (told_as reply id r.time c.args.asked.link number request (answer_document (answer_meant c.next_answer-answer.result)) fits (c.in_ok-reply.ensures id r.time)
+    (took_silent r c.args.asked.link number request reply (more_view c.args.more) c.requires.plan c.requires.shows.0 (batch_of c.args.more.cursor c.args.more.namespace c.args.shown) _ c.if-head.true c.requires.shows.1 c.requires.shows.2
+    (told_as reply id r.time c.args.asked.link number request (answer_document (answer_view c.next_answer-answer.result)) fits (c.in_ok-reply.ensures id r.time)
     ∙ ap (λ (x : Answer). puts_of (record { id = id; link = c.args.asked.link; number = number; request = request; time = r.time; document = answer_document x } ∷ [])) c.next_answer-answer.ensures)))
     c.starts.ensures
 
@@ -57,9 +57,9 @@ returns c =
     ok_starts r c.starts-else-head.result n.quiet i r.time r.moment change (map letter_of c.new-mail.result) reply tt tt (refl, c.requires.few)
     (subst (λ (ls : List Letter). TookRow (started r) i ls reply (changed r r.time true r.moment change)) (sym (ap (λ (ms : List Message). map letter_of ms) c.new-mail.ensures))
     (subst (λ (z : ℤ). TookRow (started r) i [] reply (changed r r.time true r.moment (Advances z c.len-count.result))) (sym same)
-    (took_batch r c.args.asked.link number request reply (more_meant c.args.more) c.requires.plan c.requires.shows.0 (batch_of c.args.more.cursor c.args.more.namespace c.args.shown) c.len-count.result c.if-head.false c.requires.shows.1
+    (took_batch r c.args.asked.link number request reply (more_view c.args.more) c.requires.plan c.requires.shows.0 (batch_of c.args.more.cursor c.args.more.namespace c.args.shown) c.len-count.result c.if-head.false c.requires.shows.1
     (subst (λ (k : ℕ). ShowsNext id c.args.more.size r.cursors c.requires.shows.0 (batch_of c.args.more.cursor c.args.more.namespace c.args.shown) (advanced id c.args.more.cursor k r.cursors))
     (sym (c.len-count.ensures ∙ c.args.shown.documents.ok.0)) c.requires.shows.2)
-    (told_as reply id r.time c.args.asked.link number request (answer_document (answer_meant c.next_answer-answer.result)) fits (c.in_ok-reply.ensures id r.time)
+    (told_as reply id r.time c.args.asked.link number request (answer_document (answer_view c.next_answer-answer.result)) fits (c.in_ok-reply.ensures id r.time)
     ∙ ap (λ (x : Answer). puts_of (record { id = id; link = c.args.asked.link; number = number; request = request; time = r.time; document = answer_document x } ∷ [])) c.next_answer-answer.ensures))))
     c.starts-else-head.ensures

@@ -15,8 +15,8 @@ use Rattle.router_node.specs.declared.step_plan.Change.{Change}
 use Rattle.router_node.proofs.Puts.{told_as}
 use Rattle.router_node.proofs.Started.{ok_starts}
 use Rattle.router_node.specs.declared.step_plan.Change.TheVariants.{Counts}
-use Rattle.command_answers.specs.Refusals.{refusal_meant}
-use Rattle.command_words.specs.Commands.{more_meant}
+use Rattle.command_replies.specs.Refusals.{refusal_view}
+use Rattle.command_words.specs.Commands.{more_view}
 use Rattle.node_model.specs.Answers.{refusal_answer}
 use Rattle.node_model.specs.Errors.{cursor_not_found}
 use Rattle.node_model.specs.Refusals.{Refusal, cursor_evidence}
@@ -38,7 +38,7 @@ returns c =
     let change : Change = Counts in
     ok_starts r c.starts.result n.quiet i r.time r.moment change (map letter_of c.new-mail.result) reply tt tt (refl, c.requires.few)
     (subst (λ (ls : List Letter). TookRow (started r) i ls reply (changed r r.time true r.moment change)) (sym (ap (λ (ms : List Message). map letter_of ms) c.new-mail.ensures))
-    (took_not_open r c.args.asked.link number request reply (more_meant c.args.more) c.requires.plan c.requires.none
-    (told_as reply id r.time c.args.asked.link number request (answer_document (refusal_answer (refusal_meant c.not_open.result))) fits (c.in_ok-reply.ensures id r.time)
+    (took_not_open r c.args.asked.link number request reply (more_view c.args.more) c.requires.plan c.requires.none
+    (told_as reply id r.time c.args.asked.link number request (answer_document (refusal_answer (refusal_view c.not_open.result))) fits (c.in_ok-reply.ensures id r.time)
     ∙ ap (λ (x : Answer). puts_of (record { id = id; link = c.args.asked.link; number = number; request = request; time = r.time; document = answer_document x } ∷ [])) (ap (λ (x : Refusal). refusal_answer x) (c.not_open.ensures ∙ ap (λ (z : ℤ). record { error = cursor_not_found; evidence = cursor_evidence z }) (to_z-of_z w64 c.args.more.cursor whole))))))
     c.starts.ensures

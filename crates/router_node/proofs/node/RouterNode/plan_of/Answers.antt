@@ -1,14 +1,14 @@
 use Rattle.std.proofs.Common.{◌≡◌, sym, ap, subst, rules}
 use Rattle.std.specs.Prelude.{Result, Err, IfOk}
 use Rattle.command_words.specs.Command.{command_in}
-use Rattle.command_words.specs.Commands.{Answers, command_meant}
+use Rattle.command_words.specs.Commands.{Answers, command_view}
 use Rattle.command_words.specs.declared.fault.CommandFault.{CommandFault}
 use Rattle.node_model.specs.Command.{Command}
 use Rattle.node_model.specs.Refusals.{Refusal}
 use Rattle.node_model.specs.RouterRows as rows
-use Rattle.opmsg_frames.specs.RequestMeanings.{form_meant}
+use Rattle.opmsg_frames.specs.RequestMeanings.{form_view}
 use Rattle.protocol_model.specs.Requests.{body_of}
-use Rattle.router_replies.specs.Plans.{plan_meant}
+use Rattle.router_replies.specs.Plans.{plan_view}
 use Rattle.router_node.specs.RouterStates.{router_of}
 use Rattle.router_node.specs.Rows.{started}
 use Rattle.router_replies.proofs.TakenBodies.{taken_small}
@@ -17,15 +17,15 @@ use Rattle.router_node.proofs.node.RouterNode.plan_of.Goals as goal
 pub plan_command-requires : goal.plan_command-requires
 plan_command-requires c =
     let taken = c.is_taken.ensures (search rules) in
-    taken_small (form_meant c.args.sent) c.args.body (command_meant c.in-Ok.command) taken (c.in-Ok.ensures (body_of c.args.body) taken.meant)
+    taken_small (form_view c.args.sent) c.args.body (command_view c.in-Ok.command) taken (c.in-Ok.ensures (body_of c.args.body) taken.meant)
 
 pub returns-in-Ok : goal.returns-in-Ok
 returns-in-Ok c = λ id.
-    subst (λ (x : Result Command Refusal). IfOk c.plan_command.result (λ plan. plan_meant id plan ≡ rows.plan_of (started (router_of c.args.self.now)) id c.args.silent x))
+    subst (λ (x : Result Command Refusal). IfOk c.plan_command.result (λ plan. plan_view id plan ≡ rows.plan_of (started (router_of c.args.self.now)) id c.args.silent x))
     (sym (c.in-Ok.ensures (body_of c.args.body) (c.is_taken.ensures (search rules)).meant)) (c.plan_command.ensures id)
 
 pub returns-in-Err-Refused : goal.returns-in-Err-Refused
 returns-in-Err-Refused c = λ id.
-    let told = subst (λ (e : CommandFault). Answers (Err e) (command_in (form_meant c.args.sent) (body_of c.args.body))) c.in-Err-Refused.field-0-is
+    let told = subst (λ (e : CommandFault). Answers (Err e) (command_in (form_view c.args.sent) (body_of c.args.body))) c.in-Err-Refused.field-0-is
     (c.in-Err-Refused.ensures (body_of c.args.body) (c.is_taken.ensures (search rules)).meant) in
     sym (ap (λ (x : Result Command Refusal). rows.plan_of (started (router_of c.args.self.now)) id c.args.silent x) told)

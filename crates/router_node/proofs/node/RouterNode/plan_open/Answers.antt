@@ -1,7 +1,7 @@
 use Rattle.std.proofs.Common.{subst, ◌∙◌, [], refl, map, rules}
 use Rattle.node_model.specs.Letters.{client_input}
 use Rattle.node_model.specs.RouterRows as rows
-use Rattle.open_requests.specs.declared.work.OpenRequest.{OpenRequest}
+use Rattle.router_requests.specs.declared.work.OpenRequest.{OpenRequest}
 use Rattle.protocol_model.specs.Messages.{letter_of}
 use Rattle.protocol_model.specs.Heads.{head_request}
 use Rattle.router_node.specs.RouterStates.{router_of}

@@ -1,10 +1,10 @@
 use Rattle.std.proofs.Common.{ap, sym, ◌∙◌, ℕ}
 use Rattle.node_model.specs.Letters.{read_rows}
-use Rattle.protocol_model.specs.Bodies.{rows_meant}
+use Rattle.protocol_model.specs.Bodies.{rows_view}
 use Rattle.node_model.specs.RouterRows as rows
-use Rattle.node_traits.specs.Ids.{id_meant}
-use Rattle.open_requests.specs.Works.{open_meant, work_meant}
-use Rattle.open_requests.specs.declared.work.Work.{Work}
+use Rattle.node_traits.specs.Ids.{id_view}
+use Rattle.router_requests.specs.Works.{open_view, work_view}
+use Rattle.router_requests.specs.declared.work.Work.{Work}
 use Rattle.router_node.specs.RouterStates.{router_of}
 use Rattle.router_node.proofs.Heard.{heard_late}
 use Rattle.router_node.proofs.Fates.{rows_of_none, rows_of_write, rows_of_turn}
@@ -13,25 +13,25 @@ use Rattle.router_node.proofs.node.RouterNode.plan_rows.Goals as goal
 pub returns-in-None : goal.returns-in-None
 returns-in-None c = λ m is late.
     let n = c.args.self.now in
-    heard_late (router_of n) m c.late.result c.args.time.0 late c.late.ensures (rows_of_none (router_of n) m (id_meant c.args.told.id) _ _ is (sym c.in-None.ensures))
+    heard_late (router_of n) m c.late.result c.args.time.0 late c.late.ensures (rows_of_none (router_of n) m (id_view c.args.told.id) _ _ is (sym c.in-None.ensures))
 
 pub returns-in-Writing : goal.returns-in-Writing
 returns-in-Writing c = λ m is late.
     let n = c.args.self.now in
-    let q = open_meant n.me.0 n.life c.in-Some.request.now in
+    let q = open_view n.me.0 n.life c.in-Some.request.now in
     heard_late (router_of n) m c.late-in-Writing.result c.args.time.0 late c.late-in-Writing.ensures
-    (rows_of_write (router_of n) m (id_meant c.args.told.id) q (sym c.in-Some.ensures) _ _ _ _ _ _ is (ap (λ (w : Work). work_meant (rows.id_of (router_of n) c.in-Some.request.now.count) w) c.in-Writing.is))
+    (rows_of_write (router_of n) m (id_view c.args.told.id) q (sym c.in-Some.ensures) _ _ _ _ _ _ is (ap (λ (w : Work). work_view (rows.id_of (router_of n) c.in-Some.request.now.count) w) c.in-Writing.is))
 
 pub returns-else-is_first : goal.returns-else-is_first
 returns-else-is_first c = λ m is late.
     let n = c.args.self.now in
-    let q = open_meant n.me.0 n.life c.in-Some.request.now in
+    let q = open_view n.me.0 n.life c.in-Some.request.now in
     heard_late (router_of n) m c.late-else-is_first.result c.args.time.0 late c.late-else-is_first.ensures
-    (rows_of_turn (router_of n) m (id_meant c.args.told.id) q (sym c.in-Some.ensures) _ _ _ _ _ _ is (ap (λ (w : Work). work_meant (rows.id_of (router_of n) c.in-Some.request.now.count) w) c.in-Reading.is)
+    (rows_of_turn (router_of n) m (id_view c.args.told.id) q (sym c.in-Some.ensures) _ _ _ _ _ _ is (ap (λ (w : Work). work_view (rows.id_of (router_of n) c.in-Some.request.now.count) w) c.in-Reading.is)
     (c.is_first.ensures.other c.if-is_first.false))
 
 pub returns-then-is_first : goal.returns-then-is_first
 returns-then-is_first c = λ m is late.
     let n = c.args.self.now in
-    c.plan_told.ensures m (id_meant c.args.told.id) (is ∙ ap (λ (turn : ℕ). read_rows (id_meant c.args.told.id) turn (rows_meant c.args.told.rows)) (c.is_first.ensures.first c.if-is_first.true)) late (sym c.in-Some.ensures)
-    (ap (λ (w : Work). work_meant (rows.id_of (router_of n) c.in-Some.request.now.count) w) c.in-Reading.is)
+    c.plan_told.ensures m (id_view c.args.told.id) (is ∙ ap (λ (turn : ℕ). read_rows (id_view c.args.told.id) turn (rows_view c.args.told.rows)) (c.is_first.ensures.first c.if-is_first.true)) late (sym c.in-Some.ensures)
+    (ap (λ (w : Work). work_view (rows.id_of (router_of n) c.in-Some.request.now.count) w) c.in-Reading.is)

@@ -1,9 +1,9 @@
 use Rattle.std.proofs.Common.{ap, sym, ◌∙◌}
 use Rattle.node_model.specs.RouterRows as rows
-use Rattle.node_traits.specs.Ids.{id_meant}
-use Rattle.open_requests.specs.Works.{open_meant, work_meant, wait_meant}
-use Rattle.open_requests.specs.declared.work.Work.{Work}
-use Rattle.open_requests.specs.declared.work.Wait.{Wait}
+use Rattle.node_traits.specs.Ids.{id_view}
+use Rattle.router_requests.specs.Works.{open_view, work_view, wait_view}
+use Rattle.router_requests.specs.declared.work.Work.{Work}
+use Rattle.router_requests.specs.declared.work.Wait.{Wait}
 use Rattle.router_node.specs.RouterStates.{router_of}
 use Rattle.router_node.proofs.Heard.{heard_late}
 use Rattle.router_node.proofs.Fates.{time_of_none, time_of_write, time_not_awaited}
@@ -12,27 +12,27 @@ use Rattle.router_node.proofs.node.RouterNode.plan_time.Goals as goal
 pub returns-in-None : goal.returns-in-None
 returns-in-None c = λ m is late.
     let n = c.args.self.now in
-    heard_late (router_of n) m c.late.result c.args.time.0 late c.late.ensures (time_of_none (router_of n) m (id_meant c.args.told.now.id) is (sym c.in-None.ensures))
+    heard_late (router_of n) m c.late.result c.args.time.0 late c.late.ensures (time_of_none (router_of n) m (id_view c.args.told.now.id) is (sym c.in-None.ensures))
 
 pub returns-in-Writing : goal.returns-in-Writing
 returns-in-Writing c = λ m is late.
     let n = c.args.self.now in
-    let q = open_meant n.me.0 n.life c.in-Some.request.now in
+    let q = open_view n.me.0 n.life c.in-Some.request.now in
     heard_late (router_of n) m c.late-in-Writing.result c.args.time.0 late c.late-in-Writing.ensures
-    (time_of_write (router_of n) m (id_meant c.args.told.now.id) q (sym c.in-Some.ensures) _ _ _ _ is (ap (λ (w : Work). work_meant (rows.id_of (router_of n) c.in-Some.request.now.count) w) c.in-Writing.is))
+    (time_of_write (router_of n) m (id_view c.args.told.now.id) q (sym c.in-Some.ensures) _ _ _ _ is (ap (λ (w : Work). work_view (rows.id_of (router_of n) c.in-Some.request.now.count) w) c.in-Writing.is))
 
 pub returns-in-ForTable : goal.returns-in-ForTable
 returns-in-ForTable c = λ m is late.
     let n = c.args.self.now in
-    let q = open_meant n.me.0 n.life c.in-Some.request.now in
+    let q = open_view n.me.0 n.life c.in-Some.request.now in
     heard_late (router_of n) m c.late-in-ForTable.result c.args.time.0 late c.late-in-ForTable.ensures
-    (time_not_awaited (router_of n) m (id_meant c.args.told.now.id) q (sym c.in-Some.ensures) _ _ _ _ is (ap (λ (w : Work). work_meant (rows.id_of (router_of n) c.in-Some.request.now.count) w) c.in-Reading.is)
-    (λ e. cc (sym (ap (λ (w : Wait). wait_meant w) c.in-ForTable.is) ∙ e)))
+    (time_not_awaited (router_of n) m (id_view c.args.told.now.id) q (sym c.in-Some.ensures) _ _ _ _ is (ap (λ (w : Work). work_view (rows.id_of (router_of n) c.in-Some.request.now.count) w) c.in-Reading.is)
+    (λ e. cc (sym (ap (λ (w : Wait). wait_view w) c.in-ForTable.is) ∙ e)))
 
 pub returns-in-ForShards : goal.returns-in-ForShards
 returns-in-ForShards c = λ m is late.
     let n = c.args.self.now in
-    let q = open_meant n.me.0 n.life c.in-Some.request.now in
+    let q = open_view n.me.0 n.life c.in-Some.request.now in
     heard_late (router_of n) m c.late-in-ForShards.result c.args.time.0 late c.late-in-ForShards.ensures
-    (time_not_awaited (router_of n) m (id_meant c.args.told.now.id) q (sym c.in-Some.ensures) _ _ _ _ is (ap (λ (w : Work). work_meant (rows.id_of (router_of n) c.in-Some.request.now.count) w) c.in-Reading.is)
-    (λ e. cc (sym (ap (λ (w : Wait). wait_meant w) c.in-ForShards.is) ∙ e)))
+    (time_not_awaited (router_of n) m (id_view c.args.told.now.id) q (sym c.in-Some.ensures) _ _ _ _ is (ap (λ (w : Work). work_view (rows.id_of (router_of n) c.in-Some.request.now.count) w) c.in-Reading.is)
+    (λ e. cc (sym (ap (λ (w : Wait). wait_view w) c.in-ForShards.is) ∙ e)))

@@ -3,8 +3,8 @@ use Rattle.node_model.specs.Answers.{Answer}
 use Rattle.node_model.specs.RouterRows as rows
 use Rattle.node_traits.specs.Effects.{puts_of}
 use Rattle.node_traits.specs.Lists.{listed}
-use Rattle.command_answers.specs.AnswerMeanings.{answer_meant}
-use Rattle.open_requests.specs.Works.{open_meant}
+use Rattle.command_replies.specs.AnswerMeanings.{answer_view}
+use Rattle.router_requests.specs.Works.{open_view}
 use Rattle.router_node.specs.RouterStates.{router_of}
 use Rattle.node_model.specs.Answers.{answer_document}
 use Rattle.std.proofs.Common.{w32, ℤ}
@@ -30,9 +30,9 @@ pub returns-in_ok-answer-in-IsTold : goal.returns-in_ok-answer-in-IsTold
 returns-in_ok-answer-in-IsTold c =
     let n = c.args.self.now in
     let r = router_of n in
-    let q = open_meant n.me.0 n.life c.args.request.now in
+    let q = open_view n.me.0 n.life c.args.request.now in
     let time = c.args.time.0 in
-    let answer = answer_meant c.in_ok-answer-in-IsTold.answer in
+    let answer = answer_view c.in_ok-answer-in-IsTold.answer in
     let told = c.in-IsTold.ensures r time (tables_told c.args.told.now r.tables) c.requires in
     let fits : SFits w32 c.args.request.now.number = search rules in
     subst (λ (rs : List ToLink). IfOk c.reply_to.result (λ reply. listed reply ≡ rs))

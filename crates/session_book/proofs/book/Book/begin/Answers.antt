@@ -1,6 +1,6 @@
 use Rattle.std.proofs.Common.{◌≡◌, ◌∙◌, ◌++◌, ◌∷◌, [], length, ℕ, Some, sym, ap, subst, refl}
 use Rattle.std.proofs.lemmas.Option.{same_Some}
-use Rattle.session_book.specs.Meanings.{session_meant}
+use Rattle.session_book.specs.Meanings.{session_view}
 use Rattle.session_book.specs.Places.{place_of}
 use Rattle.session_book.specs.declared.book.Place.{Place}
 use Rattle.session_book.proofs.Sessions.{place_after}
@@ -9,7 +9,7 @@ use Rattle.session_book.proofs.book.Book.begin.Goals as goal
 
 pub invariant_of-self-2 : goal.invariant_of-self-2
 invariant_of-self-2 c =
-    let s = session_meant c.args.s in
+    let s = session_view c.args.s in
     let ks = c.args.self.now.kept.items in
     let old = c.args.self.now.places in
     let more = c.insert.new.self in
@@ -18,14 +18,14 @@ invariant_of-self-2 c =
     let added = place_after old more c.args.s (length ks) (λ q. rw (sym long) (c.in_ok-insert.ensures.updates.0 q)) in
     record {
       known = λ p is.
-          subst (λ (q : Place). place_of more.entries (session_meant q.session) ≡ Some q.place) (same_Some _ p is)
+          subst (λ (q : Place). place_of more.entries (session_view q.session) ≡ Some q.place) (same_Some _ p is)
           (added_there old.entries ks c.args.self.now.apart s c.requires more.entries c.args.kept added ∙ ap (λ (n : ℕ). Some n) (sym long));
       apart = rw behind (added_apart old.entries ks c.args.self.now.apart s c.requires more.entries c.args.kept added);
     }
 
 pub returns-clause-ok : goal.returns-clause-ok
 returns-clause-ok c = λ x.
-    let s = session_meant c.args.s in
+    let s = session_view c.args.s in
     let ks = c.args.self.now.kept.items in
     let old = c.args.self.now.places in
     let more = c.insert.new.self in

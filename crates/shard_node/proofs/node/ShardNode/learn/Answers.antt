@@ -7,12 +7,12 @@ use Rattle.node_traits.specs.Letters.{letter_input, writes}
 use Rattle.node_traits.specs.ShardRows.{ShardRow, shard_learn, tries, wants_table}
 use Rattle.shard_records.specs.Records.{table_record}
 use Rattle.shard_records.specs.RecordFormat.{spelled, IsSound}
-use Rattle.shard_node.specs.State.{shard_meant}
+use Rattle.shard_node.specs.State.{shard_view}
 use Rattle.shard_node.proofs.node.ShardNode.learn.Goals as goal
 
 pub returns-clause-planned : goal.returns-clause-planned
 returns-clause-planned c = λ m namespace create at body timed.
-    let s = shard_meant c.args.self.now in
+    let s = shard_view c.args.self.now in
     let t = arc_value c.args.table in
     let name : c.namespace.result.now ≡ t.namespace = c.namespace.ensures ∙ ap (λ (x : Table). x.namespace) c.deref-2.ensures in
     record {

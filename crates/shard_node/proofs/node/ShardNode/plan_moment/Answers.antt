@@ -7,12 +7,12 @@ use Rattle.node_traits.specs.ShardRows.{asks_again, shard_moment}
 use Rattle.protocol_model.specs.Messages.{letter_of}
 use Rattle.protocol_model.specs.declared.message.Message.{Message}
 use Rattle.shard_node.proofs.Planned.{sends_planned}
-use Rattle.shard_node.specs.State.{shard_meant}
+use Rattle.shard_node.specs.State.{shard_view}
 use Rattle.shard_node.proofs.node.ShardNode.plan_moment.Goals as goal
 
 pub returns-clause-planned : goal.returns-clause-planned
 returns-clause-planned c =
-    let s = shard_meant c.args.self.now in
+    let s = shard_view c.args.self.now in
     let at = c.loop-message in
     let items = c.deref-message-items.result.now in
     let is : c.later-time.result.0 ≡ max s.time (time_of_moment c.args.moment) = c.later-time.ensures ∙ ap (λ (t : ℕ). max s.time t) c.moment_time.ensures in

@@ -4,7 +4,7 @@ use Rattle.std.specs.Arc.{arc_value}
 use Rattle.node_traits.specs.Letters.{letter_input}
 use Rattle.node_traits.specs.ShardRows.{heard, is_news, shard_known}
 use Rattle.shard_node.proofs.Planned.{quiet_planned}
-use Rattle.shard_node.specs.State.{shard_meant}
+use Rattle.shard_node.specs.State.{shard_view}
 use Rattle.shard_node.proofs.node.ShardNode.plan_table.Goals as goal
 
 pub learn-requires : goal.learn-requires
@@ -14,7 +14,7 @@ learn-requires c = record {
 
 pub returns-clause-planned : goal.returns-clause-planned
 returns-clause-planned c = λ m namespace create at body timed.
-    let s = shard_meant c.args.self.now in
+    let s = shard_view c.args.self.now in
     let planned = c.of_time.ensures in
     quiet_planned s (letter_input m) c.of_time.result (heard s m) (ap (λ t. t.0) planned.time ∙ timed) planned.change planned.records planned.mail
     (shard_known s m namespace create at (Some (arc_value c.args.table)) body

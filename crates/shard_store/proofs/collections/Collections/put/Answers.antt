@@ -6,7 +6,7 @@ use Rattle.std.proofs.lemmas.Slice.Eq.{bytes_eq-Decides}
 use Rattle.std.proofs.lemmas.Map.Text.{text_keys}
 use Rattle.value_compare.specs.Order.{same_value}
 use Rattle.history_model.specs.Versions.{one_more}
-use Rattle.mvcc_collection.specs.Collections.{put_meant}
+use Rattle.mvcc_collection.specs.Collections.{put_view}
 use Rattle.shard_store.proofs.Named.{changed_at, turned_bytes}
 use Rattle.shard_store.specs.Collections.{at_of, last_of, room_of, shown_in, last_under, room_under}
 use Rattle.shard_store.proofs.collections.Collections.put.Goals as goal
@@ -21,7 +21,7 @@ returns-in-Some-clause-shown c = λ n k t.
     let grown : get_by_text (c.get_mut.follows.lender c.put.new.self) n ≡ (if bytes_eq n ns then Some c.put.new.self else get_by_text old n) = grind (arith, text_keys) in
     let changed : get_by_text (c.get_mut.follows.lender c.put.new.self) n ≡ (if bytes_eq ns n then Some c.put.new.self else get_by_text old n) =
     grown ∙ ap (λ (b : Bool). if b then Some c.put.new.self else get_by_text old n) (turned_bytes n ns) in
-    changed_at (λ o. at_of o k t) (λ x y. x ≡ (if bytes_eq ns n then one_more (put_meant c.args.key.now c.args.time c.args.document) k t y else y))
+    changed_at (λ o. at_of o k t) (λ x y. x ≡ (if bytes_eq ns n then one_more (put_view c.args.key.now c.args.time c.args.document) k t y else y))
     (bytes_eq ns n) (get_by_text old n) _ (Some c.in-Some.collection.now) c.put.new.self found changed (λ same. rw same (c.put.ensures.put k t)) (λ other. rw other refl)
 
 pub returns-in-Some-clause-last : goal.returns-in-Some-clause-last

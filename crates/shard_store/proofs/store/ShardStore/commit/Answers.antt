@@ -10,7 +10,7 @@ use Rattle.node_model.specs.History.{Entry}
 use Rattle.shard_store.proofs.Following.{next_on}
 use Rattle.shard_store.proofs.Seen.{sessions_same}
 use Rattle.shard_store.specs.Collections.{room_under}
-use Rattle.shard_store.specs.Entries.{entry_meant}
+use Rattle.shard_store.specs.Entries.{entry_view}
 use Rattle.shard_store.specs.Outcomes.{statement_of}
 use Rattle.shard_store.specs.Plans.{AreNext, IsBehind, IsOf}
 use Rattle.shard_store.specs.Stores.{entries_of, last_of, shard_of}
@@ -26,7 +26,7 @@ loop-planned-preserved c =
     let given = c.args.plan.number in
     let id = c.args.plan.id in
     let rest = into_iter_items c.next.new.self in
-    let entry = entry_meant (shard_of at.self) name p in
+    let entry = entry_view (shard_of at.self) name p in
     let steps : into_iter_items at.planned-iterator ≡ p ∷ rest = c.in-Some.ensures.steps.0 in
     let next : AreNext (entries_of at.self) (last_of at.self) name given id (p ∷ rest) =
     subst (λ (l : List Planned). AreNext (entries_of at.self) (last_of at.self) name given id l) steps was.next in
@@ -46,10 +46,10 @@ loop-planned-preserved c =
           omega arith;
       next = after;
       whole =
-          ap (λ (l : List Entry). l ++ map (entry_meant (shard_of c.enter.new.self) name) rest) c.enter.ensures.entries
-          ∙ ap (λ (s : ℕ). (entries_of at.self ++ entry ∷ []) ++ map (entry_meant s name) rest) c.enter.ensures.shard
-          ∙ append_assoc (entries_of at.self) (entry ∷ []) (map (entry_meant (shard_of at.self) name) rest)
-          ∙ ap (λ (l : List Planned). entries_of at.self ++ map (entry_meant (shard_of at.self) name) l) (sym steps)
+          ap (λ (l : List Entry). l ++ map (entry_view (shard_of c.enter.new.self) name) rest) c.enter.ensures.entries
+          ∙ ap (λ (s : ℕ). (entries_of at.self ++ entry ∷ []) ++ map (entry_view s name) rest) c.enter.ensures.shard
+          ∙ append_assoc (entries_of at.self) (entry ∷ []) (map (entry_view (shard_of at.self) name) rest)
+          ∙ ap (λ (l : List Planned). entries_of at.self ++ map (entry_view (shard_of at.self) name) l) (sym steps)
           ∙ was.whole;
       last = omega (arith, c.enter.ensures.last, past.0);
       past = past.1;

@@ -4,7 +4,7 @@ use Rattle.std.specs.List.{AllByRecursion}
 use Rattle.std.specs.Vec.Iter.{into_iter_items, into_iter_len}
 use Rattle.session_book.specs.Books.{room_in}
 use Rattle.shard_store.specs.Collections.{room_under}
-use Rattle.shard_store.specs.Entries.{entry_meant}
+use Rattle.shard_store.specs.Entries.{entry_view}
 use Rattle.shard_store.specs.Outcomes.{statement_of}
 use Rattle.shard_store.specs.Plans.{AreNext, made_by}
 use Rattle.shard_store.specs.Stores.{entries_of, last_of, shard_of}
@@ -15,7 +15,7 @@ abbrev pub invariant-loop-planned : goal.invariant-loop-planned
 invariant-loop-planned l = record {
   len : into_iter_len l.planned-iterator ≡ length (into_iter_items l.planned-iterator);
   next : AreNext (entries_of l.self) (last_of l.self) l.namespace l.fn.plan.number l.fn.plan.id (into_iter_items l.planned-iterator);
-  whole : entries_of l.self ++ map (entry_meant (shard_of l.self) l.namespace) (into_iter_items l.planned-iterator)
+  whole : entries_of l.self ++ map (entry_view (shard_of l.self) l.namespace) (into_iter_items l.planned-iterator)
       ≡ entries_of l.fn.self ++ made_by (shard_of l.fn.self) l.namespace l.fn.plan;
   last : last_of l.self ≤ l.fn.plan.last.0;
   past : AllByRecursion (λ (p : Planned). p.time.0 ≤ l.fn.plan.last.0) (into_iter_items l.planned-iterator);

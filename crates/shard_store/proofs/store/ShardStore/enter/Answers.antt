@@ -2,8 +2,8 @@ use Rattle.std.proofs.Common.{Some, sym, ap, ◌∙◌}
 use Rattle.std.specs.Prelude.{◌++◌, ◌∷◌, []}
 use Rattle.node_model.specs.History.{document_at}
 use Rattle.history_model.specs.Notes.{seen}
-use Rattle.session_book.specs.Books.{note_meant}
-use Rattle.session_book.specs.Meanings.{number_meant}
+use Rattle.session_book.specs.Books.{note_view}
+use Rattle.session_book.specs.Meanings.{number_view}
 use Rattle.shard_store.proofs.Facts.{entries_grown, notes_grown, past_grown, versions_grown}
 use Rattle.shard_store.proofs.Pushed.{shown_after}
 use Rattle.shard_store.proofs.Seen.{new_kept}
@@ -14,7 +14,7 @@ use Rattle.shard_store.proofs.store.ShardStore.enter.Goals as goal
 pub note-requires-clause-new : goal.note-requires-clause-new
 note-requires-clause-new c =
     let store = c.args.self.now in
-    let number = number_meant c.args.planned.statement in
+    let number = number_view c.args.planned.statement in
     store.noted number
     ∙ new_kept store.shard.0 number store.entries.items c.requires.next.unseen
 
@@ -39,6 +39,6 @@ invariant_of-self c =
           (c.enter.ensures.last n k) t e;
       noted = λ number.
           c.note.ensures.so_far (notes_kept kept) store.noted number
-          ∙ ap (λ reply. seen (notes_kept kept ++ note_meant p.statement p.time reply ∷ []) number) c.into_reply.ensures
+          ∙ ap (λ reply. seen (notes_kept kept ++ note_view p.statement p.time reply ∷ []) number) c.into_reply.ensures
           ∙ ap (λ l. seen l number) (sym (notes_grown store.shard.0 kept new name p grown));
     }

@@ -2,19 +2,19 @@ use Rattle.std.proofs.Common.{◌+◌, ◌++◌, ◌∷◌, ℕ, List, [], refl,
 use Rattle.std.specs.Prelude.{Option, Some, map}
 use Rattle.std.proofs.lemmas.List.{map-append}
 use Rattle.cluster_base.specs.declared.identity.RequestId.{RequestId}
-use Rattle.command_answers.specs.Kinds.{given_meant}
-use Rattle.command_answers.specs.declared.answer.ClientNumber.{ClientNumber}
+use Rattle.command_replies.specs.Kinds.{given_view}
+use Rattle.command_replies.specs.declared.answer.ClientNumber.{ClientNumber}
 use Rattle.node_model.specs.Exchanges.{number_for}
-use Rattle.node_traits.specs.Ids.{id_meant}
+use Rattle.node_traits.specs.Ids.{id_view}
 use Rattle.shard_store.proofs.Following.{again, next_from, own_from, served_next}
 use Rattle.shard_store.proofs.Lists.{none_passes}
-use Rattle.shard_store.specs.Entries.{entry_meant, operation_in, operation_of}
-use Rattle.shard_store.specs.Outcomes.{done_meant}
+use Rattle.shard_store.specs.Entries.{entry_view, operation_in, operation_of}
+use Rattle.shard_store.specs.Outcomes.{done_view}
 use Rattle.shard_store.specs.Plans.{AreNext, IsEffect, IsServed, left_for_later, made_by, time_of}
 use Rattle.shard_store.specs.Stores.{entries_of, last_of, shard_of}
 use Rattle.shard_store.specs.declared.entry.Planned.{Planned}
 use Rattle.shard_store.specs.declared.outcome.EntryResult.{EntryResult}
-use Rattle.shard_store.specs.declared.outcome.StatementAnswer.TheVariants.{WasDone}
+use Rattle.shard_store.specs.declared.outcome.StatementOutcome.TheVariants.{WasDone}
 use Rattle.shard_store.proofs.store.ShardStore.serve.Goals as goal
 
 pub returns-in-Some-clause-served : goal.returns-in-Some-clause-served
@@ -22,7 +22,7 @@ returns-in-Some-clause-served c = (
   [],
   sym (append-nil (made_by (shard_of c.args.self.now) c.args.namespace.now c.args.plan.now)),
   again (shard_of c.args.self.now) c.args.namespace.now (entries_of c.args.self.now) (last_of c.args.self.now) c.args.plan.now.number c.args.plan.now.id
-      c.args.plan.now.planned.items c.args.index (time_of c.args.plan.now) (operation_in c.args.words) (done_meant c.args.index c.in-Some.told)
+      c.args.plan.now.planned.items c.args.index (time_of c.args.plan.now) (operation_in c.args.words) (done_view c.args.index c.in-Some.told)
       c.requires.plan.next (search rules),
 )
 
@@ -81,13 +81,13 @@ returns-clause-served c =
     (subst (λ (i : RequestId). AreNext (entries_of store) (last_of store) name plan.number i c.push.new.self.planned.items) c.in_ok-push.ensures.id
     (subst (λ (g : Option ClientNumber). AreNext (entries_of store) (last_of store) name g c.push.new.self.id c.push.new.self.planned.items)
     c.in_ok-push.ensures.number pushed.next)) in (
-      entry_meant (shard_of store) name p ∷ [],
-      ap (λ (l : List Planned). map (entry_meant (shard_of store) name) l) c.in_ok-push.ensures.planned
-          ∙ map-append (entry_meant (shard_of store) name) plan.planned.items (p ∷ []),
+      entry_view (shard_of store) name p ∷ [],
+      ap (λ (l : List Planned). map (entry_view (shard_of store) name) l) c.in_ok-push.ensures.planned
+          ∙ map-append (entry_view (shard_of store) name) plan.planned.items (p ∷ []),
       subst
           (λ (t : ℕ). IsServed (shard_of store) name (entries_of store ++ made_by (shard_of store) name plan) (time_of plan)
-          (record { number = number_for (given_meant plan.number) (id_meant plan.id) c.args.index; operation = operation_in c.args.words })
-          (Some (done_meant c.args.index (WasDone told))) (entry_meant (shard_of store) name p ∷ []) t)
+          (record { number = number_for (given_view plan.number) (id_view plan.id) c.args.index; operation = operation_in c.args.words })
+          (Some (done_view c.args.index (WasDone told))) (entry_view (shard_of store) name p ∷ []) t)
           (sym c.in_ok-push.ensures.time)
           (served_next (shard_of store) name (entries_of store) (last_of store) plan.number plan.id plan.planned.items p c.args.index (time_of plan) (operation_in c.args.words) told all
           c.statement_number.ensures refl c.in_ok-words.ensures refl c.in_ok-copy.ensures),

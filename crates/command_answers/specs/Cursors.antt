@@ -1,8 +1,0 @@
--- What the program's batches mean.
-use Rattle.std.specs.Arc.{arc_value}
-use Rattle.std.specs.Prelude.{map}
-use Rattle.command_model.specs.Cursors as model
-use Rattle.command_answers.specs.declared.answer.Batch.{Batch}
-
-abbrev pub batch_meant : Batch → model.Batch
-batch_meant b = record { cursor = b.cursor; namespace = b.namespace; documents = map arc_value b.documents.items; time = b.time.0 }

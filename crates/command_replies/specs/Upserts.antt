@@ -1,0 +1,16 @@
+-- What the program's keys mean that upserts put in.
+use Rattle.std.specs.Arc.{arc_value}
+use Rattle.std.specs.Prelude.{ℕ, List, [], ◌∷◌}
+use Rattle.command_model.specs.Writes as model
+use Rattle.command_replies.specs.declared.answer.Upserted.{Upserted}
+
+abbrev pub key_view : Upserted → model.Upserted
+key_view u = record { index = u.index; key = arc_value u.key }
+
+abbrev pub upserted_view : List Upserted → List model.Upserted
+upserted_view [] = []
+upserted_view (u ∷ upserted) = key_view u ∷ upserted_view upserted
+
+-- what is told where nothing but changes is
+abbrev pub changes_alone : (modified : ℕ) → List model.Upserted → model.WriteSummary
+changes_alone modified upserted = record { count = 0; modified = modified; upserted = upserted; errors = []; time = 0 }

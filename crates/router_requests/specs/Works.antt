@@ -1,0 +1,56 @@
+-- What open requests of the program are, by the definitions.
+use Rattle.std.specs.Prelude.{ℕ, List, map}
+use Rattle.node_model.specs.Stages.{Stage}
+use Rattle.node_model.specs.Exchanges as asked
+use Rattle.node_model.specs.States as states
+use Rattle.node_model.specs.States.{in_batches, as_number, writing, reading, for_time, for_table, for_shards}
+use Rattle.command_replies.specs.Kinds.{given_view, kind_view}
+use Rattle.protocol_model.specs.Heads.{head_request}
+use Rattle.protocol_model.specs.Statements.{done_view, statement_view}
+use Rattle.router_requests.specs.declared.read.Parts.{Parts}
+use Rattle.router_requests.specs.declared.read.OpenRead.{OpenRead}
+use Rattle.router_requests.specs.declared.read.Telling.{Telling}
+use Rattle.router_requests.specs.declared.read.Telling.TheVariants.{Batches, Number}
+use Rattle.router_requests.specs.declared.work.Work.{Work}
+use Rattle.router_requests.specs.declared.work.Work.TheVariants.{Writing, Reading}
+use Rattle.router_requests.specs.declared.work.Wait.{Wait}
+use Rattle.router_requests.specs.declared.work.Wait.TheVariants.{ForTime, ForTable, ForShards}
+use Rattle.router_requests.specs.declared.work.OpenRequest.{OpenRequest}
+
+-- the pipeline that has these parts
+abbrev pub stages_of : Parts → List Stage
+stages_of parts = parts.pipeline
+
+abbrev pub telling_view : Telling → states.Telling
+telling_view (Batches size single) = in_batches size single
+telling_view Number = as_number
+
+-- a read, of this time
+abbrev pub read_at : OpenRead → (at : ℕ) → states.Work
+read_at read at = reading read.named at (stages_of read.parts) (telling_view read.telling)
+
+abbrev pub read_view : OpenRead → states.Work
+read_view read = read_at read read.at.0
+
+-- the work of the request with this id
+abbrev pub work_view : asked.RequestId → Work → states.Work
+work_view id (Writing kind number ordered statements answers) =
+    writing (kind_view kind) ordered (map (λ s. statement_view (given_view number) id s) statements.items) (map done_view answers.items)
+work_view id (Reading read) = read_view read
+
+abbrev pub wait_view : Wait → states.Wait
+wait_view ForTime = for_time
+wait_view ForTable = for_table
+wait_view ForShards = for_shards
+
+-- an open request of this router, in this of its lives
+abbrev pub open_view : (router life : ℕ) → OpenRequest → states.Open
+open_view router life q = record {
+  count = q.count;
+  link = q.link;
+  number = q.number;
+  request = head_request q.head;
+  namespace = q.namespace;
+  wait = wait_view q.wait;
+  work = work_view (record { router = router; life = life; count = q.count }) q.work;
+}

@@ -1,0 +1,88 @@
+//! Who asks.
+
+use bson_values::Memory;
+use cluster_base::{Namespace, NodeId, RequestId, Time};
+use protocol_model::{At, Body, Message, TableAsk, TimeAsk};
+
+/// The first shard.
+const FIRST_SHARD: NodeId = NodeId(1);
+
+/// The catalogue.
+const CATALOGUE: NodeId = NodeId(0);
+
+/// A router, in one of its lives.
+#[derive(Clone, Copy, Debug, PartialEq, Eq)]
+pub struct Asker {
+    pub me: NodeId,
+    pub life: u64,
+}
+
+impl Asker {
+    ghost use Rattle.std.specs.Prelude.{◌≡◌, ◌∷◌, [], IfOk, true, false};
+    ghost use Rattle.node_model.specs.Letters.{no_time, at_time, table_ask};
+    ghost use Rattle.node_model.specs.RouterRows as rows;
+    ghost use Rattle.node_traits.specs.Ids.{id_view};
+    ghost use Rattle.protocol_model.specs.Bodies.{body_view};
+    ghost use Rattle.protocol_model.specs.Messages.{letter_of};
+    ghost use Rattle.router_requests.specs.Askers.{asker_view};
+
+    /// The id of the request that it took with this count.
+    pub fn id(self, count: u64) -> RequestId
+        ensures { id_view result ≡ rows.id_of (asker_view self) count }
+    {
+        RequestId {
+            router: self.me,
+            life: self.life,
+            count,
+        }
+    }
+
+    /// What it says to a node at a time.
+    pub(crate) fn says(self, receiver: NodeId, time: Time, body: Body) -> Message
+        ensures { letter_of result ≡ rows.says (asker_view self) receiver.0 time.0 (body_view body) }
+    {
+        Message {
+            sender: self.me,
+            receiver,
+            time,
+            body,
+        }
+    }
+
+    /// What a write asks the catalogue for: its table, and that its collection begins. Fails for want of memory.
+    pub fn asks_to_begin(self, time: Time, namespace: &Namespace) -> Result<Message, Memory>
+        ensures { IfOk result (λ m. letter_of m ≡ rows.says (asker_view self) 0 time.0 (table_ask namespace.now true no_time)) }
+    {
+        let ask = TableAsk {
+            namespace: namespace.copy()?,
+            create: true,
+            at: At::NoTime,
+        };
+        Ok(self.says(CATALOGUE, time, Body::TableAsk(ask)))
+    }
+
+    /// What a read at a time asks the catalogue for: its table. Fails for want of memory.
+    pub fn asks_table_at(
+        self,
+        time: Time,
+        namespace: &Namespace,
+        at: Time,
+    ) -> Result<Message, Memory>
+        ensures { IfOk result (λ m. letter_of m ≡ rows.says (asker_view self) 0 time.0 (table_ask namespace.now false (at_time at.0))) }
+    {
+        let ask = TableAsk {
+            namespace: namespace.copy()?,
+            create: false,
+            at: At::Time(at),
+        };
+        Ok(self.says(CATALOGUE, time, Body::TableAsk(ask)))
+    }
+
+    /// What a read of a time that is ahead asks every shard for: its time. So far there is one.
+    pub fn asks_times(self, time: Time, count: u64) -> Message
+        ensures { letter_of result ∷ [] ≡ rows.asks_times (asker_view self) time.0 (rows.id_of (asker_view self) count) }
+    {
+        let ask = TimeAsk { id: self.id(count) };
+        self.says(FIRST_SHARD, time, Body::TimeAsk(ask))
+    }
+}

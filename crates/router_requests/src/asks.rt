@@ -1,0 +1,261 @@
+//! What requests ask the shards for.
+
+ghost use Rattle.std.specs.Prelude.{◌≡◌, ◌∷◌, [], IfOk, Option, Some, map};
+ghost use Rattle.std.specs.Option.{option_map};
+ghost use Rattle.command_replies.specs.Kinds.{given_view};
+ghost use Rattle.node_model.specs.Exchanges as asked;
+ghost use Rattle.node_model.specs.RouterRows as rows;
+ghost use Rattle.node_model.specs.States as states;
+ghost use Rattle.node_model.specs.Writes as writes;
+ghost use Rattle.pipeline_lang.specs.Halves.{half_of};
+ghost use Rattle.std.specs.Arc.{arc_value};
+ghost use Rattle.protocol_model.specs.Statements.{done_view, statement_view};
+ghost use Rattle.router_requests.specs.Askers.{asker_view, letters_of};
+ghost use Rattle.router_requests.specs.Works.{read_at, work_view};
+
+use crate::asker::Asker;
+use crate::owners::{owner_of_half, owner_of_statement};
+use crate::read::OpenRead;
+use crate::work::Work;
+use bson_values::Memory;
+use chunk_table::{Sent, Table};
+use cluster_base::{Namespace, NodeId, Time};
+use command_replies::ClientNumber;
+use pipeline_lang::Half;
+use protocol_model::{Body, Done, Message, ReadAsk, Statement, StatementList, WriteAsk};
+use std::alloc::Global;
+use std::sync::Arc;
+
+/// The turn of a request that met no stale table.
+const FIRST_TURN: u32 = 1;
+
+/// Whether a statement goes to a shard. Fails for want of memory.
+fn goes_to(
+    alloc: Global,
+    table: &Table,
+    shard: NodeId,
+    statement: &Statement,
+) -> Result<bool, Memory>
+    ensures { (given : Option writes.ClientNumber) (id : asked.RequestId) → IfOk result (λ there.
+        rows.is_on shard.0 (rows.owner_of_statement table.now (statement_view given id statement.now)) ≡ there) }
+{
+    let owner = owner_of_statement(alloc, table, statement)?;
+    Ok(owner.0 == shard.0)
+}
+
+/// The first of the statements, as far as they go to a shard; their documents are shared. Fails for want of memory.
+fn run_to(
+    alloc: Global,
+    table: &Table,
+    shard: NodeId,
+    statements: &[Statement],
+) -> Result<StatementList, Memory>
+    ensures { (given : Option writes.ClientNumber) (id : asked.RequestId) → IfOk result (λ run.
+        map (λ s. statement_view given id s) run.items ≡ rows.run_to table.now shard.0 (map (λ s. statement_view given id s) statements.now)) }
+{
+    let mut run = Vec::with_capacity(alloc, statements.len())?;
+    for statement in statements {
+        let there = goes_to(alloc, table, shard, statement)?;
+        if there {
+            run.push(statement.copy()?)?;
+        } else {
+            return Ok(run);
+        }
+    }
+    Ok(run)
+}
+
+/// The statements that are not answered.
+fn unanswered<'a>(statements: &'a [Statement], answers: &[Done]) -> &'a [Statement]
+    ensures { (given : Option writes.ClientNumber) (id : asked.RequestId) → map (λ s. statement_view given id s) result.now
+        ≡ rows.unanswered (map (λ s. statement_view given id s) statements.now) (map done_view answers.now) }
+{
+    if answers.len() < statements.len() {
+        &statements[answers.len()..]
+    } else {
+        &[]
+    }
+}
+
+impl Asker {
+    /// What these statements of a write ask the shard for that has the first of them. Fails for want of memory.
+    pub(crate) fn asks_to_write(
+        self,
+        alloc: Global,
+        time: Time,
+        count: u64,
+        namespace: &Namespace,
+        table: &Table,
+        number: Option<ClientNumber>,
+        ordered: bool,
+        statements: &[Statement],
+    ) -> Result<Option<Message>, Memory>
+        ensures { IfOk result (λ m. letters_of m
+            ≡ rows.asks_to_write (asker_view self) time.0 (rows.id_of (asker_view self) count) namespace.now table.now ordered
+            (map (λ s. statement_view (given_view number) (rows.id_of (asker_view self) count) s) statements.now)) }
+    {
+        let [first, ..] = statements else {
+            return Ok(None);
+        };
+        let shard = owner_of_statement(alloc, table, first)?;
+        let statements = run_to(alloc, table, shard, statements)?;
+        let ask = WriteAsk {
+            id: self.id(count),
+            turn: FIRST_TURN,
+            ordered,
+            namespace: namespace.copy()?,
+            number,
+            statements,
+            sent: Sent::of(table, shard),
+        };
+        Ok(Some(self.says(shard, time, Body::WriteAsk(ask))))
+    }
+
+    /// What a read asks the shard for that had what it reads, if one had it. Fails for want of memory.
+    pub(crate) fn asks_to_read(
+        self,
+        time: Time,
+        count: u64,
+        namespace: &Namespace,
+        table: &Table,
+        at: Time,
+        half: &Arc<Half, Global>,
+    ) -> Result<Option<Message>, Memory>
+        ensures { IfOk result (λ m. letters_of m
+            ≡ rows.asks_to_read (asker_view self) time.0 (rows.id_of (asker_view self) count) namespace.now table.now at.0 (half_of (arc_value half.now))) }
+    {
+        let Some(shard) = owner_of_half(table, at, half) else {
+            return Ok(None);
+        };
+        let ask = ReadAsk {
+            id: self.id(count),
+            turn: FIRST_TURN,
+            namespace: namespace.copy()?,
+            at,
+            half: Arc::try_clone(half)?,
+            sent: Sent::of(table, shard),
+        };
+        Ok(Some(self.says(shard, time, Body::ReadAsk(ask))))
+    }
+
+    /// What work asks the shards for, by a table. Fails for want of memory.
+    pub fn asks_shards(
+        self,
+        alloc: Global,
+        time: Time,
+        count: u64,
+        namespace: &Namespace,
+        table: &Table,
+        work: &Work,
+    ) -> Result<Option<Message>, Memory>
+        ensures { IfOk result (λ m. letters_of m
+            ≡ rows.asks_shards (asker_view self) time.0 count namespace.now table.now (work_view (rows.id_of (asker_view self) count) work.now)) }
+    {
+        match work {
+            Work::Writing {
+                kind: _,
+                number,
+                ordered,
+                statements,
+                answers,
+            } => {
+                let statements = unanswered(statements, answers);
+                self.asks_to_write(
+                    alloc, time, count, namespace, table, *number, *ordered, statements,
+                )
+            }
+            Work::Reading(read) => {
+                self.asks_to_read(time, count, namespace, table, read.at, read.parts.half())
+            }
+        }
+    }
+
+    /// What work asks the catalogue for: its table, and a write that its collection begins. Fails for want of memory.
+    pub fn asks_table(
+        self,
+        time: Time,
+        namespace: &Namespace,
+        work: &Work,
+    ) -> Result<Message, Memory>
+        ensures { (id : asked.RequestId) → IfOk result (λ m. letters_of (Some m)
+            ≡ rows.asks_table (asker_view self) time.0 namespace.now (work_view id work.now) ∷ []) }
+    {
+        match work {
+            Work::Writing { .. } => self.asks_to_begin(time, namespace),
+            Work::Reading(read) => self.asks_table_at(time, namespace, read.at),
+        }
+    }
+
+    /// What the statements of a write that are not answered ask for, by its table, if that is there: the shard that has the first of
+    /// them, or else the catalogue. Fails for want of memory.
+    pub fn asks_rest(
+        self,
+        alloc: Global,
+        time: Time,
+        count: u64,
+        namespace: &Namespace,
+        table: Option<&Table>,
+        number: Option<ClientNumber>,
+        ordered: bool,
+        statements: &[Statement],
+        answers: &[Done],
+    ) -> Result<Option<Message>, Memory>
+        ensures { (kind : writes.WriteKind) → IfOk result (λ m. letters_of m ≡ rows.asks_by (asker_view self) time.0 count namespace.now
+            (states.writing kind ordered (map (λ s. statement_view (given_view number) (rows.id_of (asker_view self) count) s) statements.now)
+            (map done_view answers.now))
+            (option_map (λ t. t.now) table.entry)) }
+    {
+        match table {
+            None => Ok(Some(self.asks_to_begin(time, namespace)?)),
+            Some(table) => {
+                let statements = unanswered(statements, answers);
+                self.asks_to_write(
+                    alloc, time, count, namespace, table, number, ordered, statements,
+                )
+            }
+        }
+    }
+
+    /// What a read asks for at a time by the table that it can go on with, if that is there: the shards, or else the catalogue. Fails for
+    /// want of memory.
+    pub fn asks_read(
+        self,
+        time: Time,
+        count: u64,
+        namespace: &Namespace,
+        read: &OpenRead,
+        at: Time,
+        table: Option<&Table>,
+    ) -> Result<Option<Message>, Memory>
+        ensures { IfOk result (λ m. letters_of m
+            ≡ rows.asks_by (asker_view self) time.0 count namespace.now (read_at read.now at.0) (option_map (λ t. t.now) table.entry)) }
+    {
+        match table {
+            None => Ok(Some(self.asks_table_at(time, namespace, at)?)),
+            Some(table) => {
+                self.asks_to_read(time, count, namespace, table, at, read.parts.half())
+            }
+        }
+    }
+
+    /// What work asks for by the table that it can go on with, if that is there: the shards, or else the catalogue. Fails for want of
+    /// memory.
+    pub fn asks_by(
+        self,
+        alloc: Global,
+        time: Time,
+        count: u64,
+        namespace: &Namespace,
+        work: &Work,
+        table: Option<&Table>,
+    ) -> Result<Option<Message>, Memory>
+        ensures { IfOk result (λ m. letters_of m
+            ≡ rows.asks_by (asker_view self) time.0 count namespace.now (work_view (rows.id_of (asker_view self) count) work.now)
+            (option_map (λ t. t.now) table.entry)) }
+    {
+        match table {
+            None => Ok(Some(self.asks_table(time, namespace, work)?)),
+            Some(table) => self.asks_shards(alloc, time, count, namespace, table, work),
+        }
+    }
+}

@@ -1,0 +1,207 @@
+//! The open requests of a router.
+
+ghost use Rattle.std.specs.Prelude.{◌≡◌, true};
+ghost use Rattle.router_requests.specs.Order.{place_of, rises};
+
+use crate::tables::{Next, next_of};
+use crate::work::{OpenRequest, Wait};
+use bson_values::Memory;
+use chunk_table::Table;
+use cluster_base::{Namespace, Time};
+use protocol_model::{At, DoneList};
+use std::alloc::Global;
+
+/// The open requests of a router in one of its lives, in the order in which it took them.
+#[derive(Drop)]
+pub struct OpenList {
+    // How many requests were taken.
+    pub(crate) taken: u64,
+    pub(crate) requests: Vec<OpenRequest>,
+    ghost rising: { rises 0 taken requests.items ≡ true },
+}
+
+impl OpenList {
+    ghost use Rattle.std.specs.Prelude.{◌≡◌, ◌<◌, ◌≤◌, ◌^◌, ◌-◌, ◌+◌, ◌++◌, ◌∷◌, [], ℕ, List, Bool, Some, true, map, length, OnOk};
+    ghost use Rattle.std.specs.List.{flat_map};
+    ghost use Rattle.std.specs.Option.{option_map};
+    ghost use Rattle.node_model.specs.Letters as letters;
+    ghost use Rattle.node_model.specs.Outcomes as outcomes;
+    ghost use Rattle.node_model.specs.RouterRows as rows;
+    ghost use Rattle.node_model.specs.States as states;
+    ghost use Rattle.node_model.specs.Tables as tables;
+    ghost use Rattle.node_model.specs.Writes as writes;
+    ghost use Rattle.protocol_model.specs.Bodies.{at_view};
+    ghost use Rattle.protocol_model.specs.Statements.{done_view};
+    ghost use Rattle.router_requests.specs.Lists.{has_room, opens_of, taken_of};
+    ghost use Rattle.router_requests.specs.Turns.{settled};
+    ghost use Rattle.router_requests.specs.Works.{open_view, wait_view};
+
+    /// No request was taken.
+    pub fn new(alloc: Global) -> OpenList
+        ensures taken { taken_of result ≡ 0 }
+        ensures opens { (router life : ℕ) → opens_of router life result ≡ [] }
+    {
+        OpenList {
+            taken: 0,
+            requests: Vec::new(alloc),
+        }
+    }
+
+    /// How many requests were taken.
+    pub fn taken(&self) -> u64
+        ensures { result ≡ taken_of self.now }
+    {
+        self.taken
+    }
+
+    /// The open requests, in the order in which they were taken.
+    pub fn as_slice(&self) -> &[OpenRequest]
+        ensures { (router life : ℕ) → map (λ q. open_view router life q) result.now ≡ opens_of router life self.now }
+    {
+        &self.requests
+    }
+
+    /// The open request with this count.
+    pub fn find(&self, count: u64) -> Option<&OpenRequest>
+        ensures { (router life : ℕ) → option_map (λ q. open_view router life q.now) result ≡ states.open_with count (opens_of router life self.now) }
+    {
+        for request in &self.requests {
+            if request.count == count {
+                return Some(request);
+            }
+        }
+        None
+    }
+
+    // How many requests stand before that with this count; all where there is none.
+    fn place(&self, count: u64) -> usize
+        ensures { result ≡ place_of count self.now.requests.items }
+    {
+        let mut place = 0;
+        for request in &self.requests {
+            if request.count == count {
+                return place;
+            }
+            place += 1;
+        }
+        place
+    }
+
+    /// Makes room for one request more. Fails for want of memory. The requests are the same either way.
+    pub fn reserve(&mut self) -> Result<(), Memory>
+        ensures room { OnOk result (has_room self.new ≡ true) }
+        ensures taken { taken_of self.new ≡ taken_of self.old }
+        ensures opens { (router life : ℕ) → opens_of router life self.new ≡ opens_of router life self.old }
+    {
+        self.requests.reserve(1)?;
+        Ok(())
+    }
+
+    /// Counts a request that is answered at once.
+    #[tactic(auto, using(crate::proofs::Places::rises_more))]
+    pub fn count_one(&mut self)
+        requires { taken_of self.old < 2 ^ 64 - 1 }
+        ensures taken { taken_of self.new ≡ taken_of self.old + 1 }
+        ensures opens { (router life : ℕ) → opens_of router life self.new ≡ opens_of router life self.old }
+    {
+        self.taken += 1;
+    }
+
+    /// Puts the next request behind the others, where there is room. Takes no memory.
+    #[tactic(auto, using(crate::proofs::Places::rises_pushed))]
+    pub fn push(&mut self, request: OpenRequest)
+        requires room { has_room self.old ≡ true }
+        requires next { request.count ≡ taken_of self.old + 1 }
+        ensures taken { taken_of self.new ≡ taken_of self.old + 1 }
+        ensures opens { (router life : ℕ) → opens_of router life self.new ≡ opens_of router life self.old ++ open_view router life request ∷ [] }
+    {
+        self.taken = request.count;
+        self.requests.push_reserved(request);
+    }
+
+    /// Takes out the request with this count.
+    #[tactic(auto, using(crate::proofs::Places::rises_removed, crate::proofs::Places::without_at, crate::proofs::Places::none_out))]
+    pub fn remove(&mut self, count: u64)
+        ensures taken { taken_of self.new ≡ taken_of self.old }
+        ensures opens { (router life : ℕ) → opens_of router life self.new ≡ states.without count (opens_of router life self.old) }
+    {
+        let place = self.place(count);
+        if place < self.requests.len() {
+            let _ = self.requests.remove(place);
+        }
+    }
+
+    /// The read with this count is of this time now, unless one was named, and waits for this.
+    pub fn reach(&mut self, count: u64, time: Time, wait: Wait)
+        ensures taken { taken_of self.new ≡ taken_of self.old }
+        ensures opens { (router life : ℕ) (q : states.Open) → states.open_with count (opens_of router life self.old) ≡ Some q →
+            opens_of router life self.new ≡ states.replaced (rows.with_work q (wait_view wait) (rows.reached time.0 q.work)) (opens_of router life self.old) }
+    {
+        let place = self.place(count);
+        if place < self.requests.len() {
+            self.requests[place].reach(time, wait);
+        }
+    }
+
+    /// The write with this count has these answers now, and waits for this.
+    pub fn set_answers(&mut self, count: u64, wait: Wait, answers: DoneList)
+        ensures taken { taken_of self.new ≡ taken_of self.old }
+        ensures opens { (router life : ℕ) (q : states.Open) (kind : writes.WriteKind) (ordered : Bool) (statements : List letters.Statement)
+            (before : List outcomes.Done) →
+            states.open_with count (opens_of router life self.old) ≡ Some q → q.work ≡ states.writing kind ordered statements before →
+            opens_of router life self.new
+            ≡ states.replaced (rows.with_work q (wait_view wait) (states.writing kind ordered statements (map done_view answers.items)))
+            (opens_of router life self.old) }
+    {
+        let place = self.place(count);
+        if place < self.requests.len() {
+            self.requests[place].answer(wait, answers);
+        }
+    }
+
+    // The request at a place has its turn, where a table of this collection was told for a time, and this is the one that is known then.
+    // Gives the place of the next one.
+    fn learn_at(
+        &mut self,
+        place: usize,
+        namespace: &Namespace,
+        told: At,
+        known: Option<&Table>,
+    ) -> usize
+        requires { place < length self.old.requests.items }
+        ensures taken { taken_of self.new ≡ taken_of self.old }
+        ensures inside { result ≤ length self.new.requests.items }
+        ensures nearer { length self.new.requests.items + place < length self.old.requests.items + result }
+        ensures opens { (r : states.Router) (time : ℕ) (after : List tables.Table) → tables.table_of namespace.now after ≡ option_map (λ t. t.now) known.entry →
+            settled (λ q. open_view r.me r.life q) (λ q. rows.stay_in (rows.next_of r time after namespace.now (at_view told) q)) result
+            self.new.requests.items
+            ≡ settled (λ q. open_view r.me r.life q) (λ q. rows.stay_in (rows.next_of r time after namespace.now (at_view told) q)) place
+            self.old.requests.items }
+    {
+        match next_of(namespace, told, known, &self.requests[place]) {
+            Next::Stays => place + 1,
+            Next::GoesOn => {
+                self.requests[place].wait = Wait::ForShards;
+                place + 1
+            }
+            Next::IsTold(..) => {
+                let _ = self.requests.remove(place);
+                place
+            }
+        }
+    }
+
+    /// A table of this collection was told for a time, and this is the one that is known then, if one is: requests that can go on with it
+    /// wait for the shards, and those that are told that nothing is there are taken out.
+    pub fn learn(&mut self, namespace: &Namespace, told: At, known: Option<&Table>)
+        ensures taken { taken_of self.new ≡ taken_of self.old }
+        ensures opens { (r : states.Router) (time : ℕ) (after : List tables.Table) → tables.table_of namespace.now after ≡ option_map (λ t. t.now) known.entry →
+            opens_of r.me r.life self.new
+            ≡ flat_map (λ q. rows.stay_in (rows.next_of r time after namespace.now (at_view told) q)) (opens_of r.me r.life self.old) }
+    {
+        let mut place = 0;
+        while place < self.requests.len() {
+            place = self.learn_at(place, namespace, told, known);
+        }
+    }
+}

@@ -1,0 +1,117 @@
+//! Which shards have what requests are of.
+
+ghost use Rattle.std.specs.Prelude.{◌≡◌, Option, Some, IfOk, true};
+ghost use Rattle.std.specs.Option.{option_map, is_some};
+ghost use Rattle.bson_values.specs.Tree.{Datum};
+ghost use Rattle.bson_values.specs.View.{datum_of};
+ghost use Rattle.command_model.specs.Statements.{key_asked_by};
+ghost use Rattle.command_model.specs.Writes.{ClientNumber};
+ghost use Rattle.node_model.specs.Exchanges as asked;
+ghost use Rattle.node_model.specs.History.{key_written};
+ghost use Rattle.node_model.specs.RouterRows as rows;
+ghost use Rattle.pipeline_lang.specs.Halves.{half_of};
+ghost use Rattle.protocol_model.specs.Statements as protocol;
+ghost use Rattle.protocol_model.specs.Statements.{statement_view};
+ghost use Rattle.shard_records.specs.Meanings.{operation_view};
+ghost use Rattle.value_compare.specs.Keys.{is_key};
+
+use bson_values::{Memory, Value};
+use chunk_table::Table;
+use cluster_base::{NodeId, Time};
+use match_expr::key_asked_in;
+use pipeline_lang::Half;
+use protocol_model::{NewChange, Operation, Statement};
+use std::alloc::Global;
+use value_compare::{Key, OpWords, Span, key_of};
+
+/// What words ask the key of their document to be; none where they ask for no key.
+fn key_asked(words: &OpWords) -> Option<&Value>
+    ensures { option_map (λ v. datum_of v.now) result ≡ key_asked_by (operation_view words.now) }
+{
+    match words {
+        OpWords::Insert(document) => document.get("_id"),
+        OpWords::Update { filter, .. } => key_asked_in(filter),
+        OpWords::Delete { filter } => key_asked_in(filter),
+    }
+}
+
+/// The key that a change writes. Fails for want of memory.
+#[tactic(auto, using(crate::proofs::Keys::key_by_words))]
+fn key_changed(change: &NewChange) -> Result<Key, Memory>
+    ensures { IfOk result (λ key. key_written change.now ≡ Some key) }
+{
+    let Some(value) = key_asked(change.words()) else {
+        // A change that may be kept has a key.
+        return Err(Memory);
+    };
+    match Key::of(value.copy()?) {
+        Ok(key) => Ok(key),
+        Err(_) => Err(Memory),
+    }
+}
+
+/// The key that an operation writes. Fails for want of memory.
+#[tactic(auto, using(crate::proofs::Keys::key_by_document))]
+fn key_of_operation(alloc: Global, operation: &Operation) -> Result<Key, Memory>
+    ensures { IfOk result (λ key. key_written (protocol.operation_view operation.now) ≡ Some key) }
+{
+    match operation {
+        Operation::Insert(document) => match key_of(alloc, document.document()) {
+            Ok(key) => Ok(key),
+            // A document that may be kept has a key.
+            Err(_) => Err(Memory),
+        },
+        Operation::Change(change) => key_changed(change),
+    }
+}
+
+/// An operation writes a key, since it may be kept. For proofs alone: it does nothing.
+#[tactic(auto, using(crate::proofs::Keys::key_kept))]
+fn writes_key(operation: &Operation)
+    ensures { (key : Datum) × (key_written (protocol.operation_view operation.now) ≡ Some key) × (is_key key ≡ true) }
+{
+    match operation {
+        Operation::Insert(document) => {
+            document.document();
+        }
+        Operation::Change(change) => {
+            change.words();
+        }
+    }
+}
+
+/// The shard that has the key that a statement writes: that of all keys, or else that of the chunk with the key. Fails for want of
+/// memory.
+#[tactic(auto, using(crate::proofs::Keys::owner_by_key, crate::proofs::Keys::owner_by_sole))]
+pub(crate) fn owner_of_statement(
+    alloc: Global,
+    table: &Table,
+    statement: &Statement,
+) -> Result<NodeId, Memory>
+    ensures { (given : Option ClientNumber) (id : asked.RequestId) → IfOk result (λ shard.
+        rows.owner_of_statement table.now (statement_view given id statement.now) ≡ Some shard.0) }
+{
+    if let Some(shard) = table.sole_owner() {
+        writes_key(&statement.operation);
+        return Ok(shard);
+    }
+    let key = key_of_operation(alloc, &statement.operation)?;
+    Ok(table.owner_now(&key))
+}
+
+/// The shard that had what a half is of at a time, if one had it: so far one shard has all keys.
+pub fn owner_of_half(table: &Table, at: Time, half: &Half) -> Option<NodeId>
+    ensures { option_map (λ shard. shard.0) result ≡ rows.owner_of_span table.now at.0 (half_of half.now).span }
+{
+    match &half.span {
+        Span::Point(key) => table.owner_at(key, at),
+        Span::Range(_) => table.owner_of_value(&Value::Null, at),
+    }
+}
+
+/// Whether a table says who had what a half is of at a time.
+pub fn is_enough(table: &Table, at: Time, half: &Half) -> bool
+    ensures { result ≡ is_some (rows.owner_of_span table.now at.0 (half_of half.now).span) }
+{
+    owner_of_half(table, at, half).is_some()
+}

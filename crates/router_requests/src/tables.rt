@@ -1,0 +1,100 @@
+//! What becomes of open requests where a table is told.
+
+ghost use Rattle.std.specs.Prelude.{◌≡◌, ◌&&◌, ℕ, List, None};
+ghost use Rattle.std.specs.Option.{is_some, option_map};
+ghost use Rattle.std.specs.Str.{bytes_eq};
+ghost use Rattle.node_model.specs.Exchanges as asked;
+ghost use Rattle.node_model.specs.RouterRows as rows;
+ghost use Rattle.node_model.specs.States as states;
+ghost use Rattle.node_model.specs.Tables as tables;
+ghost use Rattle.protocol_model.specs.Bodies.{at_view};
+ghost use Rattle.router_requests.specs.Nexts.{IsNext};
+ghost use Rattle.router_requests.specs.Works.{open_view, wait_view, work_view};
+
+use crate::owners::is_enough;
+use crate::read::Telling;
+use crate::work::{OpenRequest, Wait, Work};
+use chunk_table::Table;
+use cluster_base::{Namespace, Time};
+use protocol_model::At;
+
+/// What becomes of an open request where a table is told.
+#[derive(Clone, Copy, Debug, PartialEq, Eq)]
+pub enum Next {
+    /// It stays as it is.
+    Stays,
+    /// It asks the shards.
+    GoesOn,
+    /// It is told so that nothing is there, at this time.
+    IsTold(Time, Telling),
+}
+
+/// Whether what is told for a time is the answer to a read of this one.
+fn is_for(told: At, at: Time) -> bool
+    ensures { result ≡ rows.is_for (at_view told) at.0 }
+{
+    match told {
+        At::NoTime => false,
+        At::Time(told) => told.0 == at.0,
+    }
+}
+
+/// Whether a request waits for the table of this collection.
+fn waits_for(request: &OpenRequest, namespace: &Namespace) -> bool
+    ensures { result ≡ (rows.is_for_table (wait_view request.now.wait) && bytes_eq request.now.namespace namespace.now) }
+{
+    request.wait == Wait::ForTable && request.namespace.as_str() == namespace.as_str()
+}
+
+/// Whether work can go on with this table, if it is known.
+#[tactic(auto, using(crate::proofs::Nexts::some_owner))]
+fn can_go_on(known: Option<&Table>, work: &Work) -> bool
+    ensures { (id : asked.RequestId) → result ≡ is_some (rows.enough_of (option_map (λ t. t.now) known.entry) (work_view id work.now)) }
+{
+    match known {
+        None => false,
+        Some(table) => match work {
+            Work::Writing { .. } => true,
+            Work::Reading(read) => is_enough(table, read.at, read.parts.half()),
+        },
+    }
+}
+
+/// What becomes of work that waits for its table, and can't go on, where the table was told for a time.
+fn next_without(told: At, work: &Work) -> Next
+    ensures { (r : states.Router) (time : ℕ) (q : states.Open) (id : asked.RequestId) → q.work ≡ work_view id work.now →
+        IsNext r time None q (rows.next_without r time (at_view told) q) result }
+{
+    match work {
+        Work::Writing { .. } => Next::Stays,
+        Work::Reading(read) => {
+            if is_for(told, read.at) {
+                Next::IsTold(read.at, read.telling)
+            } else {
+                Next::Stays
+            }
+        }
+    }
+}
+
+/// What becomes of an open request where a table of this collection was told for a time, and this is the one that is known then.
+pub fn next_of(
+    namespace: &Namespace,
+    told: At,
+    known: Option<&Table>,
+    request: &OpenRequest,
+) -> Next
+    ensures { (r : states.Router) (time : ℕ) (after : List tables.Table) → tables.table_of namespace.now after ≡ option_map (λ t. t.now) known.entry →
+        IsNext r time (option_map (λ t. t.now) known.entry) (open_view r.me r.life request.now)
+        (rows.next_of r time after namespace.now (at_view told) (open_view r.me r.life request.now)) result }
+{
+    if waits_for(request, namespace) {
+        if can_go_on(known, &request.work) {
+            Next::GoesOn
+        } else {
+            next_without(told, &request.work)
+        }
+    } else {
+        Next::Stays
+    }
+}

@@ -1,0 +1,92 @@
+//! Open requests.
+
+use crate::read::OpenRead;
+use cluster_base::{Namespace, Time};
+use command_replies::{ClientNumber, WriteKind};
+use protocol_model::{DoneList, Head, StatementList};
+
+/// What a request has to do before it is told.
+#[derive(Drop)]
+pub enum Work {
+    /// Its statements, of this kind, and what the first of them were told.
+    Writing {
+        kind: WriteKind,
+        /// The number that the client gave them, if it gave one.
+        number: Option<ClientNumber>,
+        ordered: bool,
+        statements: StatementList,
+        answers: DoneList,
+    },
+    /// To read.
+    Reading(OpenRead),
+}
+
+/// What an open request waits for.
+#[derive(Clone, Copy, Debug, PartialEq, Eq)]
+pub enum Wait {
+    /// The time that it reads at.
+    ForTime,
+    /// Its table.
+    ForTable,
+    /// The shards.
+    ForShards,
+}
+
+/// A request that is not told yet.
+#[derive(Drop)]
+pub struct OpenRequest {
+    /// How many requests the router had taken in its life, with this one.
+    pub count: u64,
+    /// The link that it came on.
+    pub link: u32,
+    /// The number of its reply.
+    pub number: i32,
+    /// What came.
+    pub head: Head,
+    /// The collection that it is of.
+    pub namespace: Namespace,
+    pub wait: Wait,
+    pub work: Work,
+}
+
+impl OpenRequest {
+    ghost use Rattle.std.specs.Prelude.{◌≡◌, ℕ, List, Bool, map};
+    ghost use Rattle.node_model.specs.Letters as letters;
+    ghost use Rattle.node_model.specs.Outcomes as outcomes;
+    ghost use Rattle.node_model.specs.RouterRows as rows;
+    ghost use Rattle.node_model.specs.States as states;
+    ghost use Rattle.node_model.specs.Writes as writes;
+    ghost use Rattle.protocol_model.specs.Statements.{done_view};
+    ghost use Rattle.router_requests.specs.Works.{open_view, wait_view};
+
+    // A write has these answers now, and waits for this.
+    pub(crate) fn answer(&mut self, wait: Wait, answers: DoneList)
+        ensures count { self.new.count ≡ self.old.count }
+        ensures work { (router life : ℕ) (kind : writes.WriteKind) (ordered : Bool) (statements : List letters.Statement) (before : List outcomes.Done) →
+            (open_view router life self.old).work ≡ states.writing kind ordered statements before →
+            open_view router life self.new
+            ≡ rows.with_work (open_view router life self.old) (wait_view wait) (states.writing kind ordered statements (map done_view answers.items)) }
+    {
+        self.wait = wait;
+        match &mut self.work {
+            Work::Writing {
+                answers: before,
+                ..
+            } => *before = answers,
+            Work::Reading(_) => {}
+        }
+    }
+
+    // A read is of this time now, unless one is named, and waits for this.
+    pub(crate) fn reach(&mut self, time: Time, wait: Wait)
+        ensures count { self.new.count ≡ self.old.count }
+        ensures work { (router life : ℕ) → open_view router life self.new
+            ≡ rows.with_work (open_view router life self.old) (wait_view wait) (rows.reached time.0 (open_view router life self.old).work) }
+    {
+        self.wait = wait;
+        match &mut self.work {
+            Work::Writing { .. } => {}
+            Work::Reading(read) => read.reach(time),
+        }
+    }
+}

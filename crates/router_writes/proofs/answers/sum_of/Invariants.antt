@@ -1,0 +1,10 @@
+use Rattle.std.proofs.Common.{◌≡◌, ◌+◌, ◌<◌, ◌^◌, drop, map}
+use Rattle.node_model.specs.Outcomes.{sum_of}
+use Rattle.protocol_model.specs.Statements.{done_view}
+use Rattle.router_writes.proofs.answers.sum_of.Given as goal
+
+abbrev pub invariant-loop-done : goal.invariant-loop-done
+invariant-loop-done l = record {
+  fits : l.sum < 2 ^ 32;
+  sum : l.sum + sum_of (map done_view (drop l.done-index l.dones)) ≡ sum_of (map done_view l.dones);
+}

@@ -1,0 +1,143 @@
+//! The keys and the errors that statements are told.
+
+ghost use Rattle.std.specs.Prelude.{◌≡◌, ◌≤◌, ◌++◌, ◌∷◌, [], IfOk, IsTrue, OnOk, map};
+ghost use Rattle.std.specs.Arc.{arc_value};
+ghost use Rattle.std.specs.Option.{option_map};
+ghost use Rattle.command_replies.specs.Errors.{errors_view};
+ghost use Rattle.command_replies.specs.Refusals.{refusal_view};
+ghost use Rattle.command_replies.specs.Upserts.{upserted_view};
+ghost use Rattle.command_model.specs.CommandLimits.{most_bytes_upserted};
+ghost use Rattle.command_model.specs.CommandSizes.{keys_length};
+ghost use Rattle.node_model.specs.Outcomes as outcomes;
+ghost use Rattle.protocol_model.specs.Statements.{answer_view, done_view};
+
+use bson_values::Memory;
+use cluster_base::Code;
+use command_replies::{Evidence, Refusal, StatementIndex, Upserted, WriteError};
+use protocol_model::{Done, StatementOutcome};
+use std::alloc::Global;
+use std::sync::Arc;
+use value_compare::Key;
+
+/// The most bytes of the keys that the statements of one command put in.
+const MOST_BYTES_UPSERTED: usize = 250_000_000;
+
+/// The index of a statement that was done. Fails where it is none that a command can have.
+fn index_of(done: &Done) -> Result<StatementIndex, Memory>
+    ensures { IfOk result (λ index. index ≡ done.now.index) }
+{
+    match StatementIndex::of(done.index) {
+        Some(index) => Ok(index),
+        None => Err(Memory),
+    }
+}
+
+/// The key that a statement put in, if it was an upsert that did.
+fn key_of(answer: &StatementOutcome) -> Option<&Arc<Key, Global>>
+    ensures { option_map (λ k. arc_value k.now) result ≡ (outcomes.outcome_in (answer_view answer.now)).upserted }
+{
+    match answer {
+        StatementOutcome::WasDone { outcome, .. } => outcome.upserted.as_ref(),
+        StatementOutcome::Older(_) => None,
+    }
+}
+
+/// Puts the key that a statement put in, if it was an upsert that did, behind the others. Fails for want of memory, and where its index
+/// is none that a command can have.
+#[tactic(auto, using(crate::proofs::Counted::keys_pushed, crate::proofs::Counted::key_told))]
+fn add_key(keys: &mut Vec<Upserted>, done: &Done) -> Result<(), Memory>
+    ensures { OnOk result (upserted_view keys.new.items ≡ upserted_view keys.old.items ++ outcomes.upserted_by (done_view done.now ∷ [])) }
+{
+    let Some(key) = key_of(&done.answer) else {
+        return Ok(());
+    };
+    let index = index_of(done)?;
+    let key = Arc::try_clone(key)?;
+    keys.push(Upserted { index, key })?;
+    Ok(())
+}
+
+/// The keys that upserts put in, in order; they are shared. Fails for want of memory, and where an index is none that a command can have.
+fn keys_of(alloc: Global, dones: &[Done]) -> Result<Vec<Upserted>, Memory>
+    ensures { IfOk result (λ keys. upserted_view keys.items ≡ outcomes.upserted_by (map done_view dones.now)) }
+{
+    let mut keys = Vec::new(alloc);
+    for done in dones {
+        add_key(&mut keys, done)?;
+    }
+    Ok(keys)
+}
+
+/// Whether keys are short enough to be told together.
+#[tactic(auto, using(crate::proofs::Counted::length_on))]
+fn are_short(keys: &[Upserted]) -> bool
+    ensures { IsTrue result → keys_length (upserted_view keys.now) ≤ most_bytes_upserted }
+{
+    let mut room = MOST_BYTES_UPSERTED;
+    for key in keys {
+        let size = key.key.value().size();
+        if size > room {
+            return false;
+        }
+        room -= size;
+    }
+    true
+}
+
+/// The keys that upserts put in, in order; they are shared. Fails for want of memory, where an index is none that a command can have, and
+/// where the keys are longer together than can be told.
+pub(crate) fn upserted_by(alloc: Global, dones: &[Done]) -> Result<Vec<Upserted>, Memory>
+    ensures keys { IfOk result (λ keys. upserted_view keys.items ≡ outcomes.upserted_by (map done_view dones.now)) }
+    ensures short { IfOk result (λ keys. keys_length (upserted_view keys.items) ≤ most_bytes_upserted) }
+{
+    let keys = keys_of(alloc, dones)?;
+    if are_short(&keys) {
+        Ok(keys)
+    } else {
+        Err(Memory)
+    }
+}
+
+/// The error that a statement is told, if it is told one, with its evidence.
+fn refusal_of(answer: &StatementOutcome) -> Option<Refusal>
+    ensures { option_map refusal_view result ≡ outcomes.refusal_in (answer_view answer.now) }
+{
+    match answer {
+        StatementOutcome::WasDone { outcome, .. } => match outcome.error {
+            Some(code) => Some(Refusal {
+                code,
+                evidence: Evidence::Nothing,
+            }),
+            None => None,
+        },
+        StatementOutcome::Older(greatest) => Some(Refusal {
+            code: Code::TransactionTooOld,
+            evidence: Evidence::Number { number: *greatest },
+        }),
+    }
+}
+
+/// Puts the error that a statement is told, if it is told one, behind the others. Fails for want of memory, and where its index is
+/// none that a command can have.
+#[tactic(auto, using(crate::proofs::Counted::errors_pushed, crate::proofs::Counted::error_told))]
+fn add_error(errors: &mut Vec<WriteError>, done: &Done) -> Result<(), Memory>
+    ensures { OnOk result (errors_view errors.new.items ≡ errors_view errors.old.items ++ outcomes.errors_of (done_view done.now ∷ [])) }
+{
+    let Some(refusal) = refusal_of(&done.answer) else {
+        return Ok(());
+    };
+    let index = index_of(done)?;
+    errors.push(WriteError { index, refusal })?;
+    Ok(())
+}
+
+/// The errors, in order. Fails for want of memory, and where an index is none that a command can have.
+pub(crate) fn errors_of(alloc: Global, dones: &[Done]) -> Result<Vec<WriteError>, Memory>
+    ensures { IfOk result (λ errors. errors_view errors.items ≡ outcomes.errors_of (map done_view dones.now)) }
+{
+    let mut errors = Vec::new(alloc);
+    for done in dones {
+        add_error(&mut errors, done)?;
+    }
+    Ok(errors)
+}

@@ -1,0 +1,14 @@
+//! What a shard makes of one ask: which it is, how it stands to the tables, what is told of it, and the records of what it changes.
+#![tactic(auto)]
+
+mod answers;
+mod asks;
+mod halves;
+mod records;
+mod standings;
+
+pub use answers::{StatementResult, WriteReply, done_of, ends};
+pub use asks::{Ask, ask_in, is_parked, keep_others, wants_table};
+pub use halves::answer_half;
+pub use records::{entry_bytes, lend_words, table_records};
+pub use standings::{Standing, is_news, later, standing_of};
