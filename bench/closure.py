@@ -15,7 +15,6 @@ where an import leads nowhere.
 
     bench/closure.py [--files] [--definitions]
 """
-import collections
 import pathlib
 import re
 import sys
@@ -24,9 +23,9 @@ TOP = pathlib.Path(__file__).resolve().parent.parent
 
 CLAUSES = TOP / "crates" / "cluster_top" / "src" / "top.rt"
 
-# The floors by crate; a crate that is in neither set is of the run.
+# The floors by crate, and by how its name begins; a crate that is in neither belongs to the run.
 HISTORY = {"reply_model", "history_model", "chunk_model"}
-LANGUAGE = {"bson_model", "value_model", "base_model", "opmsg_model", "query_model", "pipeline_model", "command_model", "bson_values", "opmsg_frames"}
+LANGUAGE = ("bson_", "value_", "base_", "opmsg_", "query_", "pipeline_", "command_")
 
 # Where the floor of the history begins.
 ONE_HISTORY = (("reply_model", "OneHistory"), "OneHistory")
@@ -167,7 +166,7 @@ def reach(starts):
 def floors_of(closure):
     """The definitions on each floor: those of the history that `OneHistory` needs, those of the language, and all others."""
     history = {of for of in reach([ONE_HISTORY]).reached if of[0][0] in HISTORY}
-    language = {of for of in closure.reached if of[0][0] in LANGUAGE}
+    language = {of for of in closure.reached if of[0][0].startswith(LANGUAGE)}
     return {"history": history, "language": language, "run": closure.reached - history - language, "all": closure.reached}
 
 
