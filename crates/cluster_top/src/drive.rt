@@ -30,7 +30,14 @@ const MOST_TAKEN: u64 = 1 << 40;
 
 /// Serves one connection, or plays a script, as the command says, by the nodes in order of their numbers, whose logs are open and empty at
 /// the start.
-pub fn drive<R: Threads + Sync, N: Node<Request = Request>, L: Log, S: Source, K: Witness<L::Of>, C: Clock>(
+pub fn drive<
+    R: Threads + Sync,
+    N: Node<Request = Request>,
+    L: Log,
+    S: Source,
+    K: Witness<L::Of>,
+    C: Clock,
+>(
     rt: &R,
     alloc: Global,
     command: Command,

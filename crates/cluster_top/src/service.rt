@@ -113,7 +113,14 @@ pub fn run_nodes<
 }
 
 /// Serves one connection, or plays a script, to its end by new nodes, whose journals are open and have no record.
-fn serve<R: Threads + Sync, N: Node<Request = Request>, S: Source, K: Witness<D>, D: Disk, C: Clock>(
+fn serve<
+    R: Threads + Sync,
+    N: Node<Request = Request>,
+    S: Source,
+    K: Witness<D>,
+    D: Disk,
+    C: Clock,
+>(
     rt: &R,
     alloc: Global,
     command: Command,
