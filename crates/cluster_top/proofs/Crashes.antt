@@ -1,10 +1,11 @@
 -- What a crash leaves of disks: asked for their lengths, opened as journals, and written by nodes.
-use Rattle.std.specs.Prelude.{◌≡◌, ◌⊎◌, ℕ, zero, suc, ◌≤◌, Some, Bool, IsTrue, List, [], ◌∷◌, length, map}
+use Rattle.std.specs.Prelude.{◌≡◌, ◌⊎◌, ℕ, zero, suc, ◌+◌, ◌≤◌, Some, Bool, IsTrue, List, [], ◌∷◌, length, map}
 use Rattle.std.proofs.Common.{refl, sym, subst, inl, inr, arith}
 use Rattle.std.specs.List.{slice_get}
 use Rattle.outside.specs.Disks.{Elapses, LeavesOnly, Outcomes, Within}
+use Rattle.outside.specs.Notes.{Note}
 use Rattle.journal_frames.specs.Files.{HaveSameRecords, Stands}
-use Rattle.journal_frames.specs.Views.{JournalView}
+use Rattle.journal_frames.specs.Views.{JournalView, journal_facts}
 use Rattle.journal_frames.proofs.Unique.{one_list}
 use Rattle.node_model.specs.Journal.{Kept}
 use Rattle.node_model.specs.States.{NodeState}
@@ -15,7 +16,11 @@ use Rattle.driver_steps.specs.Crashes.{LeadsTo, LeavesKept}
 use Rattle.driver_steps.specs.Seats.{LeaveKept, seat_since, since_then}
 use Rattle.driver_steps.specs.declared.seat.Seat.{Seat}
 use Rattle.driver_steps.proofs.Crashes.{leads_nowhere}
-use Rattle.cluster_top.specs.Crashes.{IsOfTheWay, LeaveSuch, LeaveTheWay}
+use Rattle.pipe_driver.specs.Acknowledgements.{AreAcknowledgedBy, IsNotedBefore}
+use Rattle.pipe_driver.proofs.Covers.{got_mapped}
+use Rattle.cluster_top.specs.Crashes.{AreDurableBefore, IsOfTheWay, LeaveSuch, LeaveTheWay}
+use Rattle.cluster_top.specs.Drivers.{output_of}
+use Rattle.cluster_top.specs.declared.arguments.Command.{Command}
 use Rattle.cluster_top.proofs.OpenJournals.{nothing}
 
 -- ONE DISK
@@ -123,38 +128,66 @@ pub none_on_the_way : {D : Type 0} (tells : Bool) (moment : D → ℕ) (left_sin
     → LeaveTheWay tells moment left_since disks disks (start 1)
 none_on_the_way tells moment left_since disks told = all_alone moment left_since (λ at file. IsOfTheWay (start 1) at file) disks
 
-module _ {N D : Type 0} (state : N → NodeState) (tells : Bool) (records : JournalView D → List (List ℕ)) (holds : JournalView D → List (List ℕ) → Type 0)
-    (moment : D → ℕ) (left_since : D → ℕ → Outcomes) (w : World) (told : IsTrue tells) where
+module _ {N D : Type 0} (state : N → NodeState) (tells : Bool) (content : D → List ℕ) (moment : D → ℕ) (left_since : D → ℕ → Outcomes) (fault_count : D → ℕ)
+    (place : D → List ℕ) (w : World) (told : IsTrue tells) where
   -- what is said of a log is said of its disk
   at_place : (at : ℕ) (disk : D) (old new : JournalView D) → LeavesAlso moment left_since disk old.disk (λ file. Stands file [])
-      → LeavesKept (λ file found. Stands file found) (λ (j : JournalView D). moment j.disk) (λ (j : JournalView D) t file. left_since j.disk t file) (start 1)
-      old new at w
+      → LeavesKept (journal_facts tells content moment left_since fault_count place) (start 1) old new at w
       → LeavesAlso moment left_since disk new.disk (λ file. IsOfTheWay w at file)
   at_place at disk old new first k =
       leaves_then moment left_since disk old.disk new.disk (λ file. Stands file []) (λ file. IsOfTheWay w at file) (λ file. IsOfTheWay w at file) first
       (record { later = k.left.later; each = k.left.each }) (λ file stands. of_the_start w at file k.came stands) (λ file is. is)
 
-  each_place : (place : ℕ → ℕ) (disks : List D) (olds news : List (Seat N (JournalView D)))
+  each_place : (node : ℕ → ℕ) (disks : List D) (olds news : List (Seat N (JournalView D)))
       → LeaveSuch moment left_since (λ at file. Stands file []) disks (map (λ s. s.log.disk) olds) → length olds ≡ length news
       → ((at : ℕ) (s : Seat N (JournalView D)) → slice_get news at ≡ Some s → (old : JournalView D) → slice_get (map (λ s. s.log) olds) at ≡ Some old
-      → LeavesKept (λ file found. Stands file found) (λ (j : JournalView D). moment j.disk) (λ (j : JournalView D) t file. left_since j.disk t file) (start 1)
-      old s.log (place at) w)
-      → LeaveSuch moment left_since (λ at file. IsOfTheWay w (place at) file) disks (map (λ s. s.log.disk) news)
-  each_place place [] [] [] first len kept = tt
-  each_place place [] [] (s ∷ news) first len kept = absurd (omega (arith, len))
-  each_place place [] (o ∷ olds) news first len kept = absurd first
-  each_place place (disk ∷ disks) [] news first len kept = absurd first
-  each_place place (disk ∷ disks) (o ∷ olds) [] first len kept = absurd (omega (arith, len))
-  each_place place (disk ∷ disks) (o ∷ olds) (s ∷ news) first len kept = (
-    at_place (place zero) disk o.log s.log first.0 (kept zero s refl o.log refl),
-    each_place (λ at. place (suc at)) disks olds news first.1 (omega (arith, len)) (λ at. kept (suc at)),
+      → LeavesKept (journal_facts tells content moment left_since fault_count place) (start 1) old s.log (node at) w)
+      → LeaveSuch moment left_since (λ at file. IsOfTheWay w (node at) file) disks (map (λ s. s.log.disk) news)
+  each_place node [] [] [] first len kept = tt
+  each_place node [] [] (s ∷ news) first len kept = absurd (omega (arith, len))
+  each_place node [] (o ∷ olds) news first len kept = absurd first
+  each_place node (disk ∷ disks) [] news first len kept = absurd first
+  each_place node (disk ∷ disks) (o ∷ olds) [] first len kept = absurd (omega (arith, len))
+  each_place node (disk ∷ disks) (o ∷ olds) (s ∷ news) first len kept = (
+    at_place (node zero) disk o.log s.log first.0 (kept zero s refl o.log refl),
+    each_place (λ at. node (suc at)) disks olds news first.1 (omega (arith, len)) (λ at. kept (suc at)),
   )
 
   -- and so of all disks
   pub seats_leave : (disks : List D) (olds news : List (Seat N (JournalView D)))
       → LeaveSuch moment left_since (λ at file. Stands file []) disks (map (λ s. s.log.disk) olds) → length olds ≡ length news
-      → LeaveKept (seat_since state tells records holds (λ file found. Stands file found) (λ (j : JournalView D). moment j.disk)
-      (λ (j : JournalView D) t file. left_since j.disk t file) (since_then olds (start 1))) news w
+      → LeaveKept (seat_since state (journal_facts tells content moment left_since fault_count place) (since_then olds (start 1))) news w
       → LeaveSuch moment left_since (λ at file. IsOfTheWay w at file) disks (map (λ s. s.log.disk) news)
   seats_leave disks olds news first len leave =
-      each_place (λ at. at) disks olds news first len (λ at s got old began. leave at s got told old began)
+      each_place (λ at. at) disks olds news first len (λ at s got old began. (leave at s got told).0 old began)
+
+-- BYTES THAT ARE ACKNOWLEDGED
+
+-- no byte was written
+pub none_owed : {D : Type 0} (tells_bytes tells : Bool) (place : D → List ℕ) (moment : D → ℕ) (left_since : D → ℕ → Outcomes) (command : Command)
+    (notes : List Note) (held_before : List ℕ) (disks : List D) (last : World)
+    → AreDurableBefore tells_bytes tells place moment left_since command notes held_before disks last []
+none_owed tells_bytes tells place moment left_since command notes held_before disks last bytes files offset below = absurd (omega (arith, below))
+
+module _ {N D : Type 0} (tells_bytes tells : Bool) (content : D → List ℕ) (moment : D → ℕ) (left_since : D → ℕ → Outcomes) (fault_count : D → ℕ)
+    (place : D → List ℕ) (command : Command) (notes : List Note) (held_before : List ℕ) (seats : List (Seat N (JournalView D))) (last : World)
+    (put : List ℕ) where
+  -- what is acknowledged by logs is so by their disks
+  pub disks_owed : AreAcknowledgedBy (journal_facts tells content moment left_since fault_count place) tells_bytes (output_of command) (start 1) notes
+      held_before seats last put
+      → AreDurableBefore tells_bytes tells place moment left_since command notes held_before (map (λ s. s.log.disk) seats) last put
+  disks_owed owed bytes files offset below =
+      let a = owed bytes files offset below in
+      record {
+        given = a.given;
+        out = a.out;
+        from = a.from;
+        to = a.to;
+        outputs = a.outputs;
+        has = a.has;
+        each = λ at disk got.
+            let s = got_mapped (λ (z : Seat N (JournalView D)). z.log.disk) seats at disk got in
+            let n = a.each at s.0 s.1 in
+            subst (λ (d : D). IsNotedBefore Stands place moment left_since notes (length held_before + offset) a.given last at d) s.2
+            (record { which = n.which; note = n.note; taken = n.taken; is_there = n.is_there; before = n.before; later = n.later; left = n.left });
+      }

@@ -4,16 +4,17 @@ use Rattle.std.proofs.Common.{refl, sym, ap, subst, ◌∙◌}
 use Rattle.std.specs.List.{AllByRecursion}
 use Rattle.outside.specs.Devices.{SourceCall, SinkCall, NoneFell, OneRose}
 use Rattle.outside.proofs.Relations.{none_fell_self}
-use Rattle.journal_frames.specs.Files.{Stands}
-use Rattle.journal_frames.specs.Views.{JournalView}
+use Rattle.outside.specs.Disks.{Outcomes}
+use Rattle.journal_frames.specs.Views.{JournalView, journal_facts}
 use Rattle.node_model.specs.States.{NodeState}
 use Rattle.node_model.specs.World.{Held, World, start}
 use Rattle.driver_steps.specs.Seats.{AreHeld, AreKept, AreOpen, HaveRisen, seat_view}
 use Rattle.driver_steps.specs.declared.seat.Seat.{Seat}
-use Rattle.pipe_driver.specs.Endings.{IsPiped, most_taken}
+use Rattle.pipe_driver.specs.Endings.{most_taken}
+use Rattle.pipe_driver.proofs.Endings.{piped_with}
 use Rattle.pipe_driver.specs.Counts.{HaveRisenWhere, RoseWhere}
 use Rattle.pipe_driver.proofs.Counts.{rose_as}
-use Rattle.sim_driver.specs.Simulations.{IsSimulated}
+use Rattle.sim_driver.proofs.Endings.{simulated_as}
 use Rattle.pipe_driver.specs.declared.status.Status as connections
 use Rattle.pipe_driver.specs.declared.status.Status.TheVariants as ended
 use Rattle.cluster_top.specs.Counts.{OneRoseWhere}
@@ -31,14 +32,11 @@ use Rattle.cluster_top.specs.declared.status.Status.{Status}
 use Rattle.cluster_top.specs.declared.status.Status.TheVariants as statuses
 use Rattle.cluster_top.proofs.Counts.{one_rose_as}
 
--- what an opening of a journal finds
-abbrev pub found_in : {D : Type 0} → Bool → (D → List ℕ) → JournalView D → List (List ℕ) → Type 0
-found_in tells content journal records = IsTrue tells → Stands (content journal.disk) records
-
-module _ {N D : Type 0} (state : N → NodeState) (tells : Bool) (content : D → List ℕ) where
+module _ {N D : Type 0} (state : N → NodeState) (tells : Bool) (content : D → List ℕ) (moment : D → ℕ) (left_since : D → ℕ → Outcomes) (fault_count : D → ℕ)
+    (place : D → List ℕ) where
   -- new nodes with journals without records are those of the start
   pub held_at_start : (nodes : Nodes N) (journals : Journals D) → AreNew state nodes → AreFresh tells content journals
-      → AreHeld (seat_view state tells (λ (j : JournalView D). j.records) (found_in tells content)) (seats_of nodes journals) (start 1).nodes
+      → AreHeld (seat_view state (journal_facts tells content moment left_since fault_count place)) (seats_of nodes journals) (start 1).nodes
   held_at_start nodes journals new fresh = (
     record { same = sym new.catalogue; written = fresh.catalogue.none; keeps = record { sound = tt; found = λ told. fresh.catalogue.file } },
     (
@@ -48,7 +46,7 @@ module _ {N D : Type 0} (state : N → NodeState) (tells : Bool) (content : D �
   )
 
   -- where the logs keep what the journals keep, so do the files
-  pub kept_in_files : (seats : List (Seat N (JournalView D))) (nodes : List Held) → AreKept (seat_view state tells (λ (j : JournalView D). j.records) (found_in tells content)) seats nodes
+  pub kept_in_files : (seats : List (Seat N (JournalView D))) (nodes : List Held) → AreKept (seat_view state (journal_facts tells content moment left_since fault_count place)) seats nodes
       → IsTrue tells → AreJournals (map content (map (λ s. s.log.disk) seats)) nodes
   kept_in_files [] [] kept told = tt
   kept_in_files (s ∷ seats) (h ∷ nodes) kept told = (record { stands = kept.0.found told told; sound = kept.0.sound }, kept_in_files seats nodes kept.1 told)
@@ -72,59 +70,15 @@ pub moved : {X : Type 0} (R : X → X → Type 0) (a b c d : X) → a ≡ c → 
 moved {X = X} R a b c d first second is = subst (λ (y : X). R c y) second (subst (λ (x : X). R x b) first is)
 
 -- the same run, of which another thing is said
-pub piped_as : (source : SourceCall) (sink : SinkCall) (gives : ℕ → Type 0) (kept then : List Held → Type 0) (leaves leaves_then : World → Type 0) (routers limit : ℕ)
-    (status : connections.Status) (rest : ℕ) → ((nodes : List Held) → kept nodes → then nodes) → ((w : World) → leaves w → leaves_then w)
-    → IsPiped source sink gives kept leaves routers limit status rest → IsPiped source sink gives then leaves_then routers limit status rest
-piped_as source sink gives kept then leaves leaves_then routers limit status rest f g p = record {
-  taken = p.taken;
-  put = p.put;
-  requests = p.requests;
-  left = p.left;
-  fault = p.fault;
-  rounds = p.rounds;
-  end = p.end;
-  took = p.took;
-  put_all = p.put_all;
-  frames = p.frames;
-  rest_left = p.rest_left;
-  most = p.most;
-  one = p.one;
-  cause = p.cause;
-  files = f p.end.nodes p.files;
-  last = p.last;
-  is_last = p.is_last;
-  crashes = g p.last p.crashes;
-}
-
-simulated_as : (source : SourceCall) (sink : SinkCall) (kept then : List Held → Type 0) (leaves leaves_then : World → Type 0) (routers limit : ℕ)
-    (status : connections.Status) → ((nodes : List Held) → kept nodes → then nodes) → ((w : World) → leaves w → leaves_then w)
-    → IsSimulated source sink kept leaves routers limit status → IsSimulated source sink then leaves_then routers limit status
-simulated_as source sink kept then leaves leaves_then routers limit status f g s = record {
-  taken = s.taken;
-  put = s.put;
-  lines = s.lines;
-  left = s.left;
-  end = s.end;
-  took = s.took;
-  put_all = s.put_all;
-  parts = s.parts;
-  each = s.each;
-  most = s.most;
-  cause = s.cause;
-  files = f s.end.nodes s.files;
-  last = s.last;
-  is_last = s.is_last;
-  crashes = g s.last s.crashes;
-}
-
 pub driven_as : (command : Command) (source : SourceCall) (sink : SinkCall) (gives : ℕ → Type 0) (kept then : List Held → Type 0)
-    (leaves leaves_then : World → Type 0) (status : connections.Status) (rest : ℕ) → ((nodes : List Held) → kept nodes → then nodes)
-    → ((w : World) → leaves w → leaves_then w) → IsDriven command source sink gives kept leaves status rest
-    → IsDriven command source sink gives then leaves_then status rest
-driven_as Pipe source sink gives kept then leaves leaves_then status rest f g driven =
-    piped_as source sink gives kept then leaves leaves_then 1 most_taken status rest f g driven
-driven_as Sim source sink gives kept then leaves leaves_then status rest f g driven =
-    (simulated_as source sink kept then leaves leaves_then 1 most_taken status f g driven.0, driven.1)
+    (leaves leaves_then : World → Type 0) (owed owed_then : World → List ℕ → Type 0) (status : connections.Status) (rest : ℕ)
+    → ((nodes : List Held) → kept nodes → then nodes) → ((w : World) → leaves w → leaves_then w)
+    → ((w : World) (put : List ℕ) → owed w put → owed_then w put) → IsDriven command source sink gives kept leaves owed status rest
+    → IsDriven command source sink gives then leaves_then owed_then status rest
+driven_as Pipe source sink gives kept then leaves leaves_then owed owed_then status rest f g pays driven =
+    piped_with source sink gives kept then leaves leaves_then owed owed_then 1 most_taken status rest driven f g (λ w put leave owes. pays w put owes)
+driven_as Sim source sink gives kept then leaves leaves_then owed owed_then status rest f g pays driven =
+    (simulated_as source sink kept then leaves leaves_then owed owed_then 1 most_taken status f g (λ w put leave owes. pays w put owes) driven.0, driven.1)
 
 -- a connection ends with no status of another kind
 pub of_no_other : (ending : connections.Status) → (of_connection ending ≢ statuses.BadArguments) × (of_connection ending ≢ statuses.DamagedJournal)

@@ -42,7 +42,8 @@ all_empty_kept (a ∷ []) empty three = absurd (omega (arith, three))
 all_empty_kept (a ∷ b ∷ []) empty three = absurd (omega (arith, three))
 all_empty_kept (a ∷ b ∷ c ∷ d ∷ files) empty three = absurd (omega (arith, three))
 
-module _ (source : SourceCall) (sink : SinkCall) (tells : Bool) (files_after : List (List ℕ)) (leaves : World → Type 0) (gives : ℕ → Type 0) (rest : ℕ) where
+module _ (source : SourceCall) (sink : SinkCall) (tells : Bool) (files_after : List (List ℕ)) (leaves : World → Type 0)
+    (owed : World → List ℕ → Type 0) (gives : ℕ → Type 0) (rest : ℕ) where
   none_served : SomeServed 1 gives [] [] [] (start 1)
   none_served = record {
     under_way = [];
@@ -53,33 +54,33 @@ module _ (source : SourceCall) (sink : SinkCall) (tells : Bool) (files_after : L
     replied = refl;
   }
 
-  pub headline_from : (ending : connections.Status) → IsPiped source sink gives (λ nodes. IsTrue tells → AreJournals files_after nodes) leaves 1 most_taken ending rest
-      → Headline source sink tells files_after leaves gives ending rest
+  pub headline_from : (ending : connections.Status) → IsPiped source sink gives (λ nodes. IsTrue tells → AreJournals files_after nodes) leaves owed 1 most_taken ending rest
+      → Headline source sink tells files_after leaves owed gives ending rest
   headline_from ending piped = record {
     piped = piped;
-    history = piped_history source sink gives (λ nodes. IsTrue tells → AreJournals files_after nodes) leaves 1 most_taken ending rest piped;
+    history = piped_history source sink gives (λ nodes. IsTrue tells → AreJournals files_after nodes) leaves owed 1 most_taken ending rest piped;
   }
 
   none_played : CameTo 1 [] [] [] (start 1)
   none_played = began [] [] (start 1) (openings 0 (length (start 1).nodes), refl) (stands (start 1))
 
-  script_from : (ending : connections.Status) → IsSimulated source sink (λ nodes. IsTrue tells → AreJournals files_after nodes) leaves 1 most_taken ending
-      → rest ≡ 0 → ScriptHeadline source sink tells files_after leaves ending rest
+  script_from : (ending : connections.Status) → IsSimulated source sink (λ nodes. IsTrue tells → AreJournals files_after nodes) leaves owed 1 most_taken ending
+      → rest ≡ 0 → ScriptHeadline source sink tells files_after leaves owed ending rest
   script_from ending simulated none = record {
     simulated = simulated;
-    history = simulated_history source sink (λ nodes. IsTrue tells → AreJournals files_after nodes) leaves 1 most_taken ending simulated;
+    history = simulated_history source sink (λ nodes. IsTrue tells → AreJournals files_after nodes) leaves owed 1 most_taken ending simulated;
     no_rest = none;
   }
 
   pub headline_of : (command : Command) (ending : connections.Status)
-      → IsDriven command source sink gives (λ nodes. IsTrue tells → AreJournals files_after nodes) leaves ending rest
-      → HeadlineOf command source sink tells files_after leaves gives ending rest
+      → IsDriven command source sink gives (λ nodes. IsTrue tells → AreJournals files_after nodes) leaves owed ending rest
+      → HeadlineOf command source sink tells files_after leaves owed gives ending rest
   headline_of Pipe ending driven = headline_from ending driven
   headline_of Sim ending driven = script_from ending driven.0 driven.1
 
   -- the disks were not opened
-  pub disk_unopened : rest ≡ 0 → SourceGave source [] → SinkTook sink [] → (IsTrue tells → AreJournals files_after (start 1).nodes) → leaves (start 1) → Headline source sink tells files_after leaves gives ended.DiskFailed rest
-  disk_unopened none took put files crashes = headline_from ended.DiskFailed (record {
+  pub disk_unopened : rest ≡ 0 → SourceGave source [] → SinkTook sink [] → (IsTrue tells → AreJournals files_after (start 1).nodes) → leaves (start 1) → owed (start 1) [] → Headline source sink tells files_after leaves owed gives ended.DiskFailed rest
+  disk_unopened none took put files crashes debts = headline_from ended.DiskFailed (record {
     taken = [];
     put = [];
     requests = [];
@@ -98,11 +99,12 @@ module _ (source : SourceCall) (sink : SinkCall) (tells : Bool) (files_after : L
     last = start 1;
     is_last = inl refl;
     crashes = crashes;
+    acknowledged = debts;
   })
 
   -- there was no memory before anything was served
-  pub memory_unopened : rest ≡ 0 → SourceGave source [] → SinkTook sink [] → (IsTrue tells → AreJournals files_after (start 1).nodes) → leaves (start 1) → Headline source sink tells files_after leaves gives ended.OutOfMemory rest
-  memory_unopened none took put files crashes = headline_from ended.OutOfMemory (record {
+  pub memory_unopened : rest ≡ 0 → SourceGave source [] → SinkTook sink [] → (IsTrue tells → AreJournals files_after (start 1).nodes) → leaves (start 1) → owed (start 1) [] → Headline source sink tells files_after leaves owed gives ended.OutOfMemory rest
+  memory_unopened none took put files crashes debts = headline_from ended.OutOfMemory (record {
     taken = [];
     put = [];
     requests = [];
@@ -121,11 +123,12 @@ module _ (source : SourceCall) (sink : SinkCall) (tells : Bool) (files_after : L
     last = start 1;
     is_last = inl refl;
     crashes = crashes;
+    acknowledged = debts;
   })
 
-  script_disk_unopened : rest ≡ 0 → SourceGave source [] → SinkTook sink [] → (IsTrue tells → AreJournals files_after (start 1).nodes) → leaves (start 1)
-      → ScriptHeadline source sink tells files_after leaves ended.DiskFailed rest
-  script_disk_unopened none took put files crashes = script_from ended.DiskFailed (record {
+  script_disk_unopened : rest ≡ 0 → SourceGave source [] → SinkTook sink [] → (IsTrue tells → AreJournals files_after (start 1).nodes) → leaves (start 1) → owed (start 1) []
+      → ScriptHeadline source sink tells files_after leaves owed ended.DiskFailed rest
+  script_disk_unopened none took put files crashes debts = script_from ended.DiskFailed (record {
     taken = [];
     put = [];
     lines = [];
@@ -141,11 +144,12 @@ module _ (source : SourceCall) (sink : SinkCall) (tells : Bool) (files_after : L
     last = start 1;
     is_last = inl refl;
     crashes = crashes;
+    acknowledged = debts;
   }) none
 
-  script_memory_unopened : rest ≡ 0 → SourceGave source [] → SinkTook sink [] → (IsTrue tells → AreJournals files_after (start 1).nodes) → leaves (start 1)
-      → ScriptHeadline source sink tells files_after leaves ended.OutOfMemory rest
-  script_memory_unopened none took put files crashes = script_from ended.OutOfMemory (record {
+  script_memory_unopened : rest ≡ 0 → SourceGave source [] → SinkTook sink [] → (IsTrue tells → AreJournals files_after (start 1).nodes) → leaves (start 1) → owed (start 1) []
+      → ScriptHeadline source sink tells files_after leaves owed ended.OutOfMemory rest
+  script_memory_unopened none took put files crashes debts = script_from ended.OutOfMemory (record {
     taken = [];
     put = [];
     lines = [];
@@ -161,24 +165,25 @@ module _ (source : SourceCall) (sink : SinkCall) (tells : Bool) (files_after : L
     last = start 1;
     is_last = inl refl;
     crashes = crashes;
+    acknowledged = debts;
   }) none
 
   no_disk : (command : Command) → rest ≡ 0 → SourceGave source [] → SinkTook sink [] → (IsTrue tells → AreJournals files_after (start 1).nodes)
-      → leaves (start 1) → HeadlineOf command source sink tells files_after leaves gives ended.DiskFailed rest
-  no_disk Pipe none took put files crashes = disk_unopened none took put files crashes
-  no_disk Sim none took put files crashes = script_disk_unopened none took put files crashes
+      → leaves (start 1) → owed (start 1) [] → HeadlineOf command source sink tells files_after leaves owed gives ended.DiskFailed rest
+  no_disk Pipe none took put files crashes debts = disk_unopened none took put files crashes debts
+  no_disk Sim none took put files crashes debts = script_disk_unopened none took put files crashes debts
 
   no_room : (command : Command) → rest ≡ 0 → SourceGave source [] → SinkTook sink [] → (IsTrue tells → AreJournals files_after (start 1).nodes)
-      → leaves (start 1) → HeadlineOf command source sink tells files_after leaves gives ended.OutOfMemory rest
-  no_room Pipe none took put files crashes = memory_unopened none took put files crashes
-  no_room Sim none took put files crashes = script_memory_unopened none took put files crashes
+      → leaves (start 1) → owed (start 1) [] → HeadlineOf command source sink tells files_after leaves owed gives ended.OutOfMemory rest
+  no_room Pipe none took put files crashes debts = memory_unopened none took put files crashes debts
+  no_room Sim none took put files crashes debts = script_memory_unopened none took put files crashes debts
 
   pub unopened : (command : Command) (status : Status) → StopsOpening status → status ≢ statuses.DamagedJournal → rest ≡ 0 → SourceGave source []
-      → SinkTook sink [] → (IsTrue tells → AreJournals files_after (start 1).nodes) → leaves (start 1)
-      → OfConnection status (λ ending. HeadlineOf command source sink tells files_after leaves gives ending rest)
-  unopened command status at_opening_fault other none took put files crashes = (ended.DiskFailed, refl, no_disk command none took put files crashes)
-  unopened command status at_damage other none took put files crashes = absurd (other refl)
-  unopened command status at_opening_memory other none took put files crashes = (ended.OutOfMemory, refl, no_room command none took put files crashes)
+      → SinkTook sink [] → (IsTrue tells → AreJournals files_after (start 1).nodes) → leaves (start 1) → owed (start 1) []
+      → OfConnection status (λ ending. HeadlineOf command source sink tells files_after leaves owed gives ending rest)
+  unopened command status at_opening_fault other none took put files crashes debts = (ended.DiskFailed, refl, no_disk command none took put files crashes debts)
+  unopened command status at_damage other none took put files crashes debts = absurd (other refl)
+  unopened command status at_opening_memory other none took put files crashes debts = (ended.OutOfMemory, refl, no_room command none took put files crashes debts)
 
 -- and that is no end of another kind
 pub opening_not_refused : (status : Status) → StopsOpening status → (status ≢ statuses.BadArguments) × (status ≢ statuses.ReadFailed) × (status ≢ statuses.WriteFailed)

@@ -6,6 +6,10 @@ use Rattle.node_model.specs.World.{World, journal_at, start}
 use Rattle.node_traits.specs.Calls.{LeavesAlso}
 use Rattle.node_traits.specs.Effects.{spellings}
 use Rattle.driver_steps.specs.Crashes.{Passes}
+use Rattle.outside.specs.Notes.{Note}
+use Rattle.pipe_driver.specs.Acknowledgements.{AreAcknowledged}
+use Rattle.cluster_top.specs.Drivers.{output_of}
+use Rattle.cluster_top.specs.declared.arguments.Command.{Command}
 
 -- Disks before and after, in one order: a crash at any moment since before left of each what it might have left until then, or a file of which P
 -- holds at the disk's place.
@@ -22,3 +26,10 @@ IsOfTheWay w at file = Passes (start 1) w (λ v. Stands file (spellings (journal
 -- such files, of disks that tell theirs
 abbrev pub LeaveTheWay : {D : Type 0} → Bool → (D → ℕ) → (D → ℕ → Outcomes) → List D → List D → World → Type 0
 LeaveTheWay tells moment left_since befores afters w = IsTrue tells → LeaveSuch moment left_since (λ at file. IsOfTheWay w at file) befores afters
+
+-- Each byte that was written is acknowledged: before it was written the disks were noted, in a world on the way in which all bytes up to it were
+-- given, and no crash from then on leaves of a disk less than what its node keeps in that world.
+abbrev pub AreDurableBefore : {D : Type 0} → (tells_bytes tells_files : Bool) → (D → List ℕ) → (D → ℕ) → (D → ℕ → Outcomes) → Command → List Note
+    → (held_before : List ℕ) → List D → World → (put : List ℕ) → Type 0
+AreDurableBefore tells_bytes tells_files place moment left_since command notes held_before disks last put =
+    AreAcknowledged tells_bytes tells_files Stands place moment left_since (output_of command) (start 1) notes held_before disks last put

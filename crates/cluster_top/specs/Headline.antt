@@ -19,21 +19,22 @@ MakesOneHistory end = OneHistory end.given (creations_kept (journal_at end.nodes
 -- The bytes taken are requests and a rest, and the bytes put are the replies of a run of the nodes, by the schedule, whose journals the disks
 -- keep. Whatever clients send, what the catalogue and the shard keep then is one legal history of an unsharded collection with each
 -- statement at most once, of which each reply is a right one. `tells` is whether the disks tell their files; `leaves` says what a crash at any
--- moment of the call left, of the world up to which the run may go on.
-pub record Headline (source : SourceCall) (sink : SinkCall) (tells : Bool) (files : List (List ℕ)) (leaves : World → Type 0) (gives : ℕ → Type 0)
-    (status : Status) (rest : ℕ) : Type 0 where
-  pub piped : IsPiped source sink gives (λ nodes. IsTrue tells → AreJournals files nodes) leaves 1 most_taken status rest
+-- moment of the call left, of the world up to which the run may go on; and `owed` that each byte was put only after what it says was durable.
+pub record Headline (source : SourceCall) (sink : SinkCall) (tells : Bool) (files : List (List ℕ)) (leaves : World → Type 0)
+    (owed : World → List ℕ → Type 0) (gives : ℕ → Type 0) (status : Status) (rest : ℕ) : Type 0 where
+  pub piped : IsPiped source sink gives (λ nodes. IsTrue tells → AreJournals files nodes) leaves owed 1 most_taken status rest
   pub history : MakesOneHistory piped.end
 
 -- The bytes taken are lines of a script and a rest, and the bytes put are what a run of the nodes prints, of the events that the lines say. What
 -- their journals keep is one history too, in whatever order the script delivers.
 pub record ScriptHeadline (source : SourceCall) (sink : SinkCall) (tells : Bool) (files : List (List ℕ)) (leaves : World → Type 0)
-    (status : Status) (rest : ℕ) : Type 0 where
-  pub simulated : IsSimulated source sink (λ nodes. IsTrue tells → AreJournals files nodes) leaves 1 most_taken status
+    (owed : World → List ℕ → Type 0) (status : Status) (rest : ℕ) : Type 0 where
+  pub simulated : IsSimulated source sink (λ nodes. IsTrue tells → AreJournals files nodes) leaves owed 1 most_taken status
   pub history : MakesOneHistory simulated.end
   pub no_rest : rest ≡ 0
 
 -- by the command
-abbrev pub HeadlineOf : Command → SourceCall → SinkCall → Bool → List (List ℕ) → (World → Type 0) → (ℕ → Type 0) → Status → ℕ → Type 0
-HeadlineOf Pipe source sink tells files leaves gives status rest = Headline source sink tells files leaves gives status rest
-HeadlineOf Sim source sink tells files leaves gives status rest = ScriptHeadline source sink tells files leaves status rest
+abbrev pub HeadlineOf : Command → SourceCall → SinkCall → Bool → List (List ℕ) → (World → Type 0) → (World → List ℕ → Type 0) → (ℕ → Type 0) → Status
+    → ℕ → Type 0
+HeadlineOf Pipe source sink tells files leaves owed gives status rest = Headline source sink tells files leaves owed gives status rest
+HeadlineOf Sim source sink tells files leaves owed gives status rest = ScriptHeadline source sink tells files leaves owed status rest

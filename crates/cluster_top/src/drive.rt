@@ -4,11 +4,12 @@ ghost use Rattle.std.specs.Prelude.{◌≡◌, ◌≢◌, ◌<◌, vec_len};
 ghost use Rattle.outside.specs.Devices.{sink_call, source_call};
 ghost use Rattle.node_model.specs.World.{start};
 ghost use Rattle.driver_steps.specs.Seats.{AreHeld, AreKept, AreOpen, LeaveKept, faults_of, places_of, seat_since, seat_view, since_then};
+ghost use Rattle.pipe_driver.specs.Acknowledgements.{AreAcknowledgedBy};
 ghost use Rattle.pipe_driver.specs.Counts.{HaveRisenWhere, RoseWhere};
 ghost use Rattle.pipe_driver.specs.Progress.{AreAskedAsRead};
 ghost use Rattle.pipe_driver.specs.Rounds.{first_router};
 ghost use Rattle.pipe_driver.specs.declared.status.Status.TheVariants as statuses;
-ghost use Rattle.cluster_top.specs.Drivers.{IsDriven};
+ghost use Rattle.cluster_top.specs.Drivers.{IsDriven, output_of};
 
 use crate::arguments::Command;
 use driver_steps::Seat;
@@ -16,7 +17,8 @@ use node_traits::Node;
 use opmsg_frames::Request;
 use outside::clock::Clock;
 use outside::log::Log;
-use outside::streams::{Sink, Source};
+use outside::streams::Source;
+use outside::witness::Witness;
 use pipe_driver::Ending;
 use sim_driver::simulate;
 use std::alloc::Global;
@@ -28,7 +30,14 @@ const MOST_TAKEN: u64 = 1 << 40;
 
 /// Serves one connection, or plays a script, as the command says, by the nodes in order of their numbers, whose logs are open and empty at
 /// the start.
-pub fn drive<R: Threads + Sync, N: Node<Request = Request>, L: Log, S: Source, K: Sink, C: Clock>(
+pub fn drive<
+    R: Threads + Sync,
+    N: Node<Request = Request>,
+    L: Log,
+    S: Source,
+    K: Witness<L::Of>,
+    C: Clock,
+>(
     rt: &R,
     alloc: Global,
     command: Command,
@@ -43,6 +52,7 @@ pub fn drive<R: Threads + Sync, N: Node<Request = Request>, L: Log, S: Source, K
         IsDriven command (source_call S.tells S.left S.fault_count input.old input.new) (sink_call K.tells K.held K.fault_count out.old out.new)
         (C.gives clock.now) (AreKept (seat_view N.state L.facts) seats.new.items)
         (LeaveKept (seat_since N.state L.facts (since_then seats.old.items (start 1))) seats.new.items)
+        (AreAcknowledgedBy L.facts K.tells (output_of command) (start 1) (K.noted out.new) (K.held out.old) seats.new.items)
         result.status result.rest }
     ensures open { result.status ≢ statuses.DiskFailed → result.status ≢ statuses.OutOfMemory → AreOpen L.facts.is_open seats.new.items }
     ensures len { vec_len seats.new ≡ vec_len seats.old }

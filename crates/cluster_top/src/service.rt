@@ -7,7 +7,7 @@ ghost use Rattle.pipe_driver.specs.Progress.{AreAskedAsRead};
 ghost use Rattle.journal_frames.specs.Files.{Stands};
 ghost use Rattle.pipe_driver.specs.Counts.{RoseWhere};
 ghost use Rattle.cluster_top.specs.Counts.{OneRoseWhere};
-ghost use Rattle.cluster_top.specs.Crashes.{LeaveSuch, LeaveTheWay};
+ghost use Rattle.cluster_top.specs.Crashes.{AreDurableBefore, LeaveSuch, LeaveTheWay};
 ghost use Rattle.cluster_top.specs.Disks.{AreNoWorse, IsEmptyAll, SomeFile, three};
 ghost use Rattle.cluster_top.specs.Headline.{HeadlineOf};
 ghost use Rattle.cluster_top.specs.Nodes.{AreNew};
@@ -26,7 +26,8 @@ use node_traits::Node;
 use opmsg_frames::Request;
 use outside::clock::Clock;
 use outside::disk::Disk;
-use outside::streams::{Sink, Source};
+use outside::streams::Source;
+use outside::witness::Witness;
 use std::alloc::Global;
 use std::marker::Sync;
 use std::thread::Threads;
@@ -57,7 +58,7 @@ pub fn run_nodes<
     R: Threads + Sync,
     N: Node<Request = Request>,
     S: Source,
-    K: Sink,
+    K: Witness<D>,
     D: Disk,
     C: Clock,
 >(
@@ -76,6 +77,7 @@ pub fn run_nodes<
         (sink_call K.tells K.held K.fault_count out.old out.new)
         D.tells (map D.content (three result.disks))
         (LeaveTheWay D.tells D.moment D.left_since (three disks) (three result.disks))
+        (AreDurableBefore K.tells D.tells D.place D.moment D.left_since command (K.noted out.new) (K.held out.old) (three result.disks))
         (C.gives clock.now) ending result.rest) }
     ensures durable { IsTrue D.tells → IsEmptyAll D.tells (map D.content (three disks)) →
         result.status ≢ statuses.DiskFailed → result.status ≢ statuses.OutOfMemory →
@@ -111,7 +113,14 @@ pub fn run_nodes<
 }
 
 /// Serves one connection, or plays a script, to its end by new nodes, whose journals are open and have no record.
-fn serve<R: Threads + Sync, N: Node<Request = Request>, S: Source, K: Sink, D: Disk, C: Clock>(
+fn serve<
+    R: Threads + Sync,
+    N: Node<Request = Request>,
+    S: Source,
+    K: Witness<D>,
+    D: Disk,
+    C: Clock,
+>(
     rt: &R,
     alloc: Global,
     command: Command,
@@ -129,6 +138,7 @@ fn serve<R: Threads + Sync, N: Node<Request = Request>, S: Source, K: Sink, D: D
         (sink_call K.tells K.held K.fault_count out.old out.new)
         D.tells (map D.content (three result.disks))
         (LeaveTheWay D.tells D.moment D.left_since disks (three result.disks))
+        (AreDurableBefore K.tells D.tells D.place D.moment D.left_since command (K.noted out.new) (K.held out.old) (three result.disks))
         (C.gives clock.now) ending result.rest) }
     ensures durable { IsTrue D.tells → result.status ≢ statuses.DiskFailed → result.status ≢ statuses.OutOfMemory →
         AllByRecursion (IsDurable D.content D.may_leave) (three result.disks) }

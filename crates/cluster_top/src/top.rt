@@ -5,7 +5,7 @@ ghost use Rattle.std.specs.List.{AllByRecursion};
 ghost use Rattle.outside.specs.Devices.{NoneFell, SinkIsUntouched, SourceIsUntouched, sink_call, source_call};
 ghost use Rattle.pipe_driver.specs.Counts.{RoseWhere};
 ghost use Rattle.cluster_top.specs.Counts.{OneRoseWhere};
-ghost use Rattle.cluster_top.specs.Crashes.{LeaveTheWay};
+ghost use Rattle.cluster_top.specs.Crashes.{AreDurableBefore, LeaveTheWay};
 ghost use Rattle.cluster_top.specs.Disks.{AreNoWorse, IsEmptyAll, SomeFile};
 ghost use Rattle.cluster_top.specs.Headline.{HeadlineOf};
 ghost use Rattle.cluster_top.specs.OpenJournals.{IsDurable};
@@ -22,7 +22,8 @@ use outside::clock::Clock;
 use outside::disk::Disk;
 use outside::exchange::Spoken;
 use outside::gate::Gate;
-use outside::streams::{Acceptor, Sink, Source};
+use outside::streams::{Acceptor, Source};
+use outside::witness::Witness;
 use std::alloc::Global;
 use std::sync::Wait;
 use std::thread::Threads;
@@ -55,7 +56,7 @@ pub fn run<R, S, K, A, D, C, G>(
 where
     R: Threads + Wait + Sync,
     S: Source,
-    K: Sink,
+    K: Witness<D>,
     A: Acceptor,
     D: Disk + Send,
     C: Clock + Sync,
@@ -92,6 +93,7 @@ where
         (sink_call K.tells K.held K.fault_count out.old out.new)
         D.tells (map D.content result.disks.items)
         (LeaveTheWay D.tells D.moment D.left_since disks.items result.disks.items)
+        (AreDurableBefore K.tells D.tells D.place D.moment D.left_since command (K.noted out.new) (K.held out.old) result.disks.items)
         (C.gives clock.now) ending result.rest))) }
 
     // But where a disk failed or memory ended, a crash takes none of the records.

@@ -40,7 +40,7 @@ mapped_got f [] at s got = absurd (cc got)
 mapped_got f (x ∷ items) zero s got = let same : x ≡ s = cc got in ap (λ z. Some (f z)) same
 mapped_got f (x ∷ items) (suc at) s got = mapped_got f items at s got
 
-got_mapped : {S X : Type 0} (f : S → X) (items : List S) (at : ℕ) (y : X) → slice_get (map f items) at ≡ Some y
+pub got_mapped : {S X : Type 0} (f : S → X) (items : List S) (at : ℕ) (y : X) → slice_get (map f items) at ≡ Some y
     → (s : S) × (slice_get items at ≡ Some s) × (f s ≡ y)
 got_mapped f [] at y got = absurd (cc got)
 got_mapped f (x ∷ items) zero y got = (x, refl, cc got)

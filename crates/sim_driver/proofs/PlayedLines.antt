@@ -1,20 +1,25 @@
 -- A line is played.
 use Rattle.std.proofs.Common.{◌≡◌, ◌⊎◌, inl, inr, ℕ, ◌+◌, ◌<◌, Bool, true, false, not, List, [], ◌∷◌, ◌++◌, length, refl, sym, ap, subst, ◌∙◌, arith}
 use Rattle.std.specs.Prelude.{Option, Some, None}
+use Rattle.outside.specs.Logs.{LogFacts}
 use Rattle.opmsg_frames.specs.Outline.{FrameFault}
 use Rattle.opmsg_frames.specs.Frames.{FramesFrom}
 use Rattle.std.specs.List.{slice_get}
 use Rattle.node_model.specs.Letters.{Letter}
+use Rattle.node_model.specs.States.{NodeState}
 use Rattle.node_model.specs.World.{World, Event, deliver_event, Happens, stands, goes}
 use Rattle.node_traits.specs.declared.outputs.ToLink.{ToLink}
-use Rattle.driver_steps.specs.Seats.{SeatView}
+use Rattle.driver_steps.specs.declared.seat.Seat.{Seat}
+use Rattle.driver_steps.specs.Crashes.{Since, with_notes}
+use Rattle.driver_steps.specs.Seats.{AreDurable, SeatView, seat_since}
 use Rattle.driver_steps.specs.Worlds.{NetworkView}
 use Rattle.driver_steps.specs.Moves.{BeginWith, DeliversOrLoses}
 use Rattle.script_lines.specs.Lines.{Line, Says, client_line, deliver_line, settle_line}
 use Rattle.sim_driver.specs.Moves.{HasAsked, HasFault, HasDeliveredOne, HasSettledBut, AreStill, IsCut, IsFirstAsked, IsPartOfDelivery}
+use Rattle.pipe_driver.proofs.Covers.{note_stands, now_noted}
 use Rattle.pipe_driver.specs.declared.status.Status.{Status}
 use Rattle.pipe_driver.specs.declared.status.Status.TheVariants as statuses
-use Rattle.sim_driver.specs.LineOutcomes.{HasPlayed, IsOfLine, StopsLine, stops_unplayed, stops_at_disk, stops_at_memory}
+use Rattle.sim_driver.specs.LineOutcomes.{HasPlayed, HasPlayedBytes, IsOfLine, StopsLine, stops_unplayed, stops_at_disk, stops_at_memory}
 use Rattle.sim_driver.specs.LineOutcomes.{IsPartOfBytes, part_unread, part_read, names_nothing, StopsBytes, bytes_refused, bytes_at_disk, bytes_at_memory}
 use Rattle.sim_driver.specs.Plays.{IsPlayed, plays_client, closes, plays_deliver, plays_settle, IsPartOfLine, part_of_client, part_of_deliver}
 use Rattle.sim_driver.specs.Plays.{client_events}
@@ -214,3 +219,21 @@ played_as view seats network handed w known line s t closed same h = subst (λ (
 pub stops_as : {S : Type 0} (view : S → SeatView) (seats : List S) (w : World) (known line : Line) (old : ScriptView) (status : Status) → known ≡ line
     → StopsLine view seats w known old status → StopsLine view seats w line old status
 stops_as view seats w known line old status same stops = subst (λ (l : Line). StopsLine view seats w l old status) same stops
+
+-- a line that was played, with one note more of all disks behind it
+abbrev pub note_played : {N L : Type 0} (facts : LogFacts L) (seats : List (Seat N L)) (count : ℕ) (state : N → NodeState) (since : Since L)
+    (network : NetworkView) (handed : List ToLink) (before : World) (bytes : List ℕ) (old new : ScriptView) (closed : Bool) → AreDurable facts seats
+    → (h : HasPlayedBytes (seat_since state facts since) seats network handed before bytes old new closed)
+    → HasPlayedBytes (seat_since state facts (with_notes since (now_noted facts seats h.played.end count ∷ since.noted))) seats network handed before bytes
+    old new closed
+note_played facts seats count state since network handed before bytes old new closed durable h = record {
+  line = h.line;
+  says = h.says;
+  played = record {
+    events = h.played.events;
+    end = h.played.end;
+    run = h.played.run;
+    played = h.played.played;
+    stands = note_stands facts seats h.played.end count state since network handed 0 durable h.played.stands;
+  };
+}

@@ -148,7 +148,7 @@ module _ {S : Type 0} (view : S → SeatView) (seats seats_after : List S) (befo
         (λ e part h. came_in others (c.events ++ e ∷ []) c.last part (run_more p.world c.events c.end e c.last c.run h)) c.is_last;
     crashes = c.crashes;
     covered = λ told. covered_on (all_printed routers) (start routers) held_before noted p.out p.world c.last (p.covered told)
-        (leads_on p.world c.end c.last (c.events, c.run) (last_leads status c.end c.last c.events _ c.is_last));
+        (leads_on p.world c.end c.last (c.events, c.run) (last_leads status c.end c.last c.events (IsPartOfBytes p.world s bytes) c.is_last));
   }
 
   -- the script stops where nothing is cut short, and of the line nothing was put
@@ -276,9 +276,9 @@ module _ {S : Type 0} (view : S → SeatView) (seats seats_after : List S) (befo
       crashes = h.played.stands.crashes;
       covered = λ told. covered_part (all_printed routers) (start routers) held_before noted_after (p.out ++ part)
           (p.out ++ printed s.link old.replies.items closed) h.played.end (
-        prefix.0,
-        ap (λ (b : List ℕ). p.out ++ b) prefix.1 ∙ sym (append_assoc p.out part prefix.0),
-      ) (covers told);
+            prefix.0,
+            ap (λ (b : List ℕ). p.out ++ b) prefix.1 ∙ sym (append_assoc p.out part prefix.0),
+          ) (covers told);
     }
 
 -- BETWEEN LINES

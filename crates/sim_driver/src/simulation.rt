@@ -46,7 +46,13 @@ fn unended(cause: Status, begun: &[u8]) -> Status
 ///
 /// The status is `BadInput` where the next line is refused, and `DiskFailed` where the disk of a log failed: the logs must be opened again. It
 /// is `OutOfMemory` also where a node is at its last step.
-pub fn simulate<R: Threads + Sync, N: Node<Request = Request>, L: Log, S: Source, K: Witness<L::Of>>(
+pub fn simulate<
+    R: Threads + Sync,
+    N: Node<Request = Request>,
+    L: Log,
+    S: Source,
+    K: Witness<L::Of>,
+>(
     rt: &R,
     alloc: Global,
     input: &mut S,

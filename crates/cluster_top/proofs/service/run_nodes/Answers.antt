@@ -4,12 +4,12 @@ use Rattle.journal_frames.specs.Files.{Stands}
 use Rattle.node_model.specs.World.{start}
 use Rattle.driver_steps.proofs.Crashes.{leads_nowhere}
 use Rattle.pipe_driver.proofs.Counts.{none_fell_after, still}
-use Rattle.cluster_top.specs.Crashes.{IsOfTheWay, LeaveTheWay}
+use Rattle.cluster_top.specs.Crashes.{AreDurableBefore, IsOfTheWay, LeaveTheWay}
 use Rattle.cluster_top.specs.Disks.{IsEmptyAll, three}
 use Rattle.cluster_top.specs.OpenJournals.{disks_of}
 use Rattle.cluster_top.specs.Stops.{at_opening_fault}
 use Rattle.cluster_top.specs.declared.status.Status.TheVariants as statuses
-use Rattle.cluster_top.proofs.Crashes.{all_then, all_weaker, never_of, of_the_start}
+use Rattle.cluster_top.proofs.Crashes.{all_then, all_weaker, never_of, none_owed, of_the_start}
 use Rattle.cluster_top.proofs.Counts.{all_still, one_of_them_rose, one_rose_after, one_rose_as}
 use Rattle.cluster_top.proofs.Unserved.{empty_kept, none_kept, opening_not_refused, opening_stopped, still_empty, unopened}
 use Rattle.cluster_top.proofs.service.run_nodes.Goals as goal
@@ -29,11 +29,13 @@ returns-in-Err-clause-headline g c = λ asked new empty other.
     rw (c.untouched-in-Err.ensures.disks, c.untouched-in-Err.ensures.status)
     (unopened (source_call g.S.Source.tells g.S.Source.left g.S.Source.fault_count c.args.input.now c.args.input.now) (sink_call g.K.Sink.tells g.K.Sink.held g.K.Sink.fault_count c.args.out.now c.args.out.now)
     g.D.Disk.tells (map g.D.Disk.content (three {D = g.row.D.Denot} c.are_empty.new.self)) (LeaveTheWay g.D.Disk.tells g.D.Disk.moment g.D.Disk.left_since (three {D = g.row.D.Denot} c.args.disks) (three {D = g.row.D.Denot} c.are_empty.new.self))
+    (AreDurableBefore g.K.Sink.tells g.D.Disk.tells g.D.Disk.place g.D.Disk.moment g.D.Disk.left_since c.args.command (g.K.Sink.noted c.args.out.now) (g.K.Sink.held c.args.out.now) (three {D = g.row.D.Denot} c.are_empty.new.self))
     (g.C.Clock.gives c.args.clock.now) _ c.args.command statuses.DiskFailed at_opening_fault (λ e. cc)
     c.untouched-in-Err.ensures.rest (λ told. refl) (λ told. sym (append-nil (g.K.Sink.held c.args.out.now)))
     (λ told. empty_kept _ _ _
     (still_empty g.D.Disk.tells (map g.D.Disk.content (three {D = g.row.D.Denot} c.args.disks)) (map g.D.Disk.content (three {D = g.row.D.Denot} c.are_empty.new.self)) c.in-Err.ensures.same empty told))
-    (λ told. all_weaker g.D.Disk.moment g.D.Disk.left_since (λ at file. ⊥) (λ at file. IsOfTheWay (start 1) at file) (three {D = g.row.D.Denot} c.args.disks) (three {D = g.row.D.Denot} c.are_empty.new.self) never_of (c.in-Err.ensures.leaves told)))
+    (λ told. all_weaker g.D.Disk.moment g.D.Disk.left_since (λ at file. ⊥) (λ at file. IsOfTheWay (start 1) at file) (three {D = g.row.D.Denot} c.args.disks) (three {D = g.row.D.Denot} c.are_empty.new.self) never_of (c.in-Err.ensures.leaves told))
+    (none_owed g.K.Sink.tells g.D.Disk.tells g.D.Disk.place g.D.Disk.moment g.D.Disk.left_since c.args.command (g.K.Sink.noted c.args.out.now) (g.K.Sink.held c.args.out.now) _ (start 1)))
 
 pub returns-in-Err-clause-disk_fault : goal.returns-in-Err-clause-disk_fault
 returns-in-Err-clause-disk_fault g c =
@@ -48,13 +50,15 @@ returns-in-Err-open_all-clause-headline g c = λ asked new empty other.
     rw (c.untouched-in-Err-open_all.ensures.disks, c.untouched-in-Err-open_all.ensures.status)
     (unopened (source_call g.S.Source.tells g.S.Source.left g.S.Source.fault_count c.args.input.now c.args.input.now) (sink_call g.K.Sink.tells g.K.Sink.held g.K.Sink.fault_count c.args.out.now c.args.out.now)
     g.D.Disk.tells (map g.D.Disk.content (three {D = g.row.D.Denot} c.in-Err-open_all.field-0.disks))
-    (LeaveTheWay g.D.Disk.tells g.D.Disk.moment g.D.Disk.left_since (three {D = g.row.D.Denot} c.args.disks) (three {D = g.row.D.Denot} c.in-Err-open_all.field-0.disks)) (g.C.Clock.gives c.args.clock.now) _ c.args.command c.in-Err-open_all.field-0.status c.in-Err-open_all.ensures.stops
+    (LeaveTheWay g.D.Disk.tells g.D.Disk.moment g.D.Disk.left_since (three {D = g.row.D.Denot} c.args.disks) (three {D = g.row.D.Denot} c.in-Err-open_all.field-0.disks))
+    (AreDurableBefore g.K.Sink.tells g.D.Disk.tells g.D.Disk.place g.D.Disk.moment g.D.Disk.left_since c.args.command (g.K.Sink.noted c.args.out.now) (g.K.Sink.held c.args.out.now) (three {D = g.row.D.Denot} c.in-Err-open_all.field-0.disks)) (g.C.Clock.gives c.args.clock.now) _ c.args.command c.in-Err-open_all.field-0.status c.in-Err-open_all.ensures.stops
     (λ is. other (c.untouched-in-Err-open_all.ensures.status ∙ is)) c.untouched-in-Err-open_all.ensures.rest (λ told. refl) (λ told. sym (append-nil (g.K.Sink.held c.args.out.now)))
     (λ told. let kept = c.in-Err-open_all.ensures.kept still told in none_kept _ _ _ kept.0 kept.1.0 kept.1.1.0)
     (λ told. all_weaker g.D.Disk.moment g.D.Disk.left_since (λ at file. Stands file []) (λ at file. IsOfTheWay (start 1) at file) (three {D = g.row.D.Denot} c.args.disks) (three {D = g.row.D.Denot} c.in-Err-open_all.field-0.disks)
     (λ at file none. of_the_start (start 1) at file (leads_nowhere (start 1)) none)
     (all_then g.D.Disk.moment g.D.Disk.left_since (λ at file. Stands file []) (three {D = g.row.D.Denot} c.args.disks) (three {D = g.row.D.Denot} c.are_empty.new.self) (three {D = g.row.D.Denot} c.in-Err-open_all.field-0.disks) (c.in-Ok-true.ensures.leaves told)
-    (c.in-Err-open_all.ensures.leaves_err still told))))
+    (c.in-Err-open_all.ensures.leaves_err still told)))
+    (none_owed g.K.Sink.tells g.D.Disk.tells g.D.Disk.place g.D.Disk.moment g.D.Disk.left_since c.args.command (g.K.Sink.noted c.args.out.now) (g.K.Sink.held c.args.out.now) _ (start 1)))
 
 pub returns-in-Err-open_all-clause-status : goal.returns-in-Err-open_all-clause-status
 returns-in-Err-open_all-clause-status g c = λ is. (opening_not_refused _ c.in-Err-open_all.ensures.stops).0 (sym c.untouched-in-Err-open_all.ensures.status ∙ is)

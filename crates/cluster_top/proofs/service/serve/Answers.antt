@@ -1,14 +1,17 @@
-use Rattle.std.proofs.Common.{◌∙◌, ◌≡◌, List, [], refl, sym, ap, map, subst, append-nil, arith}
+use Rattle.std.proofs.Common.{◌∙◌, ◌≡◌, ℕ, List, [], refl, sym, ap, map, subst, append-nil, arith}
 use Rattle.std.specs.Prelude.{IsTrue}
 use Rattle.outside.specs.Devices.{NoneFell, sink_call, source_call}
 use Rattle.outside.proofs.Relations.{none_fell_self}
 use Rattle.journal_frames.specs.Files.{Stands}
+use Rattle.journal_frames.specs.Views.{journal_facts}
+use Rattle.pipe_driver.specs.Acknowledgements.{AreAcknowledgedBy}
 use Rattle.driver_steps.specs.Seats.{AreHeld, AreKept, LeaveKept, faults_of, seat_since, seat_view, since_then}
 use Rattle.driver_steps.proofs.Crashes.{leads_nowhere}
 use Rattle.node_model.specs.World.{Held, World, start}
 use Rattle.pipe_driver.proofs.Counts.{still}
 use Rattle.cluster_top.specs.Counts.{OneRoseWhere}
-use Rattle.cluster_top.specs.Crashes.{IsOfTheWay, LeaveSuch, LeaveTheWay}
+use Rattle.cluster_top.specs.Crashes.{AreDurableBefore, IsOfTheWay, LeaveSuch, LeaveTheWay}
+use Rattle.cluster_top.specs.Drivers.{output_of}
 use Rattle.cluster_top.specs.Disks.{three}
 use Rattle.cluster_top.specs.Journals.{AreJournals}
 use Rattle.cluster_top.specs.OpenJournals.{disks_of}
@@ -16,8 +19,8 @@ use Rattle.cluster_top.specs.Stops.{at_opening_memory}
 use Rattle.cluster_top.specs.declared.status.Status.TheVariants as statuses
 use Rattle.pipe_driver.specs.declared.status.Status.TheVariants as ended
 use Rattle.cluster_top.proofs.Counts.{all_still}
-use Rattle.cluster_top.proofs.Crashes.{all_weaker, of_the_start, seats_leave}
-use Rattle.cluster_top.proofs.SeatFacts.{driven_as, found_in, has_ending, held_at_start, kept_in_files, later_of, moved, of_no_other, one_rose_of, rose_of, told_after, told_before}
+use Rattle.cluster_top.proofs.Crashes.{all_weaker, disks_owed, none_owed, of_the_start, seats_leave}
+use Rattle.cluster_top.proofs.SeatFacts.{driven_as, has_ending, held_at_start, kept_in_files, later_of, moved, of_no_other, one_rose_of, rose_of, told_after, told_before}
 use Rattle.cluster_top.proofs.Unserved.{headline_of, memory_unopened, none_kept, unopened}
 use Rattle.cluster_top.proofs.service.serve.Goals as goal
 
@@ -25,13 +28,15 @@ pub returns-then-is_err-clause-headline : goal.returns-then-is_err-clause-headli
 returns-then-is_err-clause-headline g c = λ asked new fresh disks first.
     rw (c.untouched.ensures.disks, c.untouched.ensures.status)
     (unopened (source_call g.S.Source.tells g.S.Source.left g.S.Source.fault_count c.args.input.now c.args.input.now) (sink_call g.K.Sink.tells g.K.Sink.held g.K.Sink.fault_count c.args.out.now c.args.out.now) g.D.Disk.tells (map g.D.Disk.content (three {D = g.row.D.Denot} c.into_disks.result))
-    (LeaveTheWay g.D.Disk.tells g.D.Disk.moment g.D.Disk.left_since disks (three {D = g.row.D.Denot} c.into_disks.result)) (g.C.Clock.gives c.args.clock.now) _ c.args.command statuses.OutOfMemory at_opening_memory (λ e. cc)
+    (LeaveTheWay g.D.Disk.tells g.D.Disk.moment g.D.Disk.left_since disks (three {D = g.row.D.Denot} c.into_disks.result))
+    (AreDurableBefore g.K.Sink.tells g.D.Disk.tells g.D.Disk.place g.D.Disk.moment g.D.Disk.left_since c.args.command (g.K.Sink.noted c.args.out.now) (g.K.Sink.held c.args.out.now) (three {D = g.row.D.Denot} c.into_disks.result)) (g.C.Clock.gives c.args.clock.now) _ c.args.command statuses.OutOfMemory at_opening_memory (λ e. cc)
     c.untouched.ensures.rest (λ told. refl) (λ told. sym (append-nil (g.K.Sink.held c.args.out.now)))
     (λ told. subst (λ (ds : List g.row.D.Denot). AreJournals (map g.D.Disk.content ds) (start 1).nodes) (sym c.into_disks.ensures)
     (none_kept _ _ _ (fresh.catalogue.file told) (fresh.shard.file told) (fresh.router.file told)))
     (λ told. subst (λ (ds : List g.row.D.Denot). LeaveSuch g.D.Disk.moment g.D.Disk.left_since (λ at file. IsOfTheWay (start 1) at file) disks ds) (sym c.into_disks.ensures)
     (all_weaker g.D.Disk.moment g.D.Disk.left_since (λ at file. Stands file []) (λ at file. IsOfTheWay (start 1) at file) disks (disks_of {D = g.row.D.Denot} c.args.journals)
-    (λ at file none. of_the_start (start 1) at file (leads_nowhere (start 1)) none) (first told))))
+    (λ at file none. of_the_start (start 1) at file (leads_nowhere (start 1)) none) (first told)))
+    (none_owed g.K.Sink.tells g.D.Disk.tells g.D.Disk.place g.D.Disk.moment g.D.Disk.left_since c.args.command (g.K.Sink.noted c.args.out.now) (g.K.Sink.held c.args.out.now) _ (start 1)))
 
 pub returns-then-is_err-clause-status : goal.returns-then-is_err-clause-status
 returns-then-is_err-clause-status g c = rw c.untouched.ensures.status (λ e. cc, λ e. cc)
@@ -66,25 +71,31 @@ pub returns-clause-headline : goal.returns-clause-headline
 returns-clause-headline g c = λ asked new fresh disks first.
     let source = (source_call g.S.Source.tells g.S.Source.left g.S.Source.fault_count c.args.input.now c.drive-ending.new.input) in
     let sink = (sink_call g.K.Sink.tells g.K.Sink.held g.K.Sink.fault_count c.args.out.now c.drive-ending.new.out) in
-    let view = seat_view g.N.Node.state g.D.Disk.tells (λ j. j.records) (found_in g.D.Disk.tells g.D.Disk.content) in
+    let facts = journal_facts g.D.Disk.tells g.D.Disk.content g.D.Disk.moment g.D.Disk.left_since g.D.Disk.fault_count g.D.Disk.place in
+    let view = seat_view g.N.Node.state facts in
     let start_with : AreHeld view c.put_in.new.seats.items (start 1).nodes =
-    subst (λ seats. AreHeld view seats (start 1).nodes) (sym c.put_in.ensures.items) (held_at_start g.N.Node.state g.D.Disk.tells g.D.Disk.content c.args.nodes c.args.journals new fresh) in
+    subst (λ seats. AreHeld view seats (start 1).nodes) (sym c.put_in.ensures.items) (held_at_start g.N.Node.state g.D.Disk.tells g.D.Disk.content g.D.Disk.moment g.D.Disk.left_since g.D.Disk.fault_count g.D.Disk.place c.args.nodes c.args.journals new fresh) in
     let kept : (nodes : List Held) → AreKept view c.drive-ending.new.seats.items nodes → IsTrue g.D.Disk.tells → AreJournals (map g.D.Disk.content (three {D = g.row.D.Denot} c.take_disks.result)) nodes =
     λ nodes keeps told. subst (λ (ds : List g.row.D.Denot). AreJournals (map g.D.Disk.content ds) nodes) (sym c.take_disks.ensures.disks)
-    (kept_in_files g.N.Node.state g.D.Disk.tells g.D.Disk.content c.drive-ending.new.seats.items nodes keeps told) in
-    let leaves : (w : World) → LeaveKept (seat_since g.N.Node.state g.D.Disk.tells (λ j. j.records) (found_in g.D.Disk.tells g.D.Disk.content) (λ file found. Stands file found)
-    (λ j. g.D.Disk.moment j.disk) (λ j t file. g.D.Disk.left_since j.disk t file) (since_then c.put_in.new.seats.items (start 1))) c.drive-ending.new.seats.items w
+    (kept_in_files g.N.Node.state g.D.Disk.tells g.D.Disk.content g.D.Disk.moment g.D.Disk.left_since g.D.Disk.fault_count g.D.Disk.place c.drive-ending.new.seats.items nodes keeps told) in
+    let leaves : (w : World) → LeaveKept (seat_since g.N.Node.state facts (since_then c.put_in.new.seats.items (start 1))) c.drive-ending.new.seats.items w
     → LeaveTheWay g.D.Disk.tells g.D.Disk.moment g.D.Disk.left_since disks (three {D = g.row.D.Denot} c.take_disks.result) w =
     λ w leave told. subst (λ (ds : List g.row.D.Denot). LeaveSuch g.D.Disk.moment g.D.Disk.left_since (λ at file. IsOfTheWay w at file) disks ds) (sym c.take_disks.ensures.disks)
-    (seats_leave g.N.Node.state g.D.Disk.tells (λ j. j.records) (found_in g.D.Disk.tells g.D.Disk.content) g.D.Disk.moment g.D.Disk.left_since w told disks c.put_in.new.seats.items c.drive-ending.new.seats.items
+    (seats_leave g.N.Node.state g.D.Disk.tells g.D.Disk.content g.D.Disk.moment g.D.Disk.left_since g.D.Disk.fault_count g.D.Disk.place w told disks c.put_in.new.seats.items c.drive-ending.new.seats.items
     (subst (λ seats. LeaveSuch g.D.Disk.moment g.D.Disk.left_since (λ at file. Stands file []) disks (map (λ s. s.log.disk) seats)) (sym c.put_in.ensures.items) (first told))
-    (omega (arith, c.put_in.new.seats.ok, c.drive-ending.new.seats.ok, c.drive-ending.ensures.len)) leave) in (
+    (omega (arith, c.put_in.new.seats.ok, c.drive-ending.new.seats.ok, c.drive-ending.ensures.len)) leave) in
+    let pays : (w : World) (put : List ℕ) → AreAcknowledgedBy facts g.K.Sink.tells (output_of c.args.command) (start 1) (g.K.Sink.noted c.drive-ending.new.out) (g.K.Sink.held c.args.out.now) c.drive-ending.new.seats.items w put
+    → AreDurableBefore g.K.Sink.tells g.D.Disk.tells g.D.Disk.place g.D.Disk.moment g.D.Disk.left_since c.args.command (g.K.Sink.noted c.drive-ending.new.out) (g.K.Sink.held c.args.out.now) (three {D = g.row.D.Denot} c.take_disks.result) w put =
+    λ w put owed. subst (λ (ds : List g.row.D.Denot). AreDurableBefore g.K.Sink.tells g.D.Disk.tells g.D.Disk.place g.D.Disk.moment g.D.Disk.left_since c.args.command (g.K.Sink.noted c.drive-ending.new.out) (g.K.Sink.held c.args.out.now) ds w put) (sym c.take_disks.ensures.disks)
+    (disks_owed g.K.Sink.tells g.D.Disk.tells g.D.Disk.content g.D.Disk.moment g.D.Disk.left_since g.D.Disk.fault_count g.D.Disk.place c.args.command (g.K.Sink.noted c.drive-ending.new.out) (g.K.Sink.held c.args.out.now) c.drive-ending.new.seats.items w put owed) in (
       c.drive-ending.result.status,
       c.of.ensures,
-      headline_of source sink g.D.Disk.tells (map g.D.Disk.content (three {D = g.row.D.Denot} c.take_disks.result)) (LeaveTheWay g.D.Disk.tells g.D.Disk.moment g.D.Disk.left_since disks (three {D = g.row.D.Denot} c.take_disks.result)) (g.C.Clock.gives c.args.clock.now) c.drive-ending.result.rest
+      headline_of source sink g.D.Disk.tells (map g.D.Disk.content (three {D = g.row.D.Denot} c.take_disks.result)) (LeaveTheWay g.D.Disk.tells g.D.Disk.moment g.D.Disk.left_since disks (three {D = g.row.D.Denot} c.take_disks.result))
+          (AreDurableBefore g.K.Sink.tells g.D.Disk.tells g.D.Disk.place g.D.Disk.moment g.D.Disk.left_since c.args.command (g.K.Sink.noted c.drive-ending.new.out) (g.K.Sink.held c.args.out.now) (three {D = g.row.D.Denot} c.take_disks.result)) (g.C.Clock.gives c.args.clock.now) c.drive-ending.result.rest
           c.args.command c.drive-ending.result.status
-          (driven_as c.args.command source sink (g.C.Clock.gives c.args.clock.now) (AreKept view c.drive-ending.new.seats.items) _ _ (LeaveTheWay g.D.Disk.tells g.D.Disk.moment g.D.Disk.left_since disks (three {D = g.row.D.Denot} c.take_disks.result))
-          c.drive-ending.result.status c.drive-ending.result.rest kept leaves
+          (driven_as c.args.command source sink (g.C.Clock.gives c.args.clock.now) (AreKept view c.drive-ending.new.seats.items) _ _ (LeaveTheWay g.D.Disk.tells g.D.Disk.moment g.D.Disk.left_since disks (three {D = g.row.D.Denot} c.take_disks.result)) _
+          (AreDurableBefore g.K.Sink.tells g.D.Disk.tells g.D.Disk.place g.D.Disk.moment g.D.Disk.left_since c.args.command (g.K.Sink.noted c.drive-ending.new.out) (g.K.Sink.held c.args.out.now) (three {D = g.row.D.Denot} c.take_disks.result))
+          c.drive-ending.result.status c.drive-ending.result.rest kept leaves pays
           (c.drive-ending.ensures.driven asked start_with)),
     )
 

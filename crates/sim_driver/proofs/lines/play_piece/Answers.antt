@@ -1,4 +1,5 @@
 use Rattle.std.proofs.Common.{[], ◌∙◌, ◌∷◌, ◌++◌, List, ℕ, length, refl, sym, ap, subst, arith, length-append}
+use Rattle.driver_steps.specs.Crashes.{with_notes}
 use Rattle.driver_steps.specs.Seats.{seat_since}
 use Rattle.script_lines.specs.Words.{HasNone}
 use Rattle.script_lines.proofs.Cuts.{none_append}
@@ -16,20 +17,23 @@ lines-init g c = record {
   sink_calm = refl;
   disks_calm = refl;
   places = refl;
-  went = λ asks since routers some held_before consumed p. (consumed, refl, p);
+  went = λ asks since routers some held_before consumed p n. (since.noted, n, (consumed, refl, p));
 }
 
 pub returns-in-Err-clause-stopped : goal.returns-in-Err-clause-stopped
-returns-in-Err-clause-stopped g c asks since routers some held_before consumed p =
-    let was = c.lines.invariant.went asks since routers some held_before consumed p in
-    record {
-      consumed = was.0;
-      left = c.lines.begun.items ++ c.lines.rest.now;
-      whole = was.1;
-      stopped = playing_full (seat_since g.N.Node.state g.L.Log.facts since) _
-          _ routers _ held_before _ was.0
-          (c.lines.begun.items ++ c.lines.rest.now) (script_view c.lines.script) was.2;
-    }
+returns-in-Err-clause-stopped g c asks since routers some held_before consumed p n =
+    let was = c.lines.invariant.went asks since routers some held_before consumed p n in (
+      was.0,
+      was.1,
+      record {
+        consumed = was.2.0;
+        left = c.lines.begun.items ++ c.lines.rest.now;
+        whole = was.2.1;
+        stopped = playing_full (seat_since g.N.Node.state g.L.Log.facts (with_notes since was.0)) _
+            _ routers _ was.0 held_before _ was.2.0
+            (c.lines.begun.items ++ c.lines.rest.now) (script_view c.lines.script) was.2.2;
+      },
+    )
 
 pub answer_line-requires-clause-line : goal.answer_line-requires-clause-line
 answer_line-requires-clause-line g c = λ κs lives.
@@ -50,43 +54,58 @@ lines-preserved g c = record {
   sink_calm = c.answer_line.ensures.write_fault.1 (λ e. cc) ∙ c.lines.invariant.sink_calm;
   disks_calm = c.answer_line.ensures.disk_fault.1 (λ e. cc) ∙ c.lines.invariant.disks_calm;
   places = c.answer_line.ensures.places ∙ c.lines.invariant.places;
-  went = λ asks since routers some held_before consumed p.
-      let was = c.lines.invariant.went asks since routers some held_before consumed p in (
-        was.0 ++ (c.as_slice.result.now ++ newline ∷ []),
-        bytes_more _ was.0 c.lines.begun.items c.lines.rest.now c.in-Some.first.now c.in-Some.behind.now c.as_slice.result.now c.clear.new.self.items was.1
-            c.in-Some.ensures.found.whole (c.as_slice.ensures.value ∙ c.in-Ok.ensures.items) c.clear.ensures.items,
-        c.in-Ok-answer_line.ensures.answered asks since routers some held_before was.0 was.2,
+  went = λ asks since routers some held_before consumed p n.
+      let was = c.lines.invariant.went asks since routers some held_before consumed p n in
+      let then = c.in-Ok-answer_line.ensures.answered asks (with_notes since was.0) routers some held_before was.2.0 was.2.2 was.1 in (
+        then.0,
+        then.1,
+        (
+          was.2.0 ++ (c.as_slice.result.now ++ newline ∷ []),
+          bytes_more _ was.2.0 c.lines.begun.items c.lines.rest.now c.in-Some.first.now c.in-Some.behind.now c.as_slice.result.now c.clear.new.self.items was.2.1
+              c.in-Some.ensures.found.whole (c.as_slice.ensures.value ∙ c.in-Ok.ensures.items) c.clear.ensures.items,
+          then.2,
+        ),
       );
 }
 
 pub returns-in-Err-answer_line-clause-stopped : goal.returns-in-Err-answer_line-clause-stopped
-returns-in-Err-answer_line-clause-stopped g c asks since routers some held_before consumed p =
-    let was = c.lines.invariant.went asks since routers some held_before consumed p in
-    record {
-      consumed = was.0;
-      left = c.as_slice.result.now ++ newline ∷ c.in-Some.behind.now;
-      whole = bytes_next _ was.0 c.lines.begun.items c.lines.rest.now c.in-Some.first.now c.in-Some.behind.now c.as_slice.result.now was.1
-          c.in-Some.ensures.found.whole (c.as_slice.ensures.value ∙ c.in-Ok.ensures.items);
-      stopped = c.in-Err-answer_line.ensures.stopped asks since routers some held_before was.0 c.in-Some.behind.now was.2;
-    }
+returns-in-Err-answer_line-clause-stopped g c asks since routers some held_before consumed p n =
+    let was = c.lines.invariant.went asks since routers some held_before consumed p n in
+    let then = c.in-Err-answer_line.ensures.stopped asks (with_notes since was.0) routers some held_before was.2.0 c.in-Some.behind.now was.2.2 was.1 in (
+      then.0,
+      then.1,
+      record {
+        consumed = was.2.0;
+        left = c.as_slice.result.now ++ newline ∷ c.in-Some.behind.now;
+        whole = bytes_next _ was.2.0 c.lines.begun.items c.lines.rest.now c.in-Some.first.now c.in-Some.behind.now c.as_slice.result.now was.2.1
+            c.in-Some.ensures.found.whole (c.as_slice.ensures.value ∙ c.in-Ok.ensures.items);
+        stopped = then.2;
+      },
+    )
 
 pub returns-in-Ok-extend_from_slice-clause-played : goal.returns-in-Ok-extend_from_slice-clause-played
-returns-in-Ok-extend_from_slice-clause-played g c asks since routers some held_before consumed p =
-    let was = c.lines.invariant.went asks since routers some held_before consumed p in
-    record {
-      consumed = was.0;
-      whole = was.1 ∙ ap (λ (l : List ℕ). was.0 ++ l) (sym c.in-Ok-extend_from_slice.ensures.items);
-      playing = was.2;
-    }
+returns-in-Ok-extend_from_slice-clause-played g c asks since routers some held_before consumed p n =
+    let was = c.lines.invariant.went asks since routers some held_before consumed p n in (
+      was.0,
+      was.1,
+      record {
+        consumed = was.2.0;
+        whole = was.2.1 ∙ ap (λ (l : List ℕ). was.2.0 ++ l) (sym c.in-Ok-extend_from_slice.ensures.items);
+        playing = was.2.2;
+      },
+    )
 
 pub returns-in-Err-extend_from_slice-clause-stopped : goal.returns-in-Err-extend_from_slice-clause-stopped
-returns-in-Err-extend_from_slice-clause-stopped g c asks since routers some held_before consumed p =
-    let was = c.lines.invariant.went asks since routers some held_before consumed p in
-    record {
-      consumed = was.0;
-      left = c.lines.begun.items ++ c.lines.rest.now;
-      whole = was.1;
-      stopped = playing_full (seat_since g.N.Node.state g.L.Log.facts since) _
-          _ routers _ held_before _ was.0
-          (c.lines.begun.items ++ c.lines.rest.now) (script_view c.lines.script) was.2;
-    }
+returns-in-Err-extend_from_slice-clause-stopped g c asks since routers some held_before consumed p n =
+    let was = c.lines.invariant.went asks since routers some held_before consumed p n in (
+      was.0,
+      was.1,
+      record {
+        consumed = was.2.0;
+        left = c.lines.begun.items ++ c.lines.rest.now;
+        whole = was.2.1;
+        stopped = playing_full (seat_since g.N.Node.state g.L.Log.facts (with_notes since was.0)) _
+            _ routers _ was.0 held_before _ was.2.0
+            (c.lines.begun.items ++ c.lines.rest.now) (script_view c.lines.script) was.2.2;
+      },
+    )

@@ -2,6 +2,7 @@ use Rattle.std.proofs.lemmas.List.{length-take-le}
 use Rattle.std.proofs.Common.{◌≡◌, take, ◌∙◌, List, [], ℕ, length, refl, sym, ap, subst, arith, length-append}
 use Rattle.outside.specs.Devices.{sink_call, source_call}
 use Rattle.outside.specs.Streams.{Took}
+use Rattle.driver_steps.specs.Crashes.{with_notes}
 use Rattle.driver_steps.specs.Seats.{seat_since}
 use Rattle.driver_steps.specs.Worlds.{network_view}
 use Rattle.pipe_driver.specs.declared.status.Status.TheVariants as statuses
@@ -24,37 +25,47 @@ pieces-init g c = record {
   sink_calm = refl;
   disks_calm = refl;
   places = refl;
-  went = λ asks since routers some p. (
-    [],
-    rw c.new-begun.ensures.items refl,
-    (λ told. rw c.new-begun.ensures.items refl),
-    playing_from (seat_since g.N.Node.state g.L.Log.facts since) _ _ routers _
-        _ _ [] new_script (script_view c.new-script.result)
-        (sym c.new-script.ensures.view) p,
+  went = λ asks since routers some p n. (
+    since.noted,
+    n,
+    (
+      [],
+      rw c.new-begun.ensures.items refl,
+      (λ told. rw c.new-begun.ensures.items refl),
+      playing_from (seat_since g.N.Node.state g.L.Log.facts (with_notes since since.noted)) _ _ routers _ since.noted
+          _ _ [] new_script (script_view c.new-script.result)
+          (sym c.new-script.ensures.view) p,
+    ),
   );
 }
 
 pub returns-in_default-clause-simulated : goal.returns-in_default-clause-simulated
-returns-in_default-clause-simulated g c asks since routers some p =
-    let view = seat_since g.N.Node.state g.L.Log.facts since in
-    ended_stopped view c.args.seats.now.items
-    (source_call g.S.Source.tells g.S.Source.left g.S.Source.fault_count c.args.input.now c.args.input.now)
-    (sink_call g.K.Sink.tells g.K.Sink.held g.K.Sink.fault_count c.args.out.now c.args.out.now) routers c.args.limit
-    statuses.OutOfMemory [] [] statuses.OutOfMemory refl
-    (playing_full view c.args.seats.now.items (network_view (λ m. g.N.Mail.Mail.letter m) c.args.network) routers g.K.Sink.tells (g.K.Sink.held c.args.out.now)
-    (g.K.Sink.held c.args.out.now) [] [] new_script p) (λ told. refl) (omega arith)
+returns-in_default-clause-simulated g c asks since routers some p n =
+    let view = seat_since g.N.Node.state g.L.Log.facts (with_notes since since.noted) in (
+      since.noted,
+      n,
+      ended_stopped view c.args.seats.now.items
+          (source_call g.S.Source.tells g.S.Source.left g.S.Source.fault_count c.args.input.now c.args.input.now)
+          (sink_call g.K.Sink.tells g.K.Sink.held g.K.Sink.fault_count c.args.out.now c.args.out.now) since.noted routers c.args.limit
+          statuses.OutOfMemory [] [] statuses.OutOfMemory refl
+          (playing_full view c.args.seats.now.items (network_view (λ m. g.N.Mail.Mail.letter m) c.args.network) routers g.K.Sink.tells since.noted (g.K.Sink.held c.args.out.now)
+          (g.K.Sink.held c.args.out.now) [] [] new_script p) (λ told. refl) (omega arith),
+    )
 
 pub returns-in-Err-clause-simulated : goal.returns-in-Err-clause-simulated
-returns-in-Err-clause-simulated g c asks since routers some p =
-    let went = c.pieces.invariant.went asks since routers some p in
-    ended_taking (seat_since g.N.Node.state g.L.Log.facts since)
-    c.pieces.seats.items
-    (source_call g.S.Source.tells g.S.Source.left g.S.Source.fault_count c.args.input.now c.take_more.new.input)
-    (sink_call g.K.Sink.tells g.K.Sink.held g.K.Sink.fault_count c.args.out.now c.pieces.out) routers c.args.limit c.unended.result
-    went.0 c.pieces.begun.items (network_view (λ m. g.N.Mail.Mail.letter m) c.pieces.network) (script_view c.pieces.script) went.3
-    (took_no_more _ _ _ _ _ went.2 c.in-Err.ensures.taken.0) c.pieces.invariant.begun
-    (omega (arith, went.1, c.pieces-test.true)) c.in-Err.status (λ e. c.unended.ensures.none (c.as_slice.ensures.value ∙ e))
-    (λ ne. c.unended.ensures.some (λ e. ne (sym c.as_slice.ensures.value ∙ e))) c.unended.ensures.other c.in-Err.ensures.taken.1
+returns-in-Err-clause-simulated g c asks since routers some p n =
+    let went = c.pieces.invariant.went asks since routers some p n in (
+      went.0,
+      went.1,
+      ended_taking (seat_since g.N.Node.state g.L.Log.facts (with_notes since went.0))
+          c.pieces.seats.items
+          (source_call g.S.Source.tells g.S.Source.left g.S.Source.fault_count c.args.input.now c.take_more.new.input)
+          (sink_call g.K.Sink.tells g.K.Sink.held g.K.Sink.fault_count c.args.out.now c.pieces.out) went.0 routers c.args.limit c.unended.result
+          went.2.0 c.pieces.begun.items (network_view (λ m. g.N.Mail.Mail.letter m) c.pieces.network) (script_view c.pieces.script) went.2.3
+          (took_no_more _ _ _ _ _ went.2.2 c.in-Err.ensures.taken.0) c.pieces.invariant.begun
+          (omega (arith, went.2.1, c.pieces-test.true)) c.in-Err.status (λ e. c.unended.ensures.none (c.as_slice.ensures.value ∙ e))
+          (λ ne. c.unended.ensures.some (λ e. ne (sym c.as_slice.ensures.value ∙ e))) c.unended.ensures.other c.in-Err.ensures.taken.1,
+    )
 
 pub returns-in-Err-clause-read_fault : goal.returns-in-Err-clause-read_fault
 returns-in-Err-clause-read_fault g c =
@@ -93,8 +104,8 @@ pieces-preserved g c =
       sink_calm = c.play_piece.ensures.write_fault.1 (λ e. cc) ∙ c.pieces.invariant.sink_calm;
       disks_calm = c.play_piece.ensures.disk_fault.1 (λ e. cc) ∙ c.pieces.invariant.disks_calm;
       places = c.play_piece.ensures.places ∙ c.pieces.invariant.places;
-      went = λ asks since routers some p.
-          let went = c.pieces.invariant.went asks since routers some p in
+      went = λ asks since routers some p n.
+          let went = c.pieces.invariant.went asks since routers some p n in
           let more = c.in-Ok-take_more.ensures.taken in
           let bytes : List ℕ = take c.in-Ok-take_more.count c.take_more.new.piece.items in
           let size : length bytes ≡ c.in-Ok-take_more.count =
@@ -106,20 +117,25 @@ pieces-preserved g c =
             c.pieces.invariant.room,
             c.take_more.new.piece.ok,
           )) in
-          let h = c.in-Ok-play_piece.ensures.played asks since routers some (g.K.Sink.held c.args.out.now) went.0 went.3 in
-          let t = piece_taken _ _ _ _ went.0 c.pieces.begun.items bytes _
-          c.pieces.taken c.in-Ok-take_more.count went.2 more.took
-          (ap (λ (b : List ℕ). take c.in-Ok-take_more.count b) c.deref.ensures.value) went.1 size in (
-            h.consumed,
-            omega (arith, t.1, ap (λ (l : List ℕ). length l) h.whole, length-append h.consumed c.play_piece.new.begun.items),
-            subst (λ (l : List ℕ). Took g.S.Source.tells (g.S.Source.left c.args.input.now) l (g.S.Source.left c.take_more.new.input)) h.whole t.0,
-            h.playing,
+          let then = c.in-Ok-play_piece.ensures.played asks (with_notes since went.0) routers some (g.K.Sink.held c.args.out.now) went.2.0 went.2.3 went.1 in
+          let h = then.2 in
+          let t = piece_taken _ _ _ _ went.2.0 c.pieces.begun.items bytes _
+          c.pieces.taken c.in-Ok-take_more.count went.2.2 more.took
+          (ap (λ (b : List ℕ). take c.in-Ok-take_more.count b) c.deref.ensures.value) went.2.1 size in (
+            then.0,
+            then.1,
+            (
+              h.consumed,
+              omega (arith, t.1, ap (λ (l : List ℕ). length l) h.whole, length-append h.consumed c.play_piece.new.begun.items),
+              subst (λ (l : List ℕ). Took g.S.Source.tells (g.S.Source.left c.args.input.now) l (g.S.Source.left c.take_more.new.input)) h.whole t.0,
+              h.playing,
+            ),
           );
     }
 
 pub returns-in-Err-play_piece-clause-simulated : goal.returns-in-Err-play_piece-clause-simulated
-returns-in-Err-play_piece-clause-simulated g c asks since routers some p =
-    let went = c.pieces.invariant.went asks since routers some p in
+returns-in-Err-play_piece-clause-simulated g c asks since routers some p n =
+    let went = c.pieces.invariant.went asks since routers some p n in
     let more = c.in-Ok-take_more.ensures.taken in
     let bytes : List ℕ = take c.in-Ok-take_more.count c.take_more.new.piece.items in
     let size : length bytes ≡ c.in-Ok-take_more.count =
@@ -131,16 +147,20 @@ returns-in-Err-play_piece-clause-simulated g c asks since routers some p =
       c.pieces.invariant.room,
       c.take_more.new.piece.ok,
     )) in
-    let t = piece_taken _ _ _ _ went.0 c.pieces.begun.items bytes _
-    c.pieces.taken c.in-Ok-take_more.count went.2 more.took
-    (ap (λ (b : List ℕ). take c.in-Ok-take_more.count b) c.deref.ensures.value) went.1 size in
-    ended_within (seat_since g.N.Node.state g.L.Log.facts since)
-    c.play_piece.new.seats.items
-    (source_call g.S.Source.tells g.S.Source.left g.S.Source.fault_count c.args.input.now c.take_more.new.input)
-    (sink_call g.K.Sink.tells g.K.Sink.held g.K.Sink.fault_count c.args.out.now c.play_piece.new.out) routers c.args.limit
-    c.in-Err-play_piece.status _
-    (c.in-Err-play_piece.ensures.stopped asks since routers some (g.K.Sink.held c.args.out.now) went.0 went.3) t.0
-    (omega (arith, t.1, c.in-Ok-take_more.ensures.most, c.min-room.ensures, c.pieces-test.true))
+    let t = piece_taken _ _ _ _ went.2.0 c.pieces.begun.items bytes _
+    c.pieces.taken c.in-Ok-take_more.count went.2.2 more.took
+    (ap (λ (b : List ℕ). take c.in-Ok-take_more.count b) c.deref.ensures.value) went.2.1 size in
+    let then = c.in-Err-play_piece.ensures.stopped asks (with_notes since went.0) routers some (g.K.Sink.held c.args.out.now) went.2.0 went.2.3 went.1 in (
+      then.0,
+      then.1,
+      ended_within (seat_since g.N.Node.state g.L.Log.facts (with_notes since then.0))
+          c.play_piece.new.seats.items
+          (source_call g.S.Source.tells g.S.Source.left g.S.Source.fault_count c.args.input.now c.take_more.new.input)
+          (sink_call g.K.Sink.tells g.K.Sink.held g.K.Sink.fault_count c.args.out.now c.play_piece.new.out) then.0 routers c.args.limit
+          c.in-Err-play_piece.status _
+          then.2 t.0
+          (omega (arith, t.1, c.in-Ok-take_more.ensures.most, c.min-room.ensures, c.pieces-test.true)),
+    )
 
 pub returns-in-Err-play_piece-clause-read_fault : goal.returns-in-Err-play_piece-clause-read_fault
 returns-in-Err-play_piece-clause-read_fault g c =
@@ -157,11 +177,14 @@ returns-in-Err-play_piece-clause-disk_fault g c =
     c.pieces.invariant.disks_calm c.play_piece.ensures.disk_fault
 
 pub returns-clause-simulated : goal.returns-clause-simulated
-returns-clause-simulated g c asks since routers some p =
-    let went = c.pieces.invariant.went asks since routers some p in
-    ended_at_limit (seat_since g.N.Node.state g.L.Log.facts since)
-    c.pieces.seats.items
-    (source_call g.S.Source.tells g.S.Source.left g.S.Source.fault_count c.args.input.now c.pieces.input)
-    (sink_call g.K.Sink.tells g.K.Sink.held g.K.Sink.fault_count c.args.out.now c.pieces.out) routers c.args.limit
-    statuses.InputTooLong went.0 c.pieces.begun.items (network_view (λ m. g.N.Mail.Mail.letter m) c.pieces.network) (script_view c.pieces.script) went.3
-    went.2 c.pieces.invariant.begun refl (omega (arith, went.1, c.pieces.invariant.most, c.pieces-test.false))
+returns-clause-simulated g c asks since routers some p n =
+    let went = c.pieces.invariant.went asks since routers some p n in (
+      went.0,
+      went.1,
+      ended_at_limit (seat_since g.N.Node.state g.L.Log.facts (with_notes since went.0))
+          c.pieces.seats.items
+          (source_call g.S.Source.tells g.S.Source.left g.S.Source.fault_count c.args.input.now c.pieces.input)
+          (sink_call g.K.Sink.tells g.K.Sink.held g.K.Sink.fault_count c.args.out.now c.pieces.out) went.0 routers c.args.limit
+          statuses.InputTooLong went.2.0 c.pieces.begun.items (network_view (λ m. g.N.Mail.Mail.letter m) c.pieces.network) (script_view c.pieces.script) went.2.3
+          went.2.2 c.pieces.invariant.begun refl (omega (arith, went.2.1, c.pieces.invariant.most, c.pieces-test.false)),
+    )

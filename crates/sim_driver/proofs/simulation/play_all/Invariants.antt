@@ -1,9 +1,10 @@
 use Rattle.std.proofs.Common.{◌≡◌, ℕ, List, [], ◌+◌, ◌-◌, ◌<◌, ◌≤◌, ◌++◌, length}
 use Rattle.std.specs.Prelude.{None, vec_len}
 use Rattle.outside.specs.Streams.{Took}
-use Rattle.driver_steps.specs.Crashes.{Since}
+use Rattle.driver_steps.specs.Crashes.{Since, with_notes}
 use Rattle.driver_steps.specs.Seats.{AreOpen, faults_of, places_of, seat_since}
 use Rattle.driver_steps.specs.Worlds.{network_view}
+use Rattle.pipe_driver.specs.Acknowledgements.{AreNoted, WithNotes}
 use Rattle.pipe_driver.specs.Buffers.{piece_room}
 use Rattle.pipe_driver.specs.Progress.{AreAskedAsRead}
 use Rattle.script_lines.specs.Words.{HasNone}
@@ -30,11 +31,13 @@ invariant-pieces g l = record {
   places : places_of g.L.Log.facts.place l.seats.items ≡ places_of g.L.Log.facts.place l.fn.seats.items;
   went : AreAskedAsRead g.N.Node.asks → (since : Since g.row.L.Denot) (routers : ℕ) → 0 < routers
       → Playing (seat_since g.N.Node.state g.L.Log.facts since)
-      l.fn.seats.items (network_view (λ m. g.N.Mail.Mail.letter m) l.fn.network) routers g.K.Sink.tells (g.K.Sink.held l.fn.out) (g.K.Sink.held l.fn.out)
-      new_script []
-      → (consumed : List ℕ) × (length consumed + length l.begun.items ≡ l.taken)
+      l.fn.seats.items (network_view (λ m. g.N.Mail.Mail.letter m) l.fn.network) routers g.K.Sink.tells since.noted (g.K.Sink.held l.fn.out)
+      (g.K.Sink.held l.fn.out) new_script []
+      → AreNoted g.K.Sink.tells (g.K.Sink.noted l.fn.out) (places_of g.L.Log.facts.place l.fn.seats.items) since.noted
+      → WithNotes g.K.Sink.tells (g.K.Sink.noted l.out) (places_of g.L.Log.facts.place l.seats.items)
+      (λ noted. (consumed : List ℕ) × (length consumed + length l.begun.items ≡ l.taken)
       × Took g.S.Source.tells (g.S.Source.left l.fn.input) (consumed ++ l.begun.items) (g.S.Source.left l.input)
-      × Playing (seat_since g.N.Node.state g.L.Log.facts since)
-      l.seats.items (network_view (λ m. g.N.Mail.Mail.letter m) l.network) routers g.K.Sink.tells (g.K.Sink.held l.fn.out) (g.K.Sink.held l.out)
-      (script_view l.script) consumed;
+      × Playing (seat_since g.N.Node.state g.L.Log.facts (with_notes since noted))
+      l.seats.items (network_view (λ m. g.N.Mail.Mail.letter m) l.network) routers g.K.Sink.tells noted (g.K.Sink.held l.fn.out) (g.K.Sink.held l.out)
+      (script_view l.script) consumed);
 }

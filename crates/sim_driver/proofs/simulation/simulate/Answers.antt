@@ -2,10 +2,13 @@ use Rattle.std.proofs.Common.{◌∙◌, [], refl, arith}
 use Rattle.std.specs.Prelude.{vec_len}
 use Rattle.outside.specs.Devices.{sink_call, source_call}
 use Rattle.node_model.specs.World.{start}
+use Rattle.driver_steps.specs.Crashes.{with_notes}
 use Rattle.driver_steps.specs.Seats.{since_then}
 use Rattle.driver_steps.proofs.Crashes.{held_since, kept_plain, start_leaves}
 use Rattle.driver_steps.proofs.Seats.{held_len}
+use Rattle.pipe_driver.proofs.Covers.{acknowledged, none_noted, without_notes}
 use Rattle.pipe_driver.proofs.Openings.{starts}
+use Rattle.sim_driver.specs.Simulations.{all_printed}
 use Rattle.sim_driver.proofs.Endings.{ended_stopped, simulated_as}
 use Rattle.sim_driver.proofs.Steps.{opened_playing, opening_stopped}
 use Rattle.sim_driver.proofs.simulation.simulate.Goals as goal
@@ -20,10 +23,14 @@ returns-in-Ok-clause-simulated g c = λ asks routers some are.
     let as_many = c.args.seats.now.ok.0 ∙ held_len _ c.args.seats.now.items (start routers).nodes seated in
     let s = starts _ (λ m. g.N.Mail.Mail.letter m) c.args.seats.now.items routers
     c.new-network.result seated leave c.new-network.ensures.waiting c.new-network.ensures.replies in
-    simulated_as _ _ _ _ _ routers _ _
-    (λ nodes kept. kept_plain g.N.Node.state g.L.Log.facts since _ nodes kept)
-    (c.play_all.ensures.simulated asks since routers some
-    (opened_playing _ _ routers _ _ (vec_len c.args.seats.now) as_many _ (c.in-Ok.ensures.opened since (start routers) 0 [] s)))
+    let played = c.play_all.ensures.simulated asks since routers some
+    (opened_playing _ _ routers _ _ (vec_len c.args.seats.now) as_many _ (c.in-Ok.ensures.opened since (start routers) 0 [] s)) (none_noted _ _ _) in
+    simulated_as _ _ _ _ _ _ _ _ routers _ _
+    (λ nodes kept. kept_plain g.N.Node.state g.L.Log.facts (with_notes since played.0) _ nodes kept)
+    (λ w leave. without_notes g.N.Node.state g.L.Log.facts since played.0 c.play_all.new.seats.items w refl leave)
+    (λ w put leave owed.
+    acknowledged g.N.Node.state g.L.Log.facts since played.0 (all_printed routers) (start routers) _ _ _ _ w put leave played.1 owed)
+    played.2
 
 pub returns-in-Err-clause-simulated : goal.returns-in-Err-clause-simulated
 returns-in-Err-clause-simulated g c = λ asks routers some are.
@@ -35,11 +42,14 @@ returns-in-Err-clause-simulated g c = λ asks routers some are.
     let as_many = c.args.seats.now.ok.0 ∙ held_len _ c.args.seats.now.items (start routers).nodes seated in
     let s = starts _ (λ m. g.N.Mail.Mail.letter m) c.args.seats.now.items routers
     c.new-network.result seated leave c.new-network.ensures.waiting c.new-network.ensures.replies in
-    simulated_as _ _ _ _ _ routers _ _
+    simulated_as _ _ _ _ _ _ _ _ routers _ _
     (λ nodes kept. kept_plain g.N.Node.state g.L.Log.facts since _ nodes kept)
+    (λ w leave. leave)
+    (λ w put leave owed.
+    acknowledged g.N.Node.state g.L.Log.facts since [] (all_printed routers) (start routers) _ _ _ _ w put leave (none_noted _ _ _) owed)
     (ended_stopped _ c.open_all.new.seats.items
     (source_call g.S.Source.tells g.S.Source.left g.S.Source.fault_count c.args.input.now c.args.input.now)
-    (sink_call g.K.Sink.tells g.K.Sink.held g.K.Sink.fault_count c.args.out.now c.args.out.now) routers c.args.limit
+    (sink_call g.K.Sink.tells g.K.Sink.held g.K.Sink.fault_count c.args.out.now c.args.out.now) [] routers c.args.limit
     c.of.result [] [] c.of.result refl
     (opening_stopped _ _ routers _ _ (vec_len c.args.seats.now) as_many [] _ c.in-Err.e _ c.of.ensures
     (c.in-Err.ensures.stopped since (start routers) 0 [] s)) (λ told. refl) (omega arith))
