@@ -25,7 +25,7 @@ DATA = TOP / "crates" / "wire_rows" / "data"
 
 def main():
     lines = reads.examples() + reads.times() + languages.filters() + languages.sorts() + languages.projections() + languages.groups() + languages.sums()
-    put_file(DATA / "reads.rows", lines + refusals.fields() + sizes.rows() + refusals.refusals())
+    put_file(DATA / "reads.rows", lines + refusals.fields() + sizes.rows() + refusals.refusals() + sessions.rows())
     put_file(DATA / "cursors.rows", cursors.rows())
     put_file(DATA / "retries.rows", retries.rows())
     put_file(DATA / "retries.script.rows", scripts.rows())

@@ -3,6 +3,7 @@ import re
 import textwrap
 
 from bson import DOCUMENT, shown
+from form import Ask, connection_row
 from retries import SESSION
 from wire import Connection, message
 
@@ -108,6 +109,12 @@ def section(name):
     lines += [""] + textwrap.wrap(f"The replies have {', '.join(map(str, lengths[:-1]))} and {lengths[-1]} bytes. {session.after}", 150,
         break_on_hyphens=False)
     return lines + [""], len(connection.cluster.journals[1])
+
+
+def rows():
+    """A row for each file: its requests, on one connection."""
+    return [line for name in SESSIONS for line in connection_row(f"examples/{name}.hex", [Ask(source, raw=bytes_) for source, bytes_ in
+        requests_of(SESSIONS[name].sources)])]
 
 
 def put(folder, parts):

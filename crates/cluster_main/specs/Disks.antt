@@ -3,8 +3,9 @@ use Rattle.std.specs.Prelude.{◌≡◌, ◌≢◌, ◌⊎◌, ℕ, Bool, IsTrue
 use Rattle.std.specs.List.{AllByRecursion}
 use Rattle.outside.specs.Devices.{NoneFell, SinkCall, SinkIsUntouched, SourceCall, SourceIsUntouched}
 use Rattle.outside.specs.Disks.{Outcomes}
+use Rattle.outside.specs.Notes.{Note}
 use Rattle.cluster_top.specs.Counts.{OneRoseWhere}
-use Rattle.cluster_top.specs.Crashes.{LeaveTheWay}
+use Rattle.cluster_top.specs.Crashes.{AreDurableBefore, LeaveTheWay}
 use Rattle.cluster_top.specs.Disks.{AreNoWorse, IsEmptyAll, SomeFile}
 use Rattle.cluster_top.specs.Arguments.{command_of}
 use Rattle.cluster_top.specs.Headline.{HeadlineOf}
@@ -26,8 +27,8 @@ command_in (Err fault) items = None
 
 -- A start that ended with this status left these disks, and so many bytes after the last whole request. `started` says that its
 -- arguments start nodes, and `given` is the command that they are.
-pub record IsLeft {D : Type 0} (status : ℕ) (started : Type 0) (given : Option Command) (source : SourceCall) (sink : SinkCall) (gives : ℕ → Type 0) (tells : Bool) (content : D → List ℕ) (may_leave : D → List ℕ → Type 0)
-    (moment : D → ℕ) (left_since : D → ℕ → Outcomes) (place : D → List ℕ) (fault_count : D → ℕ) (before left : List D) (rest : ℕ) : Type 0 where
+pub record IsLeft {D : Type 0} (status : ℕ) (started : Type 0) (given : Option Command) (source : SourceCall) (sink : SinkCall) (notes : List Note) (gives : ℕ → Type 0)
+    (tells : Bool) (content : D → List ℕ) (may_leave : D → List ℕ → Type 0) (moment : D → ℕ) (left_since : D → ℕ → Outcomes) (place : D → List ℕ) (fault_count : D → ℕ) (before left : List D) (rest : ℕ) : Type 0 where
   -- each is in its place, and the status is 5 exactly by a fault of one
   pub places : map place left ≡ map place before
   pub disk_fault : OneRoseWhere (status ≡ 5) (map fault_count before) (map fault_count left)
@@ -38,9 +39,10 @@ pub record IsLeft {D : Type 0} (status : ℕ) (started : Type 0) (given : Option
   pub six : status ≡ 6 → IsTrue tells → SomeFile (map content before)
   pub not_empty : started → IsTrue tells → SomeFile (map content before) → (rest ≡ 0) × IsNotServed status source sink content may_leave before left
   -- on empty files a run of the nodes served, whose journals the disks keep, and which makes one legal history; a crash meanwhile left what they
-  -- kept on the way
+  -- kept on the way, and each byte was put only after what it says was durable
   pub headline : status ≢ 2 → IsEmptyAll tells (map content before) → status ≢ 6 → (command : Command) × IfSome given (λ c. command ≡ c)
       × OfStatus status (λ s. OfConnection s (λ ending. HeadlineOf command source sink tells
-      (map content left) (LeaveTheWay tells moment left_since before left) gives ending rest))
+      (map content left) (LeaveTheWay tells moment left_since before left)
+      (AreDurableBefore sink.tells tells place moment left_since command notes sink.held_before left) gives ending rest))
   -- but where a disk failed or memory ended, a crash takes none of the records
   pub durable : status ≢ 2 → IsTrue tells → IsEmptyAll tells (map content before) → status ≢ 5 → status ≢ 7 → AllByRecursion (IsDurable content may_leave) left

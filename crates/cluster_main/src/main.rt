@@ -53,4 +53,5 @@ fn main(rt: HostRuntime) -> ExitCode {
         disks,
         &WallClock::new(rt),
     )
+    .code
 }

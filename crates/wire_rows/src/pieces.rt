@@ -2,7 +2,8 @@
 ghost use Rattle.std.specs.Prelude.{false};
 
 use outside::streams::{Failed, Sink, Source};
-use outside_memory::{MemSink, MemSource};
+use outside::witness::Witness;
+use outside_memory::{MemDisk, MemSink, MemSource};
 
 /// At most how many bytes come at the first take, and at each later one.
 #[derive(Clone, Copy, Debug, PartialEq, Eq)]
@@ -72,5 +73,11 @@ impl Sink for NarrowSink {
     fn put(&mut self, piece: &[u8]) -> Result<usize, Failed> {
         let count = piece.len().min(self.most.max(1));
         self.sink.put(&piece[..count])
+    }
+}
+
+impl Witness<MemDisk> for NarrowSink {
+    fn note(&mut self, disk: &MemDisk) {
+        self.sink.note(disk);
     }
 }

@@ -11,29 +11,26 @@ pub returns-in-Err-Unreadable-clause-disks : goal.returns-in-Err-Unreadable-clau
 returns-in-Err-Unreadable-clause-disks g c =
     let never : ¬ IsOkAnd c.args.words (λ given. IsSome (node_count_of given.items)) = rw c.in-Err-Unreadable.is (λ started. absurd started) in
     let unread : command_in c.args.words (λ given. given.items) ≡ None = rw c.in-Err-Unreadable.is refl in (
-      c.args.disks.items,
       0,
-      as_they_were _ _ _ (source_call g.S.Source.tells g.S.Source.left g.S.Source.fault_count c.args.input.now c.args.input.now) (sink_call g.K.Sink.tells g.K.Sink.held g.K.Sink.fault_count c.args.out.now c.args.out.now) _ _ _ _ _ _ _ _ c.args.disks.items never unread (λ told. refl, refl) (λ told. sym (append-nil (g.K.Sink.held c.args.out.now)), refl) (omega (arith, c.requires, c.args.disks.ok)) (inl c.number.ensures),
+      rw c.unstarted.ensures.disks (as_they_were _ _ _ (source_call g.S.Source.tells g.S.Source.left g.S.Source.fault_count c.args.input.now c.args.input.now) (sink_call g.K.Sink.tells g.K.Sink.held g.K.Sink.fault_count c.args.out.now c.args.out.now) _ _ _ _ _ _ _ _ _ c.args.disks.items never unread (λ told. refl, refl) (λ told. sym (append-nil (g.K.Sink.held c.args.out.now)), refl) (omega (arith, c.requires, c.args.disks.ok)) (inl c.unstarted.ensures.status)),
     )
 
 pub returns-in-Err-Memory-clause-disks : goal.returns-in-Err-Memory-clause-disks
 returns-in-Err-Memory-clause-disks g c =
     let never : ¬ IsOkAnd c.args.words (λ given. IsSome (node_count_of given.items)) = rw c.in-Err-Memory.is (λ started. absurd started) in
     let unread : command_in c.args.words (λ given. given.items) ≡ None = rw c.in-Err-Memory.is refl in (
-      c.args.disks.items,
       0,
-      as_they_were _ _ _ (source_call g.S.Source.tells g.S.Source.left g.S.Source.fault_count c.args.input.now c.args.input.now) (sink_call g.K.Sink.tells g.K.Sink.held g.K.Sink.fault_count c.args.out.now c.args.out.now) _ _ _ _ _ _ _ _ c.args.disks.items never unread (λ told. refl, refl) (λ told. sym (append-nil (g.K.Sink.held c.args.out.now)), refl) (omega (arith, c.requires, c.args.disks.ok)) (inr c.number-in-Err-Memory.ensures),
+      rw c.unstarted-in-Err-Memory.ensures.disks (as_they_were _ _ _ (source_call g.S.Source.tells g.S.Source.left g.S.Source.fault_count c.args.input.now c.args.input.now) (sink_call g.K.Sink.tells g.K.Sink.held g.K.Sink.fault_count c.args.out.now c.args.out.now) _ _ _ _ _ _ _ _ _ c.args.disks.items never unread (λ told. refl, refl) (λ told. sym (append-nil (g.K.Sink.held c.args.out.now)), refl) (omega (arith, c.requires, c.args.disks.ok)) (inr c.unstarted-in-Err-Memory.ensures.status)),
     )
 
 pub returns-clause-disks : goal.returns-clause-disks
 returns-clause-disks g c =
     let count = node_count_of c.deref.result.now in
-    let e = c.run.ensures in
+    let e = c.run-ended.ensures in
     let same : IsOkAnd c.args.words (λ given. IsSome (node_count_of given.items)) ≡ IsSome count = rw c.in-Ok.is (rw c.deref.ensures.value refl) in
     let starts : IsOkAnd c.args.words (λ given. IsSome (node_count_of given.items)) → IsSome count = λ started. subst (λ (T : Type 0). T) same started in
     let back : IsSome count → IsOkAnd c.args.words (λ given. IsSome (node_count_of given.items)) = λ some. subst (λ (T : Type 0). T) (sym same) some in (
-      c.run.result.disks.items,
-      c.run.result.rest,
+      c.run-ended.result.rest,
       record {
         places = e.places;
         disk_fault = e.disk_fault;
