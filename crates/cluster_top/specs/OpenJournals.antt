@@ -1,7 +1,7 @@
 -- Journals that are open, and what their disks keep.
 use Rattle.std.specs.Prelude.{◌≡◌, ℕ, Bool, IsTrue, List, [], ◌∷◌}
-use Rattle.journal_frames.specs.Files.{Stands, HaveSameRecords}
-use Rattle.journal_frames.specs.Views.{JournalView}
+use Rattle.journal_frames.specs.Files.{Stands}
+use Rattle.journal_frames.specs.Views.{IsSettled, JournalView}
 use Rattle.cluster_top.specs.declared.journals.Journals.{Journals}
 
 -- The journal is open and has no record.
@@ -20,6 +20,6 @@ pub record AreFresh {D : Type 0} (tells : Bool) (content : D → List ℕ) (jour
 abbrev pub disks_of : {D : Type 0} → Journals D → List D
 disks_of journals = journals.catalogue.disk ∷ journals.shard.disk ∷ journals.router.disk ∷ []
 
--- a disk's files that a crash may leave have the records that its file has
+-- the disk's file is a journal of records, byte for byte, with nothing after its closed gate, and a crash leaves just this file
 abbrev pub IsDurable : {D : Type 0} → (D → List ℕ) → (D → List ℕ → Type 0) → D → Type 0
-IsDurable content may_leave disk = (file : List ℕ) → may_leave disk file → HaveSameRecords (content disk) file
+IsDurable content may_leave disk = (records : List (List ℕ)) × IsSettled (content disk) (may_leave disk) records

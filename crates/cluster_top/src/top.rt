@@ -96,7 +96,8 @@ where
         (AreDurableBefore K.tells D.tells D.place D.moment D.left_since command (K.noted out.new) (K.held out.old) result.disks.items)
         (C.gives clock.now) ending result.rest))) }
 
-    // But where a disk failed or memory ended, a crash takes none of the records.
+    // But where a disk failed or memory ended, each file is a journal, byte for byte, with nothing after its closed gate, and a crash leaves just
+    // that.
     ensures durable { IsSome (node_count_of words.now) → IsTrue D.tells → IsEmptyAll D.tells (map D.content disks.items) →
         result.status ≢ 5 → result.status ≢ 7 → AllByRecursion (IsDurable D.content D.may_leave) result.disks.items }
 

@@ -34,6 +34,10 @@ journal_facts disk_tells content moment_of left fault_count_of place_of = record
 abbrev pub at_rest : List (List ℕ) → List ℕ
 at_rest records = blocks records ++ 0 ∷ []
 
+-- The file is the journal of these records, byte for byte, with a closed gate at its end and nothing after it, and a crash leaves just this file.
+abbrev pub IsSettled : (content : List ℕ) → (may_leave : Outcomes) → (records : List (List ℕ)) → Type 0
+IsSettled content may_leave records = (content ≡ at_rest records) × Only (at_rest records) may_leave
+
 -- The journal is open: its file is at rest and all of it is on the disk, where the disk tells it, and `end` is the
 -- offset of the closed gate.
 pub record IsAtRest (tells : Bool) (content : List ℕ) (may_leave : Outcomes) (records : List (List ℕ)) (end : ℕ) : Type 0 where

@@ -5,7 +5,7 @@ ghost use Rattle.outside.specs.Disks.{LeavesOnly};
 ghost use Rattle.outside.specs.Logs.{ByFault, WithOrWithout};
 ghost use Rattle.journal_frames.specs.Files.{HaveSameRecords, IsDamaged, Stands, StandsWithOrWithout, body};
 ghost use Rattle.journal_frames.specs.Openings.{IfDamaged, IfDiskFailed, UnlessDiskFailed, disk_left};
-ghost use Rattle.journal_frames.specs.Views.{IsAtRest, IsFound, at_rest, journal_facts};
+ghost use Rattle.journal_frames.specs.Views.{IsAtRest, IsFound, IsSettled, at_rest, journal_facts};
 
 use crate::file::{LoadFault, load};
 use crate::gates::{close_end, put_records, write_first_gate};
@@ -173,10 +173,11 @@ impl<D: Disk> Journal<D> {
         }
     }
 
-    /// The disk. Where the journal was open, its records stand there, and every crash leaves them.
+    /// The disk. Where the journal was open, its file is the journal of its records, byte for byte, and every crash leaves just that.
     pub fn into_disk(self) -> D
         ensures disk { result ≡ self.disk }
         ensures file { IsTrue self.is_open → IsTrue D.tells → Stands (D.content result) self.records }
+        ensures settled { IsTrue self.is_open → IsTrue D.tells → IsSettled (D.content result) (D.may_leave result) self.records }
         ensures durable { IsTrue self.is_open → IsTrue D.tells → (c : List ℕ) → D.may_leave result c → Stands c self.records }
     {
         self.disk
