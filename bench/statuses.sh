@@ -102,6 +102,12 @@ fresh; printf '\0' > node02.journal
 "$program" pipe < "$work/request" > "$work/reply" 2> "$work/errors"; check "a journal with a byte" 6 "cluster: damaged journal" $?
 fresh; mkdir node01.journal
 "$program" pipe < "$work/request" > "$work/reply" 2> "$work/errors"; check "a journal that is a folder" 5 "cluster: disk failed" $?
+# Writes to the null device succeed and syncs of it fail: no clause sees whether a real file is synced.
+for journal in node00.journal node01.journal node02.journal; do
+    fresh; ln -s /dev/null $journal
+    "$program" pipe < "$work/request" > "$work/reply" 2> "$work/errors"; check "failing syncs of $journal" 5 "cluster: disk failed" $?
+    [ ! -s "$work/reply" ] || { echo "wrong: a reply whose journal was not synced"; failed=1; }
+done
 fresh; "$program" pipe < "$work/request" > "$work/reply" 2> "$work/errors"
 "$program" pipe < "$work/request" > "$work/reply" 2> "$work/errors"; check "a second start in one folder" 6 "cluster: damaged journal" $?
 for journal in node00.journal node01.journal node02.journal; do
