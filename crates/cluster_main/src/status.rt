@@ -50,7 +50,7 @@ fn unstarted<D: Drop>(status: Status, disks: Vec<D>) -> Stopped<D>
 }
 
 /// Runs the cluster as the arguments say, over these streams and disks.
-fn status_of<R: Threads + Wait + Sync, S: Source, K: Witness<D>, D: Disk + Send, C: Clock + Sync>(
+fn status_of<R: Threads + Wait + Sync, S: Source, D: Disk + Send, K: Witness<D>, C: Clock + Sync>(
     rt: &R,
     alloc: Global,
     words: Result<Vec<Text>, NoArguments>,
@@ -105,8 +105,8 @@ fn status_of<R: Threads + Wait + Sync, S: Source, K: Witness<D>, D: Disk + Send,
 pub fn serve<
     R: Eprint + Threads + Wait + Sync,
     S: Source,
-    K: Witness<D>,
     D: Disk + Send,
+    K: Witness<D>,
     C: Clock + Sync,
 >(
     rt: &R,

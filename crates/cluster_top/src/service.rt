@@ -58,8 +58,8 @@ pub fn run_nodes<
     R: Threads + Sync,
     N: Node<Request = Request>,
     S: Source,
-    K: Witness<D>,
     D: Disk,
+    K: Witness<D>,
     C: Clock,
 >(
     rt: &R,
@@ -117,8 +117,8 @@ fn serve<
     R: Threads + Sync,
     N: Node<Request = Request>,
     S: Source,
-    K: Witness<D>,
     D: Disk,
+    K: Witness<D>,
     C: Clock,
 >(
     rt: &R,

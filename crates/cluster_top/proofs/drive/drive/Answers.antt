@@ -6,3 +6,6 @@ returns-in-Pipe-clause-driven g c = rw c.in-Pipe.is (λ asked are. c.pipe.ensure
 
 pub returns-in-Sim-clause-driven : goal.returns-in-Sim-clause-driven
 returns-in-Sim-clause-driven g c = rw c.in-Sim.is (λ asked are. (c.simulate.ensures.simulated asked 1 (omega arith) are, refl))
+
+pub returns-in-Pipe-clause-open : goal.returns-in-Pipe-clause-open
+returns-in-Pipe-clause-open g c = λ disk memory. c.pipe.ensures.«open» disk
