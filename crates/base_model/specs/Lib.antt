@@ -1,5 +1,6 @@
 pub mod Names
 pub mod Times
+pub mod Identities
 pub mod Errors
 pub mod Refusals
 pub mod ReplyParts

@@ -2,7 +2,7 @@
 use Rattle.std.proofs.Common.{◌≡◌, ◌≢◌, ℕ, List, [], ◌∷◌, ◌++◌, refl, ap, ◌∙◌, Bool}
 use Rattle.std.specs.Prelude.{Some, None, true, false, if◌then◌else◌}
 use Rattle.std.specs.List.{AllByRecursion}
-use Rattle.reply_model.specs.Exchanges.{RequestId, same_request}
+use Rattle.base_model.specs.Identities.{RequestId, same_request}
 use Rattle.reply_facts.proofs.Requests.{same_id}
 use Rattle.node_laws.proofs.Views.{Choice, View, chosen_time, Later}
 use Rattle.node_laws.proofs.SeenStatements.{own_session}

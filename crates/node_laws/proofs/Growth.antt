@@ -11,7 +11,8 @@ use Rattle.history_model.specs.Documents.{documents_at}
 use Rattle.pipeline_model.specs.Halves.{Half, Rows, kept_at_head, may_stand_in}
 use Rattle.command_model.specs.Writes.{WriteCommand}
 use Rattle.history_model.specs.History.{StatementNumber, Entry, IsIn}
-use Rattle.reply_model.specs.Exchanges.{RequestId, Asked, number_for, is_session_of, entries_by}
+use Rattle.base_model.specs.Identities.{RequestId}
+use Rattle.reply_model.specs.Exchanges.{Asked, number_for, is_session_of, entries_by}
 use Rattle.reply_model.specs.Outcomes.{StatementOutcome, Done}
 use Rattle.reply_model.specs.OneHistory.{WasWanted, IsPlaced, Given}
 use Rattle.node_model.specs.Journal.{Kept, kept_table, kept_entry, kept_creation, kept_life, kept_block, entries_kept, creations_kept}

@@ -8,7 +8,8 @@ use Rattle.base_model.specs.Errors.{ErrorCode}
 use Rattle.base_model.specs.Refusals.{Refusal, without_evidence}
 use Rattle.command_model.specs.Writes.{ClientNumber, WriteCommand}
 use Rattle.history_model.specs.History.{StatementNumber, Operation, Entry, IsIn}
-use Rattle.reply_model.specs.Exchanges.{RequestId, Asked, number_for}
+use Rattle.base_model.specs.Identities.{RequestId}
+use Rattle.reply_model.specs.Exchanges.{Asked, number_for}
 use Rattle.reply_model.specs.Outcomes.{StatementOutcome, is_older, Done, answer_by, done_of}
 use Rattle.reply_model.specs.Right.{ends, IsEntryAt}
 use Rattle.node_model.specs.Letters.{Statement}

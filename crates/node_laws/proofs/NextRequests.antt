@@ -3,7 +3,8 @@ use Rattle.std.proofs.Common.{◌≡◌, ◌≢◌, ◌⊎◌, inl, inr, ℕ, Li
 use Rattle.std.specs.List.{AllByRecursion, flat_map}
 use Rattle.history_model.proofs.Lists.{all_weaken, all_both, all_append, in_first, in_later, in_cons}
 use Rattle.history_model.specs.History.{IsIn}
-use Rattle.reply_model.specs.Exchanges.{RequestId, Answered}
+use Rattle.base_model.specs.Identities.{RequestId}
+use Rattle.reply_model.specs.Exchanges.{Answered}
 use Rattle.reply_model.specs.OneHistory.{ids_told}
 use Rattle.node_model.specs.Letters.{Letter, Reply}
 use Rattle.node_model.specs.States.{Open, Router}

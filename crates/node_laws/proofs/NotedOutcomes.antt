@@ -6,7 +6,8 @@ use Rattle.std.proofs.lemmas.Bool.{eqb-true}
 use Rattle.history_model.proofs.Lists.{all_weaken, all_append, all_at, in_none, in_cons}
 use Rattle.command_model.specs.Writes.{ClientNumber, WriteCommand}
 use Rattle.history_model.specs.History.{router_session, StatementNumber, Operation, Entry, IsIn}
-use Rattle.reply_model.specs.Exchanges.{RequestId, Asked, number_for, is_session_of, entries_by}
+use Rattle.base_model.specs.Identities.{RequestId}
+use Rattle.reply_model.specs.Exchanges.{Asked, number_for, is_session_of, entries_by}
 use Rattle.reply_model.specs.Outcomes.{StatementOutcome, Done, answer_by, done_of}
 use Rattle.reply_model.specs.Right.{ends, AreStatements, AreAll, IsPart, told_by}
 use Rattle.node_model.specs.Letters.{Statement}

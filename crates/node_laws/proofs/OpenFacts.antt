@@ -4,7 +4,8 @@ use Rattle.std.specs.Prelude.{None, true, false, nat_lt}
 use Rattle.std.specs.List.{AllByRecursion}
 use Rattle.std.proofs.lemmas.Bool.{ltb-true, ltb-false}
 use Rattle.history_model.proofs.Lists.{all_at}
-use Rattle.reply_model.specs.Exchanges.{RequestId, Asked, Answered}
+use Rattle.base_model.specs.Identities.{RequestId}
+use Rattle.reply_model.specs.Exchanges.{Asked, Answered}
 use Rattle.node_model.specs.Letters.{Letter}
 use Rattle.node_model.specs.States.{Work, writing, reading, Wait, Open, Router}
 use Rattle.node_model.specs.RouterRows.{id_of, is_ahead, with_work}

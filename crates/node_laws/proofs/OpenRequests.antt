@@ -5,7 +5,8 @@ use Rattle.std.specs.List.{AllByRecursion}
 use Rattle.std.proofs.lemmas.Bool.{eqb-true, eqb-false}
 use Rattle.history_model.proofs.Lists.{all_weaken, in_first, in_later, in_none, in_cons}
 use Rattle.history_model.specs.History.{IsIn}
-use Rattle.reply_model.specs.Exchanges.{RequestId, same_request, Answered}
+use Rattle.base_model.specs.Identities.{RequestId, same_request}
+use Rattle.reply_model.specs.Exchanges.{Answered}
 use Rattle.reply_model.specs.OneHistory.{ids_told, AreDifferent}
 use Rattle.node_model.specs.States.{Open, Router, open_with, without, replaced}
 use Rattle.node_model.specs.RouterRows.{id_of, open_of}

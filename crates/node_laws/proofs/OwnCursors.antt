@@ -9,7 +9,7 @@ use Rattle.std.proofs.lemmas.Bool.Decides.{Decides-int_eq}
 use Rattle.std.proofs.lemmas.List.Elements.{filter-append}
 use Rattle.bson_model.proofs.Booleans.{both}
 use Rattle.bson_model.specs.Tree.{Fields}
-use Rattle.reply_model.specs.Exchanges.{RequestId}
+use Rattle.base_model.specs.Identities.{RequestId}
 use Rattle.reply_model.specs.Cursors.{Cursor, has_number, is_open, open_cursor, with_remaining, Kills, kills_none, kills, misses}
 use Rattle.node_laws.proofs.Facts.{IsGiven, is_of, is_of_life}
 

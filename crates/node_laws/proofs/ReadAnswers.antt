@@ -27,7 +27,8 @@ use Rattle.reply_model.specs.Cursors.{Cursor, Opens, opens_none}
 use Rattle.history_model.specs.Documents.{documents_at}
 use Rattle.chunk_model.specs.Tables.{first_shard}
 use Rattle.history_model.specs.History.{IsIn}
-use Rattle.reply_model.specs.Exchanges.{RequestId, Asked, Answered}
+use Rattle.base_model.specs.Identities.{RequestId}
+use Rattle.reply_model.specs.Exchanges.{Asked, Answered}
 use Rattle.reply_model.specs.Reads.{IsTimeRead, MayGive, IsExcess, excess_half}
 use Rattle.reply_model.specs.Right.{asks_for_one, usual_size, refused_overflow, refused_excess, right_find, right_count, right_refused_read}
 use Rattle.reply_model.specs.OneHistory.{ids_asked, AreDifferent}

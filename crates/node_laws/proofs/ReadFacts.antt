@@ -9,7 +9,8 @@ use Rattle.chunk_model.specs.Tables.{first_shard}
 use Rattle.command_model.specs.Command.{find_command, count_command, command_of}
 use Rattle.command_model.specs.Find.{Find}
 use Rattle.command_model.specs.Reading.{Reading}
-use Rattle.reply_model.specs.Exchanges.{RequestId, Asked}
+use Rattle.base_model.specs.Identities.{RequestId}
+use Rattle.reply_model.specs.Exchanges.{Asked}
 use Rattle.history_model.specs.History.{IsIn}
 use Rattle.reply_model.specs.Reads.{IfReached, time_wanted}
 use Rattle.reply_model.specs.Right.{Reads, asks_for_one, usual_size}

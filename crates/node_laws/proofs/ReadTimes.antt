@@ -8,7 +8,8 @@ use Rattle.base_model.specs.Refusals.{Refusal}
 use Rattle.command_model.specs.Command.{Command, find_command, count_command, command_of}
 use Rattle.command_model.specs.Find.{Find}
 use Rattle.command_model.specs.Reading.{Reading}
-use Rattle.reply_model.specs.Exchanges.{RequestId, Asked, Answered}
+use Rattle.base_model.specs.Identities.{RequestId}
+use Rattle.reply_model.specs.Exchanges.{Asked, Answered}
 use Rattle.pipeline_model.specs.Stages.{has_int64}
 use Rattle.reply_model.specs.Reads.{IfReached, IsTimeRead, named_time, own_time, later_time, time_wanted}
 use Rattle.reply_model.specs.Right.{Reads, find_reads, count_reads}

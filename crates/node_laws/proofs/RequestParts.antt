@@ -10,7 +10,8 @@ use Rattle.base_model.specs.Refusals.{Refusal}
 use Rattle.command_model.specs.Command.{Command, write_command, command_of}
 use Rattle.chunk_model.specs.Tables.{Table, first_table, first_shard, owner_now}
 use Rattle.history_model.specs.History.{StatementNumber, Operation, Entry, IsIn, key_written}
-use Rattle.reply_model.specs.Exchanges.{RequestId, same_request, Asked, number_for, is_session_of, entries_by}
+use Rattle.base_model.specs.Identities.{RequestId, same_request}
+use Rattle.reply_model.specs.Exchanges.{Asked, number_for, is_session_of, entries_by}
 use Rattle.reply_model.specs.Outcomes.{Done, done_of}
 use Rattle.reply_model.specs.Right.{ends, AreStatements, IsPart, told_by}
 use Rattle.reply_model.specs.OneHistory.{StandsInPart, IsPlaced, ids_asked, AreDifferent}

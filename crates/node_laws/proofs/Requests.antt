@@ -5,7 +5,8 @@ use Rattle.std.specs.List.{AllByRecursion}
 use Rattle.history_model.proofs.Lists.{all_weaken, all_append, all_at}
 use Rattle.command_model.specs.Writes.{ClientNumber}
 use Rattle.history_model.specs.History.{Session, client_session, router_session, StatementNumber, Entry}
-use Rattle.reply_model.specs.Exchanges.{RequestId, same_request, Asked, Answered, number_for, is_session_of, entries_by}
+use Rattle.base_model.specs.Identities.{RequestId, same_request}
+use Rattle.reply_model.specs.Exchanges.{Asked, Answered, number_for, is_session_of, entries_by}
 use Rattle.reply_model.specs.Right.{Sends, AreStatements}
 use Rattle.reply_model.specs.OneHistory.{StandsInPart, IsNotBefore, IsFresh, ids_asked, AreDifferent}
 use Rattle.node_model.specs.Letters.{Taken, Reply}

@@ -10,7 +10,8 @@ use Rattle.command_model.specs.Answers.{Answer, hello_answer, legacy_answer, ref
 use Rattle.reply_model.specs.Cursors.{Cursor}
 use Rattle.chunk_model.specs.Tables.{first_shard}
 use Rattle.history_model.specs.History.{StatementNumber, Operation, Entry, IsIn}
-use Rattle.reply_model.specs.Exchanges.{RequestId, Asked, Answered, number_for, entries_by}
+use Rattle.base_model.specs.Identities.{RequestId}
+use Rattle.reply_model.specs.Exchanges.{Asked, Answered, number_for, entries_by}
 use Rattle.reply_model.specs.Outcomes.{StatementOutcome, Done, answer_of}
 use Rattle.reply_model.specs.Right.{ends, IsStatement, HadSent, MayBeTold, told_own, told_other, told_older, AreTold, IsPart, told_by, AreAll, right_write, right_refused_read, refused_ahead, right_hello, right_legacy, right_ping, right_end_sessions, right_refusal}
 use Rattle.reply_model.specs.OneHistory.{StandsInPart, ids_asked, AreDifferent}

@@ -14,7 +14,8 @@ use Rattle.chunk_model.specs.Tables.{Table, first_table, first_shard, table_of}
 use Rattle.chunk_model.specs.Verdicts.{sent_by}
 use Rattle.command_model.specs.Writes.{WriteKind}
 use Rattle.history_model.specs.History.{IsIn}
-use Rattle.reply_model.specs.Exchanges.{RequestId, Asked, Answered}
+use Rattle.base_model.specs.Identities.{RequestId}
+use Rattle.reply_model.specs.Exchanges.{Asked, Answered}
 use Rattle.reply_model.specs.Outcomes.{Done}
 use Rattle.reply_model.specs.OneHistory.{Given}
 use Rattle.node_model.specs.Letters.{Statement, write_ask, read_ask, Letter}

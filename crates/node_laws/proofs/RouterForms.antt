@@ -9,7 +9,8 @@ use Rattle.command_model.specs.Answers.{Answer}
 use Rattle.reply_model.specs.Cursors.{Cursor}
 use Rattle.chunk_model.specs.Tables.{Table}
 use Rattle.history_model.specs.History.{IsIn}
-use Rattle.reply_model.specs.Exchanges.{RequestId, Asked}
+use Rattle.base_model.specs.Identities.{RequestId}
+use Rattle.reply_model.specs.Exchanges.{Asked}
 use Rattle.reply_model.specs.OneHistory.{ids_asked}
 use Rattle.node_model.specs.Journal.{Kept}
 use Rattle.node_model.specs.States.{Work, for_time, Open, Router, router_state, replaced, without}

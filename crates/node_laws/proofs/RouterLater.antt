@@ -5,7 +5,8 @@ use Rattle.std.specs.List.{AllByRecursion}
 use Rattle.history_model.proofs.Lists.{all_weaken, all_both, all_append, all_at, in_back}
 use Rattle.chunk_model.specs.Tables.{Table}
 use Rattle.history_model.specs.History.{IsIn}
-use Rattle.reply_model.specs.Exchanges.{RequestId, Asked, Answered}
+use Rattle.base_model.specs.Identities.{RequestId}
+use Rattle.reply_model.specs.Exchanges.{Asked, Answered}
 use Rattle.reply_model.specs.OneHistory.{Given, ids_asked, ids_told, AreDifferent}
 use Rattle.node_model.specs.Journal.{Kept}
 use Rattle.node_model.specs.Letters.{Letter, Reply, Effect}

@@ -11,7 +11,8 @@ use Rattle.chunk_model.specs.Tables.{Table, first_shard}
 use Rattle.command_model.specs.Writes.{WriteCommand, WriteKind}
 use Rattle.command_model.specs.Command.{command_of}
 use Rattle.history_model.specs.History.{IsIn}
-use Rattle.reply_model.specs.Exchanges.{RequestId, Asked, Answered}
+use Rattle.base_model.specs.Identities.{RequestId}
+use Rattle.reply_model.specs.Exchanges.{Asked, Answered}
 use Rattle.reply_model.specs.OneHistory.{ids_asked}
 use Rattle.reply_model.specs.Outcomes.{Done, answer_of}
 use Rattle.node_model.specs.Journal.{Kept, entries_kept}

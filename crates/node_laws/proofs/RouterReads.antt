@@ -16,7 +16,8 @@ use Rattle.pipeline_model.specs.Stages.{Stage}
 use Rattle.chunk_model.specs.Tables.{first_shard}
 use Rattle.history_model.proofs.Lists.{all_at}
 use Rattle.history_model.specs.History.{IsIn}
-use Rattle.reply_model.specs.Exchanges.{RequestId, Asked, Answered}
+use Rattle.base_model.specs.Identities.{RequestId}
+use Rattle.reply_model.specs.Exchanges.{Asked, Answered}
 use Rattle.reply_model.specs.Reads.{MayGive, excess_answer}
 use Rattle.node_model.specs.Journal.{Kept}
 use Rattle.node_model.specs.Letters.{half_overflow, half_excess, read_rows, Letter}

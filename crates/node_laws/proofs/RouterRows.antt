@@ -16,7 +16,8 @@ use Rattle.command_model.specs.Reading.{Reading}
 use Rattle.command_model.specs.Answers.{Answer, next_answer, killed_answer, refusal_answer, answer_document}
 use Rattle.reply_model.specs.Cursors.{Cursor, open_cursor, with_remaining, ShowsNext, Kills}
 use Rattle.history_model.specs.History.{IsIn}
-use Rattle.reply_model.specs.Exchanges.{RequestId, Asked, Answered}
+use Rattle.base_model.specs.Identities.{RequestId}
+use Rattle.reply_model.specs.Exchanges.{Asked, Answered}
 use Rattle.reply_model.specs.Right.{asks_for_one, usual_size, unless_silent, right_more, right_no_cursor, right_kill}
 use Rattle.node_model.specs.Journal.{Kept}
 use Rattle.node_model.specs.Letters.{Input, Reply, Effect}

@@ -12,7 +12,8 @@ use Rattle.history_model.specs.Notes.{Note, new_statement, done_before, older_th
 use Rattle.history_model.proofs.Lists.{all_weaken, all_both, in_first, in_later, in_cons, in_none}
 use Rattle.history_model.proofs.Noted.{same_session_is, same_number_is}
 use Rattle.history_model.specs.History.{Session, client_session, router_session, StatementNumber, Outcome, Entry, IsIn}
-use Rattle.reply_model.specs.Exchanges.{RequestId, same_request, is_session_of, entries_by}
+use Rattle.base_model.specs.Identities.{RequestId, same_request}
+use Rattle.reply_model.specs.Exchanges.{is_session_of, entries_by}
 use Rattle.reply_model.specs.Outcomes.{was_done, is_older, Done, done_of}
 use Rattle.node_model.specs.Service.{told_again, seen_before}
 

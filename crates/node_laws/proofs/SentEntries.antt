@@ -8,7 +8,8 @@ use Rattle.base_model.specs.Refusals.{Refusal, without_evidence}
 use Rattle.command_model.specs.Writes.{ClientNumber, WriteCommand}
 use Rattle.chunk_model.specs.Tables.{first_shard}
 use Rattle.history_model.specs.History.{StatementNumber, Operation, Entry, IsIn}
-use Rattle.reply_model.specs.Exchanges.{RequestId, Asked, Answered, number_for}
+use Rattle.base_model.specs.Identities.{RequestId}
+use Rattle.reply_model.specs.Exchanges.{Asked, Answered, number_for}
 use Rattle.reply_model.specs.Outcomes.{StatementOutcome, WasDone, Done, answer_by}
 use Rattle.reply_model.specs.Right.{ends, Sends, MayBeTold, told_own, told_other, told_older, AreTold}
 use Rattle.reply_model.specs.OneHistory.{EndsBefore, WasSent, IsReached, AreNumbered}

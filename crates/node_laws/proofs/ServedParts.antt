@@ -6,7 +6,8 @@ use Rattle.std.specs.List.{AllByRecursion}
 use Rattle.history_model.proofs.Lists.{all_weaken, all_append, all_at, in_cons, in_none}
 use Rattle.command_model.specs.Writes.{ClientNumber}
 use Rattle.history_model.specs.History.{StatementNumber, Operation, Entry, IsIn}
-use Rattle.reply_model.specs.Exchanges.{RequestId, number_for, is_session_of, entries_by}
+use Rattle.base_model.specs.Identities.{RequestId}
+use Rattle.reply_model.specs.Exchanges.{number_for, is_session_of, entries_by}
 use Rattle.reply_model.specs.Outcomes.{Done, done_of}
 use Rattle.reply_model.specs.Right.{IsStatement, ends, AreStatements}
 use Rattle.node_model.specs.Letters.{Statement}

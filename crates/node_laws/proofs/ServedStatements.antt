@@ -5,7 +5,8 @@ use Rattle.std.specs.List.{AllByRecursion}
 use Rattle.history_model.proofs.Lists.{all_weaken, all_append, all_at, in_first, in_later, in_back, in_prefix}
 use Rattle.command_model.specs.Writes.{WriteCommand}
 use Rattle.history_model.specs.History.{StatementNumber, Entry, IsIn, IsBefore, IsSameStatement, Follows, LegalAfter, Legal}
-use Rattle.reply_model.specs.Exchanges.{RequestId, number_for}
+use Rattle.base_model.specs.Identities.{RequestId}
+use Rattle.reply_model.specs.Exchanges.{number_for}
 use Rattle.reply_model.specs.Outcomes.{Done, done_of}
 use Rattle.reply_model.specs.OneHistory.{KeepsNumbers, AreNumbered}
 use Rattle.node_model.specs.Letters.{Statement}

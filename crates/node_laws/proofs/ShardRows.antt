@@ -12,7 +12,7 @@ use Rattle.pipeline_laws.proofs.OutsideSpan.{split_half_lists}
 use Rattle.chunk_model.specs.Tables.{Table, first_shard, with_table}
 use Rattle.history_model.specs.History.{Entry}
 use Rattle.chunk_model.specs.Verdicts.{Sent}
-use Rattle.reply_model.specs.Exchanges.{RequestId}
+use Rattle.base_model.specs.Identities.{RequestId}
 use Rattle.reply_model.specs.Outcomes.{Done}
 use Rattle.node_model.specs.Journal.{Kept, kept_table, entries_kept}
 use Rattle.node_model.specs.Letters.{At, Statement, Body, table_told, write_ask, write_done, read_ask, half_ask, time_ask, Letter, Input, letter_input, Effect}

@@ -10,7 +10,8 @@ use Rattle.pipeline_model.specs.Halves.{Half}
 use Rattle.history_model.specs.History.{Entry, IsIn}
 use Rattle.command_model.specs.Writes.{WriteCommand}
 use Rattle.command_model.specs.Command.{write_command, command_of}
-use Rattle.reply_model.specs.Exchanges.{RequestId, Asked}
+use Rattle.base_model.specs.Identities.{RequestId}
+use Rattle.reply_model.specs.Exchanges.{Asked}
 use Rattle.reply_model.specs.Outcomes.{Done}
 use Rattle.reply_model.specs.OneHistory.{IsPlaced, Given, ids_asked, ids_told, AreDifferent}
 use Rattle.node_model.specs.Journal.{Kept}

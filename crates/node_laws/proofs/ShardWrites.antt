@@ -5,7 +5,8 @@ use Rattle.std.specs.List.{AllByRecursion, slice_get}
 use Rattle.history_model.proofs.Lists.{all_weaken, all_both, all_append, all_at, in_back, in_prefix}
 use Rattle.chunk_model.specs.Tables.{first_shard}
 use Rattle.history_model.specs.History.{Operation, Entry, IsIn, Legal}
-use Rattle.reply_model.specs.Exchanges.{RequestId, Asked, entries_by}
+use Rattle.base_model.specs.Identities.{RequestId}
+use Rattle.reply_model.specs.Exchanges.{Asked, entries_by}
 use Rattle.reply_model.specs.Outcomes.{Done}
 use Rattle.reply_model.specs.Right.{AreStatements, IsPart}
 use Rattle.reply_model.specs.OneHistory.{StandsInPart, IsPlaced, AreNumbered}

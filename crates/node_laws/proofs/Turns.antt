@@ -9,7 +9,7 @@ use Rattle.std.proofs.lemmas.Bool.Decides.{Decides-eqb}
 use Rattle.bson_model.proofs.Booleans.{both}
 use Rattle.history_model.proofs.Lists.{all_weaken, all_append}
 use Rattle.bson_model.specs.Tree.{Fields}
-use Rattle.reply_model.specs.Exchanges.{RequestId}
+use Rattle.base_model.specs.Identities.{RequestId}
 use Rattle.reply_model.specs.Cursors.{Cursor, has_number, is_open, open_cursor, with_remaining}
 use Rattle.node_model.specs.States.{Router}
 use Rattle.node_model.specs.RouterRows.{Opened, block_size, gives_number, next_number}

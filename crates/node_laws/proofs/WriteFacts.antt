@@ -3,7 +3,8 @@ use Rattle.std.proofs.Common.{◌≡◌, ℕ, ◌+◌, ◌<◌, ◌≤◌, List,
 use Rattle.std.specs.Prelude.{None, true, length, int_lt}
 use Rattle.command_model.specs.Writes.{WriteCommand}
 use Rattle.history_model.specs.History.{StatementNumber, Entry, IsIn}
-use Rattle.reply_model.specs.Exchanges.{RequestId, Asked, number_for}
+use Rattle.base_model.specs.Identities.{RequestId}
+use Rattle.reply_model.specs.Exchanges.{Asked, number_for}
 use Rattle.reply_model.specs.Outcomes.{StatementOutcome, is_older, Done, answer_by}
 use Rattle.reply_model.specs.Right.{ends, Sends}
 

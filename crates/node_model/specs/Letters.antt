@@ -8,7 +8,7 @@ use Rattle.reply_model.specs.History.{StatementNumber, Operation}
 use Rattle.reply_model.specs.Tables.{Table}
 use Rattle.reply_model.specs.Versions.{Version}
 use Rattle.reply_model.specs.Verdicts.{Sent}
-use Rattle.reply_model.specs.Exchanges.{RequestId}
+use Rattle.base_model.specs.Identities.{RequestId}
 use Rattle.reply_model.specs.Outcomes.{Done}
 use Rattle.node_model.specs.Journal.{Kept}
 

@@ -28,7 +28,8 @@ use Rattle.reply_model.specs.History.{Operation, key_written}
 use Rattle.reply_model.specs.Tables.{Table, first_shard, table_of, with_table, owner_now, owner_at}
 use Rattle.reply_model.specs.Verdicts.{sent_by}
 use Rattle.reply_model.specs.Versions.{Version}
-use Rattle.reply_model.specs.Exchanges.{RequestId, same_request, number_for}
+use Rattle.base_model.specs.Identities.{RequestId, same_request}
+use Rattle.reply_model.specs.Exchanges.{number_for}
 use Rattle.reply_model.specs.Outcomes.{Done, answer_of}
 use Rattle.reply_model.specs.Right.{ends, unless_silent, usual_size}
 use Rattle.node_model.specs.Journal.{Kept, kept_block, kept_life}

@@ -9,7 +9,7 @@ use Rattle.reply_model.specs.History.{Entry}
 use Rattle.reply_model.specs.Versions.{Version}
 use Rattle.reply_model.specs.Tables.{Table, table_of, with_table, is_longer}
 use Rattle.reply_model.specs.Verdicts.{Sent, Verdict, fits, shard_is_old, router_is_old, verdict_of}
-use Rattle.reply_model.specs.Exchanges.{RequestId, same_request}
+use Rattle.base_model.specs.Identities.{RequestId, same_request}
 use Rattle.reply_model.specs.Outcomes.{Done}
 use Rattle.node_model.specs.Journal.{Kept, kept_table, kept_entry}
 use Rattle.pipeline_model.specs.Halves.{Half, Rows, IsHalf}

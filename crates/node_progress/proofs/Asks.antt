@@ -12,7 +12,8 @@ use Rattle.chunk_model.specs.Tables.{Table, first_table, first_shard, table_of, 
 use Rattle.chunk_model.specs.Verdicts.{sent_by}
 use Rattle.history_model.specs.History.{Operation, key_written}
 use Rattle.command_model.specs.Writes.{ClientNumber}
-use Rattle.reply_model.specs.Exchanges.{RequestId, number_for}
+use Rattle.base_model.specs.Identities.{RequestId}
+use Rattle.reply_model.specs.Exchanges.{number_for}
 use Rattle.reply_model.specs.Outcomes.{Done}
 use Rattle.reply_model.specs.Right.{ends}
 use Rattle.node_model.specs.Letters.{no_time, at_time, Statement, write_ask, read_ask, time_ask, Letter}

@@ -9,7 +9,8 @@ use Rattle.command_model.specs.Command.{write_command, command_of}
 use Rattle.chunk_model.specs.Catalogue.{Creation}
 use Rattle.reply_model.specs.Right.{IsWhole}
 use Rattle.history_model.specs.History.{Entry, IsIn}
-use Rattle.reply_model.specs.Exchanges.{RequestId, Asked, Answered}
+use Rattle.base_model.specs.Identities.{RequestId}
+use Rattle.reply_model.specs.Exchanges.{Asked, Answered}
 use Rattle.reply_model.specs.OneHistory.{ids_told}
 use Rattle.node_model.specs.Journal.{entries_kept, creations_kept}
 use Rattle.node_model.specs.World.{World, asked_by, answered_by, Moves, Event, client_event, deliver_event, Happens, comes, delivers, passes, begins as was_opened, Run, stands, goes, start, journal_at}

@@ -9,7 +9,7 @@ use Rattle.history_model.proofs.Lists.{all_at, in_cons, in_none}
 use Rattle.chunk_model.specs.Tables.{Table, table_of}
 use Rattle.command_model.specs.Writes.{WriteKind}
 use Rattle.history_model.specs.History.{IsIn}
-use Rattle.reply_model.specs.Exchanges.{RequestId}
+use Rattle.base_model.specs.Identities.{RequestId}
 use Rattle.reply_model.specs.Outcomes.{Done}
 use Rattle.node_model.specs.Letters.{At, Statement, Body, table_ask, table_told, write_ask, write_done, read_ask, half_ask, read_rows, stale, time_ask, time_told, Letter, letter_input, Reply, Effect, sends}
 use Rattle.node_model.specs.States.{Router, Work, writing, reading, for_time, for_table, for_shards, Open, open_with, without, replaced}

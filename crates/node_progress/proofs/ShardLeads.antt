@@ -7,7 +7,7 @@ use Rattle.history_model.specs.History.{StatementNumber, Entry}
 use Rattle.chunk_model.specs.Tables.{Table, first_shard, table_of}
 use Rattle.chunk_model.specs.Verdicts.{Sent, fits, shard_is_old, router_is_old, sent_by, verdict_of}
 use Rattle.chunk_model.specs.Versions.{Version}
-use Rattle.reply_model.specs.Exchanges.{RequestId}
+use Rattle.base_model.specs.Identities.{RequestId}
 use Rattle.reply_model.specs.Outcomes.{Done}
 use Rattle.node_model.specs.Letters.{Statement, half_overflow, half_excess, Body, table_ask, table_told, write_ask, write_done, read_ask, half_ask, read_rows, stale, time_ask, time_told, Letter, letter_input, Effect}
 use Rattle.node_model.specs.States.{Shard, Router, Open}

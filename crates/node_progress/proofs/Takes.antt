@@ -11,7 +11,8 @@ use Rattle.command_model.specs.Reading.{Reading}
 use Rattle.reply_model.specs.Right.{usual_size}
 use Rattle.command_model.specs.Writes.{ClientNumber, WriteKind}
 use Rattle.history_model.specs.History.{Operation, IsIn}
-use Rattle.reply_model.specs.Exchanges.{RequestId, Asked, Answered}
+use Rattle.base_model.specs.Identities.{RequestId}
+use Rattle.reply_model.specs.Exchanges.{Asked, Answered}
 use Rattle.reply_model.specs.OneHistory.{ids_told}
 use Rattle.node_model.specs.Journal.{Kept, kept_life}
 use Rattle.node_model.specs.Letters.{Letter, Input, client_input, Taken, Reply, Effect, writes, both}

@@ -3,7 +3,8 @@ use Rattle.std.specs.Arc.{arc_value}
 use Rattle.std.specs.Prelude.{Option}
 use Rattle.std.specs.Option.{option_map}
 use Rattle.cluster_base.specs.Codes.{meaning_of}
-use Rattle.reply_model.specs.Exchanges.{RequestId, number_for}
+use Rattle.base_model.specs.Identities.{RequestId}
+use Rattle.reply_model.specs.Exchanges.{number_for}
 use Rattle.history_model.specs.History as history
 use Rattle.history_model.specs.History.{insert_operation}
 use Rattle.node_model.specs.Letters as letters

@@ -2,7 +2,7 @@
 
 ghost use Rattle.std.specs.Prelude.{◌≡◌, IfOk, Option, map};
 ghost use Rattle.command_model.specs.Writes.{ClientNumber};
-ghost use Rattle.reply_model.specs.Exchanges.{RequestId};
+ghost use Rattle.base_model.specs.Identities.{RequestId};
 ghost use Rattle.protocol_model.specs.Statements.{done_view, statement_view};
 
 use crate::statement::{Done, Statement};

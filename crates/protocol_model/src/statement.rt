@@ -2,7 +2,7 @@
 
 ghost use Rattle.std.specs.Prelude.{◌≡◌, IfOk, Option, is_some};
 ghost use Rattle.command_model.specs.Writes.{ClientNumber};
-ghost use Rattle.reply_model.specs.Exchanges.{RequestId};
+ghost use Rattle.base_model.specs.Identities.{RequestId};
 ghost use Rattle.reply_model.specs.Outcomes.{refusal_in};
 ghost use Rattle.protocol_model.specs.Statements.{answer_view, done_view, operation_view, outcome_view, statement_view};
 

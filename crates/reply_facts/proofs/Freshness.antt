@@ -13,7 +13,8 @@ use Rattle.command_model.proofs.Taken.{some_operations}
 use Rattle.chunk_model.specs.Catalogue.{Creation}
 use Rattle.history_model.specs.History.{Operation, Outcome, Entry, IsIn}
 use Rattle.history_model.proofs.Lists.{all_at, in_cons, in_first, in_none}
-use Rattle.reply_model.specs.Exchanges.{RequestId, Asked, Answered, number_for, entries_by}
+use Rattle.base_model.specs.Identities.{RequestId}
+use Rattle.reply_model.specs.Exchanges.{Asked, Answered, number_for, entries_by}
 use Rattle.reply_model.specs.Outcomes.{StatementOutcome, was_done, WasDone, Done, answer_by, time_of, answer_of}
 use Rattle.reply_model.specs.Cursors.{Cursor}
 use Rattle.reply_model.specs.Reads.{IsTimeRead}

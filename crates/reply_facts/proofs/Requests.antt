@@ -6,7 +6,8 @@ use Rattle.std.proofs.lemmas.Bool.{eqb-true}
 use Rattle.command_model.specs.Writes.{ClientNumber}
 use Rattle.history_model.specs.History.{client_session, router_session, StatementNumber, Entry, IsIn}
 use Rattle.history_model.proofs.Lists.{in_cons, in_first, in_later, in_none}
-use Rattle.reply_model.specs.Exchanges.{RequestId, same_request, Asked, Answered, number_for, is_session_of, entries_by}
+use Rattle.base_model.specs.Identities.{RequestId, same_request}
+use Rattle.reply_model.specs.Exchanges.{Asked, Answered, number_for, is_session_of, entries_by}
 use Rattle.reply_model.specs.Right.{Sends}
 use Rattle.reply_model.specs.OneHistory.{ids_asked, ids_told, AreDifferent}
 

@@ -21,7 +21,8 @@ use Rattle.pipeline_model.specs.Lengths.{excess_of_answer}
 use Rattle.chunk_model.specs.Catalogue.{Creation}
 use Rattle.history_model.specs.History.{Entry, IsIn, Outcome}
 use Rattle.history_model.proofs.Lists.{in_cons, in_none}
-use Rattle.reply_model.specs.Exchanges.{RequestId, Asked, Answered}
+use Rattle.base_model.specs.Identities.{RequestId}
+use Rattle.reply_model.specs.Exchanges.{Asked, Answered}
 use Rattle.reply_model.specs.Outcomes.{StatementOutcome, was_done, was_refused, Done, later, summary_of, time_of, answer_of}
 use Rattle.reply_model.specs.Cursors.{Cursor, open_cursor, ShowsFirst, ShowsNext, Kills}
 use Rattle.reply_model.specs.Reads.{IsTimeRead, MayGive}

@@ -17,7 +17,8 @@ use Rattle.command_model.specs.Answers.{next_answer, refusal_answer, answer_docu
 use Rattle.chunk_model.specs.Catalogue.{Creation}
 use Rattle.pipeline_model.specs.Runs.{listed}
 use Rattle.history_model.specs.History.{Entry}
-use Rattle.reply_model.specs.Exchanges.{RequestId, Asked, Answered}
+use Rattle.base_model.specs.Identities.{RequestId}
+use Rattle.reply_model.specs.Exchanges.{Asked, Answered}
 use Rattle.reply_model.specs.Cursors.{Cursor, has_number, open_cursor, with_remaining, IsNewNumber, Opens, opens_none, opens_one, ShowsFirst, ShowsNext, number_left}
 use Rattle.reply_model.specs.Reads.{MayGive}
 use Rattle.reply_model.specs.Right.{asks_for_one, usual_size, IsReadRefused, refused_overflow, refused_excess, refused_ahead, unless_silent}

@@ -18,7 +18,8 @@ use Rattle.pipeline_model.proofs.Fronts.{opened}
 use Rattle.chunk_model.specs.SampleCollections.{creation}
 use Rattle.history_model.specs.History.{Entry, document_at}
 use Rattle.history_model.specs.Documents.{documents_at}
-use Rattle.reply_model.specs.Exchanges.{RequestId, Asked, Answered}
+use Rattle.base_model.specs.Identities.{RequestId}
+use Rattle.reply_model.specs.Exchanges.{Asked, Answered}
 use Rattle.reply_model.specs.Cursors.{Cursor, IsNewNumber, Opens, opens_none, opens_one, ShowsFirst}
 use Rattle.reply_model.specs.Reads.{IsTimeRead, MayGive}
 use Rattle.reply_model.specs.Right.{asks_for_one, usual_size, IsReadRefused, refused_overflow, refused_excess, refused_ahead, IsRight, right_find}

@@ -10,7 +10,8 @@ use Rattle.chunk_model.specs.SampleCollections.{creation}
 use Rattle.chunk_model.specs.Tables.{first_shard}
 use Rattle.history_model.specs.History.{Operation, StatementNumber, Entry, IsIn}
 use Rattle.history_model.proofs.Lists.{all_at, in_first, in_later}
-use Rattle.reply_model.specs.Exchanges.{RequestId, Asked, Answered, number_for, entries_by}
+use Rattle.base_model.specs.Identities.{RequestId}
+use Rattle.reply_model.specs.Exchanges.{Asked, Answered, number_for, entries_by}
 use Rattle.reply_model.specs.Outcomes.{Done, answer_by, done_of, answer_of}
 use Rattle.reply_model.specs.Cursors.{Cursor}
 use Rattle.reply_model.specs.Right.{MayBeTold, told_own, AreTold, AreStatements, AreAll, IsWhole, told_by, ends, IsRight, right_write}

@@ -23,7 +23,8 @@ use Rattle.pipeline_laws.proofs.PartRows.{chain_of, one_way_of}
 use Rattle.pipeline_laws.proofs.SampleRuns.{at_most}
 use Rattle.chunk_model.specs.SampleCollections.{creation}
 use Rattle.history_model.specs.History.{Entry}
-use Rattle.reply_model.specs.Exchanges.{RequestId, Asked, Answered}
+use Rattle.base_model.specs.Identities.{RequestId}
+use Rattle.reply_model.specs.Exchanges.{Asked, Answered}
 use Rattle.reply_model.specs.Cursors.{Cursor, open_cursor, with_remaining, IsNewNumber, Opens, opens_none, opens_one, ShowsFirst, ShowsNext, Kills, kills_none, kills, misses}
 use Rattle.reply_model.specs.Reads.{IsTimeRead, named_time, own_time, later_time, MayGive}
 use Rattle.reply_model.specs.Right.{IsReadRefused, refused_overflow, refused_excess, refused_ahead, IsRight, right_find}

@@ -10,7 +10,7 @@ use Rattle.bson_model.proofs.Booleans.{both, is_false}
 use Rattle.bson_model.specs.Tree.{Fields}
 use Rattle.history_model.specs.History.{IsIn}
 use Rattle.history_model.proofs.Lists.{all_push, in_cons, in_first, in_later, in_none}
-use Rattle.reply_model.specs.Exchanges.{RequestId}
+use Rattle.base_model.specs.Identities.{RequestId}
 use Rattle.reply_model.specs.Cursors.{Cursor, has_number, is_open, open_cursor, with_remaining, IsNewNumber, Opens, opens_none, opens_one, Kills, kills_none, kills, misses}
 
 -- NUMBERS

@@ -13,7 +13,8 @@ use Rattle.query_model.specs.Queries.{Query, no_clauses, clause, path_clause, no
 use Rattle.pipeline_model.specs.Stages.{match_stage}
 use Rattle.chunk_model.specs.SampleCollections.{creation}
 use Rattle.history_model.specs.History.{router_session, insert_operation, update_operation, delete_operation, Outcome, done, fails_with, Entry}
-use Rattle.reply_model.specs.Exchanges.{RequestId, Asked, Answered}
+use Rattle.base_model.specs.Identities.{RequestId}
+use Rattle.reply_model.specs.Exchanges.{Asked, Answered}
 use Rattle.reply_model.specs.Cursors.{Cursor}
 use Rattle.reply_model.specs.Right.{IsRight}
 use Rattle.reply_model.specs.OneHistory.{Given}

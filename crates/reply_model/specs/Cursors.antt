@@ -7,7 +7,7 @@ use Rattle.std.specs.Str.{bytes_eq}
 use Rattle.bson_model.specs.Tree.{Fields}
 use Rattle.pipeline_model.specs.Batches.{IsBatch}
 use Rattle.command_model.specs.Cursors.{Batch}
-use Rattle.reply_model.specs.Exchanges.{RequestId}
+use Rattle.base_model.specs.Identities.{RequestId}
 
 -- A cursor of a router in one of its lives: its number, whose documents it shows, the time at which these were read, and those that
 -- remain. A cursor of which none remain is closed; it keeps its number.

@@ -1,19 +1,11 @@
 -- The requests that routers took, and what each was told.
 use Rattle.std.specs.Prelude.{ℕ, ℤ, List, [], ◌∷◌, Bool, false, ◌==◌, ◌&&◌, Option, Some, None, pos, if◌then◌else◌}
 use Rattle.bson_model.specs.Tree.{Fields}
+use Rattle.base_model.specs.Identities.{RequestId, same_request}
 use Rattle.opmsg_model.specs.Requests.{Request}
 use Rattle.opmsg_model.specs.Replies.{reply_bytes}
 use Rattle.command_model.specs.Writes.{ClientNumber}
 use Rattle.history_model.specs.History.{Session, client_session, router_session, StatementNumber, Entry}
-
--- which request it is: that of a router, in one of its lives, as the how many-th that it took
-pub record RequestId : Type 0 where
-  pub router : ℕ
-  pub life : ℕ
-  pub count : ℕ
-
-abbrev pub same_request : RequestId → RequestId → Bool
-same_request a b = (a.router == b.router) && ((a.life == b.life) && (a.count == b.count))
 
 -- A request that a router took: on which link, with which number for its reply, in which step; and what the router knew then: its
 -- cluster time, and the last moment that it was given (0 if none was).

@@ -9,7 +9,8 @@ use Rattle.command_model.specs.Command.{write_command, command_of}
 use Rattle.chunk_model.specs.Catalogue.{Creation}
 use Rattle.chunk_model.specs.Tables.{first_table, owner_at}
 use Rattle.history_model.specs.History.{Entry, Legal, IsIn, key_written}
-use Rattle.reply_model.specs.Exchanges.{RequestId, Asked, Answered}
+use Rattle.base_model.specs.Identities.{RequestId}
+use Rattle.reply_model.specs.Exchanges.{Asked, Answered}
 use Rattle.reply_model.specs.Cursors.{Cursor}
 use Rattle.reply_model.specs.Right.{IsPart, IsRight, Sends, AreTold, ends}
 use Rattle.reply_model.specs.Outcomes.{Done, WasDone, answer_of}

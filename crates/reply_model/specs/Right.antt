@@ -18,7 +18,8 @@ use Rattle.pipeline_model.specs.Runs.{listed, overflowed, count_documents}
 use Rattle.history_model.specs.History.{StatementNumber, Operation, Entry, IsIn}
 use Rattle.pipeline_model.specs.Lengths.{excess_of_answer}
 use Rattle.chunk_model.specs.Catalogue.{Creation}
-use Rattle.reply_model.specs.Exchanges.{RequestId, Asked, Answered, number_for, entries_by}
+use Rattle.base_model.specs.Identities.{RequestId}
+use Rattle.reply_model.specs.Exchanges.{Asked, Answered, number_for, entries_by}
 use Rattle.reply_model.specs.Outcomes.{StatementOutcome, is_older, Done, answer_by, done_of, fails, answer_of}
 use Rattle.reply_model.specs.Cursors.{Cursor, open_cursor, ShowsFirst, ShowsNext, Kills}
 use Rattle.reply_model.specs.Reads.{IsTimeRead, MayGive, IsExcess, IsAhead}

@@ -6,7 +6,7 @@ use Rattle.std.specs.BTreeSet.{BTreeSet, contains}
 use Rattle.std.specs.Ordering.{int_cmp, int_eq}
 use Rattle.cursor_shelf.specs.Cursors.{OpenCursor, under}
 use Rattle.reply_model.specs.Cursors.{Cursor, Kills, kills, kills_none, misses, open_cursor, with_remaining}
-use Rattle.reply_model.specs.Exchanges.{RequestId}
+use Rattle.base_model.specs.Identities.{RequestId}
 use Rattle.router_cursors.specs.Closing.{CloseSoFar, Has, closed_look}
 use Rattle.router_cursors.specs.CursorLists.{closed_all}
 use Rattle.router_cursors.specs.Marks.{Marked, rises, left_in, AreKept, cursor_by}

@@ -9,7 +9,7 @@ use Rattle.bson_model.proofs.Booleans.{both}
 use Rattle.cursor_shelf.specs.Cursors.{OpenCursor, under, left_with}
 use Rattle.bson_model.specs.Tree.{Fields}
 use Rattle.reply_model.specs.Cursors.{Cursor, has_number, is_open, open_cursor, with_remaining}
-use Rattle.reply_model.specs.Exchanges.{RequestId}
+use Rattle.base_model.specs.Identities.{RequestId}
 use Rattle.router_cursors.specs.CursorLists.{advanced}
 use Rattle.router_cursors.specs.Marks.{Marked, mark_of, rises, is_left, left_in, AreKept, cursor_by}
 use Rattle.router_cursors.proofs.Opened.{NoneHas, above_all, apart, mark_before, mark_last, itself, none_behind, not_given, rises_low, same_number}

@@ -5,7 +5,7 @@ use Rattle.std.specs.List.{list_any}
 use Rattle.std.specs.Ordering.{int_cmp, int_eq}
 use Rattle.cursor_shelf.specs.Cursors.{OpenCursor}
 use Rattle.reply_model.specs.Cursors.{Cursor, Kills}
-use Rattle.reply_model.specs.Exchanges.{RequestId}
+use Rattle.base_model.specs.Identities.{RequestId}
 use Rattle.router_cursors.specs.CursorLists.{closed_all}
 
 -- the set has these numbers and no others

@@ -6,7 +6,7 @@ use Rattle.cursor_shelf.specs.Shelves.{cursor_in}
 use Rattle.cursor_shelf.specs.declared.shelf.Batch as shelves
 use Rattle.reply_model.specs.Cursors.{Cursor, has_number, with_remaining}
 use Rattle.command_model.specs.Cursors.{Batch}
-use Rattle.reply_model.specs.Exchanges.{RequestId}
+use Rattle.base_model.specs.Identities.{RequestId}
 use Rattle.router_cursors.specs.Marks.{cursor_by}
 use Rattle.router_cursors.specs.Numbers.{number_given}
 use Rattle.router_cursors.specs.declared.list.CursorList.{CursorList}

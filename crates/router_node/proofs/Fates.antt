@@ -2,7 +2,7 @@
 use Rattle.std.proofs.Common.{◌≡◌, ◌≢◌, refl, sym, subst, ℕ, ◌<◌, ◌≤◌, List, [], ◌∷◌, Bool, true, false}
 use Rattle.std.specs.Prelude.{Some, None, Result}
 use Rattle.command_model.specs.Answers.{refusal_answer}
-use Rattle.reply_model.specs.Exchanges.{RequestId}
+use Rattle.base_model.specs.Identities.{RequestId}
 use Rattle.node_model.specs.Letters as letters
 use Rattle.node_model.specs.Letters.{Letter, HalfFault, letter_input, write_done, read_rows, time_told, sends}
 use Rattle.reply_model.specs.Outcomes.{Done, answer_of}

@@ -1,7 +1,7 @@
 -- What is heard of a message is a row.
 use Rattle.std.proofs.Common.{Global, ◌≡◌, refl, ap, sym, subst, ◌∙◌, ℕ, List, [], map, Bool, true, false, if◌then◌else◌}
 use Rattle.std.specs.Prelude.{Option, Some, None}
-use Rattle.reply_model.specs.Exchanges.{RequestId, same_request}
+use Rattle.base_model.specs.Identities.{RequestId, same_request}
 use Rattle.node_model.specs.Letters as letters
 use Rattle.node_model.specs.Letters.{Letter, Input, letter_input, nothing, Effect}
 use Rattle.reply_model.specs.Outcomes.{Done}

@@ -3,7 +3,7 @@ use Rattle.std.proofs.Common.{◌≡◌, refl, ap, sym, subst, ◌∙◌, ℕ, s
 use Rattle.std.proofs.lemmas.List.{append_assoc}
 use Rattle.std.specs.List.{flat_map}
 use Rattle.node_model.specs.Letters.{Reply}
-use Rattle.reply_model.specs.Exchanges.{RequestId}
+use Rattle.base_model.specs.Identities.{RequestId}
 use Rattle.opmsg_model.specs.Requests.{Request}
 use Rattle.bson_model.specs.Tree.{Fields}
 use Rattle.node_traits.specs.Effects.{puts_of, put_by}

@@ -10,7 +10,7 @@ use Rattle.command_model.specs.Answers.{Answer, answer_document, next_answer, ki
 use Rattle.command_model.specs.Command.{command_of}
 use Rattle.reply_model.specs.Cursors.{Cursor, Kills, ShowsNext, open_cursor}
 use Rattle.base_model.specs.Errors.{cursor_not_found}
-use Rattle.reply_model.specs.Exchanges.{RequestId}
+use Rattle.base_model.specs.Identities.{RequestId}
 use Rattle.node_model.specs.Journal.{kept_block}
 use Rattle.node_model.specs.Letters.{Letter, client_input}
 use Rattle.base_model.specs.Refusals.{cursor_evidence}

@@ -5,7 +5,7 @@ use Rattle.group_accum.specs.Sizes.{capped}
 use Rattle.command_model.specs.Answers.{Answer, count_answer, first_answer, refusal_answer}
 use Rattle.pipeline_model.specs.Batches.{IsBatch}
 use Rattle.base_model.specs.Errors.{overflow}
-use Rattle.reply_model.specs.Exchanges.{RequestId}
+use Rattle.base_model.specs.Identities.{RequestId}
 use Rattle.pipeline_model.specs.Halves.{Merge, Rows, MergesInTurn}
 use Rattle.pipeline_model.specs.Lengths.{excess_of_answer}
 use Rattle.node_model.specs.Letters.{Letter, half_excess, half_overflow, read_rows}

@@ -1,6 +1,6 @@
 -- Outcomes that are news to an open write.
 use Rattle.std.specs.Prelude.{◌≡◌, ◌≢◌, Bool, List, Some}
-use Rattle.reply_model.specs.Exchanges.{RequestId}
+use Rattle.base_model.specs.Identities.{RequestId}
 use Rattle.node_model.specs.Letters.{Letter, Statement, write_done}
 use Rattle.reply_model.specs.Outcomes.{Done}
 use Rattle.node_model.specs.RouterRows.{noted, open_of}

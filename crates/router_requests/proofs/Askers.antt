@@ -1,7 +1,7 @@
 -- What a router asks for by a table does not hang on what else it knows.
 use Rattle.std.proofs.Common.{◌≡◌, refl, ap, ℕ, List, [], ◌∷◌, Bool}
 use Rattle.std.specs.Prelude.{Option, Some, None}
-use Rattle.reply_model.specs.Exchanges.{RequestId}
+use Rattle.base_model.specs.Identities.{RequestId}
 use Rattle.node_model.specs.Letters.{Statement}
 use Rattle.node_model.specs.RouterRows.{asks_to_write, asks_shards, asks_table, asks_by, id_of, unanswered}
 use Rattle.node_model.specs.States.{Router, Work, writing, reading}

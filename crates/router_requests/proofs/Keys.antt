@@ -9,7 +9,8 @@ use Rattle.command_model.specs.Writes.{ClientNumber}
 use Rattle.bson_model.specs.Tree.{Datum, Fields}
 use Rattle.history_model.specs.History.{Operation, insert_operation, key_read, key_written}
 use Rattle.chunk_model.specs.Tables.{Table, owner_now}
-use Rattle.reply_model.specs.Exchanges.{RequestId, number_for}
+use Rattle.base_model.specs.Identities.{RequestId}
+use Rattle.reply_model.specs.Exchanges.{number_for}
 use Rattle.node_model.specs.RouterRows.{owner_of_statement}
 use Rattle.history_model.proofs.Keyed.{written_is_key}
 use Rattle.value_model.specs.Keys.{is_key, valid_key}

@@ -3,7 +3,7 @@ use Rattle.std.proofs.Common.{◌≡◌, ap, sym, ◌∙◌, ◌-◌, List, take
 use Rattle.std.proofs.lemmas.List.{drop-map, length-map, take_rest}
 use Rattle.std.specs.Prelude.{Option}
 use Rattle.command_model.specs.Writes.{ClientNumber}
-use Rattle.reply_model.specs.Exchanges.{RequestId}
+use Rattle.base_model.specs.Identities.{RequestId}
 use Rattle.node_model.specs.RouterRows.{unanswered}
 use Rattle.protocol_model.specs.Statements.{statement_view, done_view}
 use Rattle.protocol_model.specs.declared.statement.Done.{Done}

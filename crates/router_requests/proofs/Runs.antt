@@ -2,7 +2,7 @@
 use Rattle.std.proofs.Common.{◌≡◌, refl, ap, sym, subst, ◌∙◌, ℕ, suc, ◌+◌, ◌<◌, ◌≤◌, arith, List, [], ◌∷◌, ◌++◌, drop, map, length, get_or, Bool, true, false, if◌then◌else◌, add-one, drop-cons, append-nil}
 use Rattle.std.specs.Prelude.{Option, Some, None}
 use Rattle.command_model.specs.Writes.{ClientNumber}
-use Rattle.reply_model.specs.Exchanges.{RequestId}
+use Rattle.base_model.specs.Identities.{RequestId}
 use Rattle.node_model.specs.Letters as letters
 use Rattle.node_model.specs.Letters.{Letter, write_ask}
 use Rattle.node_model.specs.RouterRows.{run_to, is_on, owner_of_statement, asks_to_write, says}

@@ -11,7 +11,7 @@ use Rattle.command_replies.specs.Errors.{errors_view, error_view}
 use Rattle.command_replies.specs.Upserts.{upserted_view, key_view}
 use Rattle.command_model.specs.CommandSizes.{keys_length}
 use Rattle.command_model.specs.Writes.{ClientNumber}
-use Rattle.reply_model.specs.Exchanges.{RequestId}
+use Rattle.base_model.specs.Identities.{RequestId}
 use Rattle.bson_model.specs.Tree.{Datum}
 use Rattle.command_model.specs.Writes as writes
 use Rattle.reply_model.specs.Outcomes.{Done, errors_of, outcome_in, refusal_in, upserted_by}

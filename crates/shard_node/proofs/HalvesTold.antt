@@ -1,7 +1,7 @@
 -- What is told of a half is a row of the shard.
 use Rattle.std.proofs.Common.{◌≡◌, ℕ, List, [], ◌∷◌}
 use Rattle.std.specs.Prelude.{Result, Ok, Err}
-use Rattle.node_traits.specs.Exchanges.{RequestId}
+use Rattle.base_model.specs.Identities.{RequestId}
 use Rattle.node_traits.specs.Letters.{HalfFault, half_overflow, half_excess, Letter, half_ask, read_rows, letter_input, sends}
 use Rattle.node_traits.specs.ShardRows.{ShardRow, shard_rows, shard_excess, shard_overflow, at_later, heard, says}
 use Rattle.node_traits.specs.States.{Shard}

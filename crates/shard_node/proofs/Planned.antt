@@ -10,7 +10,7 @@ use Rattle.chunk_table.specs.Tables.{table_of}
 use Rattle.chunk_table.specs.Verdicts.{Sent, fits, verdict_of}
 use Rattle.node_model.specs.Service.{Serves, serves_no_more, serves_again, serves_new, ends_again, ends_new, entry_for}
 use Rattle.node_model.specs.Times.{time_of_moment}
-use Rattle.node_traits.specs.Exchanges.{RequestId}
+use Rattle.base_model.specs.Identities.{RequestId}
 use Rattle.node_traits.specs.Effects.{AreSound, puts_of, spellings}
 use Rattle.node_traits.specs.Journal.{kept_entry}
 use Rattle.node_traits.specs.Outcomes.{Done}

@@ -17,7 +17,8 @@ use Rattle.node_traits.specs.Outcomes.{Done, done_of}
 use Rattle.command_model.specs.Writes.{ClientNumber}
 use Rattle.shard_store.specs.Plans.{IsServed, served_again, served_new, left_for_later}
 use Rattle.protocol_model.specs.Statements as rust
-use Rattle.node_traits.specs.Exchanges.{RequestId, number_for}
+use Rattle.base_model.specs.Identities.{RequestId}
+use Rattle.node_traits.specs.Exchanges.{number_for}
 use Rattle.protocol_model.specs.declared.statement.Done.{Done as StatementDone}
 use Rattle.protocol_model.specs.declared.statement.Statement.{Statement as Asked}
 use Rattle.shard_requests.specs.declared.answers.StatementResult.{StatementResult}

@@ -7,7 +7,8 @@ use Rattle.command_model.specs.GetMore.{GetMore}
 use Rattle.command_model.specs.Command.{find_command, more_command}
 use Rattle.chunk_model.specs.Catalogue.{Creation}
 use Rattle.history_model.specs.History.{Entry}
-use Rattle.reply_model.specs.Exchanges.{RequestId, Asked, Answered}
+use Rattle.base_model.specs.Identities.{RequestId}
+use Rattle.reply_model.specs.Exchanges.{Asked, Answered}
 use Rattle.reply_model.specs.Cursors.{Cursor, Opens, opens_none, opens_one}
 use Rattle.reply_model.specs.Right.{asks_for_one}
 use Rattle.reply_facts.proofs.RightAnswers.{RightBy, right_of}

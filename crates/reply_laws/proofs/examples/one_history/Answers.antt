@@ -9,7 +9,8 @@ use Rattle.command_model.specs.Writes.{WriteCommand, insert_kind}
 use Rattle.chunk_model.specs.SampleCollections.{creation}
 use Rattle.history_model.specs.History.{Legal, IsIn, insert_operation, StatementNumber, router_session}
 use Rattle.history_model.proofs.Lists.{all_at, in_first, in_later, in_none}
-use Rattle.reply_model.specs.Exchanges.{RequestId, Asked}
+use Rattle.base_model.specs.Identities.{RequestId}
+use Rattle.reply_model.specs.Exchanges.{Asked}
 use Rattle.reply_model.specs.OneHistory.{AreDifferent, Given, WasMet, WasSent, WasWanted, IsRightOf, AreRight, nothing_told, then_told, IsKnown, IsPlaced}
 use Rattle.reply_model.specs.Right.{IsPart, IsRight, Sends}
 use Rattle.reply_model.specs.Reads.{own_time}

@@ -8,7 +8,8 @@ use Rattle.chunk_model.specs.SampleCollections.{creation}
 use Rattle.command_model.specs.Writes.{insert_kind}
 use Rattle.history_model.specs.History.{insert_operation}
 use Rattle.history_model.proofs.Lists.{all_at, in_first, in_none}
-use Rattle.reply_model.specs.Exchanges.{RequestId, Asked}
+use Rattle.base_model.specs.Identities.{RequestId}
+use Rattle.reply_model.specs.Exchanges.{Asked}
 use Rattle.reply_model.specs.Right.{Sends}
 use Rattle.reply_model.specs.OneHistory.{IsWriteIn, IsPlaced, WasWanted}
 use Rattle.reply_laws.specs.SampleExchanges.{all_asked, id_at, first, first_entry, second, second_entry, third}

@@ -2,7 +2,8 @@
 use Rattle.std.proofs.Common.{◌≡◌, ◌≤◌, ap, arith}
 use Rattle.std.specs.Prelude.{pos}
 use Rattle.history_model.proofs.Lists.{all_at, in_none}
-use Rattle.reply_model.specs.Exchanges.{RequestId, Asked}
+use Rattle.base_model.specs.Identities.{RequestId}
+use Rattle.reply_model.specs.Exchanges.{Asked}
 use Rattle.reply_laws.specs.SampleExchanges.{all_asked, id_at}
 use Rattle.reply_laws.proofs.examples.wrong_replies.Goals as goal
 

@@ -10,7 +10,8 @@ use Rattle.chunk_model.specs.Catalogue.{Creation}
 use Rattle.chunk_model.specs.SampleCollections.{creation}
 use Rattle.history_model.specs.History.{Entry, Operation, StatementNumber, done, insert_operation}
 use Rattle.history_model.proofs.Lists.{all_at, in_first}
-use Rattle.reply_model.specs.Exchanges.{Asked, RequestId, number_for}
+use Rattle.base_model.specs.Identities.{RequestId}
+use Rattle.reply_model.specs.Exchanges.{Asked, number_for}
 use Rattle.reply_model.specs.Outcomes.{is_older}
 use Rattle.reply_model.specs.OneHistory.{Given, WasMet}
 use Rattle.reply_model.specs.Right.{HadSent, MayBeTold, Sends, told_older}

@@ -9,7 +9,8 @@ use Rattle.command_model.specs.Writes.{ClientNumber, WriteCommand, insert_kind}
 use Rattle.chunk_model.specs.SampleCollections.{creation}
 use Rattle.history_model.specs.History.{IsIn, insert_operation}
 use Rattle.history_model.proofs.Lists.{in_first, in_later}
-use Rattle.reply_model.specs.Exchanges.{RequestId, Asked}
+use Rattle.base_model.specs.Identities.{RequestId}
+use Rattle.reply_model.specs.Exchanges.{Asked}
 use Rattle.reply_model.specs.Outcomes.{answer_by}
 use Rattle.reply_model.specs.OneHistory.{AreDifferent, Given, IsKnown, IsRightOf, StandsInPart, nothing_told, then_told}
 use Rattle.reply_model.specs.Right.{IsRight, Sends, right_write, told_own}

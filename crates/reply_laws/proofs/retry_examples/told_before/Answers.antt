@@ -8,7 +8,8 @@ use Rattle.command_model.specs.Writes.{ClientNumber, WriteCommand}
 use Rattle.chunk_model.specs.SampleCollections.{creation}
 use Rattle.history_model.specs.History.{Entry, IsIn, StatementNumber}
 use Rattle.history_model.proofs.Lists.{all_at, in_first, in_later}
-use Rattle.reply_model.specs.Exchanges.{Asked, Answered, RequestId, number_for}
+use Rattle.base_model.specs.Identities.{RequestId}
+use Rattle.reply_model.specs.Exchanges.{Asked, Answered, number_for}
 use Rattle.reply_model.specs.Outcomes.{Done, answer_by, answer_of}
 use Rattle.reply_model.specs.OneHistory.{EndsBefore}
 use Rattle.reply_model.specs.Reads.{IsAhead}

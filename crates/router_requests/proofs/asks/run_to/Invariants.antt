@@ -1,6 +1,6 @@
 use Rattle.std.proofs.Common.{◌≡◌, ◌++◌, Option, drop, map}
 use Rattle.command_model.specs.Writes.{ClientNumber}
-use Rattle.reply_model.specs.Exchanges.{RequestId}
+use Rattle.base_model.specs.Identities.{RequestId}
 use Rattle.node_model.specs.RouterRows.{run_to}
 use Rattle.protocol_model.specs.Statements.{statement_view}
 use Rattle.router_requests.proofs.asks.run_to.Given as goal
