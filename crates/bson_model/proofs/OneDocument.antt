@@ -1,4 +1,4 @@
--- Bytes spell one document at most: each part of a spelling ends where the bytes before say.
+-- Bytes encode one document at most: each part of a encoding ends where the bytes before say.
 use Rattle.std.proofs.Common.{◌≡◌, ℕ, ◌+◌, ◌<◌, ◌^◌, List, [], ◌∷◌, ◌++◌, length, refl, sym, ap, ◌∙◌, arith, length-append, append_assoc}
 use Rattle.std.specs.Prelude.{ℤ, FitsSigned}
 use Rattle.std.specs.Int.{w32, w64, to_le_bytes, from_le_bytes, cast_unsigned, cast_signed}
@@ -140,7 +140,7 @@ mutual
       let same = value.0 in
       cc
 
--- the same bytes spell the same document
+-- the same bytes encode the same document
 pub one_document : (bytes : List ℕ) (a b : Fields) → ReadsAs bytes a → ReadsAs bytes b → a ≡ b
 one_document bytes a b r q =
     let same = same_framed r.0 q.0 [] [] r.2 q.2 (ap (λ (l : List ℕ). l ++ []) (sym r.1 ∙ q.1)) in

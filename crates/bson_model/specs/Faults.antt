@@ -1,4 +1,4 @@
--- The first fault of bytes that spell no document, in the order of the bytes (BSON 1.1, "Specification": `document`,
+-- The first fault of bytes that encode no document, in the order of the bytes (BSON 1.1, "Specification": `document`,
 -- `element`, `string`, `cstring`, `binary`; MongoDB manual, "MongoDB Limits and Thresholds": 100 levels). The bytes are
 -- walked from left to right with a stack of the documents and arrays that are open, the innermost first. An offset counts
 -- the bytes before it.
@@ -21,13 +21,13 @@ pub data Fault : Type 0 where
   boolean_fault : Fault
   -- a document or an array at depth 101
   depth_fault : Fault
-  -- the last 00 of a document or an array stands before its stated offset, or another byte stands there
+  -- the last 00 of a document or an array is before its stated offset, or another byte is there
   trailing_fault : Fault
 
 -- a document or an array that is open
 pub record Holder : Type 0 where
   pub is_array : Bool
-  -- the offset behind its last byte, by its length
+  -- the offset after its last byte, by its length
   pub end : ℕ
 
 -- the stated offset of its last byte, which is 00
@@ -36,7 +36,7 @@ last h = h.end - 1
 
 -- what a step comes to
 pub data Step : Type 0 where
-  -- the next element, or the last 00, is to stand at the offset
+  -- the next element, or the last 00, is to be at the offset
   goes_on : ℕ → List Holder → Step
   -- the document ends before the offset
   ends_at : ℕ → Step
@@ -70,7 +70,7 @@ form_of b =
     else if b == 0x7F then Some (fixed_form 0)
     else None
 
--- what stands before the first 00, if there is one
+-- what precedes the first 00, if there is one
 abbrev pub before_zero : List ℕ → Option (List ℕ)
 before_zero [] = None
 before_zero (b ∷ bytes) = if b == 0 then Some [] else option_map (λ name. b ∷ name) (before_zero bytes)
@@ -137,14 +137,14 @@ module _ (bytes : List ℕ) where
   value_step binary_form offset h outer = length_step 0 5 h.end offset short (λ n. binary_step n (offset + 4) h outer)
   value_step boolean_form offset h outer = boolean_step offset h outer
 
-  -- A name at an offset, and the value behind it. The names in an array are free.
+  -- A name at an offset, and the value after it. The names in an array are free.
   abbrev pub named_step : Form → ℕ → Holder → List Holder → Option (List ℕ) → Step
   named_step form offset h outer None = if nat_lt (length bytes) h.end then short else faulty string_fault offset
   named_step form offset h outer (Some name) =
       if h.is_array || is_utf8 name then (if offset + length name == last h then faulty trailing_fault (last h) else value_step form (offset + (length name + 1)) h outer)
       else faulty string_fault offset
 
-  -- an element whose type stands at an offset
+  -- an element whose type is at an offset
   abbrev pub typed_step : ℕ → Holder → List Holder → Option Form → Step
   typed_step offset h outer None = faulty (type_fault (slice_index bytes offset)) offset
   typed_step offset h outer (Some form) =

@@ -1,5 +1,5 @@
 -- The limits of documents. Depth counts how documents and arrays are nested, the outermost being 1; bytes are those of the
--- one spelling.
+-- one encoding.
 use Rattle.std.specs.Prelude.{ℕ, ◌≤◌, ◌^◌, length}
 use Rattle.bson_model.specs.Tree.{Fields, document_depth}
 use Rattle.bson_model.specs.Spelling.{written}
@@ -25,7 +25,7 @@ most_bytes_written = 300000000
 abbrev pub IsWritable : Fields → Type 0
 IsWritable ms = (document_depth ms ≤ most_depth_written) × (length (written ms) ≤ most_bytes_written)
 
--- What is read of a message of 48,000,000 bytes may be spelled five times as long: the names in an array are free, and an item of
--- two bytes, without a name, is spelled with its index of up to eight digits.
+-- What is read of a message of 48,000,000 bytes may be encoded five times as long: the names in an array are free, and an item of
+-- two bytes, without a name, is encoded with its index of up to eight digits.
 abbrev pub most_bytes_read : ℕ
 most_bytes_read = 240000000

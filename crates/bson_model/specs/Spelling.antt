@@ -1,4 +1,4 @@
--- The one spelling of a document (BSON 1.1, `document`, `e_list`, `element`, `string`, `binary`; little-endian
+-- The one encoding of a document (BSON 1.1, `document`, `e_list`, `element`, `string`, `binary`; little-endian
 -- numbers). In an array the names are the decimal indices.
 use Rattle.std.specs.Prelude.{ℕ, ◌+◌, List, [], ◌∷◌, ◌++◌, length, Bool, true, false}
 use Rattle.std.specs.Int.{w32, w64, to_le_bytes, cast_unsigned}
@@ -25,7 +25,7 @@ type_byte_of max_key_value = 0x7F
 abbrev pub string : List ℕ → List ℕ
 string s = to_le_bytes w32 (length s + 1) ++ (s ++ 0 ∷ [])
 
--- the length of the whole, what stands in it, and 00
+-- the length of the whole, what is in it, and 00
 abbrev pub framed : List ℕ → List ℕ
 framed body = to_le_bytes w32 (length body + 5) ++ (body ++ 0 ∷ [])
 
@@ -62,6 +62,6 @@ abbrev mutual
   written_fields no_fields = []
   written_fields (field name d ms) = element (type_byte_of d) name (written_value d) ++ written_fields ms
 
--- the one spelling of a document
+-- the one encoding of a document
 abbrev pub written : Fields → List ℕ
 written ms = framed (written_fields ms)

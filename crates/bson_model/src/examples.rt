@@ -24,7 +24,7 @@ pub fn faults()
 {}
 
 /// Two faults at one offset: a document inside that states 7 bytes where 6 are left in the whole, all of which end first, is a
-/// fault of its length. In a document behind 99 others the next one is a fault of depth.
+/// fault of its length. In a document after 99 others the next one is a fault of depth.
 pub fn ordered()
     ensures inside { HasFirstFault (12 ∷ 0 ∷ 0 ∷ 0 ∷ 0x03 ∷ 0 ∷ 7 ∷ 0 ∷ 0 ∷ 0 ∷ []) length_fault 6 }
     ensures depth { (h : Holder) (outer : List Holder) → h.end ≡ 9 → length outer ≡ 99 → value_step (5 ∷ 0 ∷ 0 ∷ 0 ∷ 0 ∷ []) (holder_form false) 0 h outer ≡ faulty depth_fault 0 }

@@ -1,4 +1,4 @@
--- How deeply documents and arrays are nested, and what one more field changes: that, and how long the spelling is.
+-- How deeply documents and arrays are nested, and what one more field changes: that, and how long the encoding is.
 use Rattle.std.proofs.Common.{◌≡◌, ◌≤◌, ℕ, suc, ◌+◌, max, List, length, arith, length-append}
 use Rattle.bson_model.specs.Tree.{Datum, value_depth, array_depth, document_depth, Items, no_items, item, Fields, no_fields, field, joined}
 use Rattle.bson_model.specs.Spelling.{type_byte_of, element, written_value, written_fields}

@@ -1,4 +1,4 @@
--- A field, and a value of an array, behind what stands before it; and values of types that hold no values, at any level.
+-- A field, and a value of an array, after what precedes it; and values of types that hold no values, at any level.
 use Rattle.std.proofs.Common.{◌≡◌, ℕ, zero, suc, ◌-◌, List, Option, Some, None, Result, Ok, Err, refl, ◌∙◌, ap}
 use Rattle.bson_model.specs.Tree.{Datum, string_value}
 use Rattle.bson_values.specs.declared.fault.BsonFault.{BsonFault}

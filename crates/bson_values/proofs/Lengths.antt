@@ -1,4 +1,4 @@
--- How long a spelling is, counted part by part. A count that would pass the greatest number stays there.
+-- How long a encoding is, counted part by part. A count that would pass the greatest number stays there.
 use Rattle.std.proofs.Common.{◌≡◌, ℕ, ◌+◌, ◌-◌, ◌<◌, ◌^◌, min, List, length}
 use Rattle.bson_model.specs.Spelling.{framed}
 

@@ -1,4 +1,4 @@
--- How the bytes grow: what is put stands behind what was there.
+-- How the bytes grow: what is put is after what was there.
 use Rattle.std.proofs.Common.{◌≡◌, ℕ, suc, ◌+◌, ◌-◌, ◌<◌, ◌≤◌, List, [], ◌∷◌, ◌++◌, length, get_or, take, drop, add-one, drop-cons, Result, Ok, Err, refl, sym, ◌∙◌, ap, arith, append_assoc, length-append}
 use Rattle.std.specs.Prelude.{OnOk, OnErr}
 use Rattle.std.specs.Fmt.{decimal}
@@ -11,7 +11,7 @@ use Rattle.bson_values.specs.declared.value.Field.{Field}
 use Rattle.bson_values.specs.declared.value.Value.{Value}
 use Rattle.bson_values.specs.View.{datum_of, fields_of, items_of}
 
--- while the parts of `all` are put behind `old`: the bytes so far, and what is left to put
+-- while the parts of `all` are put after `old`: the bytes so far, and what is left to put
 pub record Puts (all old out rest : List ℕ) : Type 0 where
   pub text : out ++ rest ≡ old ++ all
   pub kept : take (length old) out ≡ old
@@ -34,11 +34,11 @@ written_over at bytes new four new_is =
     let tail : new ≡ four ++ drop (at + 4) bytes = new_is ∙ ap (λ s. four ++ drop 4 s) (take_rest bytes at) ∙ ap (λ s. four ++ s) (drop-drop 4 at bytes) in
     rw (rest, append-nil, tail) refl
 
--- what is put behind the bytes that were there leaves them as they were
+-- what is put after the bytes that were there leaves them as they were
 pub kept_behind : (old more out new : List ℕ) → out ≡ old ++ more → take (length out) new ≡ out → take (length old) new ≡ old
 kept_behind old more out new out_is then = kept_on old out new (rw out_is (take-append_seam old more)) then
 
--- ---- a document from `start` on: room for its length, and what stands in it
+-- ---- a document from `start` on: room for its length, and what is in it
 
 pub opened_length : (start : ℕ) (old grown body out : List ℕ) → start ≡ length old → grown ≡ old ++ to_le_bytes w32 0 → out ≡ grown ++ body
     → length out ≡ start + 4 + length body

@@ -80,7 +80,7 @@ pub fails : (total : ℕ) (value_at : Reader) (room : ℕ) (bytes : List ℕ) (p
 fails total value_at room bytes prefix space left e h on =
     sym (spent total value_at room bytes prefix space left on) ∙ ap (λ (r : Result (Fields × List ℕ) BsonFault). with_prefix prefix r) (no_more total value_at (on.fuel - 1) space left e h)
 
--- a document behind its length
+-- a document after its length
 pub behind_length : (total : ℕ) (value_at : Reader) (room count : ℕ) (bytes rest : List ℕ) (read : Result (Fields × List ℕ) BsonFault) → length_at total 5 0 room bytes ≡ Ok (count, rest)
     → fields_with total value_at (length rest + 1) (count - 4) rest ≡ read → document_with total value_at room bytes ≡ read
 unfolding document_with
@@ -148,7 +148,7 @@ pub items_fails : (total : ℕ) (value_at : Reader) (room : ℕ) (bytes : List �
 items_fails total value_at room bytes prefix space left e h on =
     sym (items_spent total value_at room bytes prefix space left on) ∙ ap (λ (r : Result (Items × List ℕ) BsonFault). items_with_prefix prefix r) (items_no_more total value_at (on.fuel - 1) space left e h)
 
--- an array behind its length
+-- an array after its length
 pub items_behind_length : (total : ℕ) (value_at : Reader) (room count : ℕ) (bytes rest : List ℕ) (read : Result (Items × List ℕ) BsonFault) → length_at total 5 0 room bytes ≡ Ok (count, rest)
     → items_with total value_at (length rest + 1) (count - 4) rest ≡ read → array_with total value_at room bytes ≡ read
 unfolding array_with

@@ -21,7 +21,7 @@ stop (Deep offset) = faulty depth_fault offset
 stop (Trailing offset) = faulty trailing_fault offset
 stop Memory = ends_at 0
 
--- from a step on, the walk comes to the step behind what is read, or to the fault
+-- from a step on, the walk comes to the step after what is read, or to the fault
 abbrev pub Goes : {A : Type 0} → List ℕ → Step → Result A BsonFault → (A → Step) → Type 0
 Goes all s (Ok x) next = Leads all s (next x)
 Goes all s (Err e) next = Leads all s (stop e)
@@ -33,7 +33,7 @@ pub leads_goes : {A : Type 0} (all : List ℕ) (s t : Step) (r : Result A BsonFa
 leads_goes all s t (Ok x) next first goes = λ outcome w. first outcome (goes outcome w)
 leads_goes all s t (Err e) next first goes = λ outcome w. first outcome (goes outcome w)
 
--- one reader behind another
+-- one reader after another
 pub goes_bind : {A B : Type 0} (all : List ℕ) (s : Step) (r : Result A BsonFault) (f : A → Result B BsonFault) (middle : A → Step) (next : B → Step)
     → Goes all s r middle → ((x : A) → r ≡ Ok x → Goes all (middle x) (f x) next) → Goes all s (r >>= f) next
 goes_bind all s (Ok x) f middle next first then = leads_goes all s (middle x) (f x) next first (then x refl)
@@ -69,7 +69,7 @@ lt_same a b c d below above = elim (cases_lt c d) [
 abbrev pub Stands : List ℕ → List ℕ → Type 0
 Stands all rest = (prefix : List ℕ) × (all ≡ prefix ++ rest)
 
--- what stands behind the first of them
+-- what follows the first of them
 pub stands_behind : (all bytes a rest : List ℕ) → Stands all bytes → bytes ≡ a ++ rest → Stands all rest
 stands_behind all bytes a rest s e = (s.0 ++ a, s.1 ∙ ap (λ (xs : List ℕ). s.0 ++ xs) e ∙ sym (append_assoc s.0 a rest))
 

@@ -1,4 +1,4 @@
--- What is written of a sound value spells it: its texts, names and numbers are as they must be.
+-- What is written of a sound value encodes it: its texts, names and numbers are as they must be.
 use Rattle.std.proofs.Common.{◌≡◌, ◌≢◌, ℕ, ◌+◌, ◌%◌, ◌<◌, ◌≤◌, ◌^◌, List, [], ◌∷◌, ◌++◌, length, refl, arith, length-append}
 use Rattle.std.specs.Fmt.{decimal}
 use Rattle.std.proofs.lemmas.Fmt.{decimal_by_steps}

@@ -16,7 +16,7 @@ use Rattle.bson_values.specs.Readers.{length_within, length_at, fixed_at, utf8_a
 use Rattle.bson_values.proofs.Leaves.{TakesName, name_takes}
 use Rattle.bson_values.proofs.ReaderWalks.{Leads, stop, Goes, same_leads, goes_bind, split, lt_same, Stands, stands_at, byte_at, byte_here}
 
--- what follows is read behind the bytes
+-- what follows is read after the bytes
 abbrev pub on_behind : {A : Type 0} → List ℕ → Holder → List Holder → A × List ℕ → Step
 on_behind all h outer x = goes_on (length all - length x.1) (h ∷ outer)
 
@@ -182,7 +182,7 @@ named_is total offset zero bytes = let t : ltb (length bytes) 0 ≡ false = le-l
 named_is total offset (suc room) [] = let t : ltb 0 (suc room) ≡ true = lt-ltb _ _ (omega arith) in rw t refl
 named_is total offset (suc room) (b ∷ bytes) = named_by total offset room b bytes (eqb b 0) (named_is total offset room bytes)
 
--- the room behind a name
+-- the room after a name
 pub room_goes : (all : List ℕ) (offset room : ℕ) (h : Holder) (rest : List ℕ) (further : Step) → offset + 1 + length rest ≡ length all → offset + 1 + room ≡ h.end
     → Goes all (cond (eqb offset (last h)) (faulty trailing_fault (last h)) further) (room_at (length all) room rest) (λ left. further)
 unfolding room_at
@@ -208,7 +208,7 @@ by_option all form offset room h outer bytes f next (Some name) at within found 
 by_option all form offset room h outer bytes f next None at within found =
     cut_by all (ltb (length all) h.end) (ltb (length bytes) room) _ _ (Short (length all)) (BadText offset) f next (lt_same _ _ _ _ (λ l. omega arith) (λ l. omega arith)) refl refl
 
--- a name, and what is read behind it
+-- a name, and what is read after it
 by_name : {A : Type 0} (all : List ℕ) (form : Form) (offset room : ℕ) (h : Holder) (outer : List Holder) (bytes : List ℕ) (f : List ℕ × List ℕ → Result A BsonFault) (next : A → Step)
     → offset + length bytes ≡ length all → offset + room ≡ h.end
     → ((name : List ℕ) → TakesName bytes room name (drop (suc (length name)) bytes) → Goes all (named_step all form offset h outer (Some name)) (f (name, drop (suc (length name)) bytes)) next)
@@ -219,7 +219,7 @@ by_name all form offset room h outer bytes f next at within found =
     (by_option all form offset room h outer bytes f next (before_zero (take room bytes)) at within
     (λ name e. found name (name_takes (length all) offset room bytes (name, drop (suc (length name)) bytes) (sym is ∙ ap (λ (o : Option (List ℕ)). named (length all) offset room bytes o) e))))
 
--- behind a name there is room for a value
+-- after a name there is room for a value
 behind_name : {A : Type 0} (all : List ℕ) (form : Form) (offset room : ℕ) (h : Holder) (outer : List Holder) (bytes name rest : List ℕ) (made : ℕ → A) (next : A → Step) → ((left : ℕ) → next (made left) ≡ value_step all form (length all - length rest) h outer)
     → offset + length bytes ≡ length all → offset + room ≡ h.end → TakesName bytes room name rest
     → Goes all (cond (eqb (offset + length name) (last h)) (faulty trailing_fault (last h)) (value_step all form (offset + (length name + 1)) h outer)) (room_at (length all) (room - (length bytes - length rest)) rest >>= λ left. Ok (made left)) next

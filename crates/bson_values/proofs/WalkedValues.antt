@@ -60,7 +60,7 @@ form_is b =
     (mapped (eqb b 0xFF) types.MinKey _ _
     (mapped (eqb b 0x7F) types.MaxKey None None refl))))))))))))
 
--- behind a type
+-- after a type
 abbrev kinded : List ℕ → ℕ → Holder → List Holder → Option ElementType → Step
 kinded all offset h outer None = closed h.end outer
 kinded all offset h outer (Some type_byte) = named_step all (form_of_type type_byte) (offset + 1) h outer (before_zero (take (h.end - (offset + 1)) (drop (offset + 1) all)))
@@ -125,7 +125,7 @@ empty all offset room h outer bytes d at within =
     let some : ltb (length all) offset ≡ false = le-ltb _ _ (omega arith) in
     same_leads all _ _ (rw (none, inside, some, k) refl)
 
--- what stands behind a length
+-- what follows a length
 stands_length_behind : (all : List ℕ) (least beside offset room n : ℕ) (bytes rest : List ℕ) → Stands all bytes → offset + length bytes ≡ length all → TakesLength bytes least beside room n rest → Stands all rest × (offset + 4 + length rest ≡ length all)
 stands_length_behind all least beside offset room n bytes rest stands at t =
     let len : length bytes ≡ 4 + length rest = ap (λ (s : List ℕ). length s) t.parts ∙ length-append (to_le_bytes w32 n) rest in
@@ -203,7 +203,7 @@ scalar_goes all type_byte offset room h outer bytes is_bytes stands at within so
 
 -- ---- elements
 
--- behind an element, or behind the last 00
+-- after an element, or after the last 00
 abbrev behind : {A : Type 0} → List ℕ → Holder → List Holder → Option A × List ℕ → Step
 behind all h outer (None, rest) = closed (length all - length rest) outer
 behind all h outer (Some m, rest) = goes_on (length all - length rest) (h ∷ outer)

@@ -56,7 +56,7 @@ pub is_only : (bytes : List ℕ) (result : Result (Fields × ℕ) BsonFault) (ms
 is_only bytes result ms n e le reads low =
     subst (λ (r : Result (Fields × ℕ) BsonFault). Gives (λ x. x) result r) (whole_again bytes ms n le reads low) e
 
--- ---- one spelling
+-- ---- one encoding
 
 read_again : (n : ℕ) (a x : List ℕ) (ms : Fields) → ReadsAs a ms → document_depth ms ≤ suc n → document_with 0 (value_at 0 n) length_limit (a ++ x) ≡ Ok (ms, x)
 read_again n a x ms h low =

@@ -8,7 +8,7 @@ use Rattle.bson_model.specs.Tree.{Datum, string_value, document_value, array_val
 abbrev pub Mark : Type 0
 Mark = ℕ × (List ℕ × ℤ)
 
--- what stands on the stack
+-- what is on the stack
 pub data Part : Type 0 where
   value_part : Datum → Part
   items_part : Items → Part

@@ -13,7 +13,7 @@ use Rattle.bson_values.specs.Types.{type_from}
 use Rattle.bson_model.specs.Limits.{length_limit, most_depth_kept}
 use Rattle.bson_model.specs.Tree.{Datum, string_value, document_value, array_value, binary_value, object_id_value, boolean_value, date_value, null_value, int32_value, timestamp_value, int64_value, min_key_value, max_key_value, Items, no_items, item, Fields, no_fields, field}
 
--- a kind, the room and the bytes: the value, and the bytes behind it
+-- a kind, the room and the bytes: the value, and the bytes after it
 abbrev pub Reader : Type 0
 Reader = ElementType → ℕ → List ℕ → Result (Datum × List ℕ) BsonFault
 
@@ -98,19 +98,19 @@ module _ (total : ℕ) where
   name_from offset (suc room) (b ∷ bytes) =
       if b == 0 then Ok ([], bytes) else (name_from offset room bytes >>= λ x. Ok (b ∷ x.0, x.1))
 
-  -- what room is left behind a name: the value stands before the document's last byte
+  -- what room is left after a name: the value is before the document's last byte
   unfoldable pub room_at : ℕ → List ℕ → Result ℕ BsonFault
   room_at zero rest = Err (Trailing (total - (length rest + 1)))
   room_at (suc room) rest = Ok (suc room)
 
-  -- a name in an array: the room and the bytes behind it
+  -- a name in an array: the room and the bytes after it
   unfoldable pub index_at : ℕ → List ℕ → Result (ℕ × List ℕ) BsonFault
   index_at room bytes = do
     name ← name_from (total - length bytes) room bytes
     left ← room_at (room - (length bytes - length name.1)) name.1
     Ok (left, name.1)
 
-  -- a name in a document: its text, and the room and the bytes behind it
+  -- a name in a document: its text, and the room and the bytes after it
   unfoldable pub name_at : ℕ → List ℕ → Result (List ℕ × ℕ × List ℕ) BsonFault
   name_at room bytes = do
     name ← name_from (total - length bytes) room bytes
@@ -141,7 +141,7 @@ module _ (total : ℕ) where
   unfoldable pub field_at : Reader → ℕ → List ℕ → Result (Option (List ℕ × Datum) × List ℕ) BsonFault
   field_at value_at room bytes = type_at room bytes >>= λ type_byte. field_behind value_at room type_byte.0 type_byte.1
 
-  -- what stands before a value of an array: its type, and the room behind its name, or nothing at the end of the array
+  -- what precedes a value of an array: its type, and the room after its name, or nothing at the end of the array
   unfoldable pub index_behind : ℕ → Option ElementType → List ℕ → Result (Option (ElementType × ℕ) × List ℕ) BsonFault
   index_behind room None bytes = Ok (None, bytes)
   index_behind room (Some type_byte) bytes = index_at (room - 1) bytes >>= λ left. Ok (Some (type_byte, left.0), left.1)
@@ -159,7 +159,7 @@ module _ (total : ℕ) where
   unfoldable pub item_at : Reader → ℕ → List ℕ → Result (Option Datum × List ℕ) BsonFault
   item_at value_at room bytes = type_at room bytes >>= λ type_byte. item_behind value_at room type_byte.0 type_byte.1
 
-  -- the fields behind a first one; none if there is no first one
+  -- the fields after a first one; none if there is no first one
   unfoldable pub fields_behind : (ℕ → List ℕ → Result (Fields × List ℕ) BsonFault) → ℕ → List ℕ → Option (List ℕ × Datum) → List ℕ → Result (Fields × List ℕ) BsonFault
   fields_behind fields_at room bytes None rest = Ok (no_fields, rest)
   fields_behind fields_at room bytes (Some first) rest = do
@@ -172,7 +172,7 @@ module _ (total : ℕ) where
     others ← items_at (room - (length bytes - length rest)) rest
     Ok (item first others.0, others.1)
 
-  -- The fields and the 00 behind them. The number is above that of the bytes.
+  -- The fields and the 00 after them. The number is above that of the bytes.
   unfoldable pub fields_with : Reader → ℕ → ℕ → List ℕ → Result (Fields × List ℕ) BsonFault
   fields_with value_at zero room bytes = Err (Short total)
   fields_with value_at (suc n) room bytes = field_at value_at room bytes >>= λ first. fields_behind (fields_with value_at n) room bytes first.0 first.1
@@ -194,7 +194,7 @@ module _ (total : ℕ) where
   value_at (suc n) types.Array room bytes = array_with (value_at n) room bytes >>= λ x. Ok (array_value x.0, x.1)
   value_at (suc n) type_byte room bytes = scalar_at type_byte room bytes
 
--- The document that begins the bytes, within so many levels, and the bytes behind it. Nothing holds it: its length
+-- The document that begins the bytes, within so many levels, and the bytes after it. Nothing holds it: its length
 -- can be any.
 unfoldable pub document_at : ℕ → List ℕ → Result (Fields × List ℕ) BsonFault
 document_at depth bytes = document_with (length bytes) (value_at (length bytes) depth) length_limit bytes

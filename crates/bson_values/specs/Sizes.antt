@@ -16,7 +16,7 @@ abbrev mutual
   fields_size no_fields = 0
   fields_size (field name d ms) = datum_size d + fields_size ms
 
--- how many fields stand in a document, and how many values in an array
+-- how many fields are in a document, and how many values in an array
 abbrev pub fields_count : Fields → ℕ
 fields_count no_fields = 0
 fields_count (field name d ms) = fields_count ms + 1

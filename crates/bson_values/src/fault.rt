@@ -22,7 +22,7 @@ pub enum BsonFault {
     BadBool { place: usize },
     /// A document or an array at depth 101.
     Deep { place: usize },
-    /// The 00 of a document stands before its stated end, or another byte stands there.
+    /// The 00 of a document is before its stated end, or another byte is there.
     Trailing { place: usize },
     /// Want of memory.
     Memory,

@@ -3,7 +3,7 @@
 /// The greatest depth of a document that is read and kept.
 pub const MOST_DEPTH_KEPT: u32 = 100;
 
-/// The most bytes of the spelling of a document that is kept.
+/// The most bytes of the encoding of a document that is kept.
 pub const MOST_BYTES_KEPT: usize = 16_777_216;
 
 /// What a stated length is below: it is an int32 that is not negative (BSON 1.1, "Basic Types").

@@ -132,7 +132,7 @@ fn read_int32(total: usize, room: usize, bytes: &[u8]) -> Result<(i32, &[u8]), B
     Ok((LittleEndian::read_u32(prefix).cast_signed(), rest))
 }
 
-/// Reads a string with its length (BSON 1.1, `string`): its text, the bytes that the text begins, and those behind it.
+/// Reads a string with its length (BSON 1.1, `string`): its text, the bytes that the text begins, and those after it.
 #[tactic(auto, unfolding(crate::specs::Readers::string_at))]
 #[inline(always)]
 fn read_string(total: usize, room: usize, bytes: &[u8]) -> Result<(&str, &[u8], &[u8]), BsonFault>
@@ -207,7 +207,7 @@ fn read_scalar(
     }
 }
 
-// What stands before a field's value: its type, its name, and the room behind the name.
+// What precedes a field's value: its type, its name, and the room after the name.
 #[derive(Drop)]
 struct Head {
     type_byte: ElementType,
@@ -215,7 +215,7 @@ struct Head {
     room: usize,
 }
 
-/// Reads what stands before the next value of an array: its type, and the room behind its name, which is passed. There
+/// Reads what precedes the next value of an array: its type, and the room after its name, which is passed. There
 /// is no value at the end of the array.
 #[tactic(auto, unfolding(crate::specs::Readers::item_head_at, crate::specs::Readers::index_behind))]
 #[inline(always)]
@@ -271,7 +271,7 @@ fn read_value(
     }
 }
 
-/// Reads the value behind a head, and puts it under its name behind the fields of a document.
+/// Reads the value after a head, and puts it under its name after the fields of a document.
 #[cycle(reader)]
 #[inline(never)]
 fn put_value<'a>(
@@ -295,7 +295,7 @@ fn put_value<'a>(
     Ok(rest)
 }
 
-/// Reads the value behind a head, and puts it under its name behind the fields of a document. The most frequent types
+/// Reads the value after a head, and puts it under its name after the fields of a document. The most frequent types
 /// are put where they are read, since a value of one type is not copied through memory.
 #[cycle(reader)]
 #[inline(always)]
@@ -373,7 +373,7 @@ fn first_room(level: u32, count: usize, bytes: &[u8]) -> usize {
     }
 }
 
-/// Reads a document: its length, its fields and the 00 behind them (BSON 1.1, `document`).
+/// Reads a document: its length, its fields and the 00 after them (BSON 1.1, `document`).
 #[cycle(reader)]
 #[tactic(auto, unfolding(crate::specs::Readers::document_with))]
 fn read_document(
@@ -411,7 +411,7 @@ fn read_document(
     }
 }
 
-/// Reads an array: its length, its values and the 00 behind them.
+/// Reads an array: its length, its values and the 00 after them.
 #[cycle(reader)]
 #[tactic(auto, unfolding(crate::specs::Readers::array_with))]
 fn read_array(
@@ -452,13 +452,13 @@ fn read_exactly(alloc: Global, bytes: &[u8]) -> Result<(Document, usize), BsonFa
 }
 
 /// Reads the document that begins the bytes, and gives it with its length in bytes; what follows is left (BSON 1.1,
-/// `document`). Fails where no prefix of the bytes spells a document within 100 levels, with the first fault in the order
-/// of the bytes and its offset, or for want of memory.
+/// `document`). Fails where no prefix of the bytes encodes a document within 100 levels, with the first fault in the order
+/// of the bytes and its offset, or because memory ran out.
 pub fn read(alloc: Global, bytes: &[u8]) -> Result<(Document, usize), BsonFault>
-    // What is read is spelled by the bytes.
+    // What is read is encoded by the bytes.
     ensures found { IfOk result (λ x.
         (x.1 ≤ length bytes.now) × ReadsAs (take x.1 bytes.now) x.0 × IsWithinDepth x.0) }
-    // What some prefix of the bytes spells is read, unless memory runs out.
+    // What some prefix of the bytes encodes is read, unless memory runs out.
     ensures only { (ms : Fields) (n : ℕ) →
         n ≤ length bytes.now → ReadsAs (take n bytes.now) ms → IsWithinDepth ms →
         Gives (λ x. x) result (Ok (ms, n)) }
@@ -472,7 +472,7 @@ pub fn read(alloc: Global, bytes: &[u8]) -> Result<(Document, usize), BsonFault>
     read_exactly(alloc, bytes)
 }
 
-/// No spelling of a document begins another, and no bytes spell two documents: what was written is what is read,
+/// No encoding of a document begins another, and no bytes encode two documents: what was written is what is read,
 /// whatever follows it.
 pub fn one_spelling()
     ensures { (a b x y : List ℕ) (ms ns : Fields) →

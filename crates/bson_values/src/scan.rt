@@ -17,7 +17,7 @@ use crate::limits::LENGTH_LIMIT;
 use byteorder::{ByteOrder, LittleEndian};
 use std::str;
 
-/// Judges a length that stands at an offset, and gives it with what stands behind it.
+/// Judges a length that is at an offset, and gives it with what follows it.
 #[tactic(auto, unfolding(crate::specs::Readers::length_within))]
 #[inline(always)]
 fn check_length(
@@ -152,7 +152,7 @@ pub fn read_text(total: usize, count: usize, bytes: &[u8]) -> Result<(&str, &[u8
     Ok((text, rest))
 }
 
-/// Finds a name's end, and gives the bytes before and behind it (BSON 1.1, `cstring`).
+/// Finds a name's end, and gives the bytes before and after it (BSON 1.1, `cstring`).
 #[inline(always)]
 pub fn scan_name(
     total: usize,
@@ -177,7 +177,7 @@ pub fn scan_name(
     Err(BsonFault::BadText { place: offset })
 }
 
-/// What room is left behind a name, which is some.
+/// What room is left after a name, which is some.
 #[tactic(auto, unfolding(crate::specs::Readers::room_at))]
 #[inline(always)]
 pub fn check_room(total: usize, room: usize, rest: &[u8]) -> Result<usize, BsonFault>
@@ -193,7 +193,7 @@ pub fn check_room(total: usize, room: usize, rest: &[u8]) -> Result<usize, BsonF
     Ok(room)
 }
 
-/// Passes a name in an array, and gives the room and the bytes behind it.
+/// Passes a name in an array, and gives the room and the bytes after it.
 #[tactic(auto, unfolding(crate::specs::Readers::index_at))]
 #[inline(always)]
 pub fn skip_name(total: usize, room: usize, bytes: &[u8]) -> Result<(usize, &[u8]), BsonFault>
@@ -207,7 +207,7 @@ pub fn skip_name(total: usize, room: usize, bytes: &[u8]) -> Result<(usize, &[u8
     Ok((left, rest))
 }
 
-/// Reads a name in a document, and gives its text, and the room and the bytes behind it.
+/// Reads a name in a document, and gives its text, and the room and the bytes after it.
 #[tactic(auto, unfolding(crate::specs::Readers::name_at))]
 #[inline(always)]
 pub fn read_name(total: usize, room: usize, bytes: &[u8]) -> Result<(&str, usize, &[u8]), BsonFault>
@@ -224,7 +224,7 @@ pub fn read_name(total: usize, room: usize, bytes: &[u8]) -> Result<(&str, usize
     Ok((text, left, rest))
 }
 
-/// Judges the byte of an element's type, behind which there is so much room and these bytes stand.
+/// Judges the byte of an element's type, after which there is so much room and these bytes stand.
 #[tactic(auto, unfolding(crate::specs::Readers::checked_type))]
 #[inline(always)]
 fn check_type(total: usize, room: usize, byte: u8, rest: &[u8]) -> Result<ElementType, BsonFault>

@@ -1,4 +1,4 @@
-//! How many bytes documents, arrays and values are spelled in.
+//! How many bytes documents, arrays and values are encoded in.
 
 ghost use Rattle.std.specs.Prelude.{◌≡◌, ◌-◌, ◌^◌, min, length};
 ghost use Rattle.bson_model.specs.Spelling.{framed, written, written_value, written_items};
@@ -11,7 +11,7 @@ use itoa::Buffer;
 const FRAME: usize = 5;
 
 impl Document {
-    /// The number of bytes of the document's spelling, or the greatest `usize` where that is more.
+    /// The number of bytes of the document's encoding, or the greatest `usize` where that is more.
     #[cycle(size)]
     pub fn size(&self) -> usize
         ensures { result ≡ min (length (written self.now)) (2 ^ 64 - 1) }
@@ -26,7 +26,7 @@ impl Document {
 }
 
 impl Array {
-    /// The number of bytes of the array's spelling, or the greatest `usize` where that is more.
+    /// The number of bytes of the array's encoding, or the greatest `usize` where that is more.
     #[cycle(size)]
     fn size(&self) -> usize
         ensures { result ≡ min (length (framed (written_items 0 self.now))) (2 ^ 64 - 1) }

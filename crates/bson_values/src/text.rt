@@ -26,10 +26,10 @@ impl<T: Drop> From<AllocFailed<T>> for Memory {
     }
 }
 
-/// How many bytes of a text stand in the value itself at most: as many as a `String` and its tag leave room for.
+/// How many bytes of a text are in the value itself at most: as many as a `String` and its tag leave room for.
 const MOST_SHORT: usize = 30;
 
-/// How many bytes of a name stand in the field itself at most: with their length they are two words.
+/// How many bytes of a name are in the field itself at most: with their length they are two words.
 const MOST_SHORT_NAME: usize = 15;
 
 /// The bytes of a short text, at most N, and how many of them count. A length of one byte leaves room for more of them.
@@ -62,7 +62,7 @@ impl<const N: usize> Short<N> {
         })
     }
 
-    /// Copies the text that the bytes begin with, where it is short: as many bytes as there is room for, whatever stands behind the text, since
+    /// Copies the text that the bytes begin with, where it is short: as many bytes as there is room for, whatever follows the text, since
     /// a copy whose length is known stays in registers.
     #[inline(always)]
     fn of_front(text: &str, bytes: &[u8]) -> Option<Short<N>>
@@ -126,7 +126,7 @@ impl Model for Text {
 }
 
 impl Text {
-    /// Copies the text. Fails for want of memory.
+    /// Copies the text. Returns `Memory` if memory runs out.
     #[inline(always)]
     pub fn of(alloc: Global, text: &str) -> Result<Text, Memory>
         ensures { IfOk result (λ t. t ≡ text.now) }
@@ -161,7 +161,7 @@ impl Text {
         }
     }
 
-    /// The same text once more. Fails for want of memory.
+    /// A copy of the text. Returns `Memory` if memory runs out.
     pub fn copy(&self) -> Result<Text, Memory>
         ensures { IfOk result (λ t. t ≡ self.now) }
     {
@@ -207,7 +207,7 @@ impl Model for Name {
 }
 
 impl Name {
-    /// Copies the text, which holds no 00. Fails for want of memory.
+    /// Copies the text, which holds no 00. Returns `Memory` if memory runs out.
     #[inline(always)]
     pub fn of(alloc: Global, text: &str) -> Result<Name, Memory>
         requires { IsTrue (has_no_zero text.now) }
@@ -220,7 +220,7 @@ impl Name {
         Ok(Name { held })
     }
 
-    /// Copies the text that the bytes begin with, which holds no 00. Fails for want of memory.
+    /// Copies the text that the bytes begin with, which holds no 00. Returns `Memory` if memory runs out.
     #[inline(always)]
     pub(crate) fn of_front(alloc: Global, text: &str, bytes: &[u8]) -> Result<Name, Memory>
         requires name { IsTrue (has_no_zero text.now) }
@@ -246,7 +246,7 @@ impl Name {
         }
     }
 
-    /// The same name once more. Fails for want of memory.
+    /// A copy of the name. Returns `Memory` if memory runs out.
     pub fn copy(&self) -> Result<Name, Memory>
         ensures { IfOk result (λ n. n ≡ self.now) }
     {
@@ -285,7 +285,7 @@ impl Model for Blob {
 }
 
 impl Blob {
-    /// Copies the bytes. Fails for want of memory.
+    /// Copies the bytes. Returns `Memory` if memory runs out.
     pub fn of(alloc: Global, bytes: &[u8]) -> Result<Blob, Memory>
         ensures { IfOk result (λ b. b ≡ bytes.now) }
     {
@@ -300,7 +300,7 @@ impl Blob {
         self.bytes.as_slice()
     }
 
-    /// The same bytes once more. Fails for want of memory.
+    /// A copy of the bytes. Returns `Memory` if memory runs out.
     pub fn copy(&self) -> Result<Blob, Memory>
         ensures { IfOk result (λ b. b ≡ self.now) }
     {

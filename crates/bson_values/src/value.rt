@@ -11,7 +11,7 @@ use crate::text::{Blob, Memory, Name, Text};
 use std::alloc::Global;
 use std::marker::Model;
 
-/// What need not stand at the beginning of a word, at the beginning of one: so a value of any type is moved in whole words.
+/// What need not be at the beginning of a word, at the beginning of one: so a value of any type is moved in whole words.
 #[derive(Clone, Copy, Debug)]
 pub struct Aligned<T> {
     /// What is aligned.
@@ -38,7 +38,7 @@ pub enum Value {
     Doc(Document),
     /// An array, type 04.
     Array(Array),
-    /// Bytes and their subtype, type 05. The bytes stand first, since they begin a word.
+    /// Bytes and their subtype, type 05. The bytes come first, since they begin a word.
     Binary { bytes: Blob, subtype: u8 },
     /// An ObjectId, type 07.
     ObjectId(Aligned<[u8; 12]>),
@@ -187,7 +187,7 @@ impl Document {
         }
     }
 
-    // The document without fields, with room for so many. Fails for want of memory.
+    // The document without fields, with room for so many. Returns `Memory` if memory runs out.
     #[inline(always)]
     pub(crate) fn with_room(alloc: Global, room: usize) -> Result<Document, Memory>
         ensures { IfOk result (λ d. d ≡ no_fields) }
@@ -211,7 +211,7 @@ impl Document {
         self.len() == 0
     }
 
-    /// Puts a field behind the others. Fails for want of memory, and then changes nothing.
+    /// Appends a field. Returns `Memory` if memory runs out, and then changes nothing.
     #[inline(always)]
     #[tactic(auto, using(crate::proofs::Views::pushed_fields))]
     pub fn push(&mut self, name: Name, value: Value) -> Result<(), Memory>
@@ -272,7 +272,7 @@ impl Array {
         }
     }
 
-    // The array without values, with room for so many. Fails for want of memory.
+    // The array without values, with room for so many. Returns `Memory` if memory runs out.
     #[inline(always)]
     pub(crate) fn with_room(alloc: Global, room: usize) -> Result<Array, Memory>
         ensures { IfOk result (λ a. a ≡ no_items) }
@@ -296,7 +296,7 @@ impl Array {
         self.len() == 0
     }
 
-    /// Puts a value behind the others. Fails for want of memory, and then changes nothing.
+    /// Appends a value. Returns `Memory` if memory runs out, and then changes nothing.
     #[tactic(auto, using(crate::proofs::Views::pushed_items))]
     pub fn push(&mut self, value: Value) -> Result<(), Memory>
         ensures ok { OnOk result (self.new ≡ joined_items self.old (item (datum_of value) no_items)) }

@@ -13,8 +13,8 @@ use crate::value::{Array, Document, Value};
 use byteorder::{ByteOrder, LittleEndian};
 use itoa::Buffer;
 
-/// Puts the document's one spelling behind the bytes (BSON 1.1, `document`). The document has at most 104 levels and
-/// its spelling at most 300,000,000 bytes. Fails for want of memory, and then leaves the bytes as they were.
+/// Puts the document's one encoding after the bytes (BSON 1.1, `document`). The document has at most 104 levels and
+/// its encoding at most 300,000,000 bytes. Returns `Memory` if memory runs out, and then leaves the bytes as they were.
 #[tactic(auto, using(crate::proofs::Spells::written_spelled))]
 pub fn write(doc: &Document, out: &mut Vec<u8>) -> Result<(), Memory>
     requires depth { document_depth doc.now ≤ most_depth_written }
@@ -86,7 +86,7 @@ fn put_u64(n: u64, out: &mut Vec<u8>) -> Result<(), Memory>
     put(&bytes, out)
 }
 
-/// Puts what stands before a value: its type, its name and 00.
+/// Puts what precedes a value: its type, its name and 00.
 fn put_head(type_byte: u8, name: &str, out: &mut Vec<u8>) -> Result<(), Memory>
     ensures ok { OnOk result (out.new.items ≡ out.old.items ++ (type_byte ∷ name.now ++ 0 ∷ [])) }
     ensures kept { take (length out.old.items) out.new.items ≡ out.old.items }
@@ -176,7 +176,7 @@ fn put_value(value: &Value, out: &mut Vec<u8>) -> Result<(), Memory>
     }
 }
 
-/// Puts a document. An `Err` may leave a part of it.
+/// Puts a document. After an error a part of it may have been written.
 #[cycle(writer)]
 fn put_document(document: &Document, out: &mut Vec<u8>) -> Result<(), Memory>
     requires { length (written document.now) ≤ most_bytes_written }
@@ -192,7 +192,7 @@ fn put_document(document: &Document, out: &mut Vec<u8>) -> Result<(), Memory>
     end_document(start, out)
 }
 
-/// Puts an array, its values under their indices as names: `0`, `1` and so on. An `Err` may leave a part of it.
+/// Puts an array, its values under their indices as names: `0`, `1` and so on. After an error a part of it may have been written.
 #[cycle(writer)]
 fn put_array(array: &Array, out: &mut Vec<u8>) -> Result<(), Memory>
     requires { length (framed (written_items 0 array.now)) ≤ most_bytes_written }

@@ -40,7 +40,7 @@ prefix_of ms i m inside is = let on : i + 1 ≡ suc i = omega arith in ap (λ n.
 pub back_of : (ms : List Field) (i : ℕ) (m : Field) → i < length ms → m ≡ get_or ms i m → drop i ms ≡ m ∷ drop (i + 1) ms
 back_of ms i m inside is = rw add-one (drop-cons ms i m inside ∙ ap (λ (first : Field). first ∷ drop (suc i) ms) (sym is))
 
--- the fields of which nothing was told yet, behind those before them
+-- the fields of which nothing was told yet, after those before them
 abbrev pub rest_verdict : Verdict → List Rule → List Field → ℕ → Verdict
 rest_verdict unlisted rules ms i = check_fields unlisted rules (names_given [] (take i ms)) (fields_of (drop i ms))
 
@@ -64,7 +64,7 @@ stops whole now first rest e cons some so_far =
     let told : now ≡ Some e = cons ∙ ap (λ v. first_of (v ∷ rest ∷ [])) some in
     sym told ∙ so_far
 
--- the fields behind a command's own
+-- the fields after a command's own
 pub behind_own : (unlisted : Verdict) (rules : List Rule) (ms : List Field) (own : List ℕ) (value : Datum) (others : Fields) → fields_of ms ≡ field own value others → rest_verdict unlisted rules ms 1 ≡ check_fields unlisted rules (own ∷ []) others
 behind_own unlisted rules [] own value others e = cc
 behind_own unlisted rules (m ∷ ms) own value others e =

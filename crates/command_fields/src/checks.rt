@@ -1,4 +1,4 @@
-//! Checks of values, as they stand in all commands. Each tells the error, if any.
+//! Checks of values, as they are in all commands. Each tells the error, if any.
 
 ghost use Rattle.std.specs.Prelude.{◌≡◌, [], None, Some};
 ghost use Rattle.bson_model.specs.Tree.{get};

@@ -79,7 +79,7 @@ fn documents_asked(
 }
 
 /// The documents of a command's statements, moved out of its request; none where it has none. Room is made for their row alone. Fails
-/// for want of memory.
+/// if memory runs out.
 pub fn documents_moved(
     alloc: Global,
     kind: WriteKind,

@@ -44,7 +44,7 @@ pub fn database_of(sent: Form, document: &Document) -> &str
     }
 }
 
-/// The namespace that these texts make, if clients may use it. Fails with `InvalidNamespace`, and for want of memory.
+/// The namespace that these texts make, if clients may use it. Fails with `InvalidNamespace`, and if memory runs out.
 pub fn namespace_of(
     alloc: Global,
     database: &str,
@@ -64,7 +64,7 @@ pub fn namespace_of(
 }
 
 /// The namespace of the collection that a command's own field names. Fails with `TypeMismatch` for a value that is no string, with
-/// `InvalidNamespace`, and for want of memory.
+/// `InvalidNamespace`, and if memory runs out.
 pub fn collection_of(alloc: Global, database: &str, own: &Value) -> Result<Namespace, CheckFault>
     ensures { ReadsBy (λ n. NamesCollection n database.now (datum_of own.now)) result (model.check_collection database.now (datum_of own.now)) }
 {

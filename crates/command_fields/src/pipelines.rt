@@ -25,7 +25,7 @@ fn read_stages(alloc: Global, array: &Array) -> Result<Pipeline, CheckFault>
     Ok(pipeline)
 }
 
-/// The pipeline of an aggregate's document, read; none where none is given. Fails for want of memory.
+/// The pipeline of an aggregate's document, read; none where none is given. Returns `Memory` if memory runs out.
 pub fn pipeline_in(alloc: Global, document: &Document) -> Result<PipelineWord, Memory>
     ensures { IfOk result (λ word. pipeline_view word ≡ pipeline_read (get (codes "pipeline") document.now)) }
 {

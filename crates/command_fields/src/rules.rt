@@ -46,7 +46,7 @@ fn is_given(given: &[Field], name: &str) -> bool
     false
 }
 
-// One field, behind those that are given.
+// One field, after those that are given.
 fn check_field<R: Rules>(rules: &R, given: &[Field], field: &Field) -> Option<Code>
     ensures { verdict_view result ≡ by_rule (R.unlisted_verdict rules.now) (find_rule field.now.name (R.rules rules.now))
         (list_any (λ m. bytes_eq m.name field.now.name) given.now) (datum_of field.now.value) }
@@ -64,7 +64,7 @@ fn check_field<R: Rules>(rules: &R, given: &[Field], field: &Field) -> Option<Co
     }
 }
 
-/// The first error of the fields from an index on, behind those before it: what the rule of a field tells, `FailedToParse` of one that is
+/// The first error of the fields from an index on, after those before it: what the rule of a field tells, `FailedToParse` of one that is
 /// given before, or what is told of one without a rule.
 pub fn check_fields<R: Rules>(rules: &R, fields: &[Field], from: usize) -> Option<Code>
     ensures { verdict_view result ≡ model.check_fields (R.unlisted_verdict rules.now) (R.rules rules.now)
@@ -78,7 +78,7 @@ pub fn check_fields<R: Rules>(rules: &R, fields: &[Field], from: usize) -> Optio
     None
 }
 
-/// The same of the fields of a command behind its own.
+/// The same of the fields of a command after its own.
 pub fn check_behind_own<R: Rules>(rules: &R, document: &Document) -> Option<Code>
     ensures { (own : List ℕ) (value : Datum) (others : Fields) → document.now ≡ field own value others →
         verdict_view result ≡ model.check_fields (R.unlisted_verdict rules.now) (R.rules rules.now) (own ∷ []) others }

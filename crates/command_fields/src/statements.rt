@@ -231,7 +231,7 @@ fn check_key(words: &OpWords) -> Option<Code>
     }
 }
 
-// The words as they are read. Fails with their first fault, and for want of memory.
+// The words as they are read. Fails with their first fault, and if memory runs out.
 fn read_words(alloc: Global, words: &OpWords) -> Result<(), CheckFault>
     ensures { ReadsBy (λ read. Unit {0}) result (model.check_words (operation_view words.now)) }
 {
@@ -251,7 +251,7 @@ fn check_words(alloc: Global, words: &OpWords) -> Result<(), CheckFault>
     }
 }
 
-// The words of a statement that passes. Fails with its first error, and for want of memory.
+// The words of a statement that passes. Fails with its first error, and if memory runs out.
 fn statement_of(alloc: Global, kind: WriteKind, statement: Document) -> Result<OpWords, CheckFault>
     ensures { ReadsBy (λ words. operation_view words ≡ (statement_form (kind_view kind)).operation statement) result
         (model.check_statement (statement_form (kind_view kind)) statement) }
@@ -270,7 +270,7 @@ fn statement_of(alloc: Global, kind: WriteKind, statement: Document) -> Result<O
 }
 
 /// The words of statements that all pass, in order. Fails with the first error: of a statement the first of its fields, of its key and of
-/// its words; and for want of memory.
+/// its words; and if memory runs out.
 pub fn operations_of(
     alloc: Global,
     kind: WriteKind,

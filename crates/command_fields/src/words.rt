@@ -38,7 +38,7 @@ pub enum WordKind {
 /// The stage of words that were read, if they are given; or the error that they are told.
 pub type Word = Result<Option<Stage>, Code>;
 
-/// What was read, or the error that it is told later. Fails for want of memory.
+/// What was read, or the error that it is told later. Returns `Memory` if memory runs out.
 pub fn held<T: Drop>(read: Result<T, CheckFault>) -> Result<Result<T, Code>, Memory>
     ensures { Held read result }
 {
@@ -100,7 +100,7 @@ fn read_stage(alloc: Global, kind: WordKind, words: &Document) -> Result<Option<
     }
 }
 
-/// The words of the first field of that name, read; no stage where it is no document. Fails for want of memory.
+/// The words of the first field of that name, read; no stage where it is no document. Returns `Memory` if memory runs out.
 pub fn word_in(
     alloc: Global,
     kind: WordKind,
@@ -129,7 +129,7 @@ pub fn word_told(word: &Word, value: &Value) -> Option<Code>
     }
 }
 
-/// Puts a stage behind the others, if there is one. Fails for want of memory.
+/// Puts a stage after the others, if there is one. Returns `Memory` if memory runs out.
 pub(crate) fn put(stages: &mut Vec<Stage>, stage: Option<Stage>) -> Result<(), Memory>
     ensures { OnOk result (map stage_of stages.new.items ≡ map stage_of stages.old.items ++ stage_list stage) }
 {
@@ -139,7 +139,7 @@ pub(crate) fn put(stages: &mut Vec<Stage>, stage: Option<Stage>) -> Result<(), M
     Ok(())
 }
 
-/// Puts the stage of words behind the others, if they are given. Fails for want of memory.
+/// Puts the stage of words after the others, if they are given. Returns `Memory` if memory runs out.
 pub fn put_word(stages: &mut Vec<Stage>, word: Word) -> Result<(), Memory>
     ensures { OnOk result (map stage_of stages.new.items ≡ map stage_of stages.old.items ++ or_no_stages (word_view word)) }
 {
@@ -159,7 +159,7 @@ fn some_given(document: &Document, name: &str) -> Option<u64>
     }
 }
 
-/// Puts how many documents are passed over, and how many are shown, behind the other stages. Fails for want of memory.
+/// Puts how many documents are passed over, and how many are shown, after the other stages. Returns `Memory` if memory runs out.
 pub fn put_numbers(stages: &mut Vec<Stage>, document: &Document) -> Result<(), Memory>
     ensures { OnOk result (map stage_of stages.new.items ≡ (map stage_of stages.old.items
         ++ stage_counted model.skip_stage (codes "skip") document.now) ++ stage_counted model.limit_stage (codes "limit") document.now) }

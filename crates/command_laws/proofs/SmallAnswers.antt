@@ -130,7 +130,7 @@ keys_small i (u ∷ upserted) few all =
       omega (arith, first.1, others.1, length-decimal-le 5 i (omega arith) (omega arith) (omega arith), length-item i (document_value (key_shown u)) (upserted_items upserted)),
     )
 
--- the keys, in front of what is small
+-- the keys, before what is small
 keys_behind_small : (upserted : List Upserted) (more : Fields) → length upserted ≤ most_statements → AllByRecursion (λ (u : Upserted). (u.index < most_statements) × (value_depth u.key ≡ 0)) upserted →
     keys_length upserted ≤ most_bytes_upserted → document_depth more ≤ 103 → length (written_fields more) ≤ 41001000 →
     (document_depth (upserted_shown upserted more) ≤ 103) × (length (written_fields (upserted_shown upserted more)) ≤ 295002000)
@@ -150,7 +150,7 @@ count_small n = by_test (nat_lt n (2 ^ 31))
     by_test true = (refl, omega arith)
     by_test false = (refl, omega arith)
 
--- what stands behind the count
+-- what follows the count
 changes_small : (kind : WriteKind) (told : WriteSummary) → IsSmallSummary told →
     (document_depth (changes_shown kind told (write_errors_shown told.errors (ok (operation_time_at told.time)))) ≤ 103)
     × (length (written_fields (changes_shown kind told (write_errors_shown told.errors (ok (operation_time_at told.time))))) ≤ 295003000)

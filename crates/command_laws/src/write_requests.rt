@@ -22,7 +22,7 @@ pub fn client_numbers()
     ensures session_alone { command_of (insert_one (in_session no_fields)) ≡ Ok (write_command (one_inserted None)) }
 {}
 
-/// A number without a session is refused behind the fields, and in front of the statements.
+/// A number without a session is refused after the fields, and before the statements.
 pub fn numbers_without_sessions()
     ensures alone { command_of (insert_one (transaction number_one no_fields)) ≡ Err (without_evidence failed_to_parse) }
     ensures before_key { command_of (insert_so without_id (transaction number_one no_fields)) ≡ Err (without_evidence failed_to_parse) }

@@ -21,7 +21,7 @@ abbrev pub by_rule : Verdict → Option Rule → (given : Bool) → Datum → Ve
 by_rule unlisted None given value = unlisted
 by_rule unlisted (Some rule) given value = if given then Some failed_to_parse else rule.check value
 
--- the fields in order, behind those of these names
+-- the fields in order, after those of these names
 abbrev pub check_fields : Verdict → List Rule → List (List ℕ) → Fields → Verdict
 check_fields unlisted rules given no_fields = None
 check_fields unlisted rules given (field name value ms) =

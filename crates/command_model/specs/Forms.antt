@@ -22,7 +22,7 @@ pub record SequenceRule : Type 0 where
 pub record CommandForm (C : Type 0) : Type 0 where
   -- of the database, the value of the command's own field
   pub check_own : (database : List ℕ) → Datum → Verdict
-  -- the fields behind it, of the database, and what is told of one that has no rule
+  -- the fields after it, of the database, and what is told of one that has no rule
   pub rules : (database : List ℕ) → List Rule
   pub unlisted : Verdict
   pub sequence : Option SequenceRule
@@ -58,12 +58,12 @@ abbrev pub check_sequence : Option SequenceRule → (given : Bool) → List ℕ 
 check_sequence None given s = Some failed_to_parse
 check_sequence (Some rule) given s = if given || not (bytes_eq s.0 rule.identifier) then Some failed_to_parse else rule.check s.1
 
--- the sequences in order, behind the fields and sequences of these names
+-- the sequences in order, after the fields and sequences of these names
 abbrev pub check_sequences : Option SequenceRule → List (List ℕ) → Sequences → Verdict
 check_sequences rule given [] = None
 check_sequences rule given (s ∷ sequences) = first_of (check_sequence rule (is_one_of s.0 given) s ∷ check_sequences rule (s.0 ∷ given) sequences ∷ [])
 
--- all checks of a command, in their order: the own field has this name and value, and the others stand behind it
+-- all checks of a command, in their order: the own field has this name and value, and the others are after it
 abbrev pub check_command : {C : Type 0} → CommandForm C → Form → (own : List ℕ) → (value : Datum) → (others : Fields) → Sequences → Verdict
 check_command form sent own value others sequences =
     first_of

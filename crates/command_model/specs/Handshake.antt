@@ -23,7 +23,7 @@ handshake_form command = record {
   command = λ database own document sequences. command document;
 }
 
--- what a handshake tells at a moment, behind the field that says that writes are taken
+-- what a handshake tells at a moment, after the field that says that writes are taken
 abbrev pub handshake : ℕ → Fields → Fields
 handshake moment more =
     field (codes "msg") (string_value (codes "isdbgrid"))

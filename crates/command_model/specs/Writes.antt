@@ -167,7 +167,7 @@ abbrev pub upserted_shown : List Upserted → Fields → Fields
 upserted_shown [] more = more
 upserted_shown (u ∷ upserted) more = field (codes "upserted") (array_value (upserted_items (u ∷ upserted))) more
 
--- what is told behind the count: of updates alone what they changed and put in
+-- what is told after the count: of updates alone what they changed and put in
 abbrev pub changes_shown : WriteKind → WriteSummary → Fields → Fields
 changes_shown insert_kind told more = more
 changes_shown update_kind told more = field (codes "nModified") (count told.modified) (upserted_shown told.upserted more)

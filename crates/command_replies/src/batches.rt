@@ -24,7 +24,7 @@ fn document_array(alloc: Global, documents: &[Arc<Document, Global>]) -> Result<
     Ok(items)
 }
 
-// The cursor of a batch, which stands under that name.
+// The cursor of a batch, which is under that name.
 fn cursor_shown(alloc: Global, name: &str, batch: &Batch) -> Result<Document, Memory>
     requires { IsTrue (has_no_zero name.now) }
     ensures { IfOk result (λ d. d ≡ model.cursor_shown name.now (batch_view batch.now)) }
@@ -44,7 +44,7 @@ fn cursor_shown(alloc: Global, name: &str, batch: &Batch) -> Result<Document, Me
     Ok(shown)
 }
 
-/// The answer that a batch is, under its name, `firstBatch` or `nextBatch`. Fails for want of memory.
+/// The answer that a batch is, under its name, `firstBatch` or `nextBatch`. Returns `Memory` if memory runs out.
 pub(crate) fn batch_document(alloc: Global, name: &str, batch: &Batch) -> Result<Document, Memory>
     requires { IsTrue (has_no_zero name.now) }
     ensures { IfOk result (λ d. d ≡ model.batch_document name.now (batch_view batch.now)) }

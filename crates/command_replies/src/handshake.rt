@@ -28,7 +28,7 @@ const SESSION_MINUTES: i32 = 30;
 /// The last version of the wire protocol that is spoken.
 const LAST_WIRE_VERSION: i32 = 17;
 
-// A moment as a date; the greatest date tells of those behind it too.
+// A moment as a date; the greatest date tells of those after it too.
 fn moment_shown(moment: u64) -> Value
     ensures { datum_of result ≡ shown.moment_shown moment }
 {
@@ -39,7 +39,7 @@ fn moment_shown(moment: u64) -> Value
     }
 }
 
-/// A handshake, whose first field, which says that writes are taken, has that name. Fails for want of memory.
+/// A handshake, whose first field, which says that writes are taken, has that name. Returns `Memory` if memory runs out.
 pub(crate) fn handshake_of(alloc: Global, writable: &str, moment: u64) -> Result<Document, Memory>
     requires { IsTrue (has_no_zero writable.now) }
     ensures { IfOk result (λ d. d ≡ field writable.now (boolean_value true) (handshake moment no_fields)) }
@@ -68,7 +68,7 @@ pub(crate) fn handshake_of(alloc: Global, writable: &str, moment: u64) -> Result
     Ok(answer)
 }
 
-/// The answer to `ping` and `endSessions`. Fails for want of memory.
+/// The answer to `ping` and `endSessions`. Returns `Memory` if memory runs out.
 pub(crate) fn done_answer(alloc: Global) -> Result<Document, Memory>
     ensures { IfOk result (λ d. d ≡ done_document) }
 {

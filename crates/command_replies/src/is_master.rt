@@ -21,7 +21,7 @@ fn old_handshake(alloc: Global, moment: u64, shown: bool) -> Result<Document, Me
     Ok(answer)
 }
 
-/// The answer to `isMaster` at a moment. Fails for want of memory.
+/// The answer to `isMaster` at a moment. Returns `Memory` if memory runs out.
 pub(crate) fn legacy_answer(alloc: Global, moment: u64, shown: bool) -> Result<Document, Memory>
     ensures { IfOk result (λ d. d ≡ legacy_document moment shown) }
 {

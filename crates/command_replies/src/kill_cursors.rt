@@ -18,7 +18,7 @@ fn cursor_array(alloc: Global, cursors: &[i64]) -> Result<Array, Memory>
     Ok(items)
 }
 
-/// The answer to `killCursors`: the cursors that were closed, and those that were not found. Fails for want of memory.
+/// The answer to `killCursors`: the cursors that were closed, and those that were not found. Returns `Memory` if memory runs out.
 pub(crate) fn killed_document(
     alloc: Global,
     killed: &[i64],

@@ -23,7 +23,7 @@ pub(crate) fn count_shown(count: u64) -> Value
     }
 }
 
-/// Puts a field behind the others. Fails for want of memory.
+/// Appends a field. Returns `Memory` if memory runs out.
 pub(crate) fn add(
     document: &mut Document,
     alloc: Global,
@@ -37,7 +37,7 @@ pub(crate) fn add(
     document.push(name, value)
 }
 
-/// Puts a text behind the others. Fails for want of memory.
+/// Appends a text. Returns `Memory` if memory runs out.
 pub(crate) fn add_text(
     document: &mut Document,
     alloc: Global,
@@ -51,7 +51,7 @@ pub(crate) fn add_text(
     add(document, alloc, name, Value::Text(text))
 }
 
-/// Puts a number behind the others. Fails for want of memory.
+/// Appends a number. Returns `Memory` if memory runs out.
 pub(crate) fn add_number(
     document: &mut Document,
     alloc: Global,
@@ -64,7 +64,7 @@ pub(crate) fn add_number(
     add(document, alloc, name, Value::Int32(Aligned::of(number)))
 }
 
-/// Puts a boolean behind the others. Fails for want of memory.
+/// Appends a boolean. Returns `Memory` if memory runs out.
 pub(crate) fn add_boolean(
     document: &mut Document,
     alloc: Global,
@@ -77,7 +77,7 @@ pub(crate) fn add_boolean(
     add(document, alloc, name, Value::Bool(Aligned::of(boolean)))
 }
 
-/// Puts what the answer of an operation ends with behind the others: `ok`, and the time. Fails for want of memory.
+/// Puts what the answer of an operation ends with after the others: `ok`, and the time. Returns `Memory` if memory runs out.
 pub(crate) fn add_end(answer: &mut Document, alloc: Global, time: Time) -> Result<(), Memory>
     ensures { OnOk result (answer.new ≡ joined answer.old (ok (operation_time_at time.0))) }
 {

@@ -17,7 +17,7 @@ use std::alloc::Global;
 #[derive(Clone, Copy, Debug, PartialEq, Eq)]
 pub enum Evidence {
     Nothing,
-    /// How many bytes stand before a fault.
+    /// How many bytes are before a fault.
     Place { place: u64 },
     /// The greatest time that was met.
     Greatest { time: Time },
@@ -132,7 +132,7 @@ fn evidence_document(alloc: Global, evidence: Evidence) -> Result<Option<Documen
     }
 }
 
-/// Puts the evidence behind the other fields, if there is any. Fails for want of memory.
+/// Puts the evidence after the other fields, if there is any. Returns `Memory` if memory runs out.
 pub(crate) fn add_evidence(
     document: &mut Document,
     alloc: Global,
@@ -146,7 +146,7 @@ pub(crate) fn add_evidence(
     }
 }
 
-/// The reply to a request that is refused (MongoDB manual, "Command Response"). Fails for want of memory.
+/// The reply to a request that is refused (MongoDB manual, "Command Response"). Returns `Memory` if memory runs out.
 pub(crate) fn refusal_document(alloc: Global, refusal: Refusal) -> Result<Document, Memory>
     ensures { IfOk result (λ d. d ≡ refusal_reply (refusal_view refusal)) }
 {

@@ -69,7 +69,7 @@ fn upserted_keys(alloc: Global, upserted: &[Upserted]) -> Result<Array, Memory>
     Ok(items)
 }
 
-// Puts the errors behind the other fields, if there are any. Fails for want of memory.
+// Puts the errors after the other fields, if there are any. Returns `Memory` if memory runs out.
 fn add_errors(answer: &mut Document, alloc: Global, errors: &[WriteError]) -> Result<(), Memory>
     ensures { OnOk result (answer.new ≡ joined answer.old (model.write_errors_shown (errors_view errors.now) no_fields)) }
 {
@@ -80,7 +80,7 @@ fn add_errors(answer: &mut Document, alloc: Global, errors: &[WriteError]) -> Re
     add(answer, alloc, "writeErrors", Value::Array(errors))
 }
 
-// Puts the keys that upserts put in behind the other fields, if there are any. Fails for want of memory.
+// Puts the keys that upserts put in after the other fields, if there are any. Returns `Memory` if memory runs out.
 fn add_upserted(answer: &mut Document, alloc: Global, upserted: &[Upserted]) -> Result<(), Memory>
     ensures { OnOk result (answer.new ≡ joined answer.old (model.upserted_shown (upserted_view upserted.now) no_fields)) }
 {
@@ -91,7 +91,7 @@ fn add_upserted(answer: &mut Document, alloc: Global, upserted: &[Upserted]) -> 
     add(answer, alloc, "upserted", Value::Array(upserted))
 }
 
-// Puts what an update is told behind its count, and no other write. Fails for want of memory.
+// Puts what an update is told after its count, and no other write. Returns `Memory` if memory runs out.
 fn add_changes(
     answer: &mut Document,
     alloc: Global,
@@ -113,7 +113,7 @@ fn add_changes(
 }
 
 /// The answer to a write: how many documents were put in, met or taken out, of an update how many it changed and the keys that it put
-/// in, the errors, and the operation's time. Fails for want of memory.
+/// in, the errors, and the operation's time. Returns `Memory` if memory runs out.
 pub(crate) fn write_document(
     alloc: Global,
     kind: WriteKind,

@@ -46,7 +46,7 @@ first_got name value ms = rw ((bytes_eq-Decides name name).1 refl) refl
 pub later_got : (first name : List ℕ) (value : Datum) (ms : Fields) → bytes_eq first name ≡ false → get name (field first value ms) ≡ get name ms
 later_got first name value ms differs = rw differs refl
 
--- fields whose names that are not given stand in the whole
+-- fields whose names that are not given are in the whole
 fields_alike : (whole : Fields) (rs ss : List Rule) (unlisted : Verdict) (given : List (List ℕ)) (ms : Fields) → TellAlike whole rs ss → ((name : List ℕ) → is_one_of name given ≡ false → get name whole ≡ get name ms) →
     check_fields unlisted rs given ms ≡ check_fields unlisted ss given ms
 fields_alike whole rs ss unlisted given no_fields alike ahead = refl
@@ -59,7 +59,7 @@ fields_alike whole rs ss unlisted given (field name value ms) alike ahead =
     ap (λ (v : Verdict). first_of (v ∷ check_fields unlisted rs (name ∷ given) ms ∷ [])) first
     ∙ ap (λ (v : Verdict). first_of (by_rule unlisted (find_rule name ss) (is_one_of name given) value ∷ v ∷ [])) others
 
--- the fields behind a command's own
+-- the fields after a command's own
 pub behind_alike : (whole : Fields) (rs ss : List Rule) (unlisted : Verdict) (own : List ℕ) (value : Datum) (others : Fields) → TellAlike whole rs ss → whole ≡ field own value others →
     check_fields unlisted rs (own ∷ []) others ≡ check_fields unlisted ss (own ∷ []) others
 behind_alike whole rs ss unlisted own value others alike is =

@@ -74,7 +74,7 @@ told_of_pipeline word found value read is = refl
 aggregate_alike : (word : Result (List Stage) ErrorCode) (document : Fields) → word ≡ pipeline_read (get (codes "pipeline") document) → TellAlike document (aggregate_rules_held (told word)) aggregate_rules
 aggregate_alike word document read = (refl, ((λ value is. told_of_pipeline word (get (codes "pipeline") document) value read is), alike_self document (drop 1 aggregate_rules)))
 
--- the fields behind a command's own, as they are told by what was read
+-- the fields after a command's own, as they are told by what was read
 pub find_behind : (words : FindWords) (document : Fields) (own : List ℕ) (value : Datum) (others : Fields) → AreFindWords words document → document ≡ field own value others →
     check_fields (Some failed_to_parse) (rules_with words) (own ∷ []) others
     ≡ check_fields (Some failed_to_parse) find_rules (own ∷ []) others
@@ -136,7 +136,7 @@ pipeline_stages (Some (array_value stages)) = stages_or_none (read_pipeline stag
 pipeline_stages (Some value) = refl
 pipeline_stages None = refl
 
--- the stages of a find and of a count, a part behind the other
+-- the stages of a find and of a count, a part after the other
 pub find_parts : (words : FindWords) (document : Fields) → AreFindWords words document →
     ((((or_no_stages (word_view words.filter) ++ or_no_stages (word_view words.sort)) ++ stage_counted skip_stage (codes "skip") document) ++ stage_counted limit_stage (codes "limit") document)
     ++ or_no_stages (word_view words.projection)) ≡ find_stages document

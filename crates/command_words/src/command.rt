@@ -246,7 +246,7 @@ fn no_document(fault: &BsonFault) -> Refusal
 
 impl Command {
     /// What a request asks for (MongoDB manual, "Database Commands"). Fails with its first refusal in the order of the
-    /// definitions, which shows the offset of the fault where a document is no BSON; and for want of memory.
+    /// definitions, which shows the offset of the fault where a document is no BSON; and if memory runs out.
     pub fn read(alloc: Global, request: &Request) -> Result<Command, CommandFault>
         ensures { (meant : wire.Request) → IsMeant request.now meant → Answers result (model.command_of meant) }
     {

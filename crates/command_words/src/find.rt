@@ -42,7 +42,7 @@ pub(crate) struct FindWords {
     pub projection: Word,
 }
 
-// The words of a find's document. Fails for want of memory.
+// The words of a find's document. Returns `Memory` if memory runs out.
 fn words_of(alloc: Global, document: &Document) -> Result<FindWords, Memory>
     ensures { IfOk result (λ words. AreFindWords words document.now) }
 {
@@ -53,7 +53,7 @@ fn words_of(alloc: Global, document: &Document) -> Result<FindWords, Memory>
     })
 }
 
-// The pipeline of a find with these words. Fails for want of memory.
+// The pipeline of a find with these words. Returns `Memory` if memory runs out.
 fn pipeline_of(alloc: Global, words: FindWords, document: &Document) -> Result<Pipeline, Memory>
     ensures { AreFindWords words document.now → IfOk result (λ pipeline. pipeline ≡ find_stages document.now) }
 {

@@ -24,7 +24,7 @@ pub(crate) trait CommandForm {
     /// What the command's own field is read as.
     type Own: Drop;
 
-    /// What the fields behind it are read as.
+    /// What the fields after it are read as.
     type Given: Drop;
 
     // The form.
@@ -43,7 +43,7 @@ pub(crate) trait CommandForm {
     fn read_own(&self, alloc: Global, database: &str, own: &Value) -> Result<Self::Own, CheckFault>
         ensures { ReadsBy (λ x. is_read self.now x database.now (datum_of own.now)) result ((form self.now).check_own database.now (datum_of own.now)) };
 
-    /// Reads the fields behind it.
+    /// Reads the fields after it.
     fn read_fields(
         &self,
         alloc: Global,
@@ -54,7 +54,7 @@ pub(crate) trait CommandForm {
             ReadsBy (λ given. are_read self.now given database.now document.now) result
             (fields.check_fields (form self.now).unlisted ((form self.now).rules database.now) (own ∷ []) others) };
 
-    /// Checks a document sequence; `given`: a field or a sequence of its identifier stands before it.
+    /// Checks a document sequence; `given`: a field or a sequence of its identifier is before it.
     fn check_sequence(&self, given: bool, sequence: &Sequence) -> Option<Code>
         ensures { verdict_view result ≡ model.check_sequence (form self.now).sequence given (sequence.now.identifier, sequence.now.documents) };
 

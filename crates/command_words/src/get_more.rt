@@ -55,7 +55,7 @@ fn named_collection(
     Ok(Some(namespace))
 }
 
-// The namespace of the collection that the document names. Fails for want of memory.
+// The namespace of the collection that the document names. Returns `Memory` if memory runs out.
 fn collection_in(alloc: Global, database: &str, document: &Document) -> Result<Collection, Memory>
     ensures { IfOk result (λ collection. IsCollection collection database.now (get (codes "collection") document.now)) }
 {

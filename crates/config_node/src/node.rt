@@ -140,7 +140,7 @@ impl ConfigNode {
         Ok(asked.tell(self.alloc, self.me, heard, known))
     }
 
-    // The table of a collection, shared, if there is one. Fails for want of memory.
+    // The table of a collection, shared, if there is one. Returns `Memory` if memory runs out.
     fn known(&self, namespace: &Namespace) -> Result<Option<Arc<Table, Global>>, Memory>
         ensures { IfOk result (λ t. option_map (λ x. arc_value x) t ≡ table_of namespace.now self.now.tables.tables) }
     {

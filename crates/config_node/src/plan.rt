@@ -109,7 +109,7 @@ impl Asked {
         }
     }
 
-    /// A collection begins at a time, and its first table is told. Fails for want of memory.
+    /// A collection begins at a time, and its first table is told. Returns `Memory` if memory runs out.
     pub(crate) fn begin(self, alloc: Global, me: NodeId, time: Time) -> Result<StepPlan, Memory>
         ensures time { IfOk result (λ p. p.time ≡ time) }
         ensures table { IfOk result (λ p. option_map (λ t. arc_value t) p.table ≡ Some (first_table (begun_at self.ask.namespace time.0))) }

@@ -88,7 +88,7 @@ impl Cursor {
         self.remaining.len()
     }
 
-    /// The documents of the next batch, shared. Fails for want of memory.
+    /// The documents of the next batch, shared. Returns `Memory` if memory runs out.
     pub(crate) fn next(
         &self,
         alloc: Global,
@@ -143,7 +143,7 @@ fn batch_length(remaining: &VecDeque<Arc<Document, Global>>, size: Option<u64>) 
     remaining.len()
 }
 
-// Puts a document behind the others, where there is room.
+// Puts a document after the others, where there is room.
 fn put(front: &mut Vec<Arc<Document, Global>>, document: Arc<Document, Global>)
     requires { vec_len front.old < vec_capacity front.old }
     ensures items { front.new.items ≡ front.old.items ++ document ∷ [] }
@@ -153,7 +153,7 @@ fn put(front: &mut Vec<Arc<Document, Global>>, document: Arc<Document, Global>)
     let _ = front.push(document);
 }
 
-// Takes out the first documents, so many. Fails for want of memory.
+// Takes out the first documents, so many. Returns `Memory` if memory runs out.
 #[tactic(auto, using(crate::proofs::Longest::front_is, crate::proofs::Longest::rest_is))]
 fn take_front(
     alloc: Global,
@@ -173,7 +173,7 @@ fn take_front(
     Ok(front)
 }
 
-// The first documents, so many, each shared once more. Fails for want of memory.
+// The first documents, so many, each shared once more. Returns `Memory` if memory runs out.
 fn share_front(
     alloc: Global,
     remaining: &VecDeque<Arc<Document, Global>>,
@@ -202,7 +202,7 @@ fn drop_front(remaining: &mut VecDeque<Arc<Document, Global>>, count: usize)
 }
 
 /// The first batch of documents, and those that remain: as many in front as the size, if one is given, and 16,777,216 bytes allow, or
-/// one (MongoDB manual, "Cursor Batches"). Fails for want of memory.
+/// one (MongoDB manual, "Cursor Batches"). Returns `Memory` if memory runs out.
 pub fn first_batch(
     alloc: Global,
     size: Option<u64>,

@@ -19,7 +19,7 @@ use std::sync::Arc;
 pub struct Batch {
     /// The documents, in order, shared with whoever else has them.
     pub documents: Vec<Arc<Document, Global>>,
-    /// Whether none remain behind them.
+    /// Whether none remain after them.
     pub is_last: bool,
     /// The time at which the documents were read.
     pub time: Time,
@@ -65,7 +65,7 @@ impl Shelf {
     }
 
     /// Opens a cursor under the id, in place of one that has it, on the documents that were read in the namespace at the time.
-    /// Fails for want of memory, and then changes nothing.
+    /// Returns `Memory` if memory runs out, and then changes nothing.
     pub fn put(
         &mut self,
         id: i64,
@@ -95,7 +95,7 @@ impl Shelf {
 
     /// The next batch of the cursor of that id, if it is open on the namespace: as many of its documents as the size, if one is
     /// given, and 16,777,216 bytes allow, or one (MongoDB manual, "Cursor Batches"). The documents are shared, and stay on the cursor
-    /// until it is advanced. Fails with `NotFound` where there is no such cursor, and for want of memory.
+    /// until it is advanced. Fails with `NotFound` where there is no such cursor, and if memory runs out.
     pub fn next(
         &self,
         id: i64,

@@ -67,7 +67,7 @@ told_length name rest dots h split same count =
     let n : length (parts_of name) ≡ dots + 1 = omega (arith, ap (λ (p : Path). length p) split) in
     told_none (first_fault (parts_of name)) dots (length (parts_of name)) (parts_of name) none n
 
--- one more part is put behind the others
+-- one more part is put after the others
 pub grown : (parts now later whole : Path) (part rest : List ℕ) → now ≡ parts ++ part ∷ [] → parts_of rest ≡ part ∷ later →
     parts ++ parts_of rest ≡ whole → now ++ later ≡ whole
 grown parts now later whole part rest put split so_far =

@@ -105,7 +105,7 @@ impl Model for Path {
 
 impl Path {
     /// The path that a name is. Fails with `Empty`, `Digits` and `Dollar` for the first part that is at fault so, with `Long` where
-    /// none is and there are more than 100, and for want of memory.
+    /// none is and there are more than 100, and if memory runs out.
     pub fn parse(alloc: Global, name: &str) -> Result<Path, PathFault>
         ensures path { IfOk result (λ p. read_path name.now ≡ Ok p) }
         ensures empty { (result ≡ Err Empty) ↔ (read_path name.now ≡ Err empty_part) }

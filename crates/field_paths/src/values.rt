@@ -10,7 +10,7 @@ use crate::path::Path;
 use bson_values::{Array, Document, Memory, Text, Value};
 use std::alloc::Global;
 
-/// The values at the path, in order. Fails for want of memory.
+/// The values at the path, in order. Returns `Memory` if memory runs out.
 pub fn values_at<'a>(
     alloc: Global,
     path: &Path,
@@ -26,7 +26,7 @@ pub fn values_at<'a>(
     Ok(values)
 }
 
-// Puts the values at the path from a value on behind the others.
+// Puts the values at the path from a value on after the others.
 #[cycle(push)]
 fn push_from<'a>(
     parts: &[Text],

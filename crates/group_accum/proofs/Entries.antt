@@ -19,7 +19,7 @@ some_none : {X : Type 0} (a : X) → Some a ≡ None → ⊥
 some_none a e = cc
 
 module _ {X : Type 0} (key : Datum) where
-  -- the value stands under a key that is one with it
+  -- the value is under a key that is one with it
   pub record Found (entries : List (Datum × X)) (value : X) : Type 0 where
     pub front : List (Datum × X)
     pub back : List (Datum × X)

@@ -1,4 +1,4 @@
--- One element of a loop, and those behind it.
+-- One element of a loop, and those after it.
 use Rattle.std.proofs.Common.{◌≡◌, ◌⊎◌, inl, inr, ℕ, ◌<◌, ◌+◌, List, [], ◌∷◌, ◌++◌, length, get_or, drop, map, refl, sym, ap, ◌∙◌, append_assoc, arith}
 use Rattle.std.specs.Prelude.{Option, Some, None, option_map, option_and_then}
 use Rattle.std.proofs.lemmas.List.{map-append}
@@ -17,7 +17,7 @@ use Rattle.group_accum.specs.View.{cell_of, group_field_of}
 one_more : {A C : Type 0} (f : A → C) (done : List A) (a : A) (rest : List C) → map f (done ++ a ∷ []) ++ rest ≡ map f done ++ f a ∷ rest
 one_more {C = C} f done a rest = ap (λ (l : List C). l ++ rest) (map-append f done (a ∷ [])) ∙ append_assoc (map f done) (f a ∷ []) rest
 
--- the next one is put behind the others
+-- the next one is put after the others
 pub mapped_next : {A B C D : Type 0} (f : A → C) (see : B → D) (h : D → C) (done now : List A) (a : A) (xs : List B) (i : ℕ) (x : B) (whole : List C) →
     i < length xs → x ≡ get_or xs i x → now ≡ done ++ a ∷ [] → f a ≡ h (see x) → map f done ++ map h (map see (drop i xs)) ≡ whole →
     map f now ++ map h (map see (drop (i + 1) xs)) ≡ whole

@@ -17,11 +17,11 @@ parts_of parts = record { keys = map operand_of parts.keys.items; fields = map g
 abbrev pub joined_parts : GroupParts → GroupParts → GroupParts
 joined_parts front back = record { keys = front.keys ++ back.keys; fields = front.fields ++ back.fields }
 
--- the parts so far, and what is read behind them
+-- the parts so far, and what is read after them
 abbrev pub with_parts : GroupParts → Result GroupParts QueryFault → Result GroupParts QueryFault
 with_parts front read = read >>= λ others. Ok (joined_parts front others)
 
--- a field, and what is read behind it
+-- a field, and what is read after it
 abbrev pub then_field : Result (GroupParts → GroupParts) QueryFault → Result GroupParts QueryFault → Result GroupParts QueryFault
 then_field read others = read >>= λ add. others >>= λ parts. Ok (add parts)
 

@@ -1,4 +1,4 @@
--- The rows of groups, and the number of documents behind them.
+-- The rows of groups, and the number of documents after them.
 use Rattle.std.specs.Prelude.{ℕ, List, map}
 use Rattle.std.specs.declared.vec.Vec.{Vec}
 use Rattle.bson_model.specs.Tree.{Datum}
@@ -6,7 +6,7 @@ use Rattle.pipeline_model.specs.Groups.{PartialRow}
 use Rattle.group_accum.specs.View.{cell_of}
 use Rattle.group_accum.specs.declared.absorb.Cell.{Cell}
 
--- what a part has of its documents: a row of each key, and how many documents are behind them
+-- what a part has of its documents: a row of each key, and how many documents are after them
 pub record Partials : Type 0 where
   pub rows : List PartialRow
   pub documents : ℕ

@@ -117,7 +117,7 @@ fn absorb_extreme(extreme: Extreme, kept: Cell, cell: Cell) -> Cell
     }
 }
 
-// A cell of a field takes in another. Fails for want of memory.
+// A cell of a field takes in another. Returns `Memory` if memory runs out.
 fn absorb(accumulator: &Accumulator, kept: Cell, cell: Cell) -> Result<Cell, Memory>
     ensures { IfOk result (λ c. cell_of c ≡ absorb (accumulator_of accumulator.now) (cell_of kept) (cell_of cell)) }
 {
@@ -131,7 +131,7 @@ fn absorb(accumulator: &Accumulator, kept: Cell, cell: Cell) -> Result<Cell, Mem
     }
 }
 
-// A cell of a field takes in the next of another row, if there is one. Fails for want of memory.
+// A cell of a field takes in the next of another row, if there is one. Returns `Memory` if memory runs out.
 fn absorb_next(field: &GroupField, kept: Cell, cells: &mut VecDeque<Cell>) -> Result<Cell, Memory>
     ensures { IfOk result (λ c. (fields : List model.GroupField) (others : List groups.Cell) →
         absorb_row (group_field_of field.now ∷ fields) (cell_of kept ∷ others) (map cell_of cells.old.items)
@@ -143,7 +143,7 @@ fn absorb_next(field: &GroupField, kept: Cell, cells: &mut VecDeque<Cell>) -> Re
     }
 }
 
-// The cells of a row once they took in those of another. Fails for want of memory.
+// The cells of a row once they took in those of another. Returns `Memory` if memory runs out.
 fn absorb_all(
     alloc: Global,
     fields: &[GroupField],
@@ -165,7 +165,7 @@ fn absorb_all(
     Ok(absorbed)
 }
 
-/// The cells of a row take in those of another. Fails for want of memory; then cells are lost.
+/// The cells of a row take in those of another. Returns `Memory` if memory runs out; then cells are lost.
 pub(crate) fn absorb_row(
     alloc: Global,
     spec: &GroupSpec,
@@ -193,7 +193,7 @@ fn empty_cell(accumulator: &Accumulator) -> Cell
     }
 }
 
-/// The cells of no row. Fails for want of memory.
+/// The cells of no row. Returns `Memory` if memory runs out.
 pub(crate) fn empty_row(alloc: Global, fields: &[GroupField]) -> Result<Vec<Cell>, Memory>
     ensures { IfOk result (λ cs. map cell_of cs.items ≡ empty_row (map group_field_of fields.now)) }
 {

@@ -64,7 +64,7 @@ fn shown_cell(cell: Cell) -> Result<Value, GroupFault>
     }
 }
 
-// Puts the fields of a row behind those of a document.
+// Puts the fields of a row after those of a document.
 fn shown_fields(
     fields: &[GroupField],
     cells: Vec<Cell>,

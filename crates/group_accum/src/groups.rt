@@ -19,10 +19,10 @@ use std::alloc::Global;
 use std::collections::BTreeMap;
 use std::sync::Arc;
 
-/// Below this is the number of documents behind all rows.
+/// Below this is the number of documents after all rows.
 const DOCUMENTS_OF_ALL: u64 = 1 << 62;
 
-/// The groups of the documents that were added, and of those behind the rows that were joined: one row of each key, and no document
+/// The groups of the documents that were added, and of those after the rows that were joined: one row of each key, and no document
 /// (MongoDB manual, "$group").
 #[derive(Drop)]
 pub struct Groups {
@@ -49,7 +49,7 @@ impl Groups {
         }
     }
 
-    /// Adds a document: the rows are those of what came before, and of it. Fails for want of memory; then the groups have some of the
+    /// Adds a document: the rows are those of what came before, and of it. Returns `Memory` if memory runs out; then the groups have some of the
     /// rows, and are to be given up.
     pub fn add(&mut self, document: &Document) -> Result<(), Memory>
         ensures spec { spec_in self.new ≡ spec_in self.old }
@@ -64,7 +64,7 @@ impl Groups {
         Ok(())
     }
 
-    /// Joins the rows of a part: the rows are those of what came before, and of them. Fails for want of memory; then the groups have
+    /// Joins the rows of a part: the rows are those of what came before, and of them. Returns `Memory` if memory runs out; then the groups have
     /// some of the rows, and are to be given up.
     pub fn join(&mut self, rows: PartialList) -> Result<(), Memory>
         ensures spec { spec_in self.new ≡ spec_in self.old }
@@ -84,7 +84,7 @@ impl Groups {
         Ok(())
     }
 
-    /// The rows, to be joined with those of other parts; nothing is shown yet, so no sum overflows. Fails for want of memory, and
+    /// The rows, to be joined with those of other parts; nothing is shown yet, so no sum overflows. Returns `Memory` if memory runs out, and
     /// where there are 2^58 documents or more.
     pub fn partial(self) -> Result<PartialList, Memory>
         ensures rows { IfOk result (λ p. p.rows ≡ rows_in self) }
@@ -102,7 +102,7 @@ impl Groups {
         Ok(PartialList { rows, documents })
     }
 
-    /// The document of each row, in the order of keys. Fails with `Overflow` where a sum is outside int64, and for want of memory.
+    /// The document of each row, in the order of keys. Fails with `Overflow` where a sum is outside int64, and if memory runs out.
     pub fn finish(self) -> Result<Vec<Arc<Document, Global>>, GroupFault>
         ensures shows { Shows (λ ds. map arc_value ds.items) result (documents_of (spec_in self) (rows_in self)) }
     {
@@ -130,7 +130,7 @@ impl Groups {
         }
     }
 
-    // Takes in a row: into the row of its key, or as a row of its own. Fails for want of memory; then cells may be lost.
+    // Takes in a row: into the row of its key, or as a row of its own. Returns `Memory` if memory runs out; then cells may be lost.
     fn take_in(&mut self, key: GroupKey, cells: Vec<Cell>) -> Result<(), Memory>
         ensures spec { spec_in self.new ≡ spec_in self.old }
         ensures rows { OnOk result ((rows : List PartialRow) → IsJoined (spec_in self.old) rows (rows_in self.old)

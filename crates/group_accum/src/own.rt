@@ -14,7 +14,7 @@ use bson_values::{Document, Memory, Value};
 use projection::value_at;
 use std::alloc::Global;
 
-// What an operand is in a document. Fails for want of memory.
+// What an operand is in a document. Returns `Memory` if memory runs out.
 fn value_of(alloc: Global, operand: &Operand, document: &Document) -> Result<Option<Value>, Memory>
     ensures { IfOk result (λ v. option_map datum_of v ≡ value_of (operand_of operand.now) document.now) }
 {
@@ -67,7 +67,7 @@ fn summand(value: &Option<Value>) -> Cell
     }
 }
 
-// What an accumulator has of one document. Fails for want of memory.
+// What an accumulator has of one document. Returns `Memory` if memory runs out.
 fn own_cell(alloc: Global, accumulator: &Accumulator, document: &Document) -> Result<Cell, Memory>
     ensures { IfOk result (λ c. cell_of c ≡ own_cell (accumulator_of accumulator.now) document.now) }
 {
@@ -87,7 +87,7 @@ fn own_cell(alloc: Global, accumulator: &Accumulator, document: &Document) -> Re
     }
 }
 
-// What each accumulator has of one document. Fails for want of memory.
+// What each accumulator has of one document. Returns `Memory` if memory runs out.
 fn own_cells(alloc: Global, fields: &[GroupField], document: &Document) -> Result<Vec<Cell>, Memory>
     ensures { IfOk result (λ cs. map cell_of cs.items ≡ map (λ f. own_cell f.accumulator document.now) (map group_field_of fields.now)) }
 {
@@ -99,7 +99,7 @@ fn own_cells(alloc: Global, fields: &[GroupField], document: &Document) -> Resul
     Ok(cells)
 }
 
-/// The row that one document is: its key and its cells. Fails for want of memory.
+/// The row that one document is: its key and its cells. Returns `Memory` if memory runs out.
 pub(crate) fn own_row(
     alloc: Global,
     spec: &GroupSpec,

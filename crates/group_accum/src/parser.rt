@@ -32,7 +32,7 @@ pub(crate) struct Parts {
     pub(crate) fields: Vec<GroupField>,
 }
 
-// The operand that a text is: a path behind a `$`, or the text itself.
+// The operand that a text is: a path after a `$`, or the text itself.
 fn parse_text(alloc: Global, text: &str) -> Result<Operand, ParseFault>
     ensures gives { Gives operand_of result (read_operand (string_value text.now)) }
 {
@@ -152,7 +152,7 @@ fn is_key(name: &str) -> bool
     name == "_id"
 }
 
-// Puts what a field is behind the parts so far.
+// Puts what a field is after the parts so far.
 fn push_part(alloc: Global, field: &Field, parts: &mut Parts) -> Result<(), ParseFault>
     ensures pushed { OnOk result ((others : Result GroupParts QueryFault) → with_parts (parts_of parts.new) others
         ≡ with_parts (parts_of parts.old) (then_field (read_group_field field.now.name (datum_of field.now.value)) others)) }

@@ -12,10 +12,10 @@ use std::clone::Clone;
 use std::collections::BTreeMap;
 use std::marker::Model;
 
-/// Below this is the number of documents behind the rows of a part.
+/// Below this is the number of documents after the rows of a part.
 pub(crate) const DOCUMENTS_OF_PART: u64 = 1 << 58;
 
-/// Rows, one of each key, in the order of keys, and how many documents are behind them (MongoDB manual, "Aggregation Pipeline and
+/// Rows, one of each key, in the order of keys, and how many documents are after them (MongoDB manual, "Aggregation Pipeline and
 /// Sharded Collections").
 #[derive(Drop)]
 pub struct PartialList {
@@ -45,7 +45,7 @@ impl PartialList {
         rows_size(&self.rows)
     }
 
-    /// The same rows once more. Fails for want of memory.
+    /// A copy of the rows. Returns `Memory` if memory runs out.
     pub fn copy(&self) -> Result<PartialList, Memory>
         ensures { IfOk result (λ copy. copy ≡ self.now) }
     {

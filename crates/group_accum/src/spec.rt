@@ -14,7 +14,7 @@ use std::marker::Model;
 /// What a value is taken from (MongoDB manual, "Aggregation Expressions").
 #[derive(Drop)]
 pub(crate) enum Operand {
-    /// What stands at a path.
+    /// What is at a path.
     Path(Path),
     /// This value.
     Constant(Value),
@@ -64,8 +64,8 @@ impl Model for GroupSpec {
 
 impl GroupSpec {
     /// The specification that a document is. Fails where it is none, with its first fault: of the fields in order, an operand's or
-    /// an accumulator's (`UnknownOperator`, `BadOperand`, or `Path` for the path behind a `$`); behind them with `BadOperand` where
-    /// there is not exactly one `_id`. Fails with `Memory` for want of memory.
+    /// an accumulator's (`UnknownOperator`, `BadOperand`, or `Path` for the path after a `$`); after them with `BadOperand` where
+    /// there is not exactly one `_id`. Fails with `Memory` if memory runs out.
     pub fn parse(alloc: Global, document: &Document) -> Result<GroupSpec, ParseFault>
         // A specification is what the document reads as.
         ensures spec { IfOk result (λ s. read_group document.now ≡ Ok s) }
@@ -82,7 +82,7 @@ impl GroupSpec {
         &self.key
     }
 
-    // The fields of a group's document behind its `_id`.
+    // The fields of a group's document after its `_id`.
     pub(crate) fn fields(&self) -> &[GroupField]
         ensures { map group_field_of result.now ≡ self.now.fields }
     {

@@ -1,11 +1,11 @@
--- Parts, one behind the other.
+-- Parts, one after the other.
 use Rattle.std.proofs.Common.{◌≡◌, List, [], ◌∷◌, ◌++◌, map, refl, sym, ap, ◌∙◌, subst, append_assoc, append-nil}
 use Rattle.std.specs.Prelude.{flat_map}
 use Rattle.pipeline_model.specs.GroupSpecs.{GroupSpec}
 use Rattle.pipeline_model.specs.Groups.{IsJoined, PartialRow}
 
 module _ {P Y X : Type 0} (see : P → Y) (f : Y → List X) where
-  -- the next part is put behind the others
+  -- the next part is put after the others
   pub next_part : (done now : List X) (left rest : List P) (part : P) (whole : List X) → now ≡ done ++ f (see part) → left ≡ part ∷ rest →
       done ++ flat_map f (map see left) ≡ whole → now ++ flat_map f (map see rest) ≡ whole
   next_part done now left rest part whole put is so_far =

@@ -17,7 +17,7 @@ use std::sync::Arc;
 /// Below this is the sum of numbers of documents.
 const DOCUMENTS_OF_ALL: u64 = 1 << 62;
 
-// Puts the documents of a part behind the others. Fails for want of memory.
+// Puts the documents of a part after the others. Returns `Memory` if memory runs out.
 fn put_documents(part: Rows, all: &mut Vec<Arc<Document, Global>>) -> Result<(), Memory>
     ensures { OnOk result (map arc_value all.new.items ≡ map arc_value all.old.items ++ documents_in_part (rows_of part)) }
 {
@@ -31,7 +31,7 @@ fn put_documents(part: Rows, all: &mut Vec<Arc<Document, Global>>) -> Result<(),
     }
 }
 
-/// The documents of the parts, one part behind the other. Fails for want of memory.
+/// The documents of the parts, one part after the other. Returns `Memory` if memory runs out.
 pub(crate) fn all_documents(
     alloc: Global,
     parts: Vec<Rows>,
@@ -46,7 +46,7 @@ pub(crate) fn all_documents(
     Ok(all)
 }
 
-// Joins the rows of a part. Fails for want of memory.
+// Joins the rows of a part. Returns `Memory` if memory runs out.
 fn join_rows(part: Rows, groups: &mut Groups) -> Result<(), Memory>
     ensures spec { spec_in groups.new ≡ spec_in groups.old }
     ensures rows { OnOk result ((before : List PartialRow) → IsJoined (spec_in groups.old) before (rows_in groups.old)
@@ -59,7 +59,7 @@ fn join_rows(part: Rows, groups: &mut Groups) -> Result<(), Memory>
     }
 }
 
-/// The rows of the parts, joined. Fails for want of memory.
+/// The rows of the parts, joined. Returns `Memory` if memory runs out.
 pub(crate) fn all_groups(
     alloc: Global,
     spec: Arc<GroupSpec, Global>,

@@ -16,7 +16,7 @@ use sort_keys::SortSpec;
 use std::alloc::Global;
 use std::sync::Arc;
 
-// The documents of the parts in order; those that compare equal stand in the order of their parts, and then of their places.
+// The documents of the parts in order; those that compare equal are in the order of their parts, and then of their places.
 fn join_in_order(
     alloc: Global,
     spec: &SortSpec,
@@ -59,7 +59,7 @@ fn join_counts(
     Ok(one)
 }
 
-// The documents of the parts, one part behind the other.
+// The documents of the parts, one part after the other.
 fn join_as_they_come(
     alloc: Global,
     parts: Vec<Rows>,
@@ -87,7 +87,7 @@ fn join_rows(
 }
 
 /// The answer that the rows of the parts are merged to: an outcome of the merge on them, in which documents that compare equal in a sort
-/// of the merge's stand in the order of their parts, and then of their places. Fails with `Overflow` only where the merge has it on
+/// of the merge's are in the order of their parts, and then of their places. Fails with `Overflow` only where the merge has it on
 /// these rows; with `TooMuch` where the outcome has more than 104,857,600 bytes, or a document of it more than 16,777,216; and for want
 /// of memory, also where the numbers of documents are 2^62 or more in all. A part of another form than the merge's adds nothing.
 pub fn merge(

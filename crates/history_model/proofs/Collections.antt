@@ -1,4 +1,4 @@
--- The documents of a collection in the order of keys are what stands under each key, and there is one such list.
+-- The documents of a collection in the order of keys are what is under each key, and there is one such list.
 use Rattle.std.proofs.Common.{◌≡◌, ℕ, List, [], ◌∷◌, refl, sym, ap, ◌∙◌, Ordering, Less, Equal, Greater}
 use Rattle.std.specs.Prelude.{Bool, true, false, cond, ◌&&◌, Option, Some, None, filter, nat_le, if◌then◌else◌}
 use Rattle.std.specs.List.Sorted.{IsStrictlySortedBy}
@@ -60,7 +60,7 @@ pub none_in_order : AreInOrder []
 unfolding IsStrictlySortedBy
 none_in_order = tt
 
--- the list shows what stands under each key at the time
+-- the list shows what is under each key at the time
 pub lists_collection : (history : List Entry) (namespace : List ℕ) (time : ℕ) →
     ListsDocuments (λ key. document_at history namespace (Some key) time) (documents_at history namespace time)
 lists_collection history namespace time = record {
@@ -95,7 +95,7 @@ below_finds : (q : Datum) (row : Datum × Fields) (rows : Rows) → AreInOrder (
 below_finds q row rows ordered less =
     first_passed q row rows (ap is_eq less) ∙ above_never order_total q rows (above_more order_total q row.0 rows less (above_row row rows ordered))
 
--- what the first key finds behind it
+-- what the first key finds after it
 behind_finds : (q : Datum) (row : Datum × Fields) (rows : Rows) → AreInOrder (row ∷ rows) → order q row.0 ≡ Equal → document_under q rows ≡ None
 behind_finds q row rows ordered same = same_find order_total q row.0 rows same ∙ above_never order_total row.0 rows (above_row row rows ordered)
 

@@ -1,4 +1,4 @@
--- Operations leave nothing, or a document with the key under which they act; so the documents of a collection stand under their keys.
+-- Operations leave nothing, or a document with the key under which they act; so the documents of a collection are under their keys.
 use Rattle.std.proofs.Common.{◌≡◌, inl, inr, ℕ, List, [], ◌∷◌, ◌++◌, refl, sym, ap, subst, ◌∙◌}
 use Rattle.std.specs.Prelude.{Bool, true, false, ◌&&◌, Option, Some, None, Result, Ok, Err, if◌then◌else◌}
 use Rattle.std.specs.Str.{bytes_eq}

@@ -1,4 +1,4 @@
--- What a number is against notes, once one more stands there.
+-- What a number is against notes, once one more is there.
 use Rattle.std.proofs.Common.{◌≡◌, ◌≢◌, ℕ, ℤ, List, [], ◌∷◌, ◌++◌, refl, sym, ap, subst, ◌∙◌, arith, inl, inr, ◌⊎◌}
 use Rattle.std.specs.Prelude.{Bool, true, false, ◌&&◌, Option, Some, None, ◌==◌, int_lt, if◌then◌else◌, map}
 use Rattle.std.specs.Int.{int_max}
@@ -96,7 +96,7 @@ first_greatest : (b : Bool) (t : ℤ) → (if b then Some (int_max t t) else Non
 first_greatest false t = refl
 first_greatest true t = ap (λ (x : ℤ). Some x) (max_self t)
 
--- the greatest of what stands behind one note more
+-- the greatest of what follows one note more
 abbrev beside : Bool → ℤ → Option ℤ → Option ℤ
 beside b u rest = if b then Some (int_max u (unwrap_or rest u)) else rest
 

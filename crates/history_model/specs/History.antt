@@ -136,6 +136,6 @@ LegalAfter earlier (e ∷ later) = Follows earlier e × LegalAfter (earlier ++ e
 abbrev pub Legal : List Entry → Type 0
 Legal history = LegalAfter [] history
 
--- x stands in the list
+-- x is in the list
 abbrev pub IsIn : {X : Type 0} → X → List X → Type 0
 IsIn {X} x xs = (prefix : List X) × (back : List X) × (xs ≡ prefix ++ x ∷ back)

@@ -55,7 +55,7 @@ module _ {A : Type 0} where
   abbrev pub seen : List (Note A) → StatementNumber → Seen A
   seen notes number = seen_beside number (greatest_of number.session notes) (noted number notes)
 
-  -- what a number is once this note, which was new, stands behind those against which it was that
+  -- what a number is once this note, which was new, is after those against which it was that
   abbrev pub seen_with : Note A → StatementNumber → Seen A → Seen A
   seen_with note number was =
       if same_session note.number.session number.session then

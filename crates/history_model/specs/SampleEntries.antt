@@ -29,7 +29,7 @@ second_entry = entry_at (timestamp 1000 3) 2 (fails_with duplicate_key)
 abbrev pub with_x : ℤ → ℤ → Fields
 with_x n m = field (codes "_id") (int32_value n) (field (codes "x") (int32_value m) no_fields)
 
--- {_id: 1, a: ..}, with so many documents inside one another behind a
+-- {_id: 1, a: ..}, with so many documents inside one another after a
 abbrev pub deep : ℕ → Fields
 deep n = field (codes "_id") (int32_value (pos 1)) (field (codes "a") (document_value (nested n)) no_fields)
 

@@ -3,13 +3,13 @@ use Rattle.std.specs.Prelude.{ℕ, List, [], ◌∷◌, Bool, ◌&&◌, Option, 
 use Rattle.bson_model.specs.Tree.{Datum, Fields}
 use Rattle.value_model.specs.Order.{same_value}
 
--- from this time on this document, or none, stands under the key
+-- from this time on this document, or none, is under the key
 pub record Put : Type 0 where
   pub key : Datum
   pub time : ℕ
   pub document : Option Fields
 
--- what stands under a key at a time once this is put behind what stood there
+-- what is under a key at a time once this is put after what was there
 abbrev pub one_more : Put → Datum → ℕ → Option Fields → Option Fields
 one_more put key time before = if same_value put.key key && nat_le put.time time then put.document else before
 

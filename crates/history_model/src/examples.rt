@@ -63,7 +63,7 @@ pub fn without_keys()
     ensures upsert { effect (update_operation array_key (by_operator "$set" "x" (pos 1)) true) None ≡ (None, fails_with bad_value) }
 {}
 
-/// A document is inserted, changed and taken out: what stands under its key at each time, and all documents in the order of keys.
+/// A document is inserted, changed and taken out: what is under its key at each time, and all documents in the order of keys.
 pub fn at_times()
     ensures legal { Legal life }
     ensures under { (document_at life (codes "d.c") (Some (int32_value (pos 1))) 3 ≡ Some (with_x (pos 1) (pos 5)))

@@ -11,7 +11,7 @@ ghost use Rattle.history_model.specs.Versions.{Put, last_put, one_more};
 ghost use Rattle.history_model.specs.Notes.{Note, done_before, new_statement, seen, seen_with};
 ghost use Rattle.history_model.specs.History.{Entry, IsBefore, IsSameStatement, Legal, MeetsNothing, Operation, StatementNumber, document_after, document_at, effect, fails_with, insert_operation, key_written, writes_to};
 
-/// No two entries of a legal history stand at one time of one shard, and none is the statement of another.
+/// No two entries of a legal history are at one time of one shard, and none is the statement of another.
 pub fn no_entry_twice()
     ensures rises { (prefix middle back : List Entry) (d e : Entry) → Legal (prefix ++ d ∷ (middle ++ e ∷ back)) → IsBefore d e }
     ensures never_equal { (d e : Entry) → IsBefore d e → d.time ≡ e.time → d.shard ≢ e.shard }
@@ -34,7 +34,7 @@ pub fn refused_leaves()
     ensures { (operation : Operation) (before : Option Fields) (error : ErrorCode) → (effect operation before).1.error ≡ Some error → (effect operation before).0 ≡ before }
 {}
 
-/// An operation leaves nothing, or a document with the key under which it acts; so each document stands under its key.
+/// An operation leaves nothing, or a document with the key under which it acts; so each document is under its key.
 #[tactic(auto, using(crate::proofs::Keyed::operation_keeps, crate::proofs::Keyed::after_under))]
 pub fn keys_stay()
     ensures operation { (operation : Operation) (before : Option Fields) (key : Datum) → key_written operation ≡ Some key → is_key key ≡ true
@@ -50,7 +50,7 @@ pub fn nothing_without_key()
     ensures entries { (prefix back : List Entry) (e : Entry) → Legal (prefix ++ e ∷ back) → key_written e.operation ≡ None → e.outcome.count ≡ 0 }
 {}
 
-/// The documents at a time are, in the order of keys and each once, what stands under each key at that time; and there is one such list.
+/// The documents at a time are, in the order of keys and each once, what is under each key at that time; and there is one such list.
 pub fn documents_in_order()
     ensures collection { (history : List Entry) (namespace : List ℕ) (time : ℕ)
         → ListsDocuments (λ key. document_at history namespace (Some key) time) (documents_at history namespace time) }
@@ -65,7 +65,7 @@ pub fn one_more_note<A>()
         → seen (notes ++ note ∷ []) note.number ≡ done_before note.time note.told }
 {}
 
-/// One put more sets what stands under its key from its time on, and nothing else.
+/// One put more sets what is under its key from its time on, and nothing else.
 #[tactic(auto, using(crate::proofs::Versions::one_more_put))]
 pub fn one_more_put()
     ensures { (puts : List Put) (put : Put) (key : Datum) (time : ℕ) → last_put (puts ++ put ∷ []) key time ≡ one_more put key time (last_put puts key time) }

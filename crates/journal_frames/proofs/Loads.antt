@@ -22,7 +22,7 @@ pub window_len : (buf window : List ℕ) (at : ℕ) → at ≤ length buf → le
 window_len buf window at within len =
     omega (arith, within, len, length-append (take at buf) (window ++ drop (length buf - at) (drop at buf)), length-append window (drop (length buf - at) (drop at buf)), length-take at buf, length-take (length buf - at) (drop at buf), length-drop at buf, length-drop (length buf - at) (drop at buf))
 
--- n bytes more were read behind those that were
+-- n bytes more were read after those that were
 pub read_on : (file buf window buf' : List ℕ) (at n : ℕ) → take at buf ≡ take at file → at ≤ length buf → buf' ≡ take at buf ++ window → take n window ≡ take n (drop at file) → take (at + n) buf' ≡ take (at + n) file
 read_on file buf window buf' at n so_far within is piece =
     let long : length (take at buf) ≡ at = length-take-le at buf within in

@@ -55,7 +55,7 @@ is_damaged file rest records so_far broken = record {
   at = place_is file rest records so_far;
 }
 
--- a gate that is not open stands before the end of a file that is not empty
+-- a gate that is not open is before the end of a file that is not empty
 pub gate_within : (file rest : List ℕ) (records : List (List ℕ)) → IsScanned file records rest → IsShut rest ⊎ (rest ≡ []) → 0 < length file → length file - length rest < length file
 gate_within file [] records so_far shut some = absurd (omega (arith, some, ap length (so_far.none refl)))
 gate_within file (gate ∷ rest) records so_far shut some = omega (arith, some)

@@ -22,7 +22,7 @@ shut : (gate : ℕ) (rest : List ℕ) → gate ≢ 1 → IsShut (gate ∷ rest)
 shut gate [] is_not = tt
 shut gate (b ∷ rest) is_not = is_not
 
--- a gate that is not open ends the records, whatever stands behind it
+-- a gate that is not open ends the records, whatever follows it
 pub stands_shut : (records : List (List ℕ)) (gate : ℕ) (rest : List ℕ) → Fit records → gate ≢ 1 → Stands (blocks records ++ gate ∷ rest) records
 stands_shut records gate rest fits is_not = record { rest = gate ∷ rest; fits = fits; split = refl; shut = inl (shut gate rest is_not) }
 
@@ -30,7 +30,7 @@ stands_shut records gate rest fits is_not = record { rest = gate ∷ rest; fits 
 pub stands_last : (records : List (List ℕ)) (gate : ℕ) → Fit records → Stands (blocks records ++ gate ∷ []) records
 stands_last records gate fits = record { rest = gate ∷ []; fits = fits; split = refl; shut = inl tt }
 
--- the file with a piece behind the gate
+-- the file with a piece after the gate
 abbrev pub staged : List (List ℕ) → ℕ → List ℕ → List ℕ
 staged records gate piece = blocks records ++ gate ∷ piece
 
@@ -38,7 +38,7 @@ staged records gate piece = blocks records ++ gate ∷ piece
 pub staged_open : (records more : List (List ℕ)) (piece : List ℕ) → 1 ∷ piece ≡ at_rest more → staged records 1 piece ≡ at_rest (records ++ more)
 staged_open records more piece is = ap (λ (l : List ℕ). blocks records ++ l) is ∙ sym (blocks-append records more (0 ∷ []))
 
--- whole records behind any gate stand or they don't
+-- whole records after any gate stand or they don't
 pub staged_gate : (records more : List (List ℕ)) (gate : ℕ) (piece : List ℕ) → Fit records → Fit more → 1 ∷ piece ≡ at_rest more
     → StandsWithOrWithout records more (staged records gate piece)
 staged_gate records more gate piece fits fit is = elim (cases_eq gate 1) [
@@ -51,7 +51,7 @@ module _ (records : List (List ℕ)) (fits : Fit records) (end : ℕ) (size : en
   pub length-at_rest : length (at_rest records) ≡ end + 1
   length-at_rest = omega (arith, size, length-append (blocks records) (0 ∷ []))
 
-  -- the closed gate stands in each outcome of the first write
+  -- the closed gate is in each outcome of the first write
   pub torn_behind : (n : ℕ) (c : List ℕ) → Torn (end + 1) n (at_rest records) c → Stands c records
   torn_behind n c torn =
       let long = length-at_rest in

@@ -6,7 +6,7 @@ use Rattle.journal_frames.specs.declared.records.ScanFault.{ScanFault}
 use Rattle.journal_frames.specs.declared.records.ScanFault.TheVariants as faults
 use Rattle.journal_frames.specs.declared.records.Next.TheVariants.{Shut, Whole, Damage}
 
--- an open gate with no record behind it
+-- an open gate with no record after it
 pub record IsBroken (file : List ℕ) : Type 0 where
   pub gate : ℕ
   pub rest : List ℕ

@@ -5,7 +5,7 @@ use Rattle.outside.specs.Disks.{LeavesOnly, Only, Outcomes, Within}
 use Rattle.outside.specs.Logs.{LogFacts}
 use Rattle.journal_frames.specs.Files.{Fit, Stands, blocks}
 
--- a disk with the records that stand on it, where it tells its file, and whether more can be appended
+-- a disk with the records that are on it, where it tells its file, and whether more can be appended
 pub record JournalView (D : Type 0) : Type 0 where
   pub disk : D
   pub records : List (List ℕ)
@@ -46,7 +46,7 @@ pub record IsAtRest (tells : Bool) (content : List ℕ) (may_leave : Outcomes) (
   pub file : IsTrue tells → content ≡ at_rest records
   pub durable : IsTrue tells → Only (at_rest records) may_leave
 
--- Records can be put behind those that stand: the piece is theirs but for the first gate, and a closed gate behind.
+-- Records can be put after those that stand: the piece is theirs but for the first gate, and a closed gate after.
 pub record IsReady (tells : Bool) (content : List ℕ) (may_leave : Outcomes) (records : List (List ℕ)) (end : ℕ) (more : List (List ℕ)) (piece : List ℕ) : Type 0 where
   pub rest : IsAtRest tells content may_leave records end
   pub fits : Fit more

@@ -65,7 +65,7 @@ fn fill<D: Disk>(disk: &mut D, buf: &mut [u8]) -> Result<usize, Failed>
 ///
 /// # Errors
 /// - `LoadFault::Disk` only if the disk met a fault.
-/// - `LoadFault::Memory` for want of memory.
+/// - `LoadFault::Memory` if memory runs out.
 pub(crate) fn load<D: Disk>(alloc: Global, disk: &mut D) -> Result<Vec<u8>, LoadFault>
     ensures file { IfOk result (λ file. IsTrue D.tells → file.items ≡ D.content disk.old) }
     ensures durable { OnOk result (IsTrue D.tells → Only (D.content disk.old) (D.may_leave disk.new)) }

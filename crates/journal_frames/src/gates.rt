@@ -9,7 +9,7 @@ use crate::changes::{cut_synced, write_synced};
 use outside::disk::Disk;
 use outside::streams::Failed;
 
-/// Puts records behind the closed gate at `end`: all of them first but for the first gate, which is then opened.
+/// Puts records after the closed gate at `end`: all of them first but for the first gate, which is then opened.
 ///
 /// # Errors
 /// `Failed` if the disk met a fault, which is counted. All of the records stand then or none does.
@@ -30,7 +30,7 @@ pub(crate) fn put_records<D: Disk>(disk: &mut D, end: u64, piece: &[u8]) -> Resu
     ensures place { D.place disk.new ≡ D.place disk.old }
 {
     write_synced(disk, end + 1, piece)?;
-    // The records have to be on the disk first: behind a gate that is open, what was there would count.
+    // The records have to be on the disk first: after a gate that is open, what was there would count.
     write_synced(disk, end, &[1])?;
     Ok(())
 }
@@ -61,7 +61,7 @@ pub(crate) fn write_first_gate<D: Disk>(disk: &mut D) -> Result<(), Failed>
     Ok(())
 }
 
-/// Closes the gate at `end`, the first that is not open, and leaves nothing behind it.
+/// Closes the gate at `end`, the first that is not open, and leaves nothing after it.
 ///
 /// # Errors
 /// `Failed` if the disk met a fault, which is counted. The same records stand then.
@@ -84,7 +84,7 @@ pub(crate) fn close_end<D: Disk>(disk: &mut D, end: u64) -> Result<(), Failed>
     ensures later { D.fault_count disk.old ≤ D.fault_count disk.new }
     ensures place { D.place disk.new ≡ D.place disk.old }
 {
-    // The cut has to be on the disk first: behind a gate that is torn open, what was there would count.
+    // The cut has to be on the disk first: after a gate that is torn open, what was there would count.
     cut_synced(disk, end + 1)?;
     write_synced(disk, end, &[0])?;
     Ok(())

@@ -21,12 +21,12 @@ use std::marker::Model;
 // A journal of more bytes is not written.
 const MOST_BYTES: u64 = 1 << 63;
 
-/// A disk with the records that stand on it, to which more can be appended. It keeps none of them in memory.
+/// A disk with the records that are on it, to which more can be appended. It keeps none of them in memory.
 #[derive(Drop)]
 pub struct Journal<D: Disk> {
     alloc: Global,
     disk: D,
-    // The offset of the closed gate behind the records.
+    // The offset of the closed gate after the records.
     end: u64,
     is_open: bool,
 }
@@ -51,13 +51,13 @@ impl<D: Disk> Model for Journal<D> {
 pub enum OpenFault<D: Disk> {
     /// The disk met a fault, which is counted.
     Disk(D),
-    /// At the offset `place` an open gate stands before bytes that are no whole record; the disk's file is as before.
+    /// At the offset `place` an open gate is before bytes that are no whole record; the disk's file is as before.
     Damaged { place: u64, disk: D },
     /// Want of memory.
     Memory(D),
 }
 
-/// Puts a record with an open gate behind others.
+/// Puts a record with an open gate after others.
 fn push_block(blocks: &mut Vec<u8>, bytes: &[u8]) -> Result<(), Memory>
     ensures { OnOk result (blocks.new.items ≡ blocks.old.items ++ 1 ∷ body bytes.now) }
 {
@@ -69,7 +69,7 @@ fn push_block(blocks: &mut Vec<u8>, bytes: &[u8]) -> Result<(), Memory>
     Ok(())
 }
 
-/// The bytes of records with open gates, and a closed gate behind them.
+/// The bytes of records with open gates, and a closed gate after them.
 fn blocks_of(alloc: Global, bodies: &[Blob]) -> Result<Vec<u8>, Memory>
     ensures { IfOk result (λ blocks. blocks.items ≡ at_rest bodies.now) }
 {
@@ -81,7 +81,7 @@ fn blocks_of(alloc: Global, bodies: &[Blob]) -> Result<Vec<u8>, Memory>
     Ok(blocks)
 }
 
-/// Closes the gate behind the records that were found in a file of `len` bytes, and leaves nothing behind it.
+/// Closes the gate after the records that were found in a file of `len` bytes, and leaves nothing after it.
 ///
 /// # Errors
 /// `Failed` if the disk met a fault, which is counted. The same records stand then.
@@ -115,14 +115,14 @@ fn settle<D: Disk>(disk: &mut D, len: usize, end: usize) -> Result<(), Failed>
 
 impl<D: Disk> Journal<D> {
     /// Opens the journal on a disk: the records are those from the front of its file whose gates are open. The disk is
-    /// synced, asked for its length and read; then an empty file gets a closed gate, and another one is cut behind the
+    /// synced, asked for its length and read; then an empty file gets a closed gate, and another one is cut after the
     /// first gate that is not open, which is then closed, each step synced. The records are handed out beside the journal.
     ///
     /// # Errors
     /// - `OpenFault::Disk` only if the disk met a fault. With each other answer it met none.
-    /// - `OpenFault::Damaged` if an open gate stands before bytes that are no whole record, unless the disk met a fault or memory
-    ///   was wanted before that was seen, and only if such a gate stands there; the file is as before.
-    /// - `OpenFault::Memory` for want of memory.
+    /// - `OpenFault::Damaged` if an open gate is before bytes that are no whole record, unless the disk met a fault or memory
+    ///   was wanted before that was seen, and only if such a gate is there; the file is as before.
+    /// - `OpenFault::Memory` if memory runs out.
     pub fn open(alloc: Global, disk: D) -> Result<(Journal<D>, RecordList), OpenFault<D>>
         ensures found { IfOk result (λ x. IsTrue D.tells → Stands (D.content disk) x.1) }
         ensures list { IfOk result (λ x. IsTrue D.tells → x.0.records ≡ x.1) }
@@ -136,7 +136,7 @@ impl<D: Disk> Journal<D> {
         ensures later { D.fault_count disk ≤ D.fault_count (disk_left result) }
         ensures place { D.place (disk_left result) ≡ D.place disk }
 
-        // Whatever it answers, the same records stand on the disk, and a crash at any moment left them standing, or
+        // Whatever it answers, the same records are on the disk, and a crash at any moment left them standing, or
         // what it might have left before.
         ensures same { (records : List (List ℕ)) → IsTrue D.tells → Stands (D.content disk) records →
             Stands (D.content (disk_left result)) records }
@@ -230,7 +230,7 @@ impl<D: Disk> Log for Journal<D> {
         }
     }
 
-    /// Appends records, in order, all at once: they are written behind the closed gate, all their gates but the first open, and
+    /// Appends records, in order, all at once: they are written after the closed gate, all their gates but the first open, and
     /// synced; and then the first gate is opened and synced. Where there is none to append the disk is left alone.
     fn append_all(&mut self, bodies: &[Blob]) -> Result<(), LogFault>
         requires { IsTrue self.old.is_open }

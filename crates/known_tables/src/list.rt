@@ -15,7 +15,7 @@ use std::sync::Arc;
 
 /// Tables in the order in which their collections were first told of, each shared with whoever else has it.
 ///
-/// A caller reserves room before a record is written, and adopts behind it, which then can't fail.
+/// A caller reserves room before a record is written, and adopts after it, which then can't fail.
 #[derive(Drop)]
 pub struct TableList {
     tables: Vec<Arc<Table, Global>>,
@@ -58,7 +58,7 @@ impl TableList {
         }
     }
 
-    /// Makes room for one table more. Fails for want of memory. The tables are the same either way.
+    /// Makes room for one table more. Returns `Memory` if memory runs out. The tables are the same either way.
     pub fn reserve(&mut self) -> Result<(), Memory>
         ensures room { OnOk result (1 ≤ self.new.room) }
         ensures tables { self.new.tables ≡ self.old.tables }
@@ -68,7 +68,7 @@ impl TableList {
     }
 
     /// Takes a table, for which there is room: in the place of the one of its collection, if it has seen more changes than that, or
-    /// behind the others. Takes no memory.
+    /// after the others. Takes no memory.
     #[tactic(auto, using(crate::proofs::Places::within_map, crate::proofs::Places::kept_end, crate::proofs::Places::kept_here, crate::proofs::Places::kept_longer))]
     pub fn adopt(&mut self, table: Arc<Table, Global>)
         requires room { 1 ≤ self.old.room }
@@ -82,7 +82,7 @@ impl TableList {
         }
     }
 
-    // How many tables stand before that of a collection; all where there is none.
+    // How many tables are before that of a collection; all where there is none.
     fn place(&self, namespace: &Namespace) -> usize
         ensures { result ≡ place_of namespace.now self.now.tables }
     {

@@ -26,7 +26,7 @@ puts_of (r ∷ replies) = if r.request.more then puts_of replies else record { l
 abbrev pub spellings : List Kept → List (List ℕ)
 spellings kept = map (λ k. spelled 1 (record_kept k)) kept
 
--- each has a spelling that says what it is
+-- each has a encoding that says what it is
 abbrev pub AreSound : List Kept → Type 0
 AreSound kept = AllByRecursion (λ k. IsSound (record_kept k)) kept
 

@@ -13,7 +13,7 @@ use outside::log::{Log, LogFault};
 ///
 /// # Errors
 /// - `StepFault::Disk` only if the disk of the log met a fault: then all of the records stand or none does.
-/// - `StepFault::Memory` for want of memory: the log is as it was.
+/// - `StepFault::Memory` if memory runs out: the log is as it was.
 pub fn append_records<L: Log>(log: &mut L, records: &[Blob]) -> Result<(), StepFault>
     requires open { IsTrue (L.facts.is_open log.old) }
     ensures done { OnOk result (Appended (log_call L.facts log.old log.new) records.now) }

@@ -44,7 +44,7 @@ impl<T: Drop> SpareList<T> {
         }
     }
 
-    /// Puts an item behind the others. Fails for want of memory, and then changes nothing.
+    /// Puts an item after the others. Returns `Memory` if memory runs out, and then changes nothing.
     pub fn push(&mut self, item: T) -> Result<(), Memory>
         ensures ok { OnOk result (self.new ≡ self.old ++ item ∷ []) }
         ensures err { OnErr result (self.new ≡ self.old) }
@@ -58,7 +58,7 @@ impl<T: Drop> SpareList<T> {
         Ok(())
     }
 
-    /// Puts the items, in order, behind others. Fails for want of memory, and then those are as they were.
+    /// Puts the items, in order, after others. Returns `Memory` if memory runs out, and then those are as they were.
     pub fn append_to(self, items: &mut Vec<T>) -> Result<(), Memory>
         ensures ok { OnOk result (items.new.items ≡ items.old.items ++ self) }
         ensures err { OnErr result (items.new.items ≡ items.old.items) }
@@ -73,7 +73,7 @@ impl<T: Drop> SpareList<T> {
         Ok(())
     }
 
-    /// The items in order, and the last one where it stands in the place of its own.
+    /// The items in order, and the last one where it is in the place of its own.
     pub fn into_parts(self) -> (Vec<T>, Option<T>)
         ensures { self ≡ result.0.items ++ listed result.1 }
     {

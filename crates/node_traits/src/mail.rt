@@ -21,7 +21,7 @@ pub trait Mail: Sized + Drop {
     fn kind(&self) -> &'static str
         ensures { result.now ≡ kind_of (letter self.now).body };
 
-    /// The same message once more. Fails for want of memory.
+    /// A copy of the message. Returns `Memory` if memory runs out.
     fn copy(&self, alloc: Global) -> Result<Self, Memory>
         ensures { IfOk result (λ message. letter message ≡ letter self.now) };
 }

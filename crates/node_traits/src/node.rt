@@ -66,7 +66,7 @@ pub trait Node: Drop {
     /// - `StepFault::Disk` only if the disk of the log met a fault: then all records of a step stand or none does, and the log and the
     ///   node must be opened again.
     /// - `StepFault::Steps` only at the last step: node and log are as they were.
-    /// - `StepFault::Memory` for want of memory: node and log are as they were, but the step is counted.
+    /// - `StepFault::Memory` if memory runs out: node and log are as they were, but the step is counted.
     fn step<L: Log>(
         &mut self,
         log: &mut L,

@@ -17,7 +17,7 @@ use Rattle.bson_model.specs.Grammar.{AreBytes}
 use Rattle.opmsg_frames.proofs.Stays.{whole_stays, fault_stays}
 use Rattle.opmsg_frames.proofs.OneReading.{first_once, behind_bytes}
 
--- requests stand one behind another from the bytes at an offset on, and behind them the bytes at another
+-- requests stand one after another from the bytes at an offset on, and after them the bytes at another
 abbrev Prefix : ℕ → List ℕ → List requests.Request → ℕ → List ℕ → Type 0
 Prefix offset bytes [] end rest = (end ≡ offset) × (rest ≡ bytes)
 Prefix offset bytes (r ∷ rs) end rest = (behind : List ℕ) × IsFirst bytes r behind × Prefix (offset + length r.bytes) behind rs end rest
@@ -61,7 +61,7 @@ prefix_is offset bytes (r ∷ rs) end rest all left fault are f frames =
     let y = prefix_is (offset + length r.bytes) f.0 rs end rest x.0 left fault (behind_bytes bytes r f.0 are f.1) f.2 x.2 in
     (y.0, x.1 ∙ ap (λ (l : List requests.Request). r ∷ l) y.1)
 
--- a fault that was told stands in the bytes
+-- a fault that was told is in the bytes
 abbrev Stands : Option wire.FrameFault → List ℕ → Type 0
 Stands None bytes = Unit {0}
 Stands (Some fault) bytes = wire.outline bytes ≡ wire.faulty_outline fault

@@ -43,7 +43,7 @@ module _ (bodies : ℕ) (bad : Bool) (rest bytes : List ℕ) (n m : ℕ) (so_far
   unfolding behind_fault
   size_bad e = sym (step m bodies bad rest _ so_far.enough e) ∙ so_far.same
 
--- what a section holds stands within what is left
+-- what a section holds is within what is left
 pub content_within : (rest content behind : List ℕ) → next_sequence content behind ≡ next_section rest → length content ≤ length rest
 content_within [] content behind e = absurd (let q : next_sequence content behind ≡ no_section = e in cc)
 content_within (kind ∷ bytes) content behind e = by_kind (kind == 0) (kind == 1) (has_stated bytes) refl e

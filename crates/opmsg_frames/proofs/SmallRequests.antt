@@ -1,4 +1,4 @@
--- The documents of a request are small, and its fault stands within the message.
+-- The documents of a request are small, and its fault is within the message.
 use Rattle.std.proofs.Common.{◌≡◌, ℕ, ◌-◌, ◌≤◌, inl, inr, List, [], ◌∷◌, length, sym, ap, subst, ◌∙◌, arith, length-append, length-drop}
 use Rattle.std.specs.List.{AllByRecursion, concat, flat_map}
 use Rattle.bson_model.specs.Tree.{Fields}

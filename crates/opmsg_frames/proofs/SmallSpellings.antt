@@ -1,4 +1,4 @@
--- How long the spelling of a document is that was read.
+-- How long the encoding of a document is that was read.
 use Rattle.std.proofs.Common.{◌≡◌, ℕ, ◌+◌, ◌*◌, ◌<◌, ◌≤◌, List, ◌++◌, length, take, ap, arith, length-append}
 use Rattle.std.specs.Fmt.{decimal}
 use Rattle.std.proofs.lemmas.Fmt.{length-decimal-le}
@@ -10,7 +10,7 @@ use Rattle.bson_model.proofs.Lengths.{length-framed, length-element}
 use Rattle.opmsg_model.specs.Requests.{IsKept}
 use Rattle.opmsg_model.specs.MessageSizes.{IsSmall}
 
--- a value that was read as it is spelled
+-- a value that was read as it is encoded
 as_read : (bytes spelled : List ℕ) → bytes ≡ spelled → length spelled ≤ 5 * length bytes
 as_read bytes spelled e = omega (arith, ap (λ (l : List ℕ). length l) e)
 

@@ -26,7 +26,7 @@ header_stays : (bytes more : List ℕ) → 16 ≤ length bytes → header_fault 
 header_stays bytes more least =
     ap (λ (n : ℕ). fault_by n (opcode (bytes ++ more))) (number_stays 0 bytes more (omega (arith, least))) ∙ ap (λ (n : ℕ). fault_by (stated_length bytes) n) (number_stays 12 bytes more (omega (arith, least)))
 
--- an outline behind a right header, by whether the message is cut, and its bytes
+-- an outline after a right header, by whether the message is cut, and its bytes
 abbrev pub outline_by : ℕ → Bool → List ℕ → Outline
 outline_by n cut message = if cut then partial_outline else whole_outline n (message_fault message)
 

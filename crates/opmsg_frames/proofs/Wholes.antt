@@ -12,7 +12,7 @@ use Rattle.opmsg_model.specs.Sections.{IsStated}
 use Rattle.opmsg_model.specs.Requests.{IsKept}
 use Rattle.bson_model.proofs.Lengths.{length-framed}
 
--- a spelling states its length
+-- a encoding states its length
 framed_states : (body : List ℕ) → length body + 5 < 2 ^ 31 → number_at 0 (framed body) ≡ length body + 5
 framed_states body low = from_le_bytes-to_le_bytes_4 (length body + 5) (omega arith)
 

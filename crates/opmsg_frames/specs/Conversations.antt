@@ -14,7 +14,7 @@ use Rattle.opmsg_frames.specs.RequestMeanings.{IsMeant}
 pub data Step : Type 0 where
   -- this piece was taken
   took : List ℕ → Step
-  -- a piece was not taken, for want of memory
+  -- a piece was not taken, if memory runs out
   refused : Step
   -- what a call for the next request answered
   answered : Result (Option Request) FrameFault → Step

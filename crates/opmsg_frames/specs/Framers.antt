@@ -10,7 +10,7 @@ use Rattle.opmsg_frames.specs.Outlines.{fault_view}
 use Rattle.opmsg_frames.specs.RequestMeanings.{IsMeant}
 use Rattle.opmsg_frames.specs.FramerViews.{FramerView}
 
--- the request that stands first was given out
+-- the request that comes first was given out
 pub record Given (old new : FramerView) (request : Request) (meant : requests.Request) : Type 0 where
   pub meant_is : IsMeant request meant
   pub first : IsFirst old.bytes meant new.bytes

@@ -25,7 +25,7 @@ pub(crate) fn read_whole(alloc: Global, bytes: &[u8]) -> Result<Document, BsonFa
     Ok(doc)
 }
 
-/// Reads documents, one behind the other.
+/// Reads documents, one after the other.
 fn read_documents(alloc: Global, bytes: &[u8]) -> Result<DocList, BsonFault>
     requires { length bytes.now ≤ most_bytes }
     ensures { (documents : List (List ℕ)) → bytes.now ≡ concat documents → AllByRecursion IsStated documents →
@@ -41,7 +41,7 @@ fn read_documents(alloc: Global, bytes: &[u8]) -> Result<DocList, BsonFault>
     Ok(list)
 }
 
-/// Reads a document sequence and puts it behind the others.
+/// Reads a document sequence and puts it after the others.
 fn take_sequence(
     alloc: Global,
     content: &[u8],

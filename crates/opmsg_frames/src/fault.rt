@@ -26,7 +26,7 @@ pub enum Malformed {
 /// Why no more requests can be read.
 #[derive(Clone, Copy, Debug, PartialEq, Eq)]
 pub enum FrameFault {
-    /// A message is none. Its first byte stands at the offset among all bytes taken.
+    /// A message is none. Its first byte is at the offset among all bytes taken.
     Malformed { fault: Malformed, place: u64 },
     /// Want of memory. Nothing changed.
     Memory,

@@ -25,7 +25,7 @@ const FEW: usize = 65_536;
 /// Once a request was given and at most 65,536 bytes are left, the framer holds no block in which it ever had more than
 /// 1,048,576 bytes, those left and spare ones together: what is left is copied into a block of its size, and the wide one
 /// goes with the last request that came in it. (The block itself may be a few times as large: what was given before also
-/// stands in it, and it grows by doubling.) So at most 65,536 bytes are copied for more than 900,000 for which room was
+/// is in it, and it grows by doubling.) So at most 65,536 bytes are copied for more than 900,000 for which room was
 /// made. Where there is no memory for the copy, the wide block stays. No contract says any of this, but that `let_go`
 /// changes nothing else.
 #[derive(Drop)]
@@ -70,7 +70,7 @@ impl Framer {
         }
     }
 
-    /// Makes room for so many bytes more. Fails for want of memory, and then changes nothing.
+    /// Makes room for so many bytes more. Returns `Memory` if memory runs out, and then changes nothing.
     pub fn reserve(&mut self, count: usize) -> Result<(), Memory>
         ensures room { OnOk result (count ≤ self.new.room) }
         ensures bytes { self.new.bytes ≡ self.old.bytes }
@@ -82,7 +82,7 @@ impl Framer {
         Ok(())
     }
 
-    /// Takes the next bytes. Fails for want of memory, and then changes nothing; where there is room it doesn't fail, below
+    /// Takes the next bytes. Returns `Memory` if memory runs out, and then changes nothing; where there is room it doesn't fail, below
     /// 2^64 - 1 bytes in all.
     pub fn feed(&mut self, piece: &[u8]) -> Result<(), Memory>
         ensures taken { OnOk result (IsStep self.old (took piece.now) self.new) }
@@ -109,7 +109,7 @@ impl Framer {
     ///
     /// # Errors
     /// - `FrameFault::Malformed` exactly if the bytes begin with no message; each later call gives it again.
-    /// - `FrameFault::Memory` for want of memory; nothing changed.
+    /// - `FrameFault::Memory` if memory runs out; nothing changed.
     pub fn next(&mut self) -> Result<Option<Request>, FrameFault>
         ensures { IsNext self.old self.new result }
     {

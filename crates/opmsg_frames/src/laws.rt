@@ -14,7 +14,7 @@ ghost use Rattle.opmsg_model.specs.MessageSizes.{IsSmallBody};
 
 use crate::fault::{FrameFault, Malformed};
 
-/// A message or a fault at the beginning of the bytes stands there however they go on, and no message is told of before its
+/// A message or a fault at the beginning of the bytes is there however they go on, and no message is told of before its
 /// last byte.
 pub fn outline_stays()
     ensures whole { (bytes more : List ℕ) (n : ℕ) →
@@ -25,13 +25,13 @@ pub fn outline_stays()
         outline bytes ≡ message_outline n → k < n → outline (take k bytes) ≡ partial_outline }
 {}
 
-/// The bytes of a request are a whole message, whatever stands behind them.
+/// The bytes of a request are a whole message, whatever follows them.
 pub fn request_is_whole()
     ensures { (request : Request) (more : List ℕ) → IsRequest request →
         outline (request.bytes ++ more) ≡ message_outline (length request.bytes) }
 {}
 
-/// The documents of a request are within 100 levels and spelled in at most 240,000,000 bytes, and a fault is told at a
+/// The documents of a request are within 100 levels and encoded in at most 240,000,000 bytes, and a fault is told at a
 /// offset within the longest message.
 pub fn request_is_small()
     ensures { (request : Request) → IsRequest request → IsSmallBody request.body }

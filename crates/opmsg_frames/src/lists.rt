@@ -9,7 +9,7 @@ use bson_values::{Document, Memory, Text};
 use std::alloc::Global;
 use std::marker::Model;
 
-/// A row of documents, in order, each as small as a message has it.
+/// A sequence of documents, in order, each as small as a message has it.
 #[derive(Drop)]
 pub struct DocList {
     documents: Vec<Document>,
@@ -43,7 +43,7 @@ impl DocList {
         }
     }
 
-    /// Puts a document behind the others. Fails for want of memory, and then changes nothing.
+    /// Appends a document. Returns `Memory` if memory runs out, and then changes nothing.
     pub fn push(&mut self, document: Document) -> Result<(), Memory>
         requires small { IsSmall document }
         ensures ok { OnOk result (self.new ≡ self.old ++ document ∷ []) }
@@ -77,7 +77,7 @@ pub struct Sequence {
     pub documents: DocList,
 }
 
-/// A row of document sequences, in order.
+/// A sequence of document sequences, in order.
 #[derive(Drop)]
 pub struct SequenceList {
     sequences: Vec<Sequence>,
@@ -108,7 +108,7 @@ impl SequenceList {
         }
     }
 
-    /// Puts a sequence behind the others. Fails for want of memory, and then changes nothing.
+    /// Appends a sequence. Returns `Memory` if memory runs out, and then changes nothing.
     #[tactic(auto, using(crate::proofs::Pairs::pairs_push))]
     pub fn push(&mut self, sequence: Sequence) -> Result<(), Memory>
         ensures ok { OnOk result (self.new ≡ self.old ++ (sequence.identifier, sequence.documents) ∷ []) }

@@ -1,4 +1,4 @@
-//! What stands at the beginning of the bytes of a connection.
+//! What is at the beginning of the bytes of a connection.
 
 ghost use Rattle.std.specs.Prelude.{◌≡◌, ◌+◌, ◌<◌, ◌≤◌, None, length};
 ghost use Rattle.std.specs.Option.{option_map};
@@ -121,7 +121,7 @@ fn whole_outline(message: &[u8]) -> Outline
     }
 }
 
-/// What stands at the beginning of bytes whose header is right.
+/// What is at the beginning of bytes whose header is right.
 fn headed_outline(bytes: &[u8]) -> Outline
     requires least { header_length ≤ length bytes.now }
     requires header { header_fault bytes.now ≡ None }
@@ -135,7 +135,7 @@ fn headed_outline(bytes: &[u8]) -> Outline
     whole_outline(message)
 }
 
-/// What stands at the beginning of the bytes: less than a whole message, a whole one, or a fault. It is a fault as soon as its
+/// What is at the beginning of the bytes: less than a whole message, a whole one, or a fault. It is a fault as soon as its
 /// header's 16 bytes tell one, or else once the message is whole.
 pub fn outline_of(bytes: &[u8]) -> Outline
     ensures { outline_view result ≡ outline bytes.now }

@@ -15,19 +15,19 @@ use std::str;
 // The bytes of the least document.
 const LEAST: usize = 5;
 
-/// What stands next among the sections.
+/// What comes next among the sections.
 #[derive(Clone, Copy, Debug)]
 pub(crate) enum Next<'a> {
     Nothing,
     UnknownKind,
     /// The size says not where the next section stands.
     BadSize,
-    /// A document, and what stands behind it.
+    /// A document, and what follows it.
     Body {
         document: &'a [u8],
         behind: &'a [u8],
     },
-    /// What stands behind the size of a document sequence, and behind the whole.
+    /// What follows the size of a document sequence, and after the whole.
     Sequence {
         content: &'a [u8],
         behind: &'a [u8],
@@ -78,7 +78,7 @@ pub(crate) fn next_section(bytes: &[u8]) -> Next<'_>
     Next::Sequence { content, behind }
 }
 
-/// What stands before the first 00.
+/// What precedes the first 00.
 pub(crate) fn before_zero(bytes: &[u8]) -> Option<&[u8]>
     ensures found { option_map (λ name. name.now) result ≡ before_zero bytes.now }
     ensures shorter { IfSome result (λ name. length name.now < length bytes.now) }
@@ -91,7 +91,7 @@ pub(crate) fn before_zero(bytes: &[u8]) -> Option<&[u8]>
     None
 }
 
-/// Whether the bytes are documents, one behind the other.
+/// Whether the bytes are documents, one after the other.
 fn are_documents(bytes: &[u8]) -> bool
     ensures { (n : ℕ) → length bytes.now ≤ n → result ≡ are_documents n bytes.now }
 {
@@ -117,7 +117,7 @@ fn text_of(bytes: &[u8]) -> Option<&str>
     }
 }
 
-/// The identifier that begins a document sequence, and what stands behind it.
+/// The identifier that begins a document sequence, and what follows it.
 pub(crate) fn split_sequence(content: &[u8]) -> Option<(&str, &[u8])>
     ensures parts { option_map (λ x. (x.0.now, x.1.now)) result ≡ sequence_parts content.now }
     ensures shorter { IfSome result (λ x. length x.1.now ≤ length content.now) }

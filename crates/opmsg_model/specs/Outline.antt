@@ -1,4 +1,4 @@
--- What stands at the beginning of the bytes of a connection, by tests on the bytes in order: less than a whole message, a
+-- What is at the beginning of the bytes of a connection, by tests on the bytes in order: less than a whole message, a
 -- whole message whose outline is right, or a fault. Of documents only the stated lengths are read here, and of that of an
 -- OP_QUERY message its first name.
 use Rattle.std.specs.Prelude.{ℕ, zero, suc, ◌+◌, ◌-◌, ◌^◌, ◌==◌, List, [], ◌∷◌, length, take, drop, slice_index, Bool, true, false, ◌&&◌, ◌||◌, not, Option, Some, None, nat_le, nat_lt, if◌then◌else◌}
@@ -35,15 +35,15 @@ pub data Outline : Type 0 where
 abbrev pub has_stated : List ℕ → Bool
 has_stated bytes = nat_le 5 (length bytes) && nat_le 5 (number_at 0 bytes) && nat_le (number_at 0 bytes) (length bytes)
 
--- what stands next among the sections
+-- what comes next among the sections
 pub data Next : Type 0 where
   no_section : Next
   unknown_kind : Next
   -- a size that says not where the next section stands
   bad_size : Next
-  -- the document, and what stands behind it
+  -- the document, and what follows it
   next_body : List ℕ → List ℕ → Next
-  -- what stands behind the size, and behind the section
+  -- what follows the size, and after the section
   next_sequence : List ℕ → List ℕ → Next
 
 abbrev pub next_section : List ℕ → Next
@@ -53,7 +53,7 @@ next_section (kind ∷ bytes) =
     else if kind == 1 then (if has_stated bytes then next_sequence (drop 4 (take (number_at 0 bytes) bytes)) (drop (number_at 0 bytes) bytes) else bad_size)
     else unknown_kind
 
--- The bytes are documents, one behind the other. There are at most so many.
+-- The bytes are documents, one after the other. There are at most so many.
 unfoldable pub are_documents : ℕ → List ℕ → Bool
 are_documents n [] = true
 are_documents zero (b ∷ bytes) = false
@@ -76,7 +76,7 @@ ended_fault zero false = Some no_body
 ended_fault (suc zero) false = None
 ended_fault (suc (suc bodies)) false = Some two_bodies
 
--- what is wrong with what stands next and behind it
+-- what is wrong with what comes next and after it
 unfoldable pub behind_fault : (ℕ → Bool → List ℕ → Option FrameFault) → ℕ → Bool → Next → Option FrameFault
 behind_fault others bodies bad no_section = ended_fault bodies bad
 behind_fault others bodies bad unknown_kind = Some bad_kind
@@ -84,7 +84,7 @@ behind_fault others bodies bad bad_size = Some bad_section
 behind_fault others bodies bad (next_body document rest) = others (bodies + 1) bad rest
 behind_fault others bodies bad (next_sequence content rest) = others bodies (bad || not (is_sequence content)) rest
 
--- What is wrong with the sections, behind some of which this is known. There are at most so many.
+-- What is wrong with the sections, after some of which this is known. There are at most so many.
 unfoldable pub sections_fault : ℕ → ℕ → Bool → List ℕ → Option FrameFault
 sections_fault zero bodies bad bytes = Some bad_section
 sections_fault (suc n) bodies bad bytes = behind_fault (sections_fault n) bodies bad (next_section bytes)

@@ -60,7 +60,7 @@ IsGreeting name =
     ⊎ (name ≡ 105 ∷ 115 ∷ 109 ∷ 97 ∷ 115 ∷ 116 ∷ 101 ∷ 114 ∷ [])
     ⊎ (name ≡ 104 ∷ 101 ∷ 108 ∷ 108 ∷ 111 ∷ [])
 
--- these bytes, all of them, spell a document that is kept
+-- these bytes, all of them, encode a document that is kept
 abbrev pub IsKept : List ℕ → Fields → Type 0
 IsKept bytes ms = ReadsAs bytes ms × IsWithinDepth ms
 

@@ -12,7 +12,7 @@ pub data Section : Type 0 where
   -- its identifier, and the bytes of each of its documents
   sequence_section : List ℕ → List (List ℕ) → Section
 
--- what stands in a section of kind 1 behind its size, which counts its own four bytes
+-- what is in a section of kind 1 after its size, which counts its own four bytes
 abbrev pub sequence_bytes : List ℕ → List (List ℕ) → List ℕ
 sequence_bytes identifier documents = identifier ++ (0 ∷ concat documents)
 

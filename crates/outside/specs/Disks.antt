@@ -6,7 +6,7 @@ use Rattle.std.specs.Prelude.{◌≡◌, ◌⊎◌, ℕ, ◌+◌, ◌≤◌, min
 abbrev pub Outcomes : Type 1
 Outcomes = List ℕ → Type 0
 
--- Old with the piece from this offset on. What lies between the old end and an offset behind it may be any bytes.
+-- Old with the piece from this offset on. What lies between the old end and an offset after it may be any bytes.
 pub record Holds (at : ℕ) (piece old new : List ℕ) : Type 0 where
   pub before : take (min at (length old)) new ≡ take at old
   pub here : take (length piece) (drop at new) ≡ piece

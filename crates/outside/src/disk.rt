@@ -82,7 +82,7 @@ pub trait Disk: Drop {
     /// Cuts the file to `len` bytes, if it is longer.
     ///
     /// # Errors
-    /// `Failed` if the disk met a fault, which is counted. A part behind `len` may be cut then.
+    /// `Failed` if the disk met a fault, which is counted. A part after `len` may be cut then.
     fn cut(&mut self, len: u64) -> Result<(), Failed>
         ensures cut { OnOk result (IsTrue tells → content self.new ≡ take len (content self.old)) }
         ensures between { OnErr result (IsTrue tells → Cut len (content self.old) (content self.new)) }

@@ -44,7 +44,7 @@ pub fn placed()
         ((1 ∷ []) ∷ (2 ∷ []) ∷ []) ((2 ∷ []) ∷ (1 ∷ []) ∷ [])) → ⊥ }
 {}
 
-/// Bytes 1 2 3 and a piece that was written over them, past their end, and behind a gap of any bytes.
+/// Bytes 1 2 3 and a piece that was written over them, past their end, and after a gap of any bytes.
 pub fn held()
     ensures over { Holds 1 (9 ∷ []) (1 ∷ 2 ∷ 3 ∷ []) (1 ∷ 9 ∷ 3 ∷ []) }
     ensures past { Holds 3 (9 ∷ []) (1 ∷ 2 ∷ 3 ∷ []) (1 ∷ 2 ∷ 3 ∷ 9 ∷ []) }

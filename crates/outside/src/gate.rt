@@ -7,7 +7,7 @@ pub enum Place {
     Half,
 }
 
-/// What stands at the places.
+/// What is at the places.
 pub trait Gate {
     /// The program passes this place.
     fn pass(&self, place: Place);

@@ -1,4 +1,4 @@
-//! A row of records, which an opening finds again.
+//! A sequence of records, which an opening finds again.
 ghost use Rattle.std.specs.Prelude.{◌≡◌, ℕ, ◌≤◌, ◌++◌, ◌∷◌, [], List, IsTrue, OnOk, IfErr, OnErr};
 ghost use Rattle.outside.specs.Causes.{Rose};
 ghost use Rattle.outside.specs.Disks.{LeavesOnly};
@@ -38,7 +38,7 @@ pub trait Log {
     ///
     /// # Errors
     /// - `LogFault::Disk` only if the disk met a fault: then the record stands or it doesn't.
-    /// - `LogFault::Memory` for want of memory: nothing changed, and nothing was written.
+    /// - `LogFault::Memory` if memory runs out: nothing changed, and nothing was written.
     fn append(&mut self, bytes: &[u8]) -> Result<(), LogFault>
         requires { IsTrue (facts.is_open self.old) }
         ensures appended { OnOk result (IsTrue facts.tells → facts.records self.new ≡ facts.records self.old ++ bytes.now ∷ []) }
@@ -61,7 +61,7 @@ pub trait Log {
     ///
     /// # Errors
     /// - `LogFault::Disk` only if the disk met a fault: then all of these records stand or none does.
-    /// - `LogFault::Memory` for want of memory: nothing changed, and nothing was written.
+    /// - `LogFault::Memory` if memory runs out: nothing changed, and nothing was written.
     fn append_all(&mut self, bodies: &[Blob]) -> Result<(), LogFault>
         requires { IsTrue (facts.is_open self.old) }
         ensures appended { OnOk result (IsTrue facts.tells → facts.records self.new ≡ facts.records self.old ++ bodies.now) }
@@ -81,7 +81,7 @@ pub trait Log {
         ensures place { facts.place self.new ≡ facts.place self.old };
 }
 
-/// A row of records in memory, in order.
+/// A sequence of records in memory, in order.
 #[derive(Drop)]
 pub struct RecordList {
     items: Vec<Blob>,
@@ -112,7 +112,7 @@ impl RecordList {
         self.items.as_slice()
     }
 
-    /// Puts a record behind the others. Fails for want of memory, and then changes nothing.
+    /// Appends a record. Returns `Memory` if memory runs out, and then changes nothing.
     pub fn push(&mut self, bytes: Blob) -> Result<(), Memory>
         ensures ok { OnOk result (self.new ≡ self.old ++ bytes ∷ []) }
         ensures err { OnErr result (self.new ≡ self.old) }

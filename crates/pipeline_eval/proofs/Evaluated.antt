@@ -1,4 +1,4 @@
--- Stages, one behind the other.
+-- Stages, one after the other.
 use Rattle.std.proofs.Common.{Global, Vec, ◌≡◌, ℕ, List, [], ◌∷◌, map, take, drop, Result, Ok, Err, refl, sym, ap, ◌∙◌, subst, arith}
 use Rattle.std.specs.Arc.{arc_value}
 use Rattle.std.specs.declared.sync.Arc.{Arc}
@@ -26,7 +26,7 @@ use Rattle.pipeline_eval.specs.Evals.{Does, DoesBefore, RunsTo, limit_in_front}
 abbrev pub documents_in : Vec (Arc Fields Global) Global → List Fields
 documents_in ds = map arc_value ds.items
 
--- From the documents that were left, the stages behind go on.
+-- From the documents that were left, the stages after go on.
 abbrev pub GoesOn : Stage → List Fields → List Fields → Type 0
 GoesOn stage docs left = (rest : List Stage) (out : Outcome) → Runs rest left out → Runs (stage ∷ rest) docs out
 

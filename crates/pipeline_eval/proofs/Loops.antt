@@ -34,7 +34,7 @@ grouped_next {A = A} see spec xs i x kept after less is adds joined =
 pub nothing_grouped : (spec : GroupSpec) (rows : List PartialRow) → rows ≡ [] → IsJoined spec [] rows
 nothing_grouped spec rows none = subst (λ (l : List PartialRow). IsJoined spec [] l) (sym none) (record { each = tt; apart = tt; every = tt })
 
--- one more of n is skipped, behind m
+-- one more of n is skipped, after m
 pub one_skipped : {A : Type 0} (n m : ℕ) (x : A) (left rest whole : List A) → m < n → left ≡ x ∷ rest → drop (n - m) left ≡ whole →
     drop (n - (m + 1)) rest ≡ whole
 one_skipped {A = A} n m x left rest whole less is so_far =

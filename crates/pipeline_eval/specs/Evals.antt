@@ -9,19 +9,19 @@ use Rattle.pipeline_model.specs.Stages.{Stage, limit_stage}
 use Rattle.pipeline_eval.specs.declared.fault.EvalFault.{EvalFault}
 use Rattle.pipeline_eval.specs.declared.fault.EvalFault.TheVariants.{Overflow, TooMuch, Memory}
 
--- From the documents that a stage left, the stages behind it go on; where it overflowed, all overflow. Of want of memory nothing is said.
+-- From the documents that a stage left, the stages after it go on; where it overflowed, all overflow. Of want of memory nothing is said.
 abbrev pub Does : {X : Type 0} → (X → List Fields) → Stage → List Fields → Result X EvalFault → Type 0
 Does view stage docs (Ok x) = (rest : List Stage) (out : Outcome) → Runs rest (view x) out → Runs (stage ∷ rest) docs out
 Does view stage docs (Err Overflow) = (rest : List Stage) → Runs (stage ∷ rest) docs overflowed
 Does view stage docs (Err (TooMuch n)) = ⊥
 Does view stage docs (Err Memory) = Unit {0}
 
--- how many documents a limit leaves that stands in front
+-- how many documents a limit leaves that is in front
 abbrev pub limit_in_front : List Stage → Option ℕ
 limit_in_front (limit_stage n ∷ rest) = Some n
 limit_in_front rest = None
 
--- the same where the stages behind it begin with that limit, or with none
+-- the same where the stages after it begin with that limit, or with none
 abbrev pub DoesBefore : {X : Type 0} → Option ℕ → (X → List Fields) → Stage → List Fields → Result X EvalFault → Type 0
 DoesBefore limit view stage docs (Ok x) =
     (rest : List Stage) (out : Outcome) → limit_in_front rest ≡ limit → Runs rest (view x) out → Runs (stage ∷ rest) docs out

@@ -14,7 +14,7 @@ use std::sync::Arc;
 
 /// What a pipeline makes of the documents in this order: an outcome that the pipeline has on them. Fails with `Overflow` only where
 /// it has on them that a sum is outside int64; with `TooMuch` where the outcome has more than 104,857,600 bytes, or a document of it
-/// more than 16,777,216; and for want of memory.
+/// more than 16,777,216; and if memory runs out.
 pub fn eval(
     alloc: Global,
     pipeline: &Pipeline,

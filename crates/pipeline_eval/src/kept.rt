@@ -12,7 +12,7 @@ use pipeline_lang::{Half, Stage};
 use std::alloc::Global;
 use std::sync::Arc;
 
-// The documents, each shared. Fails for want of memory.
+// The documents, each shared. Returns `Memory` if memory runs out.
 fn share_found(
     alloc: Global,
     documents: &[&Arc<Document, Global>],
@@ -54,8 +54,8 @@ fn passing<'a>(
     left
 }
 
-/// Of documents those that the filter at the head of a half's stages keeps, where one stands there, in this order. Each is shared, and
-/// what is dropped is only read. Fails for want of memory.
+/// Of documents those that the filter at the head of a half's stages keeps, where one is there, in this order. Each is shared, and
+/// what is dropped is only read. Returns `Memory` if memory runs out.
 pub fn share_kept(
     alloc: Global,
     half: &Half,

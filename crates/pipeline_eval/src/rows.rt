@@ -63,7 +63,7 @@ pub enum Rows {
 }
 
 impl Rows {
-    /// The same rows once more, which share the documents. Fails for want of memory.
+    /// The same rows once more, which share the documents. Returns `Memory` if memory runs out.
     pub fn copy(&self, alloc: Global) -> Result<Rows, Memory>
         ensures { IfOk result (λ rows. rows_of rows ≡ rows_of self.now) }
     {

@@ -1,4 +1,4 @@
-//! What stages, one behind the other, make of a list of documents.
+//! What stages, one after the other, make of a list of documents.
 
 ghost use Rattle.std.specs.Prelude.{◌≡◌, ◌<◌, map};
 ghost use Rattle.std.specs.Arc.{arc_value};
@@ -120,7 +120,7 @@ fn run_stage(
     }
 }
 
-// How many documents a limit leaves that stands in front.
+// How many documents a limit leaves that is in front.
 fn limit_in_front(stages: &[Stage]) -> Option<u64>
     ensures { result ≡ limit_in_front (map stage_of stages.now) }
 {
@@ -133,8 +133,8 @@ fn limit_in_front(stages: &[Stage]) -> Option<u64>
     }
 }
 
-/// What the stages make of the documents, one behind the other. Fails with `Overflow` where they have that a sum is outside int64, and
-/// for want of memory.
+/// What the stages make of the documents, one after the other. Fails with `Overflow` where they have that a sum is outside int64, and
+/// if memory runs out.
 pub(crate) fn run_stages(
     alloc: Global,
     stages: &[Stage],

@@ -29,7 +29,7 @@ pub(crate) fn matching(
     left
 }
 
-/// What the projection leaves of each document. Fails for want of memory.
+/// What the projection leaves of each document. Returns `Memory` if memory runs out.
 pub(crate) fn projected(
     alloc: Global,
     rules: &Projection,
@@ -88,7 +88,7 @@ fn count_value(count: usize) -> Result<Value, Memory>
     Err(Memory)
 }
 
-/// One document with the number under the name, and none for 0. Fails for want of memory.
+/// One document with the number under the name, and none for 0. Returns `Memory` if memory runs out.
 pub fn counted(
     alloc: Global,
     name: &Name,
@@ -108,7 +108,7 @@ pub fn counted(
     Ok(documents)
 }
 
-/// The groups of the documents. Fails for want of memory.
+/// The groups of the documents. Returns `Memory` if memory runs out.
 pub(crate) fn grouped(
     alloc: Global,
     spec: Arc<GroupSpec, Global>,

@@ -36,7 +36,7 @@ fn comes_late(spec: &SortSpec, count: usize, top: &Top, key: &SortKey) -> bool
     !compare_keys(spec, key, &top.rows[count - 1].key).is_lt()
 }
 
-// Puts the rows in order, and leaves so many. Fails for want of memory.
+// Puts the rows in order, and leaves so many. Returns `Memory` if memory runs out.
 fn cut_rows(spec: &SortSpec, count: usize, top: &mut Top) -> Result<(), Memory>
     requires some { 0 < count }
     requires many { count ≤ length top.old.rows.items }
@@ -50,7 +50,7 @@ fn cut_rows(spec: &SortSpec, count: usize, top: &mut Top) -> Result<(), Memory>
     Ok(())
 }
 
-// Takes in the row of the next document. Fails for want of memory.
+// Takes in the row of the next document. Returns `Memory` if memory runs out.
 fn put(spec: &SortSpec, count: usize, top: &mut Top, row: Keyed) -> Result<(), Memory>
     requires some { 0 < count }
     requires cut { cond top.old.is_cut count 0 ≤ length top.old.rows.items }
@@ -69,7 +69,7 @@ fn put(spec: &SortSpec, count: usize, top: &mut Top, row: Keyed) -> Result<(), M
     Ok(())
 }
 
-// The rows that are kept of all documents: at most twice so many. Fails for want of memory.
+// The rows that are kept of all documents: at most twice so many. Returns `Memory` if memory runs out.
 fn kept_rows(
     alloc: Global,
     spec: &SortSpec,
@@ -92,7 +92,7 @@ fn kept_rows(
     Ok(top)
 }
 
-/// The first of the documents in order, so many. At most twice so many are kept meanwhile, with their keys. Fails for want of memory.
+/// The first of the documents in order, so many. At most twice so many are kept meanwhile, with their keys. Returns `Memory` if memory runs out.
 pub(crate) fn first_sorted(
     alloc: Global,
     spec: &SortSpec,

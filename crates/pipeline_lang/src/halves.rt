@@ -9,7 +9,7 @@ use std::alloc::Global;
 use std::sync::Arc;
 use value_compare::Span;
 
-/// What a half gives of the documents behind its stages.
+/// What a half gives of the documents after its stages.
 #[derive(Drop)]
 pub enum HalfEnd {
     /// The documents.
@@ -25,9 +25,9 @@ pub enum HalfEnd {
 pub struct Half {
     /// No document with a key outside adds anything.
     pub span: Span,
-    /// The stages, one behind the other.
+    /// The stages, one after the other.
     pub stages: Pipeline,
-    /// What is given behind them.
+    /// What is given after them.
     pub last: HalfEnd,
 }
 
@@ -40,7 +40,7 @@ pub enum Joining {
     Groups(Arc<GroupSpec, Global>),
     /// Numbers, as one document with their sum under this name.
     Counts(Name),
-    /// Documents, one part behind the other.
+    /// Documents, one part after the other.
     AsTheyCome,
 }
 
@@ -49,6 +49,6 @@ pub enum Joining {
 pub struct Merge {
     /// How the rows are put together.
     pub joining: Joining,
-    /// The stages behind that.
+    /// The stages after that.
     pub stages: Pipeline,
 }

@@ -170,7 +170,7 @@ fn begins_with_dollar(name: &[u8]) -> bool
     }
 }
 
-// Whether a number may stand under that name.
+// Whether a number may be under that name.
 fn may_count(name: &[u8]) -> bool
     ensures { result ≡ may_count name.now }
 {

@@ -35,7 +35,7 @@ pub enum Stage {
     Count(Name),
 }
 
-/// Stages, one behind the other, seen as the list of them.
+/// Stages, one after the other, seen as the list of them.
 #[derive(Drop)]
 pub struct Pipeline {
     pub(crate) stages: Vec<Stage>,
@@ -55,7 +55,7 @@ impl Model for Pipeline {
 }
 
 impl Stage {
-    /// The same stage once more; what it asks for is shared. Fails for want of memory.
+    /// The same stage once more; what it asks for is shared. Returns `Memory` if memory runs out.
     pub fn share(&self) -> Result<Stage, Memory>
         ensures { IfOk result (λ s. stage_of s ≡ stage_of self.now) }
     {
@@ -88,7 +88,7 @@ impl Pipeline {
 
     /// The pipeline that an array is. Fails where it is none: with `BadOperand` where it has more than 1,000 stages, else with the first
     /// fault of the stages in order (`BadOperand`, `UnknownOperator`, or what its operand is at fault with, as the filter, the
-    /// projection, the specification of groups or of a sort have it). Fails with `Memory` for want of memory.
+    /// projection, the specification of groups or of a sort have it). Fails with `Memory` if memory runs out.
     pub fn parse(alloc: Global, array: &Array) -> Result<Pipeline, ParseFault>
         // A pipeline is what the array reads as.
         ensures pipeline { IfOk result (λ p. read_pipeline array.now ≡ Ok p) }

@@ -156,7 +156,7 @@ grouped spec go parts rows start out given merged h =
     (overflow_run spec go (flat_map (λ p. p) parts) merged.0 made none.0))
     merged.2
 
--- by how the stages behind the front are cut
+-- by how the stages after the front are cut
 cut_merges : (stages : List Stage) (parts : List (List Fields)) (rows : List Rows) (start out : Outcome) → Reaches stages (flat_map (λ p. p) parts) →
     AllGive (cut stages).stages (cut stages).last parts rows → Joined (cut stages).merge.joining rows start → GoesOn (cut stages).merge.stages start out →
     Runs stages (flat_map (λ p. p) parts) out

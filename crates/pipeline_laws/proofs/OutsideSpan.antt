@@ -1,4 +1,4 @@
--- A document whose key is outside a half's span is gone behind the front; and no half overflows.
+-- A document whose key is outside a half's span is gone after the front; and no half overflows.
 use Rattle.std.proofs.Common.{◌≡◌, List, [], ◌∷◌, ◌++◌, refl, sym, ap, ◌∙◌, subst}
 use Rattle.std.specs.Prelude.{Bool, true, false, cond, filter, Option, Some, None, Result, Ok, Err, ◌↔◌, if◌then◌else◌}
 use Rattle.bson_model.specs.Tree.{Datum, Fields}

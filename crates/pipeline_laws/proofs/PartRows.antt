@@ -44,7 +44,7 @@ joined (in_overflow spec parts rows made none) = (rows, made, inr (none, refl))
 joined (in_sum name parts) = refl
 joined (as_they_come parts) = refl
 
--- what is given of documents behind the front
+-- what is given of documents after the front
 pub record Gives (stages : List Stage) (last : HalfEnd) (docs : List Fields) (rows : Rows) : Type 0 where
   pub left : List Fields
   pub runs : Runs stages docs (listed left)

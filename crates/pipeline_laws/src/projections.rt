@@ -38,7 +38,7 @@ pub fn excluded()
         (doc (("b", number 1) ∷ [])) }
 {}
 
-/// A computed field takes the value at its path in the document as it came. It stands behind the stored ones, in the
+/// A computed field takes the value at its path in the document as it came. It is after the stored ones, in the
 /// projection's order; a stored field of its name is left out, and without a value there is none.
 pub fn computed()
     ensures with_id { projected (doc (("x", text "$a") ∷ [])) (doc (("_id", number 1) ∷ ("a", number 2) ∷ ("b", number 3) ∷ []))
@@ -69,7 +69,7 @@ pub fn paths_through_arrays()
     ensures first { value_at (codes "a" ∷ []) (doc (("a", null_value) ∷ ("a", number 1) ∷ [])) ≡ Some null_value }
 {}
 
-/// A name is one part, and a text a path behind `$`; a name is judged before its value, and the rules before the whole: that
+/// A name is one part, and a text a path after `$`; a name is judged before its value, and the rules before the whole: that
 /// there is one, and that names which are included or computed have only `_id` excluded beside them, and not both ways.
 pub fn refused()
     ensures names { (read_projection (doc (("a.b", number 1) ∷ [])) ≡ Err bad_operand)

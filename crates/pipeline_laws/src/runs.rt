@@ -20,7 +20,7 @@ pub fn worked()
         (listed (doc (("_id", number 2) ∷ ("total", number 3) ∷ []) ∷ doc (("_id", number 5) ∷ ("total", number 3) ∷ []) ∷ [])) }
 {}
 
-/// Documents that compare equal stand in either order, and others in one.
+/// Documents that compare equal are in either order, and others in one.
 pub fn ties()
     ensures kept { RunsTo (one "$sort" (inner "x" (number 1)) ∷ []) (numbered 1 2 ∷ numbered 2 2 ∷ []) (listed (numbered 1 2 ∷ numbered 2 2 ∷ [])) }
     ensures exchanged { RunsTo (one "$sort" (inner "x" (number 1)) ∷ []) (numbered 1 2 ∷ numbered 2 2 ∷ []) (listed (numbered 2 2 ∷ numbered 1 2 ∷ [])) }

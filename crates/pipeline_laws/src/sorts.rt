@@ -10,7 +10,7 @@ ghost use Rattle.pipeline_model.specs.SortKeys.{empty_array, order_parts, read_s
 ghost use Rattle.pipeline_laws.specs.SamplePipelines.{compared_by, doc, key_by, same_fields};
 ghost use Rattle.query_model.specs.SampleChanges.{long, text};
 
-/// Upwards the least of what stands at the path, downwards the greatest; an array stands for its elements, one step deep, and an
+/// Upwards the least of what is at the path, downwards the greatest; an array stands for its elements, one step deep, and an
 /// empty one for a mark.
 pub fn keys_of_values()
     ensures scalar { key_by (doc (("a", number 1) ∷ [])) (doc (("a", number 3) ∷ [])) ≡ Ok (value_part (number 3) ∷ []) }

@@ -49,8 +49,8 @@ pub fn refused()
     ensures many { stages_of (repeated 1001 (one "$lookup" (number 1))) ≡ Err bad_operand }
 {}
 
-/// Behind the front of `$match` and `$project`: a sort with what it is limited to, a limit, a group or a count go into the half;
-/// the merge goes on at `$skip` or `$limit`, or behind the rest. A skip never does.
+/// After the front of `$match` and `$project`: a sort with what it is limited to, a limit, a group or a count go into the half;
+/// the merge goes on at `$skip` or `$limit`, or after the rest. A skip never does.
 pub fn split()
     ensures sort_skip_limit { split_of (one "$match" (document_value no_fields) ∷ one "$sort" (inner "a" (number 1)) ∷ one "$skip" (number 2)
         ∷ one "$limit" (number 3) ∷ one "$count" (text "n") ∷ [])
@@ -90,7 +90,7 @@ pub fn split()
     ensures reach { (reach 2 3 ≡ 5) × (reach (2 ^ 64 - 1) 2 ≡ 2 ^ 64 - 1) }
 {}
 
-/// The first `$match` in front that asks for a key; none behind another stage.
+/// The first `$match` in front that asks for a key; none after another stage.
 pub fn spans()
     ensures first { result_map_both (λ s. s.0.span) (λ e. e)
         (split_of (one "$match" (inner "a" (number 1)) ∷ one "$match" (inner "_id" (number 5)) ∷ one "$match" (inner "_id" (number 6)) ∷ []))

@@ -7,8 +7,8 @@ use fixtures::{RowFault, Rows, field, number};
 use std::alloc::Global;
 use std::collections::VecDeque;
 
-/// `LENGTHS | SIZE | COUNTS`: how many documents stand in each batch of a cursor on documents of these lengths, asked for with the size,
-/// or with none where it is `none`; behind the last one the cursor is gone.
+/// `LENGTHS | SIZE | COUNTS`: how many documents are in each batch of a cursor on documents of these lengths, asked for with the size,
+/// or with none where it is `none`; after the last one the cursor is gone.
 #[derive(Drop)]
 pub struct Batches;
 
@@ -48,7 +48,7 @@ fn namespace_of(alloc: Global) -> Result<Namespace, RowFault> {
     }
 }
 
-// Whether the batches have so many documents each, and none comes behind them.
+// Whether the batches have so many documents each, and none comes after them.
 fn are_batches(
     shelf: &mut Shelf,
     namespace: &Namespace,

@@ -24,7 +24,7 @@ fn rows_of_part(alloc: Global, half: &Half, part: Value) -> Result<Rows, RowFaul
     eval_half(alloc, half, documents).map_err(row_fault)
 }
 
-/// What the half gives of each document by itself. Fails where one has no rows, and for want of memory.
+/// What the half gives of each document by itself. Fails where one has no rows, and if memory runs out.
 pub fn rows_of_each(
     alloc: Global,
     half: &Half,

@@ -12,7 +12,7 @@ const BESIDE_DATA: usize = 4 + 1 + 2 + 4 + 1 + 1;
 const BLOCK: usize = 4096;
 
 /// Documents of the lengths in words with blanks between, in order: a number of bytes, or such a number, `*` and how many documents
-/// have it, which are one that is shared. Fails at any other word, where a length is below 13, and for want of memory.
+/// have it, which are one that is shared. Fails at any other word, where a length is below 13, and if memory runs out.
 pub fn long_documents(
     alloc: Global,
     lengths: &str,

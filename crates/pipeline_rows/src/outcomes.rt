@@ -11,7 +11,7 @@ use std::sync::Arc;
 pub type Outcome = Result<Vec<Arc<Document, Global>>, EvalFault>;
 
 /// Whether an outcome is one that the rest of a row allows: `ordered | LIST | LIST ..`, one of these lists; `any | LIST | LIST ..`, the
-/// documents of one of these lists in any order; or `overflow`. Fails where the row is in no such form, and for want of memory.
+/// documents of one of these lists in any order; or `overflow`. Fails where the row is in no such form, and if memory runs out.
 pub fn is_allowed(alloc: Global, outcome: &Outcome, wanted: &str) -> Result<bool, RowFault> {
     match outcome {
         Ok(documents) => is_listed(alloc, documents, wanted),

@@ -8,7 +8,7 @@ use pipeline_lang::Pipeline;
 use std::alloc::Global;
 use std::sync::Arc;
 
-/// The array that words spell, the byte of its type in front. Fails where they spell none, and for want of memory.
+/// The array that words encode, the byte of its type in front. Fails where they encode none, and if memory runs out.
 pub fn array_of(alloc: Global, words: &str) -> Result<Array, RowFault> {
     array_in(spelled_value(alloc, words)?)
 }
@@ -21,7 +21,7 @@ pub fn array_in(value: Value) -> Result<Array, RowFault> {
     }
 }
 
-/// The documents of an array, in order. Fails where another value is in it, and for want of memory.
+/// The documents of an array, in order. Fails where another value is in it, and if memory runs out.
 pub fn documents_in(alloc: Global, array: Array) -> Result<Vec<Arc<Document, Global>>, RowFault> {
     let mut documents = Vec::new(alloc);
     for value in array.into_values() {
@@ -37,12 +37,12 @@ fn document_in(alloc: Global, value: Value) -> Result<Arc<Document, Global>, Row
     }
 }
 
-/// The documents of the array that words spell. Fails where they spell none, and for want of memory.
+/// The documents of the array that words encode. Fails where they encode none, and if memory runs out.
 pub fn documents_of(alloc: Global, words: &str) -> Result<Vec<Arc<Document, Global>>, RowFault> {
     documents_in(alloc, array_of(alloc, words)?)
 }
 
-/// The pipeline that the array is which words spell. Fails where they spell none, and for want of memory.
+/// The pipeline that the array is which words encode. Fails where they encode none, and if memory runs out.
 pub fn pipeline_of(alloc: Global, words: &str) -> Result<Pipeline, RowFault> {
     let array = array_of(alloc, words)?;
     match Pipeline::parse(alloc, &array) {

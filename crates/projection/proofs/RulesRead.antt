@@ -12,7 +12,7 @@ use Rattle.pipeline_model.specs.Operands.{named_path, read_name}
 use Rattle.pipeline_model.specs.Projections.{Treatment, NameRule, Projection, one_part, read_treatment, read_rules}
 use Rattle.projection.specs.RuleReading.{read_rule}
 
--- a rule, and the others behind it
+-- a rule, and the others after it
 abbrev ruled : List ℕ → Treatment → NameRule
 ruled part treatment = record { name = part; treatment = treatment }
 

@@ -1,4 +1,4 @@
--- One element of a loop, and those behind it, until there is none.
+-- One element of a loop, and those after it, until there is none.
 use Rattle.std.proofs.Common.{◌≡◌, ℕ, ◌<◌, ◌≤◌, ◌+◌, List, length, get_or, drop, sym, ap, ◌∙◌}
 use Rattle.std.proofs.lemmas.List.{drop_all}
 use Rattle.bson_model.proofs.Joined.{joined_none, joined_items_none}
@@ -12,14 +12,14 @@ use Rattle.pipeline_model.proofs.Depths.{project_within}
 use Rattle.projection.specs.declared.rules.NameRule.{NameRule}
 use Rattle.projection.specs.View.{rules_of}
 
--- the next field is put behind the others
+-- the next field is put after the others
 pub put_field : (of : Fields → Fields) (before now whole : Fields) (ms : List Field) (i : ℕ) (m : Field) → i < length ms → m ≡ get_or ms i m →
     ((rest : Fields) → joined now (of rest) ≡ joined before (of (field m.name (datum_of m.value) rest))) →
     joined before (of (fields_of (drop i ms))) ≡ whole → joined now (of (fields_of (drop (i + 1) ms))) ≡ whole
 put_field of before now whole ms i m less is put so_far =
     put (fields_of (drop (i + 1) ms)) ∙ ap (λ (x : List Field). joined before (of (fields_of x))) (sym (next_field ms i m less is)) ∙ so_far
 
--- the next value is put behind the others
+-- the next value is put after the others
 pub put_value : (of : Items → Items) (before now whole : Items) (vs : List Value) (i : ℕ) (v : Value) → i < length vs → v ≡ get_or vs i v →
     ((rest : Items) → joined_items now (of rest) ≡ joined_items before (of (item (datum_of v) rest))) →
     joined_items before (of (items_of (drop i vs))) ≡ whole → joined_items now (of (items_of (drop (i + 1) vs))) ≡ whole

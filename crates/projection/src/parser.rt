@@ -26,7 +26,7 @@ fn switch(is_shown: bool) -> Treatment
     }
 }
 
-// Computed, from the path behind the text's `$`.
+// Computed, from the path after the text's `$`.
 fn parse_computed(alloc: Global, text: &str) -> Result<Treatment, ParseFault>
     ensures gives { Gives treatment_of result (read_treatment (string_value text.now)) }
 {

@@ -42,7 +42,7 @@ impl Model for Projection {
 impl Projection {
     /// The projection that a document is. Fails where it is none, with its first fault: of the fields in order, of each first its
     /// name (`Path`, then `BadOperand` where it has more than one part) and then its value (`BadOperand`, or `Path` for the path
-    /// behind its `$`); behind them with `BadOperand` for what concerns the whole. Fails with `Memory` for want of memory.
+    /// after its `$`); after them with `BadOperand` for what concerns the whole. Fails with `Memory` if memory runs out.
     pub fn parse(alloc: Global, document: &Document) -> Result<Projection, ParseFault>
         // A projection is what the document reads as.
         ensures projection { IfOk result (λ p. read_projection document.now ≡ Ok p) }
@@ -75,7 +75,7 @@ fn stays(projection: &Projection, name: &str) -> bool
     }
 }
 
-// Puts a field behind the others, if it stays.
+// Puts a field after the others, if it stays.
 #[tactic(auto, using(bson_model::proofs::Joined::joined_one))]
 fn push_stored(projection: &Projection, stored: &Field, left: &mut Document) -> Result<(), Memory>
     ensures { OnOk result ((rest : Fields) → joined left.new (fields_named (stays projection.now) rest)
@@ -89,7 +89,7 @@ fn push_stored(projection: &Projection, stored: &Field, left: &mut Document) -> 
     left.push(name, value)
 }
 
-// Puts the field that a rule computes behind the others, if it computes one and there is a value.
+// Puts the field that a rule computes after the others, if it computes one and there is a value.
 #[tactic(auto, using(bson_model::proofs::Joined::joined_one))]
 fn push_computed(
     alloc: Global,
@@ -126,7 +126,7 @@ fn stored_fields(
 }
 
 /// The document that the projection leaves of another: the stored fields that stay, in their order, and then the computed ones, in
-/// the projection's. Fails for want of memory.
+/// the projection's. Returns `Memory` if memory runs out.
 pub fn project(
     alloc: Global,
     projection: &Projection,

@@ -11,7 +11,7 @@ use field_paths::Path;
 use std::alloc::Global;
 
 /// The value at the path in the document: through an array, the array of the values of those of its elements that are documents
-/// and have one. Fails for want of memory.
+/// and have one. Returns `Memory` if memory runs out.
 pub fn value_at(alloc: Global, path: &Path, document: &Document) -> Result<Option<Value>, Memory>
     ensures { IfOk result (λ v. option_map datum_of v ≡ value_at path.now document.now) }
 {
@@ -72,7 +72,7 @@ fn values_in_array(
     Ok(found)
 }
 
-// Puts what an element has behind the others, if it is a document and has a value.
+// Puts what an element has after the others, if it is a document and has a value.
 #[cycle(value)]
 #[tactic(auto, using(bson_model::proofs::Joined::joined_items_one))]
 fn push_element(

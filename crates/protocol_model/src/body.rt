@@ -54,7 +54,7 @@ impl Body {
         }
     }
 
-    /// The same once more. Documents, keys and tables are shared. Fails for want of memory.
+    /// The same once more. Documents, keys and tables are shared. Returns `Memory` if memory runs out.
     pub fn copy(&self, alloc: Global) -> Result<Body, Memory>
         ensures { IfOk result (λ body. body_view body ≡ body_view self.now) }
     {

@@ -36,7 +36,7 @@ impl Model for NewChange {
 }
 
 impl NewChange {
-    /// The words, to be shared. Fails for want of memory.
+    /// The words, to be shared. Returns `Memory` if memory runs out.
     pub fn of(alloc: Global, words: OpWords) -> Result<NewChange, Memory>
         requires { IsKeepable (operation_view words) }
         ensures { IfOk result (λ new. new ≡ operation_view words) }
@@ -53,7 +53,7 @@ impl NewChange {
         &self.words
     }
 
-    /// The same words, shared once more. Fails for want of memory.
+    /// The same words, shared once more. Returns `Memory` if memory runs out.
     pub fn copy(&self) -> Result<NewChange, Memory>
         ensures { IfOk result (λ new. new ≡ self.now) }
     {

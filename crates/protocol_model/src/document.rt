@@ -35,7 +35,7 @@ impl Model for NewDocument {
 }
 
 impl NewDocument {
-    /// The document, to be shared. Fails for want of memory.
+    /// The document, to be shared. Returns `Memory` if memory runs out.
     pub fn of(alloc: Global, document: Document) -> Result<NewDocument, Memory>
         requires { IsKeepable (insert_operation document) }
         ensures { IfOk result (λ new. new ≡ document) }
@@ -52,7 +52,7 @@ impl NewDocument {
         &self.document
     }
 
-    /// The same document, shared once more. Fails for want of memory.
+    /// The same document, shared once more. Returns `Memory` if memory runs out.
     pub fn copy(&self) -> Result<NewDocument, Memory>
         ensures { IfOk result (λ new. new ≡ self.now) }
     {

@@ -33,7 +33,7 @@ pub struct ReadAsk {
 }
 
 impl ReadAsk {
-    /// The same once more, which shares the half. Fails for want of memory.
+    /// The same once more, which shares the half. Returns `Memory` if memory runs out.
     pub fn copy(&self) -> Result<ReadAsk, Memory>
         ensures { IfOk result (λ ask. read_ask_view ask ≡ read_ask_view self.now) }
     {
@@ -62,7 +62,7 @@ pub struct HalfAsk {
 }
 
 impl HalfAsk {
-    /// The same once more, which shares the half and the documents. Fails for want of memory.
+    /// The same once more, which shares the half and the documents. Returns `Memory` if memory runs out.
     pub fn copy(&self, alloc: Global) -> Result<HalfAsk, Memory>
         ensures { IfOk result (λ ask. half_ask_view ask ≡ half_ask_view self.now) }
     {
@@ -89,7 +89,7 @@ pub struct ReadRows {
 }
 
 impl ReadRows {
-    /// The same once more, which shares the documents. Fails for want of memory.
+    /// The same once more, which shares the documents. Returns `Memory` if memory runs out.
     pub fn copy(&self, alloc: Global) -> Result<ReadRows, Memory>
         ensures { IfOk result (λ told. read_rows_view told ≡ read_rows_view self.now) }
     {
@@ -111,7 +111,7 @@ pub struct TimeAsk {
     pub id: RequestId,
 }
 
-/// The answer: the time stands in the message.
+/// The answer: the time is in the message.
 #[derive(Clone, Copy, Debug, PartialEq, Eq, Drop)]
 pub struct TimeTold {
     pub id: RequestId,

@@ -24,7 +24,7 @@ pub enum Operation {
 }
 
 impl Operation {
-    /// The same once more, which shares its documents. Fails for want of memory.
+    /// The same once more, which shares its documents. Returns `Memory` if memory runs out.
     pub fn copy(&self) -> Result<Operation, Memory>
         ensures { IfOk result (λ operation. operation_view operation ≡ operation_view self.now) }
     {
@@ -43,7 +43,7 @@ pub struct Statement {
 }
 
 impl Statement {
-    /// The same statement once more, which shares its documents. Fails for want of memory.
+    /// The same statement once more, which shares its documents. Returns `Memory` if memory runs out.
     pub fn copy(&self) -> Result<Statement, Memory>
         ensures { (given : Option ClientNumber) (id : RequestId) →
             IfOk result (λ statement. statement_view given id statement ≡ statement_view given id self.now) }
@@ -70,7 +70,7 @@ pub struct Outcome {
 }
 
 impl Outcome {
-    /// The same once more. Fails for want of memory.
+    /// The same once more. Returns `Memory` if memory runs out.
     fn copy(&self) -> Result<Outcome, Memory>
         ensures { IfOk result (λ outcome. outcome_view outcome ≡ outcome_view self.now) }
     {
@@ -112,7 +112,7 @@ impl StatementOutcome {
         }
     }
 
-    /// The same once more. Fails for want of memory.
+    /// The same once more. Returns `Memory` if memory runs out.
     fn copy(&self) -> Result<StatementOutcome, Memory>
         ensures { IfOk result (λ answer. answer_view answer ≡ answer_view self.now) }
     {
@@ -134,7 +134,7 @@ pub struct Done {
 }
 
 impl Done {
-    /// The same once more. Fails for want of memory.
+    /// The same once more. Returns `Memory` if memory runs out.
     pub fn copy(&self) -> Result<Done, Memory>
         ensures { IfOk result (λ done. done_view done ≡ done_view self.now) }
     {

@@ -29,7 +29,7 @@ pub struct TableAsk {
 }
 
 impl TableAsk {
-    /// The same once more. Fails for want of memory.
+    /// The same once more. Returns `Memory` if memory runs out.
     pub fn copy(&self) -> Result<TableAsk, Memory>
         ensures { IfOk result (λ ask. table_ask_view ask ≡ table_ask_view self.now) }
     {
@@ -51,7 +51,7 @@ pub struct TableTold {
     pub table: Option<Arc<Table, Global>>,
 }
 
-/// The same table once more, shared. Fails for want of memory.
+/// The same table once more, shared. Returns `Memory` if memory runs out.
 fn share_table(table: &Option<Arc<Table, Global>>) -> Result<Option<Arc<Table, Global>>, Memory>
     ensures { IfOk result (λ copy. option_map (λ t. arc_value t) copy ≡ option_map (λ t. arc_value t) table.now) }
 {
@@ -62,7 +62,7 @@ fn share_table(table: &Option<Arc<Table, Global>>) -> Result<Option<Arc<Table, G
 }
 
 impl TableTold {
-    /// The same once more, which shares the table. Fails for want of memory.
+    /// The same once more, which shares the table. Returns `Memory` if memory runs out.
     pub fn copy(&self) -> Result<TableTold, Memory>
         ensures { IfOk result (λ told. table_told_view told ≡ table_told_view self.now) }
     {

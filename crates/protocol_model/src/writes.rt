@@ -23,7 +23,7 @@ pub struct WriteAsk {
 }
 
 impl WriteAsk {
-    /// The same once more, which shares the documents. Fails for want of memory.
+    /// The same once more, which shares the documents. Returns `Memory` if memory runs out.
     pub fn copy(&self, alloc: Global) -> Result<WriteAsk, Memory>
         ensures { IfOk result (λ ask. write_ask_view ask ≡ write_ask_view self.now) }
     {
@@ -49,7 +49,7 @@ pub struct WriteDone {
 }
 
 impl WriteDone {
-    /// The same once more. Fails for want of memory.
+    /// The same once more. Returns `Memory` if memory runs out.
     pub fn copy(&self, alloc: Global) -> Result<WriteDone, Memory>
         ensures { IfOk result (λ done. write_done_view done ≡ write_done_view self.now) }
     {

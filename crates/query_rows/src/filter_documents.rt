@@ -6,14 +6,14 @@ use fixtures::{RowFault, Rows, bytes_of, field};
 use match_expr::Expr;
 use std::alloc::Global;
 
-/// The document that words spell. Fails where they spell none, and for want of memory.
+/// The document that words encode. Fails where they encode none, and if memory runs out.
 pub fn document_of(alloc: Global, words: &str) -> Result<Document, RowFault> {
     let bytes = bytes_of(alloc, words)?;
     let (document, _length) = read(alloc, &bytes)?;
     Ok(document)
 }
 
-/// The filter that words spell. Fails with `Form` where they spell none, and for want of memory.
+/// The filter that words encode. Fails with `Form` where they encode none, and if memory runs out.
 pub fn filter_of(alloc: Global, words: &str) -> Result<Expr, RowFault> {
     let document = document_of(alloc, words)?;
     match Expr::parse(alloc, &document) {

@@ -61,7 +61,7 @@ fn within_element(alloc: Global, document: Document) -> Result<Document, RowFaul
     single(alloc, "a", Value::Doc(tests))
 }
 
-// The document with this one field. Fails with `Form` where no field has the name, and for want of memory.
+// The document with this one field. Fails with `Form` where no field has the name, and if memory runs out.
 fn single(alloc: Global, name: &str, value: Value) -> Result<Document, RowFault> {
     if !is_name(name) {
         return Err(RowFault::Form);

@@ -34,7 +34,7 @@ fn is_left(after: &Option<Document>, wanted: &Option<Document>) -> bool {
     }
 }
 
-// Whether this key is told, in this spelling, or none.
+// Whether this key is told, in this encoding, or none.
 fn is_told(alloc: Global, key: &Option<Key>, wanted: &str) -> Result<bool, RowFault> {
     match key {
         Some(key) => is_spelled(alloc, key.value(), wanted),
@@ -42,7 +42,7 @@ fn is_told(alloc: Global, key: &Option<Key>, wanted: &str) -> Result<bool, RowFa
     }
 }
 
-// Whether a value is spelled so.
+// Whether a value is encoded so.
 fn is_spelled(alloc: Global, value: &Value, wanted: &str) -> Result<bool, RowFault> {
     let other = spelled_value(alloc, wanted)?;
     Ok(value.same_data(&other))

@@ -1,4 +1,4 @@
-//! What stands at paths in documents.
+//! What is at paths in documents.
 
 ghost use Rattle.std.specs.Ordering.{is_eq};
 ghost use Rattle.bson_values.specs.View.{datum_of};
@@ -35,7 +35,7 @@ fn document_of(alloc: Global, words: &str) -> Result<Document, RowFault> {
     Ok(document)
 }
 
-// Whether these values stand at the path and no others, each of them is met, and MaxKey is not.
+// Whether these values are at the path and no others, each of them is met, and MaxKey is not.
 fn has_values(
     alloc: Global,
     path: &Path,
@@ -54,7 +54,7 @@ fn has_values(
     Ok(left.is_empty() && !any_at(path, document, &Same(Value::MaxKey)))
 }
 
-// Whether the value is the one that the words spell, and is met at the path.
+// Whether the value is the one that the words encode, and is met at the path.
 fn is_met(
     alloc: Global,
     path: &Path,

@@ -4,7 +4,7 @@ use field_paths::{Path, PathFault};
 use fixtures::{RowFault, Rows, field};
 use std::alloc::Global;
 
-/// The path of a name. Fails with `Form` where it is none, and for want of memory.
+/// The path of a name. Fails with `Form` where it is none, and if memory runs out.
 pub fn path_of(alloc: Global, name: &str) -> Result<Path, RowFault> {
     match Path::parse(alloc, name) {
         Ok(path) => Ok(path),

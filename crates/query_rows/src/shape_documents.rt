@@ -5,7 +5,7 @@ use field_paths::ParseFault;
 use fixtures::{RowFault, bytes_of, field};
 use std::alloc::Global;
 
-/// The document that the words in a row's first field spell, and the other fields. Fails where they spell none, and for want of
+/// The document that the words in a row's first field encode, and the other fields. Fails where they encode none, and for want of
 /// memory.
 pub fn first_document(alloc: Global, row: &str) -> Result<(Document, &str), RowFault> {
     let (words, others) = field(row);

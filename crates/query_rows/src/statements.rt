@@ -52,7 +52,7 @@ fn delete_holds(alloc: Global, filter: &str, rest: &str) -> Result<bool, RowFaul
     does(alloc, &OpWords::Delete { filter }, rest)
 }
 
-// Whether a statement has the outcome, of a document that stands before, if any.
+// Whether a statement has the outcome, of a document that is before, if any.
 fn does(alloc: Global, words: &OpWords, row: &str) -> Result<bool, RowFault> {
     match Op::read(alloc, words) {
         Ok(op) => applies(alloc, &op, row),

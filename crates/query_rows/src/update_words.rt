@@ -6,14 +6,14 @@ use fixtures::{RowFault, bytes_of};
 use std::alloc::Global;
 use update_ops::ApplyFault;
 
-/// The document that words spell. Fails where they spell none, and for want of memory.
+/// The document that words encode. Fails where they encode none, and if memory runs out.
 pub fn document_of(alloc: Global, words: &str) -> Result<Document, RowFault> {
     let bytes = bytes_of(alloc, words)?;
     let (document, _length) = read(alloc, &bytes)?;
     Ok(document)
 }
 
-/// The document that words spell, or none, where they are `none`.
+/// The document that words encode, or none, where they are `none`.
 pub fn document_if_any(alloc: Global, words: &str) -> Result<Option<Document>, RowFault> {
     if words == "none" {
         return Ok(None);

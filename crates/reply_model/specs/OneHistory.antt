@@ -22,13 +22,13 @@ pub record IsWriteIn (namespace : List ℕ) (a : Asked) : Type 0 where
   pub asks : command_of a.request ≡ Ok (write_command write)
   pub name : write.namespace ≡ namespace
 
--- the error with which an answer ends is that of a done statement in front of this index
+-- the error with which an answer ends is that of a done statement before this index
 abbrev pub EndsBefore : (index : ℕ) → WriteCommand → List Done → Type 0
 EndsBefore index write [] = ⊥
 EndsBefore index write (d ∷ dones) = ((d.index < index) × (ends write.ordered d ≡ true) × WasDone d.answer) ⊎ EndsBefore index write dones
 
 -- The entry was made for a request that a router took and that sent its statement: it is later than what the router knew then, and the
--- request was not told that it had ended in front of that statement.
+-- request was not told that it had ended before that statement.
 pub record WasSent (history : List Entry) (asked : List Asked) (answered : List Answered) (e : Entry) : Type 0 where
   pub request : Asked
   pub taken : IsIn request asked
@@ -52,7 +52,7 @@ StandsInPart history a = (write : WriteCommand) → command_of a.request ≡ Ok 
 abbrev pub IsOrdered : List Asked → Entry → Type 0
 IsOrdered asked e = AllByRecursion (λ (b : Asked). (sends : Sends b e) → sends.write.ordered ≡ true) asked
 
--- then each statement in front of it was done before, without an error
+-- then each statement before it was done before, without an error
 abbrev pub IsReached : List Entry → List Asked → Entry → Type 0
 IsReached history asked e = IsOrdered asked e → (i : ℕ) → i < e.number.index
     → (d : Entry) × IsIn d history × (d.number ≡ record { session = e.number.session; transaction = e.number.transaction; index = i })
@@ -146,7 +146,7 @@ abbrev pub AreDifferentNames : List Creation → Type 0
 AreDifferentNames [] = Unit {0}
 AreDifferentNames (c ∷ creations) = AllByRecursion (λ (d : Creation). d.namespace ≢ c.namespace) creations × AreDifferentNames creations
 
--- the entry stands on the shard that owned its key at its time, in a collection that began before it
+-- the entry is on the shard that owned its key at its time, in a collection that began before it
 pub record IsPlaced (creations : List Creation) (e : Entry) : Type 0 where
   pub creation : Creation
   pub key : Datum
@@ -158,7 +158,7 @@ pub record IsPlaced (creations : List Creation) (e : Entry) : Type 0 where
 
 -- Whatever clients send: the entries are one legal history of an unsharded collection with each statement at most once; each is
 -- of a request that a router took, stands where it belongs and is later than what its router knew; no shard uses a number again, nor takes
--- an older transaction; each statement in front of one that stands was done, where all who sent it are ordered; each collection was wanted
+-- an older transaction; each statement before one that stands was done, where all who sent it are ordered; each collection was wanted
 -- by a write; each request is told once at most, and rightly; and what its router knew then is not before what it had told and taken.
 pub record OneHistory (given : List Given) (creations : List Creation) (history : List Entry) (asked : List Asked) (answered : List Answered) : Type 0 where
   pub legal : Legal history

@@ -13,7 +13,7 @@ use Rattle.router_cursors.specs.Marks.{Marked, rises, left_in, AreKept, cursor_b
 use Rattle.router_cursors.proofs.Looks.{changed, has_is}
 use Rattle.router_cursors.proofs.Opened.{apart, itself}
 
--- one closed behind the others
+-- one closed after the others
 pub closed_last : (id : RequestId) (numbers : List ℤ) (number : ℤ) (cursors : List Cursor) → closed_all id (numbers ++ number ∷ []) cursors ≡ with_remaining id number [] (closed_all id numbers cursors)
 closed_last id [] number cursors = refl
 closed_last id (n ∷ numbers) number cursors = closed_last id numbers number (with_remaining id n [] cursors)

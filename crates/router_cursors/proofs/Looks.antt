@@ -151,7 +151,7 @@ module _ (router life count : ℕ) where
     open_none number namespace gave marks rising kept none =
         open_none_by number namespace marks none (are_named gave 0 gave marks marks rising (omega arith) (λ n more. refl) kept)
 
-    -- a number behind those that were given
+    -- a number after those that were given
     pub open_not_given : (number : ℤ) (namespace : List ℕ) (gave : ℕ) (marks : List Marked) → rises 0 gave marks ≡ true → int_le number (pos gave) ≡ false
         → open_cursor id number namespace (map (λ m. cursor m) marks) ≡ None
     open_not_given number namespace gave marks rising behind = open_none_has number namespace marks (not_given 0 gave number marks rising behind)
@@ -236,7 +236,7 @@ module _ (router life count : ℕ) where
           ∙ sym (ap (λ (b : Bool). if b then made (pos m.1.number) m.0 m.1.time.0 (drop shown (left_in (look number))) ∷ map (λ k. cursor_by router life look k) marks
           else cursor_by router life look m ∷ with_remaining id number (drop shown (left_in (look number))) (map (λ k. cursor_by router life look k) marks)) test)
 
-  -- one more is opened behind the others
+  -- one more is opened after the others
   pub opened_last : (look next : ℤ → Option OpenCursor) (gave n : ℕ) (marks : List Marked) (m : Marked) (c : OpenCursor) → rises 0 gave marks ≡ true → n ≡ gave + 1 → m.1.number ≡ n
       → ((i : ℤ) → i ≢ pos n → next i ≡ look i) → next (pos n) ≡ Some c
       → map (λ k. cursor_by router life next k) (marks ++ m ∷ []) ≡ map (λ k. cursor_by router life look k) marks ++ made (pos n) m.0 m.1.time.0 c.remaining ∷ []
@@ -317,7 +317,7 @@ module _ (look next : ℤ → Option OpenCursor) (gave : ℕ) (marks : List Mark
       not_same k n gave behind low other = omega (arith, behind, low, other)
   given_before (negsuc k) n behind other given = refl
 
-  -- one is opened under the number behind
+  -- one is opened under the number after
   pub kept_opened : (n : ℕ) (m : Marked) (c : OpenCursor) → rises 0 gave marks ≡ true → n ≡ gave + 1 → m.1.number ≡ n → m.0 ≡ c.namespace → m.1.time.0 ≡ c.time → is_left c.remaining ≡ true
       → ((i : ℤ) → i ≢ pos n → next i ≡ look i) → next (pos n) ≡ Some c → AreKept next n (marks ++ m ∷ [])
   kept_opened n m c rising behind is name time left others there i d has given = by (int_eq i (pos n)) refl where

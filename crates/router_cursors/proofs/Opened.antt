@@ -53,14 +53,14 @@ above_all least greatest n (m ∷ marks) e above =
     let low = rises_low m.1.number greatest marks h.1 in
     (apart (pos m.1.number) (pos n) (λ same. absurd (omega (arith, pos_same m.1.number n same, low, above))), above_all m.1.number greatest n marks h.1 above)
 
--- a number behind those that were given
+-- a number after those that were given
 pub not_given : (least greatest : ℕ) (number : ℤ) (marks : List Marked) → rises least greatest marks ≡ true → int_le number (pos greatest) ≡ false → NoneHas number marks
 not_given least greatest (pos n) marks e behind = above_all least greatest n marks e (behind_is n greatest behind) where
   behind_is : (n greatest : ℕ) → int_le (pos n) (pos greatest) ≡ false → greatest < n
   behind_is n greatest f = leb-false n greatest f
 not_given least greatest (negsuc n) marks e behind = absurd (cc behind)
 
--- behind a number that rises
+-- after a number that rises
 pub none_behind : (least greatest : ℕ) (marks : List Marked) → rises least greatest marks ≡ true → NoneHas (pos least) marks
 none_behind least greatest marks e = none_up least least greatest marks (omega arith) e where
   none_up : (n least greatest : ℕ) (marks : List Marked) → n ≤ least → rises least greatest marks ≡ true → NoneHas (pos n) marks
@@ -76,7 +76,7 @@ pub mark_none : (number : ℤ) (marks : List Marked) → NoneHas number marks �
 mark_none number [] none = refl
 mark_none number (m ∷ marks) none = ap (λ (b : Bool). if b then Some (m.0, m.1.time.0) else mark_of number marks) none.0 ∙ mark_none number marks none.1
 
--- one more behind the others
+-- one more after the others
 pub mark_last : (number : ℤ) (marks : List Marked) (m : Marked) → NoneHas number marks → pos m.1.number ≡ number → mark_of number (marks ++ m ∷ []) ≡ Some (m.0, m.1.time.0)
 mark_last number [] m none same =
     ap (λ (b : Bool). if b then Some (m.0, m.1.time.0) else None) (subst (λ (i : ℤ). int_eq i number ≡ true) (sym same) (itself number))

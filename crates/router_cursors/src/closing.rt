@@ -48,7 +48,7 @@ impl CursorList {
         }
     }
 
-    // Puts a number with those that are closed, if its cursor is open and not closed yet, else with the others. Fails for want of memory.
+    // Puts a number with those that are closed, if its cursor is open and not closed yet, else with the others. Returns `Memory` if memory runs out.
     fn sort_out(
         &self,
         closed: &mut BTreeSet<i64>,
@@ -70,7 +70,7 @@ impl CursorList {
         Ok(())
     }
 
-    /// Which of these numbers are closed, in order, and which are not those of open cursors of the namespace. Fails for want of memory.
+    /// Which of these numbers are closed, in order, and which are not those of open cursors of the namespace. Returns `Memory` if memory runs out.
     pub fn closing(&self, namespace: &Namespace, numbers: &[i64]) -> Result<Closing, Memory>
         ensures { (router life count : ℕ) → IfOk result (λ closing. Kills (record { router = router; life = life; count = count }) namespace.now (cursors_of router life self.now)
             numbers.now closing.killed.items closing.missing.items (closed_all (record { router = router; life = life; count = count }) closing.killed.items (cursors_of router life self.now))) }

@@ -68,7 +68,7 @@ impl CursorList {
         number_behind(self.blocks, self.gave)
     }
 
-    /// Makes room for the next cursor, on documents of a namespace at a time. Fails for want of memory, and where numbers are at their
+    /// Makes room for the next cursor, on documents of a namespace at a time. Returns `Memory` if memory runs out, and where numbers are at their
     /// end. The cursors are the same either way.
     pub fn make_room(&mut self, namespace: &Namespace, time: Time) -> Result<(), Memory>
         ensures room { OnOk result (HasRoomFor self.new namespace.now time.0) }
@@ -118,7 +118,7 @@ impl CursorList {
     }
 
     /// The next batch of the cursor of that number, if it is open on the namespace, of so many documents at most, where a size is given;
-    /// they are shared. Fails with `NotFound` where there is no such cursor, and for want of memory.
+    /// they are shared. Fails with `NotFound` where there is no such cursor, and if memory runs out.
     pub fn next_batch(
         &self,
         number: i64,

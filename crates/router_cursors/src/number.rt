@@ -27,7 +27,7 @@ pub(crate) fn as_signed(number: u64) -> i64
     number as i64
 }
 
-/// The next number behind those that were given, where so many blocks were written. None where they are at their end.
+/// The next number after those that were given, where so many blocks were written. None where they are at their end.
 pub(crate) fn number_behind(blocks: u64, gave: u64) -> Option<NewNumber>
     requires few { blocks ≤ 2 ^ 56 }
     requires within { gave ≤ 64 * blocks }

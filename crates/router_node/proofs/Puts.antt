@@ -31,7 +31,7 @@ told_as replies id time link number request document fits told =
 pub some_same : {X : Type 0} (a b : X) → Some a ≡ Some b → a ≡ b
 some_same a b e = cc
 
--- one more request is told, of those behind others
+-- one more request is told, of those after others
 pub next_told : {X Y : Type 0} (told : Y → List Reply) (meant : X → Y) (requests : List X) (i : ℕ) (q : X) (old new whole : List ToLink) → i < length requests → q ≡ get_or requests i q
     → new ≡ old ++ puts_of (told (meant q)) → old ++ puts_of (flat_map told (map meant (drop i requests))) ≡ whole
     → new ++ puts_of (flat_map told (map meant (drop (i + 1) requests))) ≡ whole

@@ -1,4 +1,4 @@
--- A row in front of which the life begins, if it did not begin.
+-- A row before which the life begins, if it did not begin.
 use Rattle.std.proofs.Common.{◌≡◌, refl, ap, sym, subst, ◌∙◌, ℕ, ℤ, ◌+◌, List, [], ◌∷◌, ◌++◌, Bool, true, false, append-nil, if◌then◌else◌}
 use Rattle.std.specs.Prelude.{max, Result, Ok, Err, IfOk}
 use Rattle.std.specs.List.{flat_map}

@@ -34,7 +34,7 @@ impl RouterNode {
     ghost use Rattle.router_node.specs.Rows.{started};
     ghost use Rattle.router_node.specs.StepPlans.{IsPlanned};
 
-    // A request that is answered at once. Fails for want of memory.
+    // A request that is answered at once. Returns `Memory` if memory runs out.
     fn plan_plain(&self, asked: Asked, answer: Answer) -> Result<StepPlan, Memory>
         requires few { taken_of self.now.requests < 2 ^ 64 - 1 }
         requires plan { rows.plan_of (started (router_of self.now))
@@ -48,7 +48,7 @@ impl RouterNode {
         self.starts(self.time, self.moment, Change::Counts, mail, reply)
     }
 
-    // A request that has work to do. Fails for want of memory.
+    // A request that has work to do. Returns `Memory` if memory runs out.
     fn plan_open(
         &self,
         asked: Asked,
@@ -78,7 +78,7 @@ impl RouterNode {
         self.starts(self.time, self.moment, Change::Opens(opened), mail, None)
     }
 
-    // A request that comes on a link; the number is that of its reply. Fails for want of memory.
+    // A request that comes on a link; the number is that of its reply. Returns `Memory` if memory runs out.
     pub(crate) fn plan_client(
         &self,
         link: u32,

@@ -60,7 +60,7 @@ impl RouterNode {
         }
     }
 
-    // What an open request asks for where a table is told, by the one that is known then. Fails for want of memory.
+    // What an open request asks for where a table is told, by the one that is known then. Returns `Memory` if memory runs out.
     fn asks_next(
         &self,
         time: Time,
@@ -89,7 +89,7 @@ impl RouterNode {
         }
     }
 
-    // What an open request is told where a table is told, by the one that is known then. Fails for want of memory.
+    // What an open request is told where a table is told, by the one that is known then. Returns `Memory` if memory runs out.
     fn reply_next(
         &self,
         time: Time,
@@ -117,7 +117,7 @@ impl RouterNode {
         }
     }
 
-    // Puts what an open request asks for behind other messages. Fails for want of memory.
+    // Puts what an open request asks for after other messages. Returns `Memory` if memory runs out.
     fn add_next(
         &self,
         mail: &mut MailList<Message>,
@@ -136,7 +136,7 @@ impl RouterNode {
         }
     }
 
-    // Puts what an open request is told behind other replies. Fails for want of memory.
+    // Puts what an open request is told after other replies. Returns `Memory` if memory runs out.
     fn add_reply(
         &self,
         replies: &mut ReplyList,
@@ -155,7 +155,7 @@ impl RouterNode {
         }
     }
 
-    // What these open requests ask for where a table is told. Fails for want of memory.
+    // What these open requests ask for where a table is told. Returns `Memory` if memory runs out.
     fn mail_next(
         &self,
         time: Time,
@@ -174,7 +174,7 @@ impl RouterNode {
         Ok(mail)
     }
 
-    // What these open requests are told where a table is told. Fails for want of memory.
+    // What these open requests are told where a table is told. Returns `Memory` if memory runs out.
     #[tactic(auto, using(crate::proofs::Puts::puts_append))]
     fn replies_next(
         &self,
@@ -194,7 +194,7 @@ impl RouterNode {
         Ok(replies)
     }
 
-    // What a table that is told comes to. Fails for want of memory.
+    // What a table that is told comes to. Returns `Memory` if memory runs out.
     pub(crate) fn plan_table(&self, time: Time, told: TableTold) -> Result<StepPlan, Memory>
         ensures { (m : Letter) → m.body ≡ table_told_view told → time.0 ≡ rows.heard (router_of self.now) m →
             IfOk result (λ p. IsHeard (router_of self.now) m p) }

@@ -142,7 +142,7 @@ impl RouterNode {
         }
     }
 
-    // What work waits for at a time, and what it asks for. Fails for want of memory.
+    // What work waits for at a time, and what it asks for. Returns `Memory` if memory runs out.
     pub(crate) fn asks_for(
         &self,
         time: Time,

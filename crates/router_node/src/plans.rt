@@ -34,7 +34,7 @@ impl RouterNode {
         }
     }
 
-    // What a read has to do: it is of the time that it names, or else of the router's. Fails for want of memory.
+    // What a read has to do: it is of the time that it names, or else of the router's. Returns `Memory` if memory runs out.
     fn plan_read(&self, reading: Reading, telling: Telling) -> Result<RequestPlan, Memory>
         ensures { (id : asked.RequestId) → IfOk result (λ plan. plan_view id plan ≡ rows.plan_read (started (router_of self.now)) (reading_view reading)
             (telling_view telling)) }
@@ -55,7 +55,7 @@ impl RouterNode {
         }
     }
 
-    // What a command is answered, or has to do. Fails for want of memory.
+    // What a command is answered, or has to do. Returns `Memory` if memory runs out.
     fn plan_command(&self, silent: bool, command: Command) -> Result<RequestPlan, Memory>
         requires { IsSmallCommand (command_view command) }
         ensures { (id : asked.RequestId) → IfOk result (λ plan. plan_view id plan
@@ -81,7 +81,7 @@ impl RouterNode {
         }
     }
 
-    // What a request of this body is answered, or has to do. Fails for want of memory.
+    // What a request of this body is answered, or has to do. Returns `Memory` if memory runs out.
     pub(crate) fn plan_of(
         &self,
         sent: Form,

@@ -38,7 +38,7 @@ impl RouterNode {
     ghost use Rattle.router_node.specs.RouterStates.{router_of};
     ghost use Rattle.router_node.specs.StepPlans.{IsHeard};
 
-    // What becomes of a read whose rows are told. Fails for want of memory.
+    // What becomes of a read whose rows are told. Returns `Memory` if memory runs out.
     pub(crate) fn plan_rows(&self, time: Time, told: ReadRows) -> Result<StepPlan, Memory>
         ensures { (m : Letter) → m.body ≡ read_rows_view told → time.0 ≡ rows.heard (router_of self.now) m →
             IfOk result (λ p. IsHeard (router_of self.now) m p) }
@@ -58,7 +58,7 @@ impl RouterNode {
         }
     }
 
-    // An open read of a time that has come goes on, at a time of the router. Fails for want of memory.
+    // An open read of a time that has come goes on, at a time of the router. Returns `Memory` if memory runs out.
     fn plan_go(
         &self,
         time: Time,
@@ -82,7 +82,7 @@ impl RouterNode {
         Ok(self.hears(time, Change::Reaches(id.count, wait), message, None))
     }
 
-    // An open read of a time that is ahead is refused, at a time of the router. Fails for want of memory.
+    // An open read of a time that is ahead is refused, at a time of the router. Returns `Memory` if memory runs out.
     fn plan_ahead(
         &self,
         time: Time,
@@ -130,7 +130,7 @@ impl RouterNode {
         }
     }
 
-    // What becomes of a read where every shard told its time, at a time of the router. Fails for want of memory.
+    // What becomes of a read where every shard told its time, at a time of the router. Returns `Memory` if memory runs out.
     pub(crate) fn plan_time(&self, time: Time, told: &TimeTold) -> Result<StepPlan, Memory>
         ensures { (m : Letter) → m.body ≡ time_told_view told.now → time.0 ≡ rows.heard (router_of self.now) m →
             IfOk result (λ p. IsHeard (router_of self.now) m p) }

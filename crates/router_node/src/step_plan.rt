@@ -164,7 +164,7 @@ impl RouterNode {
         }
     }
 
-    // A plan in whose front the life begins, if it did not begin. Fails for want of memory.
+    // A plan in whose front the life begins, if it did not begin. Returns `Memory` if memory runs out.
     pub(crate) fn starts(
         &self,
         time: Time,

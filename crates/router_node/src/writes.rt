@@ -29,7 +29,7 @@ fn are_as_many(before: &DoneList, answers: &DoneList) -> bool
     before.len() == answers.len()
 }
 
-/// The answers with those that are told next. Fails for want of memory.
+/// The answers with those that are told next. Returns `Memory` if memory runs out.
 fn with_told(alloc: Global, answers: &DoneList, dones: &DoneList) -> Result<DoneList, Memory>
     ensures { IfOk result (λ list. map done_view list.items ≡ rows.noted (map done_view answers.now.items) (map done_view dones.now.items)) }
 {
@@ -44,7 +44,7 @@ fn is_all(ordered: bool, statements: &StatementList, answers: &DoneList) -> bool
     is_answered(ordered, statements, answers)
 }
 
-/// What the statements of a write of this kind are told together, where this is the time unless an entry answered. Fails for want of memory,
+/// What the statements of a write of this kind are told together, where this is the time unless an entry answered. Returns `Memory` if memory runs out,
 /// and where that is longer than can be told.
 fn answer_to(
     alloc: Global,
@@ -74,7 +74,7 @@ impl RouterNode {
     ghost use Rattle.router_node.specs.RouterStates.{router_of};
     ghost use Rattle.router_node.specs.StepPlans.{IsHeard};
 
-    // All statements of a write are answered. Fails for want of memory.
+    // All statements of a write are answered. Returns `Memory` if memory runs out.
     fn plan_all(
         &self,
         time: Time,
@@ -100,7 +100,7 @@ impl RouterNode {
         Ok(self.hears(time, Change::Closes(request.count), None, reply))
     }
 
-    // What an open write asks for by its table, if it is there, with these answers. Fails for want of memory.
+    // What an open write asks for by its table, if it is there, with these answers. Returns `Memory` if memory runs out.
     fn asks_more(
         &self,
         time: Time,
@@ -126,7 +126,7 @@ impl RouterNode {
         )
     }
 
-    // Some statements of a write are answered, and the next are asked for. Fails for want of memory.
+    // Some statements of a write are answered, and the next are asked for. Returns `Memory` if memory runs out.
     fn plan_rest(
         &self,
         time: Time,
@@ -152,7 +152,7 @@ impl RouterNode {
         Ok(self.hears(time, Change::Notes(id.count, wait, noted), message, None))
     }
 
-    // Some statements of a write are answered, or all. Fails for want of memory.
+    // Some statements of a write are answered, or all. Returns `Memory` if memory runs out.
     fn plan_noted(
         &self,
         time: Time,
@@ -177,7 +177,7 @@ impl RouterNode {
         }
     }
 
-    // What becomes of a write whose outcomes are told, at a time of the router. Fails for want of memory.
+    // What becomes of a write whose outcomes are told, at a time of the router. Returns `Memory` if memory runs out.
     pub(crate) fn plan_dones(&self, time: Time, told: &WriteDone) -> Result<StepPlan, Memory>
         ensures { (m : letters.Letter) → m.body ≡ write_done_view told.now → time.0 ≡ rows.heard (router_of self.now) m →
             IfOk result (λ p. IsHeard (router_of self.now) m p) }

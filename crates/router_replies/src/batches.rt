@@ -22,7 +22,7 @@ use std::sync::Arc;
 /// Documents that are shared, in order.
 pub type DocumentList = Vec<Arc<Document, Global>>;
 
-/// What is told of a collection that is not there at a time. Fails for want of memory.
+/// What is told of a collection that is not there at a time. Returns `Memory` if memory runs out.
 pub fn empty_answer(
     alloc: Global,
     namespace: &Namespace,

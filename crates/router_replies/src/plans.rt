@@ -36,7 +36,7 @@ pub enum RequestPlan {
     NeedsEnd(KillCursors),
 }
 
-/// What a write has to do. Fails for want of memory.
+/// What a write has to do. Returns `Memory` if memory runs out.
 pub fn plan_write(alloc: Global, write: WriteCommand) -> Result<RequestPlan, Memory>
     requires { IsSmallWrite (write_view write) }
     ensures { (id : asked.RequestId) → IfOk result (λ plan. plan_view id plan

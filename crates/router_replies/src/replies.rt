@@ -23,7 +23,7 @@ const MOST_LEVELS: usize = 104;
 /// The most bytes that a document has which is written.
 const MOST_BYTES: usize = 300_000_000;
 
-/// The bytes of the reply of this number to a request. Fails for want of memory, and where the answer is larger than one may be.
+/// The bytes of the reply of this number to a request. Returns `Memory` if memory runs out, and where the answer is larger than one may be.
 fn bytes_of(alloc: Global, head: &Head, number: i32, answer: &Answer) -> Result<Blob, Memory>
     ensures { IfOk result (λ bytes. bytes ≡ wire.reply_bytes (form_view head.now.form) head.now.id number (answer_document (answer_view answer.now))) }
 {
@@ -36,7 +36,7 @@ fn bytes_of(alloc: Global, head: &Head, number: i32, answer: &Answer) -> Result<
     Blob::of(alloc, &bytes)
 }
 
-/// The reply of this number to a request, for its link: none where none is wanted. Fails for want of memory, and where the answer is
+/// The reply of this number to a request, for its link: none where none is wanted. Returns `Memory` if memory runs out, and where the answer is
 /// larger than one may be.
 pub fn reply_to(
     alloc: Global,

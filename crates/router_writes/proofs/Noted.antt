@@ -3,7 +3,7 @@ use Rattle.std.proofs.Common.{◌≡◌, ◌≢◌, ap, sym, ◌∙◌, List, []
 use Rattle.reply_model.specs.Outcomes.{Done}
 use Rattle.node_model.specs.RouterRows.{noted}
 
--- the answers stand first
+-- the answers come first
 noted_more : (answers dones : List Done) → (more : List Done) × (noted answers dones ≡ answers ++ more)
 noted_more answers [] = ([], sym (append-nil answers))
 noted_more answers (d ∷ dones) = by_next (d.index == length answers) (noted_more (answers ++ d ∷ []) dones) (noted_more answers dones) where

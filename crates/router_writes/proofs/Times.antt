@@ -1,4 +1,4 @@
--- The greatest time of entries is that of those so far and of those behind.
+-- The greatest time of entries is that of those so far and of those after.
 use Rattle.std.proofs.Common.{◌≡◌, refl, ap, ℕ, List, ◌∷◌, max, arith}
 use Rattle.std.specs.Prelude.{Option, Some, None}
 use Rattle.std.specs.Option.{option_map, unwrap_or}

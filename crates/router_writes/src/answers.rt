@@ -20,7 +20,7 @@ use command_replies::{Answer, WriteKind};
 use protocol_model::{Done, DoneList, Statement, StatementOutcome};
 use std::alloc::Global;
 
-/// The same once more. Fails for want of memory.
+/// The same once more. Returns `Memory` if memory runs out.
 fn copies_of(alloc: Global, dones: &[Done]) -> Result<DoneList, Memory>
     ensures { IfOk result (λ list. map done_view list.items ≡ map done_view dones.now) }
 {
@@ -31,7 +31,7 @@ fn copies_of(alloc: Global, dones: &[Done]) -> Result<DoneList, Memory>
     Ok(copies)
 }
 
-/// The answers with those that are told next, in the order of the statements. Fails for want of memory.
+/// The answers with those that are told next, in the order of the statements. Returns `Memory` if memory runs out.
 pub fn note(alloc: Global, answers: &[Done], dones: &[Done]) -> Result<DoneList, Memory>
     ensures { IfOk result (λ list. map done_view list.items ≡ rows.noted (map done_view answers.now) (map done_view dones.now)) }
 {

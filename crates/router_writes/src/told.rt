@@ -42,7 +42,7 @@ fn key_of(answer: &StatementOutcome) -> Option<&Arc<Key, Global>>
     }
 }
 
-/// Puts the key that a statement put in, if it was an upsert that did, behind the others. Fails for want of memory, and where its index
+/// Puts the key that a statement put in, if it was an upsert that did, after the others. Returns `Memory` if memory runs out, and where its index
 /// is none that a command can have.
 #[tactic(auto, using(crate::proofs::Counted::keys_pushed, crate::proofs::Counted::key_told))]
 fn add_key(keys: &mut Vec<Upserted>, done: &Done) -> Result<(), Memory>
@@ -57,7 +57,7 @@ fn add_key(keys: &mut Vec<Upserted>, done: &Done) -> Result<(), Memory>
     Ok(())
 }
 
-/// The keys that upserts put in, in order; they are shared. Fails for want of memory, and where an index is none that a command can have.
+/// The keys that upserts put in, in order; they are shared. Returns `Memory` if memory runs out, and where an index is none that a command can have.
 fn keys_of(alloc: Global, dones: &[Done]) -> Result<Vec<Upserted>, Memory>
     ensures { IfOk result (λ keys. upserted_view keys.items ≡ outcomes.upserted_by (map done_view dones.now)) }
 {
@@ -84,7 +84,7 @@ fn are_short(keys: &[Upserted]) -> bool
     true
 }
 
-/// The keys that upserts put in, in order; they are shared. Fails for want of memory, where an index is none that a command can have, and
+/// The keys that upserts put in, in order; they are shared. Returns `Memory` if memory runs out, where an index is none that a command can have, and
 /// where the keys are longer together than can be told.
 pub(crate) fn upserted_by(alloc: Global, dones: &[Done]) -> Result<Vec<Upserted>, Memory>
     ensures keys { IfOk result (λ keys. upserted_view keys.items ≡ outcomes.upserted_by (map done_view dones.now)) }
@@ -117,7 +117,7 @@ fn refusal_of(answer: &StatementOutcome) -> Option<Refusal>
     }
 }
 
-/// Puts the error that a statement is told, if it is told one, behind the others. Fails for want of memory, and where its index is
+/// Puts the error that a statement is told, if it is told one, after the others. Returns `Memory` if memory runs out, and where its index is
 /// none that a command can have.
 #[tactic(auto, using(crate::proofs::Counted::errors_pushed, crate::proofs::Counted::error_told))]
 fn add_error(errors: &mut Vec<WriteError>, done: &Done) -> Result<(), Memory>
@@ -131,7 +131,7 @@ fn add_error(errors: &mut Vec<WriteError>, done: &Done) -> Result<(), Memory>
     Ok(())
 }
 
-/// The errors, in order. Fails for want of memory, and where an index is none that a command can have.
+/// The errors, in order. Returns `Memory` if memory runs out, and where an index is none that a command can have.
 pub(crate) fn errors_of(alloc: Global, dones: &[Done]) -> Result<Vec<WriteError>, Memory>
     ensures { IfOk result (λ errors. errors_view errors.items ≡ outcomes.errors_of (map done_view dones.now)) }
 {

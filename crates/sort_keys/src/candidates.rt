@@ -105,7 +105,7 @@ fn first_among<'a>(direction: Direction, values: &[&'a Value]) -> Option<Part<'a
 }
 
 /// What a document sorts by at one path: the first in its direction of the values there, each array replaced by its elements, and of
-/// null where there is a gap; null where there is nothing. Fails for want of memory.
+/// null where there is a gap; null where there is nothing. Returns `Memory` if memory runs out.
 pub fn key_part(alloc: Global, field: &SortField, document: &Document) -> Result<KeyPart, Memory>
     ensures { IfOk result (λ p. part_of p ≡ key_part (field_of field.now) document.now) }
 {

@@ -31,7 +31,7 @@ impl Model for SortKey {
     ghost view = { λ k. parts_of k.parts.items };
 }
 
-/// The key of a document: of each path what comes first there in its direction. Fails for want of memory.
+/// The key of a document: of each path what comes first there in its direction. Returns `Memory` if memory runs out.
 pub fn sort_key(alloc: Global, spec: &SortSpec, document: &Document) -> Result<SortKey, Memory>
     ensures { IfOk result (λ k. k ≡ sort_key spec.now document.now) }
 {

@@ -88,7 +88,7 @@ fn parse_fields(alloc: Global, document: &Document) -> Result<Vec<SortField>, Pa
 impl SortSpec {
     /// The specification that a document is. Fails where it is none: with `BadOperand` where it has more than 32 fields, else with
     /// the first fault of the fields in order, of each first its path (`Path`) and then its direction (`BadOperand`). Fails with
-    /// `Memory` for want of memory.
+    /// `Memory` if memory runs out.
     #[tactic(auto, using(crate::proofs::FieldsRead::too_many, crate::proofs::FieldsRead::few_enough))]
     pub fn parse(alloc: Global, document: &Document) -> Result<SortSpec, ParseFault>
         // A specification is what the document reads as.

@@ -1,4 +1,4 @@
-//! Answers against their documents, spelled by hand: those that no short connection gets.
+//! Answers against their documents, encoded by hand: those that no short connection gets.
 
 use bson_values::{Aligned, Document, Text, Value, read};
 use cluster_base::{Code, Namespace, Time};

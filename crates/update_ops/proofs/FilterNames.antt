@@ -140,7 +140,7 @@ pub start_has_key : (filter : Fields) (asked : Query) (start : Fields) (key : Da
     Some key ≡ key_equal asked → start ≡ equalities_in filter → is_ok (valid_key start) ≡ true
 start_has_key filter asked start key read plain there is = start_keyed asked start (start_is filter asked start read plain is) (ap is_some (sym there))
 
--- ---- the equalities of a filter, put one behind the other
+-- ---- the equalities of a filter, put one after the other
 
 -- all are put
 pub equalities_put : (all start : Fields) (ms : List Field) (i : ℕ) → joined start (equalities_in (fields_of (drop i ms))) ≡ all → length ms ≤ i → start ≡ all

@@ -22,7 +22,7 @@ use Rattle.bson_model.proofs.Booleans.{neither}
 small : (after : Fields) → is_too_large after ≡ false → length (written after) ≤ most_bytes_kept
 small after h = ltb-false most_bytes_kept (length (written after)) (neither _ _ h)
 
--- documents of one spelling, one of which is not too large
+-- documents of one encoding, one of which is not too large
 same_spelling : (before after : Fields) → AreFields before → AreFields after → is_too_large after ≡ false → bytes_eq (written before) (written after) ≡ true →
     after ≡ before
 same_spelling before after first second large same =

@@ -20,7 +20,7 @@ passes_on NotNumber r s on h = on _ h
 passes_on NotDocument r s on h = on _ h
 passes_on Memory r s on h = tt
 
--- a step behind one that failed
+-- a step after one that failed
 pub fails_first : {A B : Type 0} (r : Result A WriteFault) (step : A → Result B WriteFault) (f : WriteFault) → r ≡ Err f → (r >>= step) ≡ Err f
 fails_first r step f h = rw h refl
 

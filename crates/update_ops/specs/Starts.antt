@@ -1,4 +1,4 @@
--- What an upsert begins with, as it stands in the document of its filter (MongoDB manual, "Upsert Behavior"): the same as is said of
+-- What an upsert begins with, as it is in the document of its filter (MongoDB manual, "Upsert Behavior"): the same as is said of
 -- the query that the document is.
 use Rattle.std.specs.Prelude.{ℕ, List, Bool, true, false, ◌&&◌, not, Option, Some, ◌==◌, if◌then◌else◌}
 use Rattle.std.specs.List.{list_any}
@@ -39,13 +39,13 @@ abbrev pub is_equality : Option Operator → Bool
 is_equality (Some eq_operator) = true
 is_equality operator = false
 
--- a field of that name for each `$eq`, in front of others
+-- a field of that name for each `$eq`, before others
 abbrev pub operands_before : List ℕ → Fields → Fields → Fields
 operands_before name no_fields rest = rest
 operands_before name (field operator d ms) rest =
     if is_equality (named operators operator) then field name d (operands_before name ms rest) else operands_before name ms rest
 
--- the equalities of one field, in front of others
+-- the equalities of one field, before others
 abbrev pub equalities_before : List ℕ → Datum → Fields → Fields
 equalities_before name (document_value ms) rest = if is_operator_document ms then operands_before name ms rest else field name (document_value ms) rest
 equalities_before name d rest = field name d rest

@@ -6,7 +6,7 @@ use Rattle.query_model.specs.Changes.{Change}
 use Rattle.query_model.specs.Edits.{WriteFault, ◌>>=◌, on_the_way, put_at, changed}
 use Rattle.query_model.specs.Effects.{Effect, updated, upserted_with}
 
--- the value put below what stands on the way
+-- the value put below what is on the way
 abbrev pub put_inside : Path → Datum → Option Datum → Result Fields WriteFault
 put_inside path value found = on_the_way found >>= put_at path value
 

@@ -9,12 +9,12 @@ pub enum Number {
     Int64(i64),
 }
 
-/// What an operator makes of what stands at its path (MongoDB manual, "Update Operators").
+/// What an operator makes of what is at its path (MongoDB manual, "Update Operators").
 #[derive(Drop)]
 pub enum Edit {
     /// Puts the value there.
     Set(Value),
-    /// Takes out what stands there.
+    /// Takes out what is there.
     Unset,
     /// Adds the number.
     Inc(Number),

@@ -35,7 +35,7 @@ fn set(
     put_at(alloc, path, value.copy()?, document)
 }
 
-// The number added to what stands at the path.
+// The number added to what is at the path.
 fn increment(
     alloc: Global,
     path: &[Name],
@@ -48,7 +48,7 @@ fn increment(
     put_at(alloc, path, sum, document)
 }
 
-// The value put at the path where it is less than what stands there.
+// The value put at the path where it is less than what is there.
 fn put_lesser(
     alloc: Global,
     path: &[Name],
@@ -61,7 +61,7 @@ fn put_lesser(
     put_at(alloc, path, lesser, document)
 }
 
-// The value put at the path where it is greater than what stands there.
+// The value put at the path where it is greater than what is there.
 fn put_greater(
     alloc: Global,
     path: &[Name],
@@ -207,7 +207,7 @@ pub fn is_too_large(document: &Document) -> bool
 }
 
 /// What the change makes of a document. Fails with the first fault of its edits in their order (`NotDocument`, `NotNumber`,
-/// `Overflow`, `Immutable`), with `TooLarge` where what it made is, and for want of memory.
+/// `Overflow`, `Immutable`), with `TooLarge` where what it made is, and if memory runs out.
 pub fn changed(alloc: Global, change: &Update, before: &Document) -> Result<Document, ApplyFault>
     ensures gives { Gives (λ d. d) result (changed (change_of change.now) before.now) }
 {

@@ -102,7 +102,7 @@ fn not_met(upsert: &Option<Start>, before: &Document) -> Result<Applied, ApplyFa
     }
 }
 
-// The key of a document that has one. Fails for want of memory.
+// The key of a document that has one. Returns `Memory` if memory runs out.
 #[tactic(auto, using(crate::proofs::Told::key_is, crate::proofs::Told::never_faulty))]
 fn kept_key(alloc: Global, document: &Document) -> Result<Key, Memory>
     requires { is_ok (valid_key document.now) ≡ true }

@@ -1,4 +1,4 @@
-//! What an upsert begins with, as it stands in the document of its filter (MongoDB manual, "Upsert Behavior").
+//! What an upsert begins with, as it is in the document of its filter (MongoDB manual, "Upsert Behavior").
 
 ghost use Rattle.std.specs.Prelude.{◌≡◌, IfOk, OnOk, codes, if◌then◌else◌};
 ghost use Rattle.std.specs.Str.{bytes_eq};
@@ -139,7 +139,7 @@ fn is_equality(operator: &str) -> bool
     "$eq" == operator
 }
 
-// Puts a field of that name with the value behind others. Fails for want of memory.
+// Puts a field of that name with the value after others. Returns `Memory` if memory runs out.
 #[tactic(auto, using(bson_model::proofs::Joined::joined_one))]
 fn push_value(name: &Name, value: &Value, start: &mut Document) -> Result<(), Memory>
     ensures { OnOk result ((rest : Fields) → joined start.new rest ≡ joined start.old (field name.now (datum_of value.now) rest)) }
@@ -147,7 +147,7 @@ fn push_value(name: &Name, value: &Value, start: &mut Document) -> Result<(), Me
     start.push(name.copy()?, value.copy()?)
 }
 
-// Puts a field of that name for each `$eq` behind others. Fails for want of memory.
+// Puts a field of that name for each `$eq` after others. Returns `Memory` if memory runs out.
 fn push_operands(name: &Name, operators: &Document, start: &mut Document) -> Result<(), Memory>
     ensures { OnOk result ((rest : Fields) → joined start.new rest ≡ joined start.old (operands_before name.now operators.now rest)) }
 {
@@ -159,7 +159,7 @@ fn push_operands(name: &Name, operators: &Document, start: &mut Document) -> Res
     Ok(())
 }
 
-// Puts the equalities of one field behind others. Fails for want of memory.
+// Puts the equalities of one field after others. Returns `Memory` if memory runs out.
 fn push_equalities(name: &Name, value: &Value, start: &mut Document) -> Result<(), Memory>
     ensures { OnOk result ((rest : Fields) → joined start.new rest ≡ joined start.old (equalities_before name.now (datum_of value.now) rest)) }
 {
@@ -175,7 +175,7 @@ fn push_equalities(name: &Name, value: &Value, start: &mut Document) -> Result<(
     }
 }
 
-/// The equalities at the top of a filter, in its order. Fails for want of memory.
+/// The equalities at the top of a filter, in its order. Returns `Memory` if memory runs out.
 pub fn equalities(alloc: Global, filter: &Document) -> Result<Document, Memory>
     ensures { IfOk result (λ d. d ≡ equalities_in filter.now) }
 {

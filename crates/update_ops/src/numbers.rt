@@ -34,7 +34,7 @@ fn short_sum(a: i32, b: i32) -> Result<Value, ApplyFault>
     }
 }
 
-// An int32 added to what stands there.
+// An int32 added to what is there.
 fn add_int32(n: i32, found: Option<&Value>) -> Result<Value, ApplyFault>
     ensures gives { Gives (λ v. datum_of v) result (sum_with (int32_value n) (option_map (λ v. datum_of v.now) found.entry)) }
 {
@@ -46,7 +46,7 @@ fn add_int32(n: i32, found: Option<&Value>) -> Result<Value, ApplyFault>
     }
 }
 
-// An int64 added to what stands there.
+// An int64 added to what is there.
 fn add_int64(n: i64, found: Option<&Value>) -> Result<Value, ApplyFault>
     ensures gives { Gives (λ v. datum_of v) result (sum_with (int64_value n) (option_map (λ v. datum_of v.now) found.entry)) }
 {
@@ -58,7 +58,7 @@ fn add_int64(n: i64, found: Option<&Value>) -> Result<Value, ApplyFault>
     }
 }
 
-/// The number added to what stands there, or by itself where nothing does: an int32 where both are and it fits, else an int64. Fails
+/// The number added to what is there, or by itself where nothing does: an int32 where both are and it fits, else an int64. Fails
 /// with `NotNumber` where that is none, and with `Overflow` past int64.
 pub fn sum_with(number: Number, found: Option<&Value>) -> Result<Value, ApplyFault>
     ensures gives { Gives (λ v. datum_of v) result (sum_with (number_datum number) (option_map (λ v. datum_of v.now) found.entry)) }
@@ -69,7 +69,7 @@ pub fn sum_with(number: Number, found: Option<&Value>) -> Result<Value, ApplyFau
     }
 }
 
-/// A copy of the value where it is less than what stands there, or nothing does; else of that. Fails for want of memory.
+/// A copy of the value where it is less than what is there, or nothing does; else of that. Returns `Memory` if memory runs out.
 pub fn lesser_of(value: &Value, found: Option<&Value>) -> Result<Value, Memory>
     ensures { IfOk result (λ v. datum_of v ≡ lesser_of (datum_of value.now) (option_map (λ v. datum_of v.now) found.entry)) }
 {
@@ -83,7 +83,7 @@ pub fn lesser_of(value: &Value, found: Option<&Value>) -> Result<Value, Memory>
     }
 }
 
-/// A copy of the value where it is greater than what stands there, or nothing does; else of that. Fails for want of memory.
+/// A copy of the value where it is greater than what is there, or nothing does; else of that. Returns `Memory` if memory runs out.
 pub fn greater_of(value: &Value, found: Option<&Value>) -> Result<Value, Memory>
     ensures { IfOk result (λ v. datum_of v ≡ greater_of (datum_of value.now) (option_map (λ v. datum_of v.now) found.entry)) }
 {

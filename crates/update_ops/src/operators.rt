@@ -62,7 +62,7 @@ fn parse_number(value: &Value) -> Result<Number, ParseFault>
     }
 }
 
-/// The edit that an operator is with its operand. Fails with `BadOperand` where it takes no such operand, and for want of memory.
+/// The edit that an operator is with its operand. Fails with `BadOperand` where it takes no such operand, and if memory runs out.
 pub fn parse_edit(operator: Operator, value: &Value) -> Result<Edit, ParseFault>
     ensures gives { Gives edit_of result (read_edit (operator_of operator) (datum_of value.now)) }
 {

@@ -103,7 +103,7 @@ fn is_same(a: &Name, b: &Name) -> bool
     a.as_str() == b.as_str()
 }
 
-// Whether neither path is the other, or stands in front of it.
+// Whether neither path is the other, or is before it.
 #[tactic(auto, using(crate::proofs::Apart::apart_here, crate::proofs::Apart::apart_next, crate::proofs::Apart::apart_none))]
 fn is_apart(a: &[Name], b: &[Name]) -> bool
     ensures { result ≡ changes.is_apart a.now b.now }
@@ -133,7 +133,7 @@ fn is_apart_from_all(path: &[Name], edits: &[PathEdit]) -> bool
     true
 }
 
-// Whether no path is given twice or stands in front of another.
+// Whether no path is given twice or is before another.
 fn are_apart(edits: &[PathEdit]) -> bool
     ensures { result ≡ changes.are_apart (edits_of edits.now) }
 {
@@ -147,7 +147,7 @@ fn are_apart(edits: &[PathEdit]) -> bool
     true
 }
 
-// Edits by their paths, as a list. Fails for want of memory.
+// Edits by their paths, as a list. Returns `Memory` if memory runs out.
 fn listed(alloc: Global, by_path: BTreeMap<OrderedPath, Edit>) -> Result<Vec<PathEdit>, Memory>
     ensures { IfOk result (λ es. edits_of es.items ≡ entries_of by_path.entries) }
 {
@@ -162,7 +162,7 @@ fn listed(alloc: Global, by_path: BTreeMap<OrderedPath, Edit>) -> Result<Vec<Pat
     Ok(edits)
 }
 
-// Puts an edit among others by its path. Fails for want of memory.
+// Puts an edit among others by its path. Returns `Memory` if memory runs out.
 fn put_entry(by_path: &mut BTreeMap<OrderedPath, Edit>, entry: PathEdit) -> Result<(), Memory>
     ensures { OnOk result (by_path.new.entries ≡ insert_entry path_order by_path.old.entries entry.path.items entry.edit) }
 {
@@ -171,7 +171,7 @@ fn put_entry(by_path: &mut BTreeMap<OrderedPath, Edit>, entry: PathEdit) -> Resu
     Ok(())
 }
 
-// Edits in the order of their paths. Fails for want of memory.
+// Edits in the order of their paths. Returns `Memory` if memory runs out.
 #[tactic(auto, using(crate::proofs::Sorting::entries_insert))]
 fn sorted(alloc: Global, edits: Vec<PathEdit>) -> Result<Vec<PathEdit>, Memory>
     ensures { IfOk result (λ es. edits_of es.items ≡ put_among [] (edits_of edits.items)) }
@@ -183,8 +183,8 @@ fn sorted(alloc: Global, edits: Vec<PathEdit>) -> Result<Vec<PathEdit>, Memory>
     listed(alloc, by_path)
 }
 
-/// The change that edits are, in the order of their paths. Fails with `BadOperand` where a path is given twice or stands in front of
-/// another, and for want of memory.
+/// The change that edits are, in the order of their paths. Fails with `BadOperand` where a path is given twice or is before
+/// another, and if memory runs out.
 pub fn in_order(alloc: Global, edits: Vec<PathEdit>) -> Result<Update, ParseFault>
     ensures gives { Gives view.change_of result (change_of (edits_of edits.items)) }
 {

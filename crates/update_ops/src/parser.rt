@@ -25,7 +25,7 @@ impl Update {
     /// The change that a document is: a replacement where no outermost name begins with `$`, else edits in the order of their paths.
     /// Fails where it is none, with its first fault: operators from the left, of each its name (`UnknownOperator`), that it has a
     /// document (`BadOperand`), and then of each field in it its name (`Path`) and its operand (`BadOperand`); last that a path is
-    /// given twice or stands in front of another (`BadOperand`). Fails with `Memory` for want of memory.
+    /// given twice or is before another (`BadOperand`). Fails with `Memory` if memory runs out.
     pub fn parse(alloc: Global, document: &Document) -> Result<Update, ParseFault>
         // A change is what the document reads as.
         ensures change { IfOk result (λ u. read_change document.now ≡ Ok (change_of u)) }
@@ -41,7 +41,7 @@ impl Update {
     }
 }
 
-// The names of a path's fields. Fails for want of memory.
+// The names of a path's fields. Returns `Memory` if memory runs out.
 #[tactic(auto, using(crate::proofs::Parts::part_no_zero))]
 fn names_of(alloc: Global, path: &Path) -> Result<Vec<Name>, Memory>
     requires { AllByRecursion (λ part. HasNoZero part) path.now }
@@ -77,7 +77,7 @@ fn parse_path_edit(
     Ok(PathEdit { path, edit })
 }
 
-// Puts the edits of one operator behind others.
+// Puts the edits of one operator after others.
 fn push_edits(
     alloc: Global,
     operator: Operator,
@@ -94,7 +94,7 @@ fn push_edits(
     Ok(())
 }
 
-// Puts the edits of one field of a change behind others.
+// Puts the edits of one field of a change after others.
 fn push_operator(
     alloc: Global,
     name: &Name,

@@ -1,4 +1,4 @@
-//! What stands at a path: found, put and taken out (MongoDB manual, "$set", "$unset").
+//! What is at a path: found, put and taken out (MongoDB manual, "$set", "$unset").
 
 ghost use Rattle.std.specs.Prelude.{◌≡◌, ◌∷◌, IfOk, option_map};
 ghost use Rattle.bson_values.specs.View.{datum_of};
@@ -11,7 +11,7 @@ use crate::fields::{with_field, without_field};
 use bson_values::{Document, Memory, Name, Value};
 use std::alloc::Global;
 
-// What stands at the path that begins with this name.
+// What is at the path that begins with this name.
 fn value_below<'a>(name: &Name, others: &[Name], document: &'a Document) -> Option<&'a Value>
     ensures { option_map (λ v. datum_of v.now) result ≡ value_at (name.now ∷ others.now) document.now }
 {
@@ -25,7 +25,7 @@ fn value_below<'a>(name: &Name, others: &[Name], document: &'a Document) -> Opti
     }
 }
 
-/// What stands at a path.
+/// What is at a path.
 pub fn value_at<'a>(path: &[Name], document: &'a Document) -> Option<&'a Value>
     ensures { option_map (λ v. datum_of v.now) result ≡ value_at path.now document.now }
 {
@@ -75,7 +75,7 @@ fn put_inside(
 }
 
 /// The document with the value at the path; documents that are missing on the way are made. Fails with `NotDocument` where a value
-/// on the way is none, and for want of memory.
+/// on the way is none, and if memory runs out.
 pub fn put_at(
     alloc: Global,
     path: &[Name],
@@ -90,7 +90,7 @@ pub fn put_at(
     }
 }
 
-// The document without what stands at the path that begins with this name.
+// The document without what is at the path that begins with this name.
 fn take_below(
     alloc: Global,
     name: &Name,
@@ -111,7 +111,7 @@ fn take_below(
     }
 }
 
-/// The document without what stands at the path. Fails for want of memory.
+/// The document without what is at the path. Returns `Memory` if memory runs out.
 pub fn take_at(alloc: Global, path: &[Name], document: &Document) -> Result<Document, Memory>
     ensures { IfOk result (λ d. d ≡ take_at path.now document.now) }
 {

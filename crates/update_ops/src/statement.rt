@@ -69,7 +69,7 @@ pub enum Op {
 impl Op {
     /// The statement that words are. Fails with the first fault: of an insert that its document has no key to be kept under
     /// (`BadOperand`); of an update or a delete that of its filter, then that of its change, and last that an upsert can't begin with
-    /// the filter, which has a dotted path or a connective or asks for no key (`BadOperand`). Fails with `Memory` for want of memory.
+    /// the filter, which has a dotted path or a connective or asks for no key (`BadOperand`). Fails with `Memory` if memory runs out.
     pub fn read(alloc: Global, words: &OpWords) -> Result<Op, ParseFault>
         // A statement is what the words read as.
         ensures write { IfOk result (λ op. read_words words.now ≡ Ok (write_of op)) }

@@ -9,7 +9,7 @@ use fixtures::{RowFault, Rows, bytes_of, field, number};
 use std::alloc::Global;
 
 /// `TYPE | CONTENT | BYTES`: the bytes of the document whose only field is `a`, with a value of that type and content. In a
-/// document and in an array the content is an int32, and it stands there twice.
+/// document and in an array the content is an int32, and it is there twice.
 #[derive(Drop)]
 pub struct Built;
 

@@ -70,7 +70,7 @@ struct Respelled {
     length: usize,
     // How many are to be written.
     size: usize,
-    // The byte aa, and behind it those that are written.
+    // The byte aa, and after it those that are written.
     out: Vec<u8>,
 }
 

@@ -30,7 +30,7 @@ fn is_its_copy(document: &Document) -> Result<bool, RowFault> {
     Ok(document.same_data(&copy))
 }
 
-/// The document that these words spell. Fails with `Form` where they spell none, and for want of memory.
+/// The document that these words encode. Fails with `Form` where they encode none, and if memory runs out.
 pub fn spelled_document(alloc: Global, words: &str) -> Result<Document, RowFault> {
     let bytes = bytes_of(alloc, words)?;
     let (document, length) = read(alloc, &bytes)?;

@@ -6,7 +6,7 @@ use std::alloc::Global;
 use std::cmp::Ordering;
 use value_compare::{Key, KeyFault, compare, key_of};
 
-/// The key that these words spell.
+/// The key that these words encode.
 pub fn spelled_key(alloc: Global, words: &str) -> Result<Key, RowFault> {
     let value = spelled_value(alloc, words)?;
     Key::of(value).map_err(|_value| RowFault::Form)

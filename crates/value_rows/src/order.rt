@@ -19,7 +19,7 @@ impl Rows for Classes {
     }
 }
 
-// A value, and the row that it stands in.
+// A value, and the row that it is in.
 #[derive(Drop)]
 struct Placed {
     row: usize,

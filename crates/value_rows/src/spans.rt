@@ -66,7 +66,7 @@ impl Rows for Bounds {
 }
 
 /// `MIN | MAX | KEY | inside`, or `outside`: whether the key stands between the bounds; `at | KEY | KEY | inside`: whether the
-/// second key stands at the first.
+/// second key is at the first.
 #[derive(Drop)]
 pub struct Spans;
 
@@ -81,7 +81,7 @@ impl Rows for Spans {
     }
 }
 
-// Whether the key stands in the span; `None` where it is otherwise in the span's copy.
+// Whether the key is in the span; `None` where it is otherwise in the span's copy.
 fn stands_inside(alloc: Global, span: &Span, words: &str) -> Result<Option<bool>, RowFault> {
     let key = spelled_key(alloc, words)?;
     let is_inside = inside(span, &key);

@@ -47,7 +47,7 @@ fn put_operation(alloc: Global, line: &mut String, words: &OpWords) -> Result<()
     }
 }
 
-/// Puts the size of a document behind a mark.
+/// Puts the size of a document after a mark.
 fn put_size(
     alloc: Global,
     line: &mut String,
@@ -174,7 +174,7 @@ fn put_asked(alloc: Global, line: &mut String, command: &Command) -> Result<(), 
     }
 }
 
-/// Puts the command of the request, or why it is none. Fails for want of memory.
+/// Puts the command of the request, or why it is none. Returns `Memory` if memory runs out.
 pub fn put_command(alloc: Global, line: &mut String, request: &Request) -> Result<(), RowFault> {
     match &Command::read(alloc, request) {
         Ok(command) => put_asked(alloc, line, command),

@@ -57,7 +57,7 @@ fn records_in(alloc: Global, file: &[u8]) -> Result<Option<RecordList>, RowFault
     }
 }
 
-/// The record that the bytes from a gate on begin with, and the bytes from the next gate on, by its length; none behind a gate that is not open.
+/// The record that the bytes from a gate on begin with, and the bytes from the next gate on, by its length; none after a gate that is not open.
 fn split_record(file: &[u8]) -> Option<(&[u8], &[u8])> {
     if file.len() < 9 || file[0] != 1 {
         return None;
@@ -79,7 +79,7 @@ fn is_record(alloc: Global, bytes: &[u8]) -> Result<bool, RowFault> {
     }
 }
 
-/// Whether these are just the records that stand in the bytes, by their gates and lengths, and each is read.
+/// Whether these are just the records that are in the bytes, by their gates and lengths, and each is read.
 fn are_read(alloc: Global, found: &[Blob], file: &[u8]) -> Result<bool, RowFault> {
     let mut rest = file;
     for bytes in found {

@@ -14,7 +14,7 @@ use std::sync::Wait;
 use std::thread::Threads;
 use std::{fs, mem};
 
-/// How a row ends: the status of its run, and how many bytes stood behind the last whole request.
+/// How a row ends: the status of its run, and how many bytes was after the last whole request.
 #[derive(Clone, Copy, Debug, PartialEq, Eq)]
 struct End {
     status: u64,
@@ -42,7 +42,7 @@ fn is_told(alloc: Global, row: &Row, cutting: Cutting, as_query: bool) -> Result
 /// The status of a run that met bytes which are no request.
 const BAD_INPUT: u64 = 9;
 
-/// Whether the row's bytes get its replies and its end, and leave what it says. How many bytes are left behind a fault depends on the cutting: those
+/// Whether the row's bytes get its replies and its end, and leave what it says. How many bytes are left after a fault depends on the cutting: those
 /// that were taken when it was met.
 fn is_served<R: Threads + Wait + Sync>(
     rt: &R,

@@ -16,7 +16,7 @@ enum Next {
     Fault,
 }
 
-/// What the framer gave: a line for each request, and the requests' bytes, one behind another.
+/// What the framer gave: a line for each request, and the requests' bytes, one after another.
 #[derive(Drop)]
 struct RequestLines {
     lines: String,
@@ -194,7 +194,7 @@ fn are_joined(bytes: &[u8], prefix: &[u8], rest: &[u8]) -> bool {
     }
 }
 
-/// Puts what stands behind the requests; another line where their bytes and the rest are not those that came in.
+/// Puts what follows the requests; another line where their bytes and the rest are not those that came in.
 fn put_end(
     alloc: Global,
     told: &mut RequestLines,
@@ -208,7 +208,7 @@ fn put_end(
     Ok(())
 }
 
-/// What the framer and the commands make of the bytes in these pieces, a line for each request and for what stands behind
+/// What the framer and the commands make of the bytes in these pieces, a line for each request and for what follows
 /// them; `as_query`: as if each request came in an OP_QUERY.
 pub fn told_of(
     alloc: Global,

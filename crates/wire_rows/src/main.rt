@@ -1,5 +1,5 @@
 //! Connections of the wire, from the bytes that come in to the bytes of the replies: what the framer makes of them, what
-//! commands they are or why they are refused, and what a run answers. Their rows stand in the files of data/, whose lines
+//! commands they are or why they are refused, and what a run answers. Their rows are in the files of data/, whose lines
 //! begin with a word:
 //!
 //! - `#` and the name of the row that begins; `note` and a remark;
@@ -12,13 +12,13 @@
 //! - `fail` and `take`, `put` or a disk (0 the catalogue's, 1 the shard's, 2 the router's), and the number of a call that fails;
 //! - `narrow` and the most bytes that a put takes;
 //! - `file`, a disk and its bytes at the start; `keeps`, a disk and its bytes at the end: an opening of its journal finds just the records that
-//!   stand in these by their gates and lengths, and all bytes of each are read as one record; `size`, a disk and the number of its bytes at the end;
+//!   are in these by their gates and lengths, and all bytes of each are read as one record; `size`, a disk and the number of its bytes at the end;
 //!   `untouched`: the bytes of the start, and no call that changed the disk or made it stay;
 //! - `untaken` and how many bytes were left to take;
 //! - `record`, a disk and a record, and `finds`, a disk and two numbers: an opening of that disk's journal finds the first of its records, as
 //!   many as the first number or more, and at most as many as the second;
 //! - `unserved`: asked as if it came in an OP_QUERY, and the row ends;
-//! - `ends`, the status of the run and how many bytes stood behind the last whole request, and the row ends.
+//! - `ends`, the status of the run and how many bytes was after the last whole request, and the row ends.
 //!
 //! For each file a line tells how many rows held; a row that did not is named before it.
 #![tactic(auto)]

@@ -3,18 +3,18 @@
 use crate::faults::RowFault;
 use std::alloc::Global;
 
-/// The number that the digits spell.
+/// The number that the digits encode.
 pub fn number(digits: &str) -> Result<u64, RowFault> {
     digits.parse::<u64>().map_err(|_| RowFault::BadLine)
 }
 
-/// Puts the number that the digits spell behind the others.
+/// Puts the number that the digits encode after the others.
 pub fn put_number(numbers: &mut Vec<u64>, digits: &str) -> Result<(), RowFault> {
     numbers.push(number(digits)?)?;
     Ok(())
 }
 
-/// What stands before the first space, and behind it.
+/// What precedes the first space, and after it.
 pub fn split(line: &str) -> Result<(&str, &str), RowFault> {
     line.split_once(' ').ok_or(RowFault::BadLine)
 }

@@ -16,7 +16,7 @@ pub struct DiskPlan {
     pub found: Option<(u64, u64)>,
 }
 
-/// The bytes that the pieces spell.
+/// The bytes that the pieces encode.
 fn bytes_of(alloc: Global, pieces: &str) -> Result<Vec<u8>, RowFault> {
     let mut bytes = Vec::new(alloc);
     put_pieces(alloc, &mut bytes, pieces)?;
@@ -36,7 +36,7 @@ impl DiskPlan {
         }
     }
 
-    /// Takes a line: its first word, and what stands behind that. Fails for want of memory, and where no line begins so.
+    /// Takes a line: its first word, and what follows that. Returns `Memory` if memory runs out, and where no line begins so.
     pub fn take(&mut self, alloc: Global, word: &str, rest: &str) -> Result<(), RowFault> {
         if word == "size" {
             self.size = Some(number(rest)?);

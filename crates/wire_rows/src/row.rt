@@ -20,7 +20,7 @@ pub struct Row {
     pub most_put: u64,
     /// The disks of the catalogue, the shard and the router.
     pub disks: Vec<DiskPlan>,
-    /// What the framer and the commands make of the bytes, a line for each request and for what stands behind them.
+    /// What the framer and the commands make of the bytes, a line for each request and for what follows them.
     pub told: String,
     /// The bytes of the replies.
     pub replies: Vec<u8>,
@@ -44,7 +44,7 @@ fn fresh_plans(alloc: Global) -> Result<Vec<DiskPlan>, RowFault> {
 }
 
 impl Row {
-    /// A row without lines. Fails for want of memory.
+    /// A row without lines. Returns `Memory` if memory runs out.
     pub fn new(alloc: Global) -> Result<Row, RowFault> {
         let disks = fresh_plans(alloc)?;
         Ok(Row {
@@ -64,7 +64,7 @@ impl Row {
         })
     }
 
-    /// Takes a line: its first word, and what stands behind that. Fails for want of memory, and where no line begins so.
+    /// Takes a line: its first word, and what follows that. Returns `Memory` if memory runs out, and where no line begins so.
     pub fn take(&mut self, alloc: Global, word: &str, rest: &str) -> Result<(), RowFault> {
         if word == "#" {
             put_line(&mut self.name, rest)
@@ -134,7 +134,7 @@ fn disk_of<'a>(disks: &'a mut Vec<DiskPlan>, digits: &str) -> Result<&'a mut Dis
     disks.get_mut(index as usize).ok_or(RowFault::BadLine)
 }
 
-/// Puts a line behind the others.
+/// Appends a line.
 pub fn put_line(lines: &mut String, line: &str) -> Result<(), RowFault> {
     lines.push_str(line)?;
     lines.push('\n')?;

@@ -35,7 +35,7 @@ impl Clock for RowClock<'_> {
     }
 }
 
-/// What a run left: its status, how many bytes stood behind the last whole request, the bytes that it put, the disks, and
+/// What a run left: its status, how many bytes was after the last whole request, the bytes that it put, the disks, and
 /// how many bytes it did not take.
 #[derive(Drop)]
 pub struct Left {

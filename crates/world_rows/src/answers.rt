@@ -4,7 +4,7 @@ use fixtures::{RowFault, number};
 use outside::streams::Failed;
 use std::alloc::{AllocError, Global};
 
-/// Puts an answer behind others, with a comma between.
+/// Puts an answer after others, with a comma between.
 pub fn push_answer(answers: &mut String, answer: &str) -> Result<(), AllocError> {
     if !answers.is_empty() {
         answers.push_str(", ")?;
@@ -12,7 +12,7 @@ pub fn push_answer(answers: &mut String, answer: &str) -> Result<(), AllocError>
     answers.push_str(answer)
 }
 
-/// The first word, and what stands behind it.
+/// The first word, and what follows it.
 pub fn first_word(words: &str) -> (&str, &str) {
     match words.split_once(' ') {
         Some(parts) => parts,
@@ -36,7 +36,7 @@ pub fn count_words(alloc: Global, count: Result<u64, Failed>) -> Result<String, 
     }
 }
 
-/// How many bytes a call read, and the whole buffer behind it.
+/// How many bytes a call read, and the whole buffer after it.
 pub fn read_words(
     alloc: Global,
     count: Result<usize, Failed>,

@@ -71,7 +71,7 @@ fn are_right(step: &str, moment: usize, count: usize) -> bool {
     acknowledged <= count && count <= acknowledged.saturating_add(1)
 }
 
-// The disk that a crash behind these calls leaves. Each change is synced before the next, so that only the last can be torn.
+// The disk that a crash after these calls leaves. Each change is synced before the next, so that only the last can be torn.
 fn image(alloc: Global, calls: &[Call], crash: Crash) -> Result<MemDisk, RowFault> {
     let mut disk = disk_of(alloc, b"")?;
     if let Some((last, before)) = calls.split_last() {

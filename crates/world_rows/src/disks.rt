@@ -24,7 +24,7 @@ impl Rows for Disks {
     }
 }
 
-/// A disk of the bytes that these words spell, whose call of that number fails.
+/// A disk of the bytes that these words encode, whose call of that number fails.
 pub fn spelled_disk(alloc: Global, words: &str, failing: &str) -> Result<MemDisk, RowFault> {
     let bytes = bytes_of(alloc, words)?;
     Ok(MemDisk::new(bytes, failing_calls(alloc, failing)?))

@@ -56,7 +56,7 @@ fn is_told(
     tells(told, wanted)
 }
 
-/// Checks the rows about files, in a new folder that is removed behind them.
+/// Checks the rows about files, in a new folder that is removed after them.
 pub fn check_files(rt: HostRuntime) -> io::Result<()> {
     let folder = folder_name(rt)?;
     fs::create_dir(&rt, folder.as_str())?;

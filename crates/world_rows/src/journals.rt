@@ -11,7 +11,7 @@ use std::alloc::Global;
 const WHOLE: &str = "01 0200000000000000 'ab' 01 0000000000000000 01 0100000000000000 'c' 00";
 
 /// `FILE | FAILING | STEP | ANSWER | FAULTS | FOUND | CALLS`: what a step of a journal on an empty or a whole file tells, where one
-/// call of the disk fails; how many faults the disk met; how many records stand there then; and its listed calls, or `any`.
+/// call of the disk fails; how many faults the disk met; how many records are there then; and its listed calls, or `any`.
 #[derive(Drop)]
 pub struct Journals;
 
@@ -50,7 +50,7 @@ pub fn tells(told: Told, answer: &str) -> Result<bool, RowFault> {
     Ok(told.count == count && told.word == word)
 }
 
-// Whether so many records stand on the disk, which lists these calls. With all records it is whole.
+// Whether so many records are on the disk, which lists these calls. With all records it is whole.
 fn stands(alloc: Global, disk: &MemDisk, row: &str) -> Result<bool, RowFault> {
     let (count, calls) = field(row);
     let count: usize = number(count)?;

@@ -67,7 +67,7 @@ fn gives(alloc: Global, link: &mut MemLink) -> Result<bool, RowFault> {
     Ok(taken.as_str() == "2 0102, failed, 1 0307")
 }
 
-// The link takes a piece, behind a put that fails.
+// The link takes a piece, after a put that fails.
 fn holds(alloc: Global, link: &mut MemLink) -> Result<bool, RowFault> {
     let put = puts(alloc, link, "'ab', 'ab'")?;
     Ok(put.as_str() == "failed, 2" && link.bytes() == b"ab".as_slice())

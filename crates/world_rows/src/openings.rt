@@ -6,7 +6,7 @@ use journal_frames::{Journal, OpenFault};
 use outside_memory::MemDisk;
 use std::alloc::{AllocError, Global};
 
-/// What stands in a file.
+/// What is in a file.
 #[derive(Drop)]
 enum Found {
     /// So many records.

@@ -9,7 +9,7 @@ use outside_memory::MemSink;
 use std::alloc::{AllocError, Global};
 
 /// `SINK | FAILING | PIECES | ANSWERS`: what puts of these pieces give, where one call may fail: `failed`, or how many bytes; and
-/// behind `:` what the sink then holds. It is in memory, or of the standard library over a vector; or it is `flaky`.
+/// after `:` what the sink then holds. It is in memory, or of the standard library over a vector; or it is `flaky`.
 #[derive(Drop)]
 pub struct Sinks;
 

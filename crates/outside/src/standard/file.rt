@@ -208,7 +208,7 @@ impl<R: Files + Drop> LazyFile<R> {
     }
 }
 
-/// The folder that the file of this path stands in.
+/// The folder that the file of this path is in.
 fn folder_of(path: &str) -> Path<'_> {
     match Path::new(path).parent() {
         Some(folder) if !folder.as_str().is_empty() => folder,
