@@ -1,4 +1,4 @@
--- Lengths, texts, names and other leaves: what is read is encoded so, and what is encoded so is read.
+-- Lengths, texts, names and other values without parts: what is read has the encoding that was read, and each encoding is read.
 use Rattle.std.proofs.Common.{◌≡◌, ◌≢◌, ℕ, zero, suc, ◌+◌, ◌-◌, ◌<◌, ◌≤◌, true, false, cond, ltb, leb, eqb, List, [], ◌∷◌, ◌++◌, length, get_or, take, drop, Result, Ok, Err, refl, sym, ap, subst, ◌∙◌, append_assoc, drop-cons, arith, inl, inr}
 use Rattle.std.specs.Prelude.{IsTrue}
 use Rattle.std.specs.Int.{w32, from_le_bytes, to_le_bytes}

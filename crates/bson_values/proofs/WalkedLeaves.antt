@@ -1,4 +1,4 @@
--- Lengths, texts, names and other leaves: reading and walking go together.
+-- Lengths, texts, names and other values without parts: reading and walking agree.
 use Rattle.std.proofs.Common.{◌≡◌, ℕ, zero, suc, ◌+◌, ◌-◌, ◌<◌, Bool, true, false, cond, ltb, leb, eqb, List, [], ◌∷◌, length, get_or, take, drop, Option, Some, None, Result, Ok, Err, refl, sym, ap, subst, ◌∙◌, arith, length-append}
 use Rattle.std.specs.Prelude.{◌||◌}
 use Rattle.std.specs.Int.{w32, from_le_bytes}
@@ -16,7 +16,7 @@ use Rattle.bson_values.specs.Readers.{length_within, length_at, fixed_at, utf8_a
 use Rattle.bson_values.proofs.Leaves.{TakesName, name_takes}
 use Rattle.bson_values.proofs.ReaderWalks.{Leads, stop, Goes, same_leads, goes_bind, split, lt_same, Stands, stands_at, byte_at, byte_here}
 
--- what follows is read after the bytes
+-- the walk goes on after the bytes that were read
 abbrev pub on_behind : {A : Type 0} → List ℕ → Holder → List Holder → A × List ℕ → Step
 on_behind all h outer x = goes_on (length all - length x.1) (h ∷ outer)
 
@@ -58,7 +58,7 @@ deep_split all bytes false false s s' r r' e then other = other refl
 deep_split all bytes true false s s' r r' e then other = absurd cc
 deep_split all bytes false true s s' r r' e then other = absurd cc
 
--- the length is no fault
+-- the length has no fault
 deep_here : (all bytes : List ℕ) (offset : ℕ) (r : Result (ℕ × List ℕ) BsonFault) → offset + length bytes ≡ length all → 0 < length bytes → stop (deep_unless (length all) bytes r) ≡ stop (deep_unless (length all) bytes (Err (Short (length all)))) → faulty depth_fault offset ≡ stop (deep_unless (length all) bytes r)
 unfolding deep_unless
 deep_here all bytes offset r at some e =
@@ -233,7 +233,7 @@ behind_name all form offset room h outer bytes name rest made next is at within 
     (room_goes all (offset + length name) (room - (length bytes - length rest)) h rest value (omega arith) (omega arith))
     (λ left e. same_leads all _ _ (sym (is left))))
 
--- the text of a name is tested in a document, and not in an array
+-- the text of a name is checked in a document, but not in an array
 tested : {A : Type 0} (all : List ℕ) (b u : Bool) (s s' : Step) (r : Result A BsonFault) (next : A → Step) → b ≡ false → Goes all (cond u s s') r next → Goes all (cond (b || u) s s') r next
 tested all false u s s' r next e goes = goes
 tested all true u s s' r next e goes = absurd cc

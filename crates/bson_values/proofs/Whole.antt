@@ -42,7 +42,7 @@ whole_again bytes ms n le h low =
     let k : length bytes - length (drop n bytes) ≡ n = omega (arith, length-drop n bytes) in
     ap (λ (r : Result (Fields × List ℕ) BsonFault). r >>= λ x. Ok (x.0, length bytes - length x.1)) read ∙ ap (λ (m : ℕ). Ok (ms, m)) k
 
--- ---- what a call has of these
+-- what the clauses of a call need
 
 pub is_found : (bytes : List ℕ) (result : Result (Fields × ℕ) BsonFault) → AreBytes bytes → Gives (λ x. x) result (whole_at bytes)
     → IfOk result (λ x. (x.1 ≤ length bytes) × ReadsAs (take x.1 bytes) x.0 × IsWithinDepth x.0)

@@ -6,7 +6,7 @@ use Rattle.journal_frames.specs.Files.{blocks, body, records_in}
 use Rattle.journal_frames.specs.Views.{IsAtRest, IsReady, at_rest}
 use Rattle.journal_frames.proofs.Listed.{fit_within, listed_rest}
 
--- a list that a test found not empty
+-- a list that was tested not to be empty
 pub not_empty : (bodies : List (List ℕ)) (empty : Bool) → empty ≡ (length bodies == 0) → empty ≡ false → 0 < length bodies
 not_empty [] empty is not = let both : true ≡ false = sym is ∙ not in absurd cc
 not_empty (r ∷ bodies) empty is not = omega arith

@@ -1,4 +1,4 @@
--- The list of records that is in a file.
+-- The list of records in a file.
 use Rattle.std.proofs.Common.{◌≡◌, ◌⊎◌, inl, inr, ℕ, zero, suc, ◌+◌, ◌<◌, ◌≤◌, ◌^◌, List, [], ◌∷◌, ◌++◌, length, take, drop, refl, sym, ◌∙◌, ap, arith, append_assoc, length-append}
 use Rattle.std.proofs.lemmas.List.{take_at, drop_at}
 use Rattle.std.proofs.lemmas.Nat.{from_le_bytes-to_le_bytes_8}
@@ -9,7 +9,7 @@ use Rattle.journal_frames.proofs.Bodies.{length-body}
 use Rattle.journal_frames.proofs.Closed.{none_in_empty}
 use Rattle.journal_frames.proofs.Staged.{stands_last}
 
--- lengths that a whole number of bytes leaves room for
+-- lengths that 8 bytes can encode, since the whole has fewer than 2^64 bytes
 pub fit_within : (records : List (List ℕ)) → length (blocks records) < 2 ^ 64 → Fit records
 fit_within [] short = tt
 fit_within (r ∷ records) short =
@@ -75,7 +75,7 @@ unfolding records_in
 empty_or_shut file rest records fits split (inl shut) = ap records_in split ∙ listed_from (length (blocks records ++ rest)) records rest fits shut (omega arith)
 empty_or_shut file rest records fits split (inr empty) = ap records_in empty ∙ none_in_nothing ∙ sym (none_in_empty records rest (sym empty ∙ split))
 
--- it is the list of the definition
+-- this list is the one of the definition
 pub listed : (file : List ℕ) (records : List (List ℕ)) → Stands file records → records_in file ≡ records
 listed file records stands = empty_or_shut file stands.rest records stands.fits stands.split stands.shut
 

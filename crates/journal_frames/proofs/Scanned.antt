@@ -1,4 +1,4 @@
--- The records that were found so far, and what is left of the file.
+-- The records found before an offset, and what is left of the file.
 use Rattle.std.proofs.Common.{◌≡◌, ◌⊎◌, inl, inr, ⊎_elim, ℕ, ◌-◌, ◌<◌, ◌^◌, List, [], ◌∷◌, ◌++◌, length, refl, sym, ◌∙◌, ap, arith, append_assoc, length-append}
 use Rattle.journal_frames.specs.Files.{Fit, IsDamaged, IsShut, Stands, blocks, body}
 use Rattle.journal_frames.specs.Scan.{IsBody, IsBroken}

@@ -19,7 +19,7 @@ IsShut [] = ⊥
 IsShut (gate ∷ []) = Unit {0}
 IsShut (gate ∷ b ∷ rest) = gate ≢ 1
 
--- lengths that 8 bytes can tell
+-- lengths that 8 bytes can encode
 abbrev pub Fit : List (List ℕ) → Type 0
 Fit records = AllByRecursion (λ r. length r < 2 ^ 64) records
 
@@ -63,7 +63,7 @@ records_from (suc n) (suc zero ∷ b ∷ rest) =
     take (stated (b ∷ rest)) (drop 8 (b ∷ rest)) ∷ records_from n (drop (8 + stated (b ∷ rest)) (b ∷ rest))
 records_from n file = []
 
--- the list of records that is in a file, if there is one
+-- the list of records in a file, if there is one
 unfoldable pub records_in : List ℕ → List (List ℕ)
 records_in file = records_from (length file) file
 

@@ -1,4 +1,4 @@
--- What a look at the bytes from a gate on tells.
+-- What the bytes from a gate on begin with.
 use Rattle.std.specs.Prelude.{◌≡◌, ◌⊎◌, ℕ, ◌<◌, ◌^◌, List, [], ◌∷◌, ◌++◌, length}
 use Rattle.journal_frames.specs.Files.{BeginsRecord, IsDamaged, IsShut, body}
 use Rattle.journal_frames.specs.declared.records.Next.{Next}

@@ -1,4 +1,4 @@
-//! Changes of a disk that are synced at once.
+//! Changes of a disk, each with its sync.
 ghost use Rattle.std.specs.Prelude.{◌≡◌, ℕ, ◌≤◌, List, length, take, IsTrue, OnOk, OnErr};
 ghost use Rattle.outside.specs.Causes.{Rose};
 ghost use Rattle.outside.specs.Disks.{After, Cut, Follows, Holds, LeavesOnly, Only, Torn};
