@@ -23,8 +23,8 @@ pub fn faults()
     ensures trailing { HasFirstFault (6 ∷ 0 ∷ 0 ∷ 0 ∷ 0 ∷ 0 ∷ []) trailing_fault 4 }
 {}
 
-/// Two faults at one offset: a nested document that states 7 bytes where only 6 remain in each document around it has a fault of its length. In a document
-/// nested in 99 others a further one is a fault of depth.
+/// Two faults at one offset: a nested document states 7 bytes where the outer one has 6 left, and the bytes end before either; the fault is that of its
+/// length. A document nested in 100 others has a fault of depth.
 pub fn ordered()
     ensures inside { HasFirstFault (12 ∷ 0 ∷ 0 ∷ 0 ∷ 0x03 ∷ 0 ∷ 7 ∷ 0 ∷ 0 ∷ 0 ∷ []) length_fault 6 }
     ensures depth { (h : Holder) (outer : List Holder) → h.end ≡ 9 → length outer ≡ 99 → value_step (5 ∷ 0 ∷ 0 ∷ 0 ∷ 0 ∷ []) (holder_form false) 0 h outer ≡ faulty depth_fault 0 }

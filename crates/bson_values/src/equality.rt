@@ -27,7 +27,7 @@ impl Document {
 }
 
 impl Array {
-    /// Whether both are the same data: the same values in the same order.
+    /// Returns whether both are the same data: the same values in the same order.
     #[cycle(equality)]
     pub fn same_data(&self, other: &Array) -> bool
         ensures { IsTrue result ↔ (self.now ≡ other.now) }

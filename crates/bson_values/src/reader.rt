@@ -27,7 +27,7 @@ use std::alloc::Global;
 // How many levels may be nested in the outermost document.
 const DEPTH: u32 = MOST_DEPTH_KEPT - 1;
 
-// Within this many levels room is reserved without counting the elements first.
+// In this many outermost levels room is reserved without counting the elements first.
 const FIRST_LEVELS: u32 = 3;
 
 /// The fault of a document or an array where no level is left: its length is checked first.

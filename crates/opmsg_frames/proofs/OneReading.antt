@@ -26,7 +26,7 @@ behind_bytes bytes r behind are a =
     let left : drop (length r.bytes) bytes ≡ behind = ap (λ (l : List ℕ). drop (length r.bytes) l) a.split ∙ drop_at r.bytes behind (length r.bytes) refl in
     rw left at (AreBytes-drop (length r.bytes) bytes are)
 
--- how bytes begin
+-- what bytes begin with
 not_partial : (bytes : List ℕ) (r : Request) (behind : List ℕ) → outline bytes ≡ partial_outline → IsFirst bytes r behind → ⊥
 not_partial bytes r behind e a = let q : partial_outline ≡ message_outline (length r.bytes) = sym e ∙ a.whole in cc
 

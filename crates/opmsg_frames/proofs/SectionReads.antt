@@ -111,7 +111,7 @@ at_sequence sections (sequence_section identifier documents ∷ left) rest doc r
       faulty = λ fault offset found. l.faulty fault offset (faulty_prefix documents (documents_in left) fault offset found);
     }
 
--- nothing more is there
+-- no section is left
 pub at_end : (sections left : List Section) (rest : List ℕ) (doc : Fields) (read : List (List ℕ × List Fields)) → no_section ≡ next_of left → Left sections left rest doc read → Hold sections (doc ∷ []) read
 at_end sections [] rest doc read e l = ended l.held
   where
@@ -121,7 +121,7 @@ at_end sections [] rest doc read e l = ended l.held
 at_end sections (body_section d ∷ left) rest doc read e l = absurd (let q : no_section ≡ next_body d (flat_map section_bytes left) = e in cc)
 at_end sections (sequence_section identifier documents ∷ left) rest doc read e l = absurd (let q : no_section ≡ next_sequence (sequence_bytes identifier documents) (flat_map section_bytes left) = e in cc)
 
--- only sections are there
+-- each section that is left is of kind 0 or 1
 pub no_other_kind : (left : List Section) → unknown_kind ≡ next_of left → ⊥
 no_other_kind [] e = let q : unknown_kind ≡ no_section = e in cc
 no_other_kind (body_section d ∷ left) e = let q : unknown_kind ≡ next_body d (flat_map section_bytes left) = e in cc

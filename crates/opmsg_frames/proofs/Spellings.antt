@@ -1,4 +1,4 @@
--- Sections with which nothing is wrong are the encoding of sections.
+-- Sections without a fault are the encoding of sections.
 use Rattle.std.proofs.Common.{◌≡◌, ◌≢◌, ℕ, zero, suc, ◌+◌, Bool, true, false, eqb, Option, Some, None, List, [], ◌∷◌, ◌++◌, length, take, drop, refl, sym, ap, ◌∙◌, arith, length-drop}
 use Rattle.std.specs.Prelude.{◌||◌, not, if◌then◌else◌}
 use Rattle.std.specs.Int.{w32, from_le_bytes}
@@ -19,7 +19,7 @@ use Rattle.opmsg_frames.proofs.SectionPrefixes.{behind_zero}
 use Rattle.opmsg_frames.proofs.StatedDocuments.{within}
 use Rattle.bson_model.proofs.Booleans.{both}
 
--- the prefix of so many bytes as it states
+-- the prefix of the stated length
 pub stated_prefix : (bytes : List ℕ) → has_stated bytes ≡ true → IsStated (take (number_at 0 bytes) bytes)
 stated_prefix bytes e =
     let w = within bytes e in
@@ -43,7 +43,7 @@ documents_exist n [] e = ([], refl, tt)
 documents_exist zero (b ∷ bytes) e = absurd (let q : false ≡ true = e in cc)
 documents_exist (suc n) (b ∷ bytes) e = by_stated n (b ∷ bytes) (has_stated (b ∷ bytes)) refl (λ rest q. documents_exist n rest q) e
 
--- a name before the first 00
+-- a name and the first 00 after it
 abbrev Splits : List ℕ → List ℕ → Type 0
 Splits bytes name = (more : List ℕ) × (bytes ≡ name ++ 0 ∷ more) × HasNoZero name
 

@@ -1,4 +1,4 @@
--- What the program's outlines are by the definitions.
+-- The program's outlines as those of the definitions.
 use Rattle.std.specs.Prelude.{ℕ, ◌+◌, List, length, drop, Bool, true, false, Option, Some, None}
 use Rattle.std.specs.Str.{is_utf8}
 use Rattle.bson_model.specs.Faults.{before_zero}
@@ -33,7 +33,7 @@ next_view BadSize = wire.bad_size
 next_view (Body document behind) = wire.next_body document.now behind.now
 next_view (Sequence content behind) = wire.next_sequence content.now behind.now
 
--- what holds of the bytes after a section that was found
+-- a property of the bytes after a section, if there is one
 abbrev pub IfBehind : Next → (List ℕ → Type 0) → Type 0
 IfBehind (Body document behind) holds = holds behind.now
 IfBehind (Sequence content behind) holds = holds behind.now

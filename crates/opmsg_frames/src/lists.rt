@@ -9,7 +9,7 @@ use bson_values::{Document, Memory, Text};
 use std::alloc::Global;
 use std::marker::Model;
 
-/// A sequence of documents, in order, each as small as a message has it.
+/// A sequence of documents, in order, each within the size that documents of a message have.
 #[derive(Drop)]
 pub struct DocList {
     documents: Vec<Document>,
@@ -34,7 +34,7 @@ impl Model for DocList {
 }
 
 impl DocList {
-    /// No document.
+    /// Returns the empty list.
     pub fn new(alloc: Global) -> DocList
         ensures { result ≡ [] }
     {
@@ -61,7 +61,7 @@ impl DocList {
         self.documents.as_slice()
     }
 
-    /// The documents, in order. The row is taken apart, and nothing is copied.
+    /// Returns the documents, in order. The list is taken apart, and nothing is copied.
     pub fn into_documents(self) -> Vec<Document>
         ensures documents { result.items ≡ self }
         ensures small { AllByRecursion IsSmall self }
@@ -99,7 +99,7 @@ impl Model for SequenceList {
 }
 
 impl SequenceList {
-    /// No sequence.
+    /// Returns the empty list.
     pub fn new(alloc: Global) -> SequenceList
         ensures { result ≡ [] }
     {
@@ -125,7 +125,7 @@ impl SequenceList {
         self.sequences.as_slice()
     }
 
-    /// The sequences, in order. The row is taken apart, and nothing is copied.
+    /// Returns the sequences, in order. The list is taken apart, and nothing is copied.
     pub fn into_sequences(self) -> Vec<Sequence>
         ensures { pairs_of result.items ≡ self }
     {

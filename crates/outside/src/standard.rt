@@ -45,7 +45,7 @@ impl<R: Read + Drop> Source for StdSource<R> {
         ensures calm { OnOk result (self.new.faults ≡ self.old.faults) }
         ensures later { self.old.faults ≤ self.new.faults }
 
-        // An error is counted once. It is never skipped, even where the reader's bytes are observable.
+        // An error is counted once. Where the reader's bytes are observable, no byte is skipped.
         ensures fault { OnErr result (self.new.faults ≡ next_count self.old.faults) }
         ensures read { IfOk result (λ n. Consumes (R.remaining self.old.reader) (R.remaining self.new.reader)
             (take n buf.new)) }
@@ -94,7 +94,7 @@ impl<W: Write + Drop> Sink for StdSink<W> {
         ensures calm { OnOk result (self.new.faults ≡ self.old.faults) }
         ensures later { self.old.faults ≤ self.new.faults }
 
-        // An error is counted once. It is never dropped, even where the writer's bytes are observable.
+        // An error is counted once. Where the writer's bytes are observable, no byte is dropped.
         ensures fault { OnErr result (self.new.faults ≡ next_count self.old.faults) }
         ensures wrote { IfOk result (λ n. Appends (W.contents self.old.writer) (W.contents self.new.writer)
             (take n piece.now)) }

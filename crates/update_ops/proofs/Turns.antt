@@ -1,4 +1,4 @@
--- Edits in turn, and faults that later steps pass on.
+-- Edits one after the other, and faults that later steps pass on.
 use Rattle.std.proofs.Common.{◌≡◌, ℕ, ◌<◌, ◌+◌, List, length, get_or, drop, refl, sym, ap, ◌∙◌}
 use Rattle.std.specs.Prelude.{Result, Ok, Err}
 use Rattle.bson_model.specs.Tree.{Fields}

@@ -1,5 +1,4 @@
--- What an upsert begins with, as it is in the document of its filter (MongoDB manual, "Upsert Behavior"): the same as is said of
--- the query that the document is.
+-- The document that an upsert begins with, by the document of its filter (MongoDB manual, "Upsert Behavior"): the same as by the query that the filter is.
 use Rattle.std.specs.Prelude.{ℕ, List, Bool, true, false, ◌&&◌, not, Option, Some, ◌==◌, if◌then◌else◌}
 use Rattle.std.specs.List.{list_any}
 use Rattle.std.specs.Str.{byte}
@@ -11,17 +10,17 @@ use Rattle.query_model.specs.Reading.{is_operator_document}
 abbrev pub has_dot : List ℕ → Bool
 has_dot name = list_any (λ b. b == byte ".") name
 
--- a name that is no connective's, and has one part
+-- a name that is not a logical operator's, and has one part
 abbrev pub is_plain_name : List ℕ → Bool
 is_plain_name name = not (begins_with_dollar name) && not (has_dot name)
 
--- A filter from which a document may begin: no dotted path and no connective, at whatever level.
+-- A filter from which a document may begin: no dotted path and no logical operator, at any level.
 abbrev mutual
   pub is_plain_filter : Fields → Bool
   is_plain_filter no_fields = true
   is_plain_filter (field name d ms) = (is_plain_name name && is_plain_asked d) && is_plain_filter ms
 
-  -- what is asked of a path
+  -- the same for the condition of a path
   pub is_plain_asked : Datum → Bool
   is_plain_asked (document_value ms) = if is_operator_document ms then are_plain_operators ms else true
   is_plain_asked d = true

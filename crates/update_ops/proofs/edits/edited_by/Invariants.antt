@@ -1,4 +1,4 @@
--- The edits that are left make of what was made what all make of the document.
+-- The edits that are left, applied to the document so far, result in what all result in on the first one.
 use Rattle.std.proofs.Common.{◌≡◌, drop}
 use Rattle.query_model.specs.Edits.{edited_by}
 use Rattle.update_ops.specs.View.{edits_of}
