@@ -1,4 +1,4 @@
-//! Keys and cells once more.
+//! Copies of keys and cells.
 
 ghost use Rattle.std.specs.Prelude.{◌≡◌, IfOk};
 ghost use Rattle.bson_values.specs.View.{datum_of};

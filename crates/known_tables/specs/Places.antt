@@ -1,4 +1,4 @@
--- Where the table of a collection stands.
+-- The position of the table of a collection.
 use Rattle.std.specs.Prelude.{ℕ, suc, List, [], ◌∷◌, if◌then◌else◌}
 use Rattle.std.specs.Str.{bytes_eq}
 use Rattle.chunk_model.specs.Tables.{Table}

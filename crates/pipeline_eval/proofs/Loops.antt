@@ -45,7 +45,7 @@ one_skipped {A = A} n m x left rest whole less is so_far =
 pub none_skipped : {A : Type 0} (k : ℕ) (left now whole : List A) → now ≡ left → length left ≡ 0 → drop k left ≡ whole → now ≡ whole
 none_skipped k left now whole is none so_far = is ∙ drop_all 0 left (omega arith) ∙ sym (drop_all k left (omega arith)) ∙ so_far
 
--- as many are skipped as are to be
+-- as many are skipped as the stage says
 pub all_skipped : {A : Type 0} (n m : ℕ) (left now whole : List A) → n ≤ m → now ≡ left → drop (n - m) left ≡ whole → now ≡ whole
 all_skipped n m left now whole enough is so_far =
     let none : n - m ≡ 0 = omega arith in
