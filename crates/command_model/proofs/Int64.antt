@@ -1,4 +1,4 @@
--- How many documents the stages of a command pass over or keep is a number that a message can have.
+-- The numbers of documents that a command skips or keeps fit into a message.
 use Rattle.std.proofs.Common.{◌≡◌, ℕ, List, [], ◌∷◌, ◌++◌, refl, ◌∙◌, Bool, true, false, Option, Some, None, Ok, Err, if◌then◌else◌, codes}
 use Rattle.std.specs.Prelude.{Result, nat_lt}
 use Rattle.std.specs.List.{list_all}
@@ -46,7 +46,7 @@ skip_int64 ms = counted skip_stage (λ n int64. int64) (get (codes "skip") ms)
 limit_int64 : (ms : Fields) → HaveInt64 (stage_counted limit_stage (codes "limit") ms)
 limit_int64 ms = counted limit_stage (λ n int64. int64) (get (codes "limit") ms)
 
--- a stage of words passes nothing over
+-- a stage read from a document skips nothing
 module _ {A : Type 0} (read : Fields → Result A QueryFault) (stage : A → Stage) (none : (x : A) → has_int64 (stage x) ≡ true) where
   words_read : (r : Result A QueryFault) → HaveInt64 (elim r [ Ok x ↦ stage x ∷ [] | Err fault ↦ [] ])
   words_read (Ok x) = rw (none x) refl

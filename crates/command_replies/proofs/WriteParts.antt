@@ -1,4 +1,4 @@
--- The answer to a write, a part at a time.
+-- The answer to a write, one part at a time.
 use Rattle.std.proofs.Common.{◌≡◌, List, [], ◌∷◌, refl, ◌∙◌, ap, codes}
 use Rattle.bson_model.specs.Tree.{Fields, no_fields, field, joined}
 use Rattle.command_model.specs.AnswerParts.{count, ok, operation_time_at}

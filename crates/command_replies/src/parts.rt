@@ -1,4 +1,4 @@
-//! Building documents, a field at a time.
+//! Building documents, one field at a time.
 
 ghost use Rattle.std.specs.Prelude.{◌≡◌, ◌<◌, ◌^◌, IsTrue, OnOk, pos};
 ghost use Rattle.bson_model.specs.Tree.{boolean_value, int32_value, string_value, no_fields, field, joined};
@@ -11,7 +11,7 @@ use bson_values::{Aligned, Document, Memory, Name, Text, Value};
 use cluster_base::Time;
 use std::alloc::Global;
 
-/// A count, in 64 bits where 32 do not hold it.
+/// Returns a count, in 64 bits where it does not fit into 32.
 pub(crate) fn count_shown(count: u64) -> Value
     requires { count < 2 ^ 63 }
     ensures { datum_of result ≡ shown.count count }
@@ -77,7 +77,7 @@ pub(crate) fn add_boolean(
     add(document, alloc, name, Value::Bool(Aligned::of(boolean)))
 }
 
-/// Puts what the answer of an operation ends with after the others: `ok`, and the time. Returns `Memory` if memory runs out.
+/// Appends the last fields of an operation's answer: `ok`, and the time. Returns `Memory` if memory runs out.
 pub(crate) fn add_end(answer: &mut Document, alloc: Global, time: Time) -> Result<(), Memory>
     ensures { OnOk result (answer.new ≡ joined answer.old (ok (operation_time_at time.0))) }
 {
