@@ -1,4 +1,4 @@
--- A walk that comes to a document's end has walked over some bytes.
+-- A walk that reaches a document's end has walked over some bytes.
 use Rattle.std.proofs.Common.{◌≡◌, ℕ, ◌+◌, ◌-◌, ◌<◌, ◌≤◌, Bool, true, false, Option, Some, None, List, [], ◌∷◌, length, take, drop, refl, arith}
 use Rattle.std.specs.Prelude.{nat_lt, nat_le, ◌==◌, ◌||◌, slice_index, if◌then◌else◌}
 use Rattle.std.specs.Int.{w32, from_le_bytes}

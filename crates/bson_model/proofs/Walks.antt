@@ -1,4 +1,4 @@
--- A walk over bytes comes to one outcome.
+-- A walk over bytes has one end.
 use Rattle.std.proofs.Common.{◌≡◌, ℕ, Bool, cond, List, [], sym, subst, refl, rules}
 use Rattle.std.specs.Str.{IsUtf8, is_utf8}
 use Rattle.std.proofs.lemmas.Str.{is_utf8-from_IsUtf8}

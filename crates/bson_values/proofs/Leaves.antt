@@ -197,7 +197,7 @@ pub length_again : (total least beside room n : ℕ) (rest : List ℕ) → least
 length_again total least beside room n rest low high fits some =
     length_is total least beside room n (to_le_bytes w32 n ++ rest) rest (omega (arith, length-append (to_le_bytes w32 n) rest)) (from_le_bytes-to_le_bytes_4 n (omega arith)) refl low high fits some
 
--- ---- so many bytes
+-- n bytes
 
 pub record TakesFixed (bytes : List ℕ) (n room : ℕ) (prefix rest : List ℕ) : Type 0 where
   pub parts : bytes ≡ prefix ++ rest

@@ -72,7 +72,7 @@ pub record IsSmallSummary (told : WriteSummary) : Type 0 where
   pub flat : AllByRecursion (λ (u : Upserted). (u.index < most_statements) × (value_depth u.key ≡ 0)) told.upserted
   pub short_keys : keys_length told.upserted ≤ most_bytes_upserted
 
--- a batch of few bytes, or of one document; each document is one that is stored, or the result of a projection or a group
+-- a batch of few bytes, or of one document, each within 101 levels and the size of a stored document
 pub record IsSmallBatch (batch : Batch) : Type 0 where
   pub name : length batch.namespace ≤ 255
   pub bytes : batches.IsSmall batch.documents

@@ -32,7 +32,7 @@ impl Model for StatementIndex {
 }
 
 impl StatementIndex {
-    /// Returns the index with that number, if a command can have so many statements.
+    /// Returns the index with that number, if a command can have such an index.
     pub fn of(index: u32) -> Option<StatementIndex>
         ensures { result ≡ (if nat_lt index most_statements then Some index else None) }
     {

@@ -52,7 +52,7 @@ read_operation (insert_operation document) = read_insert document
 read_operation (update_operation filter words upsert) = read_update filter words upsert
 read_operation (delete_operation filter) = read_delete filter
 
--- the key that an operation writes which reads as a write
+-- the key of an operation that reads as a write, if it has one
 abbrev pub key_read : Result Write QueryFault → Option Datum
 key_read (Ok write) = write_key write
 key_read (Err fault) = None

@@ -10,7 +10,7 @@ use Rattle.bson_model.proofs.Lengths.{length-framed, length-element}
 use Rattle.opmsg_model.specs.Requests.{IsKept}
 use Rattle.opmsg_model.specs.MessageSizes.{IsSmall}
 
--- a value whose encoding is at most five times as long as the bytes that were read
+-- a value that was read from its one encoding
 as_read : (bytes spelled : List ℕ) → bytes ≡ spelled → length spelled ≤ 5 * length bytes
 as_read bytes spelled e = omega (arith, ap (λ (l : List ℕ). length l) e)
 

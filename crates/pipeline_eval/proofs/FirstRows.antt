@@ -1,4 +1,4 @@
--- What a sort with a limit keeps while documents are read: the first n of some of them, then the others of those that were kept.
+-- What a sort with a limit keeps while documents are read: the first n of those that were read before the others, and the others.
 use Rattle.std.proofs.Common.{◌≡◌, ℕ, ◌+◌, ◌-◌, ◌<◌, ◌≤◌, List, [], ◌∷◌, ◌++◌, length, get_or, map, take, drop, refl, sym, ap, ◌∙◌, subst, append_assoc, append-nil, add-one, arith}
 use Rattle.std.specs.Prelude.{Bool, true, false, cond, IsPermutation, IsSortedBy}
 use Rattle.std.specs.List.{AllByRecursion}

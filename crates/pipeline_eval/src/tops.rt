@@ -16,14 +16,14 @@ use std::alloc::Global;
 use std::collections::VecDeque;
 use std::sync::Arc;
 
-// Rows that are kept while documents are read. Once they are cut, the first `count` of them are the first of the documents read.
+// Rows that are kept while documents are read. Once they are cut, the first `count` of them are the first of the documents read before the other rows.
 #[derive(Drop)]
 pub(crate) struct Top {
     pub(crate) rows: Vec<Keyed>,
     pub(crate) is_cut: bool,
 }
 
-// Returns whether the first `count` rows are the first of those read, and the key does not sort before the last of them.
+// Returns whether the rows are cut, and the key does not sort before the last of the first `count` rows.
 fn comes_late(spec: &SortSpec, count: usize, top: &Top, key: &SortKey) -> bool
     requires some { 0 < count }
     requires cut { cond top.now.is_cut count 0 ≤ length top.now.rows.items }

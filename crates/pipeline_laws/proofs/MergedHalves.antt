@@ -30,7 +30,7 @@ module _ (n : ℕ) (xs ys : List Fields) (same : take n xs ≡ take n ys) where
   all_same : length xs ≤ n → length ys ≤ n → xs ≡ ys
   all_same short less = sym (take_all n xs short) ∙ same ∙ take_all n ys less
 
--- what makes a reach exact: there are fewer documents than it, or its sum does not overflow
+-- what makes a reach great enough: there are fewer documents than it, or its sum is exact
 abbrev pub Reaches : List Stage → List Fields → Type 0
 Reaches stages docs = (length docs < 2 ^ 62) ⊎ (list_all has_int64 stages ≡ true)
 
@@ -195,7 +195,7 @@ halves_of stages parts rows out far halves merged =
     (omega (arith, past_length stages (flat_map (λ p. p) parts), ap (λ (l : List Fields). length l) past)) (reaches_behind stages _ far))
     (behind_front_given stages parts rows halves) (joined merged.joins) merged.goes_on))
 
--- by which of the two makes the reach exact
+-- by which of the two makes the reach great enough
 pub halves_merge : (stages : List Stage) (half : Half) (merge : Merge) (parts : List (List Fields)) (rows : List Rows) (out : Outcome) →
     Reaches stages (flat_map (λ p. p) parts) →
     split stages ≡ (half, merge) → AllZip (IsHalf half) parts rows → Merges merge rows out → Runs stages (flat_map (λ p. p) parts) out

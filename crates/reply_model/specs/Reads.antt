@@ -60,7 +60,8 @@ pub data IsExcess (history : List Entry) (creations : List Creation) (reading : 
 abbrev pub time_wanted : Reading → Option ℕ
 time_wanted reading = elim reading.at [ None ↦ reading.after | Some named ↦ Some named ]
 
--- The time that a read requires is ahead of the router's, and of each time of an own entry that any router had returned to a write before the request came.
+-- The time that a read requires is ahead of the router's, and of each operation time that a router returned to a write before the request came and that is
+-- the time of an entry of that write.
 pub record IsAhead (history : List Entry) (answered : List Answered) (a : Asked) (t : Answered) (reading : Reading) : Type 0 where
   pub wanted : ℕ
   pub wants : time_wanted reading ≡ Some wanted

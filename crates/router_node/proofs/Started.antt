@@ -217,7 +217,7 @@ module _ {E : Type 0} (r : Router) (x : Result StepPlan E) where
     by_result (Ok p) h = starts_step r p quiet i time moment change mail replies for before h follows took
     by_result (Err e) h = tt
 
--- where no life began and no request was taken, that holds afterwards too
+-- that no request was taken where no life began holds afterwards too
 pub quiet_then : (r : Router) (begun : Bool) (change : Change) → (r.begun ≡ false → r.count ≡ 0) → FollowsBy r begun change → begun ≡ false → count_then change r.count ≡ 0
 quiet_then r begun Stays quiet follows not_begun = quiet (follows not_begun)
 quiet_then r begun Counts quiet follows not_begun = absurd (cc (sym follows.0 ∙ not_begun))

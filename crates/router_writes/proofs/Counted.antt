@@ -40,7 +40,7 @@ pub keys_pushed : (keys : List Upserted) (u : Upserted) → upserted_view (keys 
 keys_pushed [] u = refl
 keys_pushed (k ∷ keys) u = ap (λ l. key_view k ∷ l) (keys_pushed keys u)
 
--- the errors and the keys of a list are those of its first and of the others
+-- the errors and the keys of a list are those of its first outcome and of the others
 pub errors_both : (d : Done) (rest : List Done) → errors_of (d ∷ rest) ≡ errors_of (d ∷ []) ++ errors_of rest
 errors_both d rest = by_error (refusal_in d.answer) where
   by_error : (told : Option Refusal) → (elim told as (λ (o : Option Refusal). List writes.WriteError) [ None ↦ errors_of rest | Some r ↦ record { index = d.index; refusal = r } ∷ errors_of rest ])

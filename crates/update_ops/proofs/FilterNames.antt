@@ -21,7 +21,7 @@ use Rattle.update_ops.specs.Starts.{is_plain_filter, are_plain_operators, is_pla
 use Rattle.update_ops.proofs.Starts.{plain_query, begins_with_equalities}
 
 module _ {X : Type 0} (pick : Option Operator → X) (target : List ℕ → X) (name : List ℕ) where
-  -- where each entry of a table gives what the target gives, so does a lookup, if the target agrees for each name that is in none of them
+  -- where each entry of a table agrees with the target, so does a lookup, if the target agrees for each name that is in no entry
   looked_up : (rows : List (List ℕ × Operator)) → AllByRecursion (λ row. pick (Some row.1) ≡ target row.0) rows →
       (AllByRecursion (λ row. bytes_eq row.0 name ≡ false) rows → pick None ≡ target name) → pick (named rows name) ≡ target name
   looked_up [] rows none = none tt

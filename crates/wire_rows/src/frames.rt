@@ -8,7 +8,7 @@ use bson_values::BsonFault;
 use opmsg_frames::{Body, Form, FrameFault, Framer, Malformed, Request};
 use std::alloc::Global;
 
-/// The number of requests and the fault that the framer returned.
+/// What the framer returned: a request, nothing, or a fault.
 #[derive(Clone, Copy, Debug, PartialEq, Eq)]
 enum Next {
     Request,
@@ -125,7 +125,7 @@ fn put_malformed(
     Ok(())
 }
 
-/// Appends the line of what the framer returns next, if that is a request or a fault. Returns whether it was a request.
+/// Appends the line of what the framer returns next, if that is a request or a fault. Returns which of these it was.
 fn put_next(
     alloc: Global,
     told: &mut RequestLines,
