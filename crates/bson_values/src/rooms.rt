@@ -28,7 +28,7 @@ fn after_name(bytes: &[u8]) -> Option<&[u8]>
     None
 }
 
-// Returns the length at the beginning of the bytes, plus `beside`.
+// Returns the length at the beginning of the bytes, plus `more`.
 #[inline(always)]
 fn length_and(more: usize, bytes: &[u8]) -> Option<usize> {
     if bytes.len() < 4 {

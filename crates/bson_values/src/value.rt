@@ -187,7 +187,7 @@ impl Document {
         }
     }
 
-    // Returns the document without fields, with room for `count`, or `Memory` if memory runs out.
+    // Returns the document without fields, with room for `room`, or `Memory` if memory runs out.
     #[inline(always)]
     pub(crate) fn with_room(alloc: Global, room: usize) -> Result<Document, Memory>
         ensures { IfOk result (λ d. d ≡ no_fields) }
@@ -272,7 +272,7 @@ impl Array {
         }
     }
 
-    // Returns the array without values, with room for `count`, or `Memory` if memory runs out.
+    // Returns the array without values, with room for `room`, or `Memory` if memory runs out.
     #[inline(always)]
     pub(crate) fn with_room(alloc: Global, room: usize) -> Result<Array, Memory>
         ensures { IfOk result (λ a. a ≡ no_items) }

@@ -33,7 +33,7 @@ pub fn answers_are_small()
     ensures { (answer : Answer) → IsSmallAnswer answer → IsWithin most_depth_written most_bytes_written (answer_document answer) }
 {}
 
-/// The numbers of documents that a command skips or keeps fit into a message.
+/// The numbers of documents that a command skips or keeps are less than 2^63.
 #[tactic(auto, using(command_model::proofs::Taken::int64_of_find, command_model::proofs::Taken::int64_of_count))]
 pub fn numbers_are_small()
     ensures find { (request : Request) (find : Find) → command_of request ≡ Ok (find_command find) → list_all has_int64 find.reading.stages ≡ true }

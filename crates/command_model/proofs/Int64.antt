@@ -1,4 +1,4 @@
--- The numbers of documents that a command skips or keeps fit into a message.
+-- The numbers of documents that a command skips or keeps are less than 2^63.
 use Rattle.std.proofs.Common.{◌≡◌, ℕ, List, [], ◌∷◌, ◌++◌, refl, ◌∙◌, Bool, true, false, Option, Some, None, Ok, Err, if◌then◌else◌, codes}
 use Rattle.std.specs.Prelude.{Result, nat_lt}
 use Rattle.std.specs.List.{list_all}
@@ -21,7 +21,7 @@ HaveInt64 stages = list_all has_int64 stages ≡ true
 both_have : (xs ys : List Stage) → HaveInt64 xs → HaveInt64 ys → HaveInt64 (xs ++ ys)
 both_have xs ys first others = list_all-append has_int64 xs ys ∙ (rw (first, others) refl)
 
--- a number that is read is one that $skip can have
+-- a number that is read is less than 2^63, as `$skip` requires
 skip_read : (value : Datum) (n : ℕ) → read_natural value ≡ Ok n → HaveInt64 (skip_stage n ∷ [])
 skip_read value n is = read_int64 (item (document_value (field (codes "$skip") value no_fields)) no_items) (skip_stage n ∷ []) (rw is refl)
 

@@ -48,7 +48,7 @@ HasStatements (count_command reading) = Unit {0}
 HasStatements (more_command more) = Unit {0}
 HasStatements (kill_command kill) = Unit {0}
 
--- the numbers of documents that a command skips or keeps fit into a message
+-- the numbers of documents that a command skips or keeps are less than 2^63
 abbrev HasNumbers : Command → Type 0
 HasNumbers hello_command = Unit {0}
 HasNumbers (legacy_command legacy) = Unit {0}

@@ -18,8 +18,8 @@ pub fn each_pipeline_has_an_outcome()
 {}
 
 /// The law of halves: merging the halves of any parts gives an outcome that the whole pipeline has for the documents of the parts, one part after another.
-/// There may be any number of parts, even none; and any number of documents, where the numbers to skip and to keep fit into a message, as in each pipeline
-/// that was read.
+/// There may be any number of parts, even none; and any number of documents, where the numbers of `$skip` and `$limit` are less than 2^63, as in each
+/// pipeline that was read.
 pub fn halves_merge_to_the_whole()
     ensures any { (stages : List Stage) (half : Half) (merge : Merge) (parts : List (List Fields)) (rows : List Rows) (out : Outcome)
         → split stages ≡ (half, merge) → list_all has_int64 stages ≡ true → AllZip (IsHalf half) parts rows
@@ -29,7 +29,7 @@ pub fn halves_merge_to_the_whole()
         → Merges merge rows out → Runs stages (flat_map (λ part. part) parts) out }
 {}
 
-/// The numbers of documents that a pipeline that was read skips or keeps fit into a message.
+/// The numbers of `$skip` and `$limit` in a pipeline that was read are less than 2^63.
 #[tactic(auto, using(pipeline_model::proofs::SmallNumbers::read_int64))]
 pub fn numbers_are_small()
     ensures { (array : Items) (stages : List Stage) → read_pipeline array ≡ Ok stages → list_all has_int64 stages ≡ true }

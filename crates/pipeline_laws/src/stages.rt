@@ -90,7 +90,7 @@ pub fn split()
     ensures reach { (reach 2 3 ≡ 5) × (reach (2 ^ 64 - 1) 2 ≡ 2 ^ 64 - 1) }
 {}
 
-/// The span of the first `$match` of the front that requires a key; no `$match` after another stage counts.
+/// The span of the first of the leading `$match` stages that requires a key; a `$match` after another stage has none.
 pub fn spans()
     ensures first { result_map_both (λ s. s.0.span) (λ e. e)
         (split_of (one "$match" (inner "a" (number 1)) ∷ one "$match" (inner "_id" (number 5)) ∷ one "$match" (inner "_id" (number 6)) ∷ []))

@@ -24,7 +24,7 @@ use router_replies::{RequestPlan, is_taken, needs_read, plan_write, telling_of};
 use router_requests::{Parts, Telling};
 
 impl RouterNode {
-    // Returns the time of a read that names none: the router's, which must have reached the one that is requested.
+    // Returns the time of a read that names none: the router's, or the time to be reached where that is greater.
     fn time_reached(&self, after: Option<Time>) -> Time
         ensures { result.0 ≡ max self.now.time.0 (unwrap_or (option_map (λ t. t.0) after) 0) }
     {

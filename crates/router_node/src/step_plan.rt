@@ -26,7 +26,7 @@ pub(crate) enum Change {
     Opens(OpenRequest),
     /// The one with this count is answered.
     Closes(u64),
-    /// The read with this count is of the time that is reached, unless it named one, and waits for this.
+    /// The read with this count reads at the time that is reached, unless it named one, and waits for this.
     Reaches(u64, Wait),
     /// The write with this count has these answers, and waits for this.
     Notes(u64, Wait, DoneList),

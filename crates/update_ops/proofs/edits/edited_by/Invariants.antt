@@ -1,4 +1,4 @@
--- The edits that are left, applied to the document so far, result in what all result in on the first one.
+-- Applying the edits that are left to the present document results in what applying all to the first one results in.
 use Rattle.std.proofs.Common.{◌≡◌, drop}
 use Rattle.query_model.specs.Edits.{edited_by}
 use Rattle.update_ops.specs.View.{edits_of}
