@@ -62,7 +62,7 @@ impl<const N: usize> Short<N> {
         })
     }
 
-    /// Copies the text at the beginning of the bytes, where it is short. The copy has always N bytes, whatever follows the text, since a copy of a known
+    /// Copies the text at the beginning of the bytes, where it is short. The copy always has N bytes, whatever follows the text, since a copy of a known
     /// length stays in registers.
     #[inline(always)]
     fn of_front(text: &str, bytes: &[u8]) -> Option<Short<N>>
