@@ -1,4 +1,4 @@
--- What halves and merges are as plain data.
+-- Halves and merges as plain data.
 use Rattle.std.specs.Arc.{arc_value}
 use Rattle.value_compare.specs.Spans.{span_of}
 use Rattle.pipeline_model.specs.Halves as model

@@ -1,4 +1,4 @@
-//! The keys that filters ask for.
+//! The keys that filters require.
 
 use crate::filter_documents::filter_of;
 use bson_values::Value;
@@ -26,7 +26,7 @@ impl Rows for Keys {
     }
 }
 
-// Whether the span has the ObjectId of zeros, a key that no other filter asks for.
+// Returns whether the span has the ObjectId of zeros, a key that no other filter requires.
 fn has_zeros(alloc: Global, span: &Span) -> Result<bool, RowFault> {
     let filter = filter_of(alloc, "16000000075f696400 00*12 00")?;
     match key_equal(&filter) {
@@ -35,7 +35,7 @@ fn has_zeros(alloc: Global, span: &Span) -> Result<bool, RowFault> {
     }
 }
 
-// Whether the filter asks for this key.
+// Returns whether the filter requires this key.
 fn is_key(filter: &Expr, value: &Value) -> bool {
     match key_equal(filter) {
         Some(key) => compare(key.value(), value) == Ordering::Equal,
@@ -43,7 +43,7 @@ fn is_key(filter: &Expr, value: &Value) -> bool {
     }
 }
 
-// Whether the span is this key alone.
+// Returns whether the span is this key alone.
 fn is_point(span: &Span, value: &Value) -> bool {
     match span {
         Span::Point(point) => compare(point.value(), value) == Ordering::Equal,
