@@ -1,0 +1,5 @@
+pub mod Placed
+pub mod Merging
+pub mod Documents
+pub mod Growth
+pub mod MergedLegal
