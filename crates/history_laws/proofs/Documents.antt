@@ -1,6 +1,6 @@
 -- The document under a key depends on the entries that write it alone.
 use Rattle.std.proofs.Common.{◌≡◌, ℕ, List, [], ◌∷◌, ◌++◌, refl, sym, ap, ◌∙◌}
-use Rattle.std.specs.Prelude.{Bool, true, false, ◌&&◌, Option, Some, None, if◌then◌else◌, filter, nat_le}
+use Rattle.std.specs.Prelude.{Bool, true, false, Option, Some, None, if◌then◌else◌, filter, nat_le}
 use Rattle.std.specs.List.{AllByRecursion}
 use Rattle.std.specs.Str.{bytes_eq}
 use Rattle.std.proofs.lemmas.Slice.Eq.{bytes_eq-Decides}
@@ -39,9 +39,11 @@ after_filter namespace key before [] = refl
 after_filter namespace key before (e ∷ entries) = by_test (writes_to namespace key e) refl (λ document. after_filter namespace key document entries)
   where
     by_test : (hit : Bool) → writes_to namespace key e ≡ hit →
-        ((document : Option Fields) → document_after namespace key document entries ≡ document_after namespace key document (filter (λ d. writes_to namespace key d) entries)) →
+        ((document : Option Fields) → document_after namespace key document entries
+        ≡ document_after namespace key document (filter (λ d. writes_to namespace key d) entries)) →
         document_after namespace key (if hit then (effect e.operation before).0 else before) entries
-        ≡ document_after namespace key before (if hit then e ∷ filter (λ d. writes_to namespace key d) entries else filter (λ d. writes_to namespace key d) entries)
+        ≡ document_after namespace key before
+        (if hit then e ∷ filter (λ d. writes_to namespace key d) entries else filter (λ d. writes_to namespace key d) entries)
     by_test true is rest = rest (effect e.operation before).0 ∙ sym (after_hit namespace key before e (filter (λ d. writes_to namespace key d) entries) is)
     by_test false is rest = rest before
 
@@ -60,27 +62,34 @@ same_document_at namespace key time a b same =
     ∙ sym (filters_in_turn (λ (e : Entry). writes_to namespace key e) (λ (e : Entry). nat_le e.time time) b))
 
 -- the merged entries that write a key are those of the journal that has it
-pub own_writes : (namespace : List ℕ) (key : Option Datum) (before after : List (List Entry)) (journal : List Entry) → IsRising journal → WriteNone namespace key (before ++ after) →
+pub own_writes : (namespace : List ℕ) (key : Option Datum) (before after : List (List Entry)) (journal : List Entry) → IsRising journal →
+    WriteNone namespace key (before ++ after) →
     filter (λ e. writes_to namespace key e) (merged (before ++ journal ∷ after)) ≡ filter (λ e. writes_to namespace key e) journal
 own_writes namespace key before after journal rising none = own_merged (λ (e : Entry). writes_to namespace key e) before after journal rising none
 
-pub own_document : (namespace : List ℕ) (key : Option Datum) (time : ℕ) (before after : List (List Entry)) (journal : List Entry) → IsRising journal → WriteNone namespace key (before ++ after) →
+pub own_document : (namespace : List ℕ) (key : Option Datum) (time : ℕ) (before after : List (List Entry)) (journal : List Entry) → IsRising journal →
+    WriteNone namespace key (before ++ after) →
     document_at (merged (before ++ journal ∷ after)) namespace key time ≡ document_at journal namespace key time
 own_document namespace key time before after journal rising none =
     same_document_at namespace key time (merged (before ++ journal ∷ after)) journal (own_writes namespace key before after journal rising none)
 
 -- a key of an entry is written by no other journal
 
-apart_others : (before after : List (List Entry)) (journal : List Entry) → AreApart (before ++ journal ∷ after) → AllByRecursion (λ other. ShareNoKey journal other) (before ++ after)
+apart_others : (before after : List (List Entry)) (journal : List Entry) → AreApart (before ++ journal ∷ after) →
+    AllByRecursion (λ other. ShareNoKey journal other) (before ++ after)
 apart_others [] after journal apart = apart.0
-apart_others (other ∷ before) after journal apart =
-    ((λ namespace key d e i j p q. all_at (λ (l : List Entry). ShareNoKey other l) journal (before ++ journal ∷ after) apart.0 (before, after, refl) namespace key e d j i q p),
-    apart_others before after journal apart.1)
+apart_others (other ∷ before) after journal apart = (
+  (λ namespace key d e i j p q.
+      all_at (λ (l : List Entry). ShareNoKey other l) journal (before ++ journal ∷ after) apart.0 (before, after, refl) namespace key e d j i q p),
+  apart_others before after journal apart.1,
+)
 
-pub written_once : (namespace : List ℕ) (key : Option Datum) (before after : List (List Entry)) (journal : List Entry) (e : Entry) → AreApart (before ++ journal ∷ after) → IsIn e journal →
+pub written_once : (namespace : List ℕ) (key : Option Datum) (before after : List (List Entry)) (journal : List Entry) (e : Entry) →
+    AreApart (before ++ journal ∷ after) → IsIn e journal →
     ((d : Entry) → writes_to namespace key d ≡ true → writes_to namespace key e ≡ true) → WriteNone namespace key (before ++ after)
 written_once namespace key before after journal e apart i own =
-    all_weaken (λ (other : List Entry). ShareNoKey journal other) (λ (other : List Entry). AllByRecursion (λ d. writes_to namespace key d ≡ false) other) (before ++ after)
+    all_weaken (λ (other : List Entry). ShareNoKey journal other)
+    (λ (other : List Entry). AllByRecursion (λ d. writes_to namespace key d ≡ false) other) (before ++ after)
     (λ other share. all_from (λ (d : Entry). writes_to namespace key d ≡ false) other
     (λ d j. is_false (writes_to namespace key d) (λ hit. share namespace key e d i j (own d hit) hit)))
     (apart_others before after journal apart)
@@ -97,7 +106,8 @@ writes_its_own e d hit =
     rw ((bytes_eq-Decides e.namespace e.namespace).1 refl) (key_itself (key_written d.operation) (key_written e.operation) p.1)
 
 -- entries share no key where none of the one writes the key of one of the other
-pub apart_by_own : (some others : List Entry) → AllByRecursion (λ d. AllByRecursion (λ e. writes_to d.namespace (key_written d.operation) e ≡ false) others) some → ShareNoKey some others
+pub apart_by_own : (some others : List Entry) →
+    AllByRecursion (λ d. AllByRecursion (λ e. writes_to d.namespace (key_written d.operation) e ≡ false) others) some → ShareNoKey some others
 apart_by_own some others none namespace key d e i j p q =
     let other : writes_to d.namespace (key_written d.operation) e ≡ false =
     all_at (λ (y : Entry). writes_to d.namespace (key_written d.operation) y ≡ false) e others
@@ -107,5 +117,6 @@ apart_by_own some others none namespace key d e i j p q =
     (ap (λ (n : List ℕ). writes_to n (key_written d.operation) e) ((bytes_eq-Decides d.namespace namespace).0 hit.0)
     ∙ same_writes namespace (key_written d.operation) key hit.1 e ∙ q)
 
-pub in_own_journal : (namespace : List ℕ) (key : Option Datum) (e : Entry) (before after : List (List Entry)) (journal : List Entry) → AreApart (before ++ journal ∷ after) → IsIn e journal → writes_to namespace key e ≡ true → WriteNone namespace key (before ++ after)
+pub in_own_journal : (namespace : List ℕ) (key : Option Datum) (e : Entry) (before after : List (List Entry)) (journal : List Entry) →
+    AreApart (before ++ journal ∷ after) → IsIn e journal → writes_to namespace key e ≡ true → WriteNone namespace key (before ++ after)
 in_own_journal namespace key e before after journal apart i hits = written_once namespace key before after journal e apart i (λ d hit. hits)

@@ -2,12 +2,11 @@
 use Rattle.std.proofs.Common.{◌≡◌, ℕ, List, [], ◌∷◌, ◌++◌, refl, sym, ap, subst, ◌∙◌, append_assoc, append-nil}
 use Rattle.std.specs.Prelude.{Bool, true, false, ◌&&◌, Option, if◌then◌else◌, filter}
 use Rattle.std.specs.List.{AllByRecursion}
-use Rattle.std.specs.Str.{bytes_eq}
 use Rattle.std.proofs.lemmas.Slice.Eq.{bytes_eq-Decides}
-use Rattle.bson_model.specs.Tree.{Datum, Fields}
+use Rattle.bson_model.specs.Tree.{Fields}
 use Rattle.bson_model.proofs.Booleans.{is_false}
 use Rattle.query_model.specs.Edits.{same_key}
-use Rattle.history_model.specs.History.{Entry, IsBefore, IsIn, IsSameStatement, Follows, LegalAfter, Legal, key_written, effect, writes_to, document_left}
+use Rattle.history_model.specs.History.{Entry, IsBefore, IsIn, IsSameStatement, Follows, LegalAfter, Legal, key_written, effect, writes_to}
 use Rattle.history_model.proofs.Lists.{all_at, all_filter, in_first, in_prefix, in_back}
 use Rattle.history_model.proofs.LegalHistories.{follows_prefix}
 use Rattle.history_laws.specs.Merged.{precedes, merged, IsRising, IsJournalOf, AreJournalsOf, AreApart}
@@ -16,12 +15,15 @@ use Rattle.history_laws.proofs.Merging.{rising_merged, each_rises, in_a_journal}
 use Rattle.history_laws.proofs.Documents.{differ, filters_in_turn, same_document, own_writes, written_once, writes_its_own}
 
 -- a history is legal where each entry follows those before it
-legal_from : (earlier later : List Entry) → ((prefix back : List Entry) (e : Entry) → later ≡ prefix ++ e ∷ back → Follows (earlier ++ prefix) e) → LegalAfter earlier later
+legal_from : (earlier later : List Entry) → ((prefix back : List Entry) (e : Entry) → later ≡ prefix ++ e ∷ back → Follows (earlier ++ prefix) e) →
+    LegalAfter earlier later
 legal_from earlier [] each = tt
-legal_from earlier (e ∷ later) each =
-    (subst (λ (l : List Entry). Follows l e) (append-nil earlier) (each [] later e refl),
-    legal_from (earlier ++ e ∷ []) later
-    (λ prefix back d is. subst (λ (l : List Entry). Follows l d) (sym (append_assoc earlier (e ∷ []) prefix)) (each (e ∷ prefix) back d (ap (λ (l : List Entry). e ∷ l) is))))
+legal_from earlier (e ∷ later) each = (
+  subst (λ (l : List Entry). Follows l e) (append-nil earlier) (each [] later e refl),
+  legal_from (earlier ++ e ∷ []) later
+      (λ prefix back d is. subst (λ (l : List Entry). Follows l d) (sym (append_assoc earlier (e ∷ []) prefix))
+      (each (e ∷ prefix) back d (ap (λ (l : List Entry). e ∷ l) is))),
+)
 
 -- the entries before one are those that precede it
 pub rising_prefix : (prefix back : List Entry) (e : Entry) → IsRising (prefix ++ e ∷ back) → AllByRecursion (λ d. IsBefore d e) prefix
@@ -43,7 +45,8 @@ prefix_kept (d ∷ prefix) back e rising =
     (ap (λ (l : List Entry). d ∷ l) (prefix_kept prefix back e rising.1))
 
 -- what holds of each entry that passes, and of each that does not
-all_unfilter : (P : Entry → Type 0) (test : Entry → Bool) (entries : List Entry) → ((d : Entry) → test d ≡ false → P d) → AllByRecursion P (filter test entries) → AllByRecursion P entries
+all_unfilter : (P : Entry → Type 0) (test : Entry → Bool) (entries : List Entry) → ((d : Entry) → test d ≡ false → P d) →
+    AllByRecursion P (filter test entries) → AllByRecursion P entries
 all_unfilter P test [] others all = tt
 all_unfilter P test (e ∷ entries) others all = by_test (test e) refl all (λ passed. all_unfilter P test entries others passed)
   where
@@ -55,7 +58,8 @@ all_unfilter P test (e ∷ entries) others all = by_test (test e) refl all (λ p
 not_same : (d e : Entry) → writes_to e.namespace (key_written e.operation) d ≡ false → ¬ IsSameStatement d e
 not_same d e other same =
     differ (writes_to e.namespace (key_written e.operation) d) other
-    (ap (λ (b : Bool). b && same_key (key_written d.operation) (key_written e.operation)) ((bytes_eq-Decides d.namespace e.namespace).1 same.namespace) ∙ same.key)
+    (ap (λ (b : Bool). b && same_key (key_written d.operation) (key_written e.operation))
+    ((bytes_eq-Decides d.namespace e.namespace).1 same.namespace) ∙ same.key)
 
 -- an entry that follows some follows others with the same writes of its key
 follows_as : (prefix own : List Entry) (e : Entry) → AllByRecursion (λ d. IsBefore d e) prefix →
@@ -63,13 +67,16 @@ follows_as : (prefix own : List Entry) (e : Entry) → AllByRecursion (λ d. IsB
     Follows own e → Follows prefix e
 follows_as prefix own e rises same follows = record {
   rises = rises;
-  told = follows.told ∙ ap (λ (before : Option Fields). (effect e.operation before).1) (same_document e.namespace (key_written e.operation) own prefix (sym same));
-  once = all_unfilter (λ (d : Entry). ¬ IsSameStatement d e) (λ (d : Entry). writes_to e.namespace (key_written e.operation) d) prefix (λ d other. not_same d e other)
-    (subst (λ (l : List Entry). AllByRecursion (λ d. ¬ IsSameStatement d e) l) (sym same)
-    (all_filter (λ (d : Entry). ¬ IsSameStatement d e) (λ (d : Entry). writes_to e.namespace (key_written e.operation) d) own follows.once));
+  told = follows.told
+      ∙ ap (λ (before : Option Fields). (effect e.operation before).1) (same_document e.namespace (key_written e.operation) own prefix (sym same));
+  once = all_unfilter (λ (d : Entry). ¬ IsSameStatement d e) (λ (d : Entry). writes_to e.namespace (key_written e.operation) d) prefix
+      (λ d other. not_same d e other)
+      (subst (λ (l : List Entry). AllByRecursion (λ d. ¬ IsSameStatement d e) l) (sym same)
+      (all_filter (λ (d : Entry). ¬ IsSameStatement d e) (λ (d : Entry). writes_to e.namespace (key_written e.operation) d) own follows.once));
 }
 
-module _ (shards : List ℕ) (journals : List (List Entry)) (are : AreJournalsOf shards journals) (legal : AllByRecursion Legal journals) (apart : AreApart journals) where
+module _ (shards : List ℕ) (journals : List (List Entry)) (are : AreJournalsOf shards journals) (legal : AllByRecursion Legal journals)
+    (apart : AreApart journals) where
   follows_here : (prefix back : List Entry) (e : Entry) → merged journals ≡ prefix ++ e ∷ back →
       (before after : List (List Entry)) (own more : List Entry) → journals ≡ before ++ (own ++ e ∷ more) ∷ after → Follows prefix e
   follows_here prefix back e is before after own more split =
@@ -95,7 +102,8 @@ module _ (shards : List ℕ) (journals : List (List Entry)) (are : AreJournalsOf
           ap (λ (l : List Entry). filter test l) (sym is)
           ∙ ap (λ (l : List (List Entry)). filter test (merged l)) split
           ∙ own_writes e.namespace (key_written e.operation) before after journal own_rising
-          (written_once e.namespace (key_written e.operation) before after journal e (subst (λ (l : List (List Entry)). AreApart l) split apart) (own, more, refl) (λ d hit. writes_its_own e d hit))
+          (written_once e.namespace (key_written e.operation) before after journal e (subst (λ (l : List (List Entry)). AreApart l) split apart)
+          (own, more, refl) (λ d hit. writes_its_own e d hit))
 
       same : filter test prefix ≡ filter test own
       same =
@@ -106,7 +114,9 @@ module _ (shards : List ℕ) (journals : List (List Entry)) (are : AreJournalsOf
           ∙ ap (λ (l : List Entry). filter test l) (prefix_kept own more e own_rising)
 
   pub merged_legal : Legal (merged journals)
-  merged_legal = legal_from [] (merged journals) (λ prefix back e is. by_journal prefix back e is (all_at InOne e (merged journals) (in_a_journal journals) (prefix, back, is)))
+  merged_legal =
+      legal_from [] (merged journals)
+      (λ prefix back e is. by_journal prefix back e is (all_at InOne e (merged journals) (in_a_journal journals) (prefix, back, is)))
     where
       InOne : Entry → Type 0
       InOne x = (journal : List Entry) × IsIn journal journals × IsIn x journal

@@ -1,11 +1,11 @@
 -- The order of entries, and an entry placed among others.
-use Rattle.std.proofs.Common.{◌≡◌, ◌≢◌, ◌⊎◌, inl, inr, List, [], ◌∷◌, ◌++◌, refl, sym, ap, ◌∙◌, arith}
+use Rattle.std.proofs.Common.{◌≡◌, ◌≢◌, ◌⊎◌, inl, inr, List, [], ◌∷◌, refl, sym, ap, ◌∙◌, arith}
 use Rattle.std.specs.Prelude.{Bool, true, false, ◌&&◌, ◌||◌, if◌then◌else◌, nat_lt, nat_eq, filter}
 use Rattle.std.specs.List.{AllByRecursion}
 use Rattle.std.proofs.lemmas.Bool.{ltb-true, ltb-false, lt-ltb, eqb-true, eq-eqb}
 use Rattle.bson_model.proofs.Booleans.{both, is_false}
 use Rattle.history_model.specs.History.{Entry, IsBefore}
-use Rattle.history_model.proofs.Lists.{all_weaken}
+use Rattle.history_model.proofs.Lists.{all_weaken, all_filter}
 use Rattle.history_laws.specs.Merged.{precedes, placed, IsRising, IsOneMore}
 
 either : (a b : Bool) → (a || b) ≡ true → (a ≡ true) ⊎ (b ≡ true)
@@ -59,7 +59,8 @@ turned d e (inr more) = inl more
 pub two_shards : (d e : Entry) → e.shard ≢ d.shard → AreOrdered d e
 two_shards d e other = by_tests (nat_lt d.time e.time) refl (nat_lt e.time d.time) refl (nat_lt d.shard e.shard) refl
   where
-    by_tests : (earlier : Bool) → nat_lt d.time e.time ≡ earlier → (later : Bool) → nat_lt e.time d.time ≡ later → (less : Bool) → nat_lt d.shard e.shard ≡ less → AreOrdered d e
+    by_tests : (earlier : Bool) → nat_lt d.time e.time ≡ earlier → (later : Bool) → nat_lt e.time d.time ≡ later → (less : Bool) →
+        nat_lt d.shard e.shard ≡ less → AreOrdered d e
     by_tests true p later q less r = inl (inl (ltb-true d.time e.time p))
     by_tests false p true q less r = inr (inl (ltb-true e.time d.time q))
     by_tests false p false q true r = inl (inr (omega (arith, ltb-false d.time e.time p, ltb-false e.time d.time q), ltb-true d.shard e.shard r))
@@ -112,7 +113,8 @@ filter_placed_other test e (d ∷ later) other = by_test (precedes d e) (filter_
     by_test false same = rw other refl
 
 -- an entry that passes, where no other that passes comes before it
-pub filter_placed_first : (test : Entry → Bool) (e : Entry) (entries : List Entry) → test e ≡ true → AllByRecursion (λ d. ¬ IsBefore d e) (filter test entries) → filter test (placed e entries) ≡ e ∷ filter test entries
+pub filter_placed_first : (test : Entry → Bool) (e : Entry) (entries : List Entry) → test e ≡ true →
+    AllByRecursion (λ d. ¬ IsBefore d e) (filter test entries) → filter test (placed e entries) ≡ e ∷ filter test entries
 filter_placed_first test e [] passes none = rw passes refl
 filter_placed_first test e (d ∷ later) passes none = by_tests (precedes d e) refl (test d) refl none (λ rest. filter_placed_first test e later passes rest)
   where
@@ -123,6 +125,29 @@ filter_placed_first test e (d ∷ later) passes none = by_tests (precedes d e) r
     by_tests true is true keeps all rest = absurd (all.0 (precedes_before d e is))
     by_tests true is false keeps all rest = rw keeps (rest all)
     by_tests false is kept keeps all rest = rw (passes, keeps) refl
+
+pub first_placed : (e : Entry) (entries : List Entry) → AllByRecursion (λ d. IsBefore e d) entries → placed e entries ≡ e ∷ entries
+first_placed e [] rising = refl
+first_placed e (d ∷ later) rising = rw (never_after e d rising.0) refl
+
+-- an entry that passes is placed among those that pass
+pub filter_placed : (test : Entry → Bool) (e : Entry) (entries : List Entry) → test e ≡ true → AllByRecursion (λ d. AreOrdered e d) entries →
+    IsRising entries → filter test (placed e entries) ≡ placed e (filter test entries)
+filter_placed test e [] passes ordered rising = rw passes refl
+filter_placed test e (d ∷ later) passes ordered rising =
+    by_tests (precedes d e) refl (test d) refl (filter_placed test e later passes ordered.1 rising.1)
+  where
+    by_tests : (first : Bool) → precedes d e ≡ first → (kept : Bool) → test d ≡ kept → filter test (placed e later) ≡ placed e (filter test later) →
+        filter test (if first then d ∷ placed e later else e ∷ d ∷ later) ≡ placed e (if kept then d ∷ filter test later else filter test later)
+    by_tests true is true keeps same = rw (keeps, is) (ap (λ (l : List Entry). d ∷ l) same)
+    by_tests true is false keeps same = rw keeps same
+    by_tests false is kept keeps same =
+        let less : IsBefore e d = after_it d e is ordered.0 in
+        let all : AllByRecursion (λ x. IsBefore e x) (d ∷ later) =
+        (less, all_weaken (λ (x : Entry). IsBefore d x) (λ (x : Entry). IsBefore e x) later (λ x more. before_both e d x less more) rising.0) in
+        ap (λ (b : Bool). if b then e ∷ filter test (d ∷ later) else filter test (d ∷ later)) passes
+        ∙ sym (first_placed e (filter test (d ∷ later)) (all_filter (λ (x : Entry). IsBefore e x) test (d ∷ later) all))
+        ∙ ap (λ (b : Bool). placed e (if b then d ∷ filter test later else filter test later)) keeps
 
 -- which of two is placed first makes no difference
 placed_in_turn : (d e : Entry) (entries : List Entry) → IsBefore d e → placed d (placed e entries) ≡ placed e (placed d entries)

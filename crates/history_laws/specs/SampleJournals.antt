@@ -1,5 +1,5 @@
 -- Journals of two shards to try the definitions on.
-use Rattle.std.specs.Prelude.{ℕ, List, [], ◌∷◌, false, codes, pos}
+use Rattle.std.specs.Prelude.{ℕ, List, [], ◌∷◌, false, pos}
 use Rattle.base_model.specs.Errors.{bad_value}
 use Rattle.history_model.specs.History.{Entry, insert_operation, delete_operation, done, fails_with}
 use Rattle.history_model.specs.SampleEntries.{entry_at, with_x, changed_one, setting, array_key}

@@ -1,6 +1,6 @@
 //! The laws of merged journals.
 
-ghost use Rattle.std.specs.Prelude.{◌≡◌, ◌<◌, ◌++◌, ◌∷◌, ℕ, List, [], Option, false, true, filter};
+ghost use Rattle.std.specs.Prelude.{◌≡◌, ◌<◌, ◌++◌, ◌∷◌, ℕ, List, [], Option, Bool, false, true, filter, map, nat_le};
 ghost use Rattle.std.specs.List.{AllByRecursion, flat_map};
 ghost use Rattle.std.specs.List.Sorted.{IsPermutation};
 ghost use Rattle.bson_model.specs.Tree.{Datum};
@@ -9,8 +9,8 @@ ghost use Rattle.history_laws.specs.Merged.{AreApart, AreJournalsOf, IsJournalOf
 
 /// Legal journals of shards that differ, where no key of a namespace is written in two of them, merge to a legal history.
 pub fn merged_is_legal()
-    ensures { (shards : List ℕ) (journals : List (List Entry)) → AreJournalsOf shards journals → AllByRecursion (λ journal. Legal journal) journals → AreApart journals
-        → Legal (merged journals) }
+    ensures { (shards : List ℕ) (journals : List (List Entry)) → AreJournalsOf shards journals → AllByRecursion (λ journal. Legal journal) journals
+        → AreApart journals → Legal (merged journals) }
 {}
 
 /// Merged entries rise, and are the same in which order the journals are taken: any of them may be the first.
@@ -20,11 +20,14 @@ pub fn merged_is_rising()
         → merged (before ++ journal ∷ after) ≡ merged (journal ∷ (before ++ after)) }
 {}
 
-/// Merged entries are those of the journals, each as often; and of a key that no other journal writes, the entries and the documents are those of its journal.
+/// Merged entries are those of the journals, each as often, and those that pass a test are merged from those of each journal that pass it. Of a key that no
+/// other journal writes, the entries and the documents are those of its journal.
 pub fn merged_keeps_each()
     ensures entries { (journals : List (List Entry)) → IsPermutation (flat_map (λ journal. journal) journals) (merged journals) }
     ensures found { (e : Entry) (before after : List (List Entry)) (journal : List Entry) → IsIn e journal → IsIn e (merged (before ++ journal ∷ after)) }
     ensures own { (e : Entry) (journals : List (List Entry)) → IsIn e (merged journals) → (journal : List Entry) × IsIn journal journals × IsIn e journal }
+    ensures kept { (test : Entry → Bool) (shards : List ℕ) (journals : List (List Entry)) → AreJournalsOf shards journals
+        → filter test (merged journals) ≡ merged (map (λ journal. filter test journal) journals) }
     ensures writes { (namespace : List ℕ) (key : Option Datum) (before after : List (List Entry)) (journal : List Entry) → IsRising journal
         → WriteNone namespace key (before ++ after)
         → filter (λ e. writes_to namespace key e) (merged (before ++ journal ∷ after)) ≡ filter (λ e. writes_to namespace key e) journal }
@@ -42,7 +45,8 @@ pub fn one_journal()
 {}
 
 /// With one more entry at the end of a journal the merged entries are those before with this one among them. So all entries stay, and so do the documents under
-/// the keys that it does not write, at each time, and those under all keys at times before its own.
+/// the keys that it does not write, at each time, and those under all keys at times before its own. With any more entries, documents stay at a time up to which
+/// each journal has the same entries.
 pub fn grows()
     ensures one_more { (shards : List ℕ) (before after : List (List Entry)) (journal : List Entry) (e : Entry)
         → AreJournalsOf shards (before ++ (journal ++ e ∷ []) ∷ after)
@@ -52,6 +56,10 @@ pub fn grows()
         → writes_to namespace key e ≡ false → document_at more namespace key time ≡ document_at entries namespace key time }
     ensures earlier { (namespace : List ℕ) (key : Option Datum) (time : ℕ) (e : Entry) (entries more : List Entry) → IsOneMore e entries more
         → time < e.time → document_at more namespace key time ≡ document_at entries namespace key time }
+    ensures until { (namespace : List ℕ) (key : Option Datum) (time : ℕ) (shards more : List ℕ) (journals later : List (List Entry))
+        → AreJournalsOf shards journals → AreJournalsOf more later
+        → map (λ journal. filter (λ e. nat_le e.time time) journal) journals ≡ map (λ journal. filter (λ e. nat_le e.time time) journal) later
+        → document_at (merged journals) namespace key time ≡ document_at (merged later) namespace key time }
 {}
 
 /// A legal history of entries of one shard is a journal of that shard.
