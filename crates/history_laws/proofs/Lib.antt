@@ -3,3 +3,4 @@ pub mod Merging
 pub mod Documents
 pub mod Growth
 pub mod MergedLegal
+pub mod LegalByKeys

@@ -15,7 +15,7 @@ use Rattle.history_laws.proofs.Merging.{rising_merged, each_rises, in_a_journal}
 use Rattle.history_laws.proofs.Documents.{differ, filters_in_turn, same_document, own_writes, written_once, writes_its_own}
 
 -- a history is legal where each entry follows those before it
-legal_from : (earlier later : List Entry) → ((prefix back : List Entry) (e : Entry) → later ≡ prefix ++ e ∷ back → Follows (earlier ++ prefix) e) →
+pub legal_from : (earlier later : List Entry) → ((prefix back : List Entry) (e : Entry) → later ≡ prefix ++ e ∷ back → Follows (earlier ++ prefix) e) →
     LegalAfter earlier later
 legal_from earlier [] each = tt
 legal_from earlier (e ∷ later) each = (
@@ -62,7 +62,7 @@ not_same d e other same =
     ((bytes_eq-Decides d.namespace e.namespace).1 same.namespace) ∙ same.key)
 
 -- an entry that follows some follows others with the same writes of its key
-follows_as : (prefix own : List Entry) (e : Entry) → AllByRecursion (λ d. IsBefore d e) prefix →
+pub follows_as : (prefix own : List Entry) (e : Entry) → AllByRecursion (λ d. IsBefore d e) prefix →
     filter (λ d. writes_to e.namespace (key_written e.operation) d) prefix ≡ filter (λ d. writes_to e.namespace (key_written e.operation) d) own →
     Follows own e → Follows prefix e
 follows_as prefix own e rises same follows = record {

@@ -1,6 +1,6 @@
 //! The laws of merged journals.
 
-ghost use Rattle.std.specs.Prelude.{◌≡◌, ◌<◌, ◌++◌, ◌∷◌, ℕ, List, [], Option, Bool, false, true, filter, map, nat_le};
+ghost use Rattle.std.specs.Prelude.{◌≡◌, ◌<◌, ◌++◌, ◌∷◌, ℕ, List, [], Option, Some, None, Bool, false, true, filter, map, nat_le};
 ghost use Rattle.std.specs.List.{AllByRecursion, flat_map};
 ghost use Rattle.std.specs.List.Sorted.{IsPermutation};
 ghost use Rattle.bson_model.specs.Tree.{Datum};
@@ -11,6 +11,13 @@ ghost use Rattle.history_laws.specs.Merged.{AreApart, AreJournalsOf, IsJournalOf
 pub fn merged_is_legal()
     ensures { (shards : List ℕ) (journals : List (List Entry)) → AreJournalsOf shards journals → AllByRecursion (λ journal. Legal journal) journals
         → AreApart journals → Legal (merged journals) }
+{}
+
+/// Entries that rise are a legal history where the entries of each key of a namespace are one, and each entry without a key is one alone. So a history is judged
+/// key by key, in however many journals a key has entries.
+pub fn legal_by_keys()
+    ensures { (history : List Entry) → IsRising history → ((e : Entry) → IsIn e history → key_written e.operation ≡ None → Legal (e ∷ []))
+        → ((namespace : List ℕ) (key : Datum) → Legal (filter (λ e. writes_to namespace (Some key) e) history)) → Legal history }
 {}
 
 /// Merged entries rise, and are the same in which order the journals are taken: any of them may be the first.
