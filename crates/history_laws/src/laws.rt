@@ -13,8 +13,8 @@ pub fn merged_is_legal()
         → AreApart journals → Legal (merged journals) }
 {}
 
-/// Entries that rise are a legal history where the entries of each key of a namespace are one, and each entry without a key is one alone. So a history is judged
-/// key by key, in however many journals a key has entries.
+/// Entries that rise are a legal history where the entries of each key of a namespace are one, and each entry without a key is one alone. So a history is
+/// judged key by key, in however many journals a key has entries.
 pub fn legal_by_keys()
     ensures { (history : List Entry) → IsRising history → ((e : Entry) → IsIn e history → key_written e.operation ≡ None → Legal (e ∷ []))
         → ((namespace : List ℕ) (key : Datum) → Legal (filter (λ e. writes_to namespace (Some key) e) history)) → Legal history }
