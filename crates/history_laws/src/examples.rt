@@ -8,8 +8,8 @@ ghost use Rattle.history_model.specs.SampleEntries.{with_x};
 ghost use Rattle.history_laws.specs.Merged.{AreApart, AreJournalsOf, IsRising, ShareNoKey, merged};
 ghost use Rattle.history_laws.specs.SampleJournals.{changed_at_five, deleted_at_four, first_journal, inserted_at, keyless_on, second_journal};
 
-/// Entries of two shards at one time are ordered by shard, in which order the journals are taken; an entry that one gets later may come before the last one of
-/// the other; a statement number may be that of two keys.
+/// Entries of two shards at one time are ordered by shard, whichever journal is taken first; an entry that one gets later may come before the last one of the
+/// other; a statement number may be that of two keys.
 pub fn two_journals()
     ensures journals { AreJournalsOf (1 ∷ 2 ∷ []) (first_journal ∷ second_journal ∷ []) }
     ensures apart { AreApart (first_journal ∷ second_journal ∷ []) }

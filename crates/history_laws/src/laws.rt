@@ -20,7 +20,7 @@ pub fn legal_by_keys()
         → ((namespace : List ℕ) (key : Datum) → Legal (filter (λ e. writes_to namespace (Some key) e) history)) → Legal history }
 {}
 
-/// Merged entries rise, and are the same in which order the journals are taken: any of them may be the first.
+/// Merged entries rise, and are the same whichever of the journals is taken first.
 pub fn merged_is_rising()
     ensures rising { (shards : List ℕ) (journals : List (List Entry)) → AreJournalsOf shards journals → IsRising (merged journals) }
     ensures any_first { (shards : List ℕ) (before after : List (List Entry)) (journal : List Entry) → AreJournalsOf shards (before ++ journal ∷ after)
