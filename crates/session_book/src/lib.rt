@@ -2,6 +2,7 @@
 #![tactic(auto)]
 
 mod book;
+mod merges;
 mod session;
 
 pub use book::{Book, Seen};
