@@ -29,3 +29,6 @@ pub room_step : (b : Bool) (before k old_room new_room : ℕ) → (b ≡ true �
     before + ((if b then k else 0) + 0) ≤ new_room
 room_step true before k old_room new_room here more room = omega (arith, here refl)
 room_step false before k old_room new_room here more room = omega (arith, more, room)
+
+pub counted_on : (before after left rest k : ℕ) {all : ℕ} → left ≡ k + rest → after ≡ before + (k + 0) → before + left ≡ all → after + rest ≡ all
+counted_on before after left rest k cut more whole = omega (arith, cut, more, whole)

@@ -1,7 +1,10 @@
 -- What is kept of all sessions, as notes.
-use Rattle.std.proofs.Common.{◌≡◌, ℕ, List, [], ◌∷◌, ◌++◌, refl, sym, ap, ◌∙◌}
+use Rattle.std.proofs.Common.{◌≡◌, ◌<◌, ◌≤◌, ℕ, List, [], ◌∷◌, ◌++◌, length, append_assoc, refl, sym, ap, ◌∙◌}
 use Rattle.std.specs.Prelude.{Bool, true, false, Option, Some, None, if◌then◌else◌}
-use Rattle.std.specs.List.{AllByRecursion}
+use Rattle.std.specs.List.{AllByRecursion, slice_get, slice_index_or}
+use Rattle.std.specs.BTreeMap.{BTreeMap, get}
+use Rattle.std.proofs.lemmas.List.{append-nil}
+use Rattle.std.proofs.lemmas.Option.{slice_get_past, slice_get_read}
 use Rattle.cluster_base.specs.declared.identity.Session.{Session}
 use Rattle.history_model.specs.History as history
 use Rattle.history_model.specs.History.{StatementNumber}
@@ -14,8 +17,10 @@ use Rattle.statement_views.specs.Views.{session_view}
 use Rattle.session_book.specs.Statements.{Statements}
 use Rattle.session_book.specs.Places.{place_of, statements_at}
 use Rattle.session_book.specs.Books.{seen_of}
+use Rattle.session_book.specs.Records.{statement_notes}
 use Rattle.session_book.proofs.Merging.{kept_notes, other_session, seen_kept}
 use Rattle.session_book.proofs.Places.{itself}
+use Rattle.session_book.proofs.Sessions.{place_at, session_order}
 
 -- the notes of what is kept of each of these sessions, in their order
 abbrev pub floor_notes : List Statements → List (Session × ℕ) → List (Note Reply)
@@ -77,11 +82,12 @@ module _ (kept : List Statements) (places : List (Session × ℕ)) (n : Statemen
   -- where no entry is of the session, none is looked up
   not_among : (entries : List (Session × ℕ)) → among entries ≡ false → place_of entries n.session ≡ None
   not_among [] e = refl
-  not_among (e ∷ entries) is = by_test (same_session (session_view e.0) n.session) refl
+  not_among (e ∷ entries) is = by_test (same_session (session_view e.0) n.session) refl (λ none. not_among entries none)
     where
-      by_test : (b : Bool) → same_session (session_view e.0) n.session ≡ b → place_of (e ∷ entries) n.session ≡ None
-      by_test true same = absurd (let h : true ≡ false = rw same at is in cc)
-      by_test false apart = rw (turned (session_view e.0) n.session false apart) (not_among entries (rw apart at is))
+      by_test : (b : Bool) → same_session (session_view e.0) n.session ≡ b → (among entries ≡ false → place_of entries n.session ≡ None) →
+          place_of (e ∷ entries) n.session ≡ None
+      by_test true same rest = absurd (let h : true ≡ false = rw same at is in cc)
+      by_test false apart rest = rw (turned (session_view e.0) n.session false apart) (rest (rw apart at is))
 
   by_among : (b : Bool) → among places ≡ b → (if b then seen_of (statements_at kept (place_of places n.session)) n else new_statement) ≡ seen_of (statements_at kept (place_of places n.session)) n
   by_among true is = refl
@@ -91,3 +97,39 @@ module _ (kept : List Statements) (places : List (Session × ℕ)) (n : Statemen
 pub seen_floors : (kept : List Statements) (places : List (Session × ℕ)) → AreLookedUp places places → (n : StatementNumber) →
     seen_of (statements_at kept (place_of places n.session)) n ≡ seen (floor_notes kept places) n
 seen_floors kept places are n = sym (seen_among_entries kept places n places are ∙ by_among kept places n (among kept places n places) refl)
+
+-- one session more
+pub floor_step : (kept : List Statements) (all : List (Note Reply)) (e : Session × ℕ) (left rest : List (Session × ℕ)) (notes more : List (Note Reply)) →
+    notes ++ floor_notes kept left ≡ all → left ≡ e ∷ rest → more ≡ notes ++ kept_notes (session_view e.0) (statements_at kept (Some e.1)) →
+    more ++ floor_notes kept rest ≡ all
+floor_step kept all e left rest notes more whole front added =
+    ap (λ (x : List (Note Reply)). x ++ floor_notes kept rest) added
+    ∙ append_assoc notes (kept_notes (session_view e.0) (statements_at kept (Some e.1))) (floor_notes kept rest)
+    ∙ ap (λ (x : List (Session × ℕ)). notes ++ floor_notes kept x) (sym front)
+    ∙ whole
+
+pub slot_some : (kept read : List Statements) (place : ℕ) (w : Statements) → read ≡ kept → place < length read → w ≡ slice_index_or read place w →
+    statements_at kept (Some place) ≡ Some w
+slot_some kept read place w same bound is =
+    ap (λ (x : List Statements). slice_get x place) (sym same) ∙ slice_get_read read (length read) place w refl bound is
+
+pub slot_none : (kept read : List Statements) (place : ℕ) → read ≡ kept → length read ≤ place → statements_at kept (Some place) ≡ None
+slot_none kept read place same past = ap (λ (x : List Statements). slice_get x place) (sym same) ∙ slice_get_past read place past
+
+pub kept_none : (x : history.Session) (o : Option Statements) (notes : List (Note Reply)) → o ≡ None → notes ≡ notes ++ kept_notes x o
+kept_none x o notes none = rw none (sym (append-nil notes))
+
+pub kept_some : (x : history.Session) (o : Option Statements) (w : Statements) (notes more : List (Note Reply)) → o ≡ Some w →
+    more ≡ notes ++ statement_notes x w.transaction w.notes → more ≡ notes ++ kept_notes x o
+kept_some x o w notes more some added = added ∙ ap (λ (p : Option Statements). notes ++ kept_notes x p) (sym some)
+
+-- none is left
+pub floor_end : (kept : List Statements) (all : List (Note Reply)) (left : List (Session × ℕ)) (notes : List (Note Reply)) →
+    notes ++ floor_notes kept left ≡ all → left ≡ [] → notes ≡ all
+floor_end kept all left notes whole none =
+    sym (append-nil notes) ∙ ap (λ (x : List (Session × ℕ)). notes ++ floor_notes kept x) (sym none) ∙ whole
+
+-- the entries of a map are those that it finds
+pub looked_up : (m : BTreeMap Session ℕ) (entries : List (Session × ℕ)) → AllByRecursion (λ e. get session_order m e.0 ≡ Some e.1) entries → AreLookedUp m.entries entries
+looked_up m [] found = tt
+looked_up m (e ∷ entries) found = (place_at m e.0 ∙ found.0, looked_up m entries found.1)

@@ -6,3 +6,4 @@ pub mod Booked
 pub mod Merging
 pub mod Counts
 pub mod Floors
+pub mod Joined
