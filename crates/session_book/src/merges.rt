@@ -19,7 +19,7 @@ use std::collections::BTreeMap;
 
 impl Book {
     ghost use Rattle.session_book.specs.Books.{NotesAre, room_in, seen_in};
-    ghost use Rattle.session_book.specs.Merges.{HasRoomFor};
+    ghost use Rattle.session_book.specs.Merges.{HasRoomFor, IsMerged};
     ghost use Rattle.session_book.specs.Records.{session_notes, statement_note, statement_notes};
 
     /// Makes room for the statements of these sessions, which a `merge` of equal ones then takes. Nothing is noted by it, so each
@@ -51,7 +51,7 @@ impl Book {
     /// has of it, and of one index its own. Takes no memory.
     pub fn merge(&mut self, other: Sessions)
         requires room { HasRoomFor self.old other.sessions.items }
-        ensures seen { (n : StatementNumber) → seen_in self.new n ≡ seen_by_both (seen_in self.old n) (seen (session_notes other.sessions.items) n) }
+        ensures seen { IsMerged self.old other self.new }
         ensures so_far { (notes : List (Note Reply)) → NotesAre self.old notes → NotesAre self.new (notes ++ session_notes other.sessions.items) }
         ensures room { (t : Session) → room_in self.old t ≤ room_in self.new t + count_of (session_view t) other.sessions.items }
     {
