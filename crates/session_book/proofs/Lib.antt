@@ -7,3 +7,4 @@ pub mod Merging
 pub mod Counts
 pub mod Floors
 pub mod Joined
+pub mod Order

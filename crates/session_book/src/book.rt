@@ -8,7 +8,8 @@ ghost use Rattle.history_model.specs.History.{StatementNumber};
 ghost use Rattle.history_model.specs.Notes.{Note, new_statement, same_session, seen_with};
 ghost use Rattle.cluster_base.specs.declared.identity.Session.{Session};
 ghost use Rattle.value_compare.specs.declared.words.Reply.{Reply};
-ghost use Rattle.statement_views.specs.Views.{number_view, session_view};
+ghost use Rattle.statement_views.specs.Views.{number_view, session_view, sessions_view};
+ghost use Rattle.history_model.specs.Sessions.{are_in_order};
 ghost use Rattle.session_book.specs.Places.{AreApart, place_of};
 
 use crate::session::{Kept, push_session};
@@ -120,6 +121,7 @@ impl Book {
     /// `Memory` when out of memory.
     pub fn floors(&self) -> Result<Sessions, Memory>
         ensures notes { IfOk result (λ s. NotesAre self.now (session_notes s.sessions.items)) }
+        ensures order { IfOk result (λ s. IsTrue (are_in_order (sessions_view s))) }
     {
         let mut sessions = Vec::new(self.alloc);
         for (session, place) in &self.places {

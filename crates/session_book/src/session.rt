@@ -1,6 +1,6 @@
 //! What is kept of one session.
 
-ghost use Rattle.std.specs.Prelude.{◌≡◌, ◌<◌, ◌≤◌, ◌+◌, ◌++◌, ◌∷◌, ◌==◌, ℕ, ℤ, [], Some, None, IfOk, IfErr, IfSome, OnOk, if◌then◌else◌};
+ghost use Rattle.std.specs.Prelude.{◌≡◌, ◌<◌, ◌≤◌, ◌+◌, ◌++◌, ◌∷◌, ◌⊎◌, ◌==◌, ℕ, ℤ, [], Some, None, IfOk, IfErr, IfSome, OnOk, if◌then◌else◌};
 ghost use Rattle.std.specs.List.{insert};
 ghost use Rattle.std.specs.Option.{option_map};
 ghost use Rattle.std.specs.Vec.{vec_capacity, vec_len};
@@ -9,6 +9,7 @@ ghost use Rattle.session_book.specs.Statements.{Holds, IsGapFor, IsRising, notes
 ghost use Rattle.session_book.specs.Books.{seen_view};
 ghost use Rattle.session_book.specs.Records.{session_notes, statement_notes};
 ghost use Rattle.statement_views.specs.Views.{session_view};
+ghost use Rattle.statement_views.specs.declared.sessions.SessionRecord.{SessionRecord};
 
 use crate::book::Seen;
 use bson_values::Memory;
@@ -194,6 +195,7 @@ pub fn push_session(
     session: Session,
     kept: &Kept,
 ) -> Result<(), Memory>
+    ensures items { OnOk result ((sessions.new.items ≡ sessions.old.items) ⊎ ((r : SessionRecord) × (sessions.new.items ≡ sessions.old.items ++ r ∷ []) × (r.session ≡ session) × IsRising r.statements.items)) }
     ensures notes { OnOk result (session_notes sessions.new.items ≡ session_notes sessions.old.items ++ statement_notes (session_view session) kept.now.transaction kept.now.notes) }
 {
     let statements = kept.copies(*sessions.allocator())?;
