@@ -1,11 +1,10 @@
 -- What a number is against what is kept of a session, as against notes; and once one more statement was merged.
-use Rattle.std.proofs.Common.{◌≡◌, ◌≢◌, ℕ, ℤ, List, [], ◌∷◌, ◌++◌, refl, sym, ap, subst, ◌∙◌, arith}
+use Rattle.std.proofs.Common.{◌≡◌, ◌≢◌, ℕ, ℤ, List, [], ◌∷◌, refl, sym, ap, subst, ◌∙◌, arith}
 use Rattle.std.specs.Prelude.{Bool, true, false, ◌&&◌, Option, Some, None, ◌==◌, int_lt, if◌then◌else◌}
 use Rattle.std.specs.Int.{int_max}
 use Rattle.std.specs.Option.{option_map, unwrap_or}
 use Rattle.std.specs.Ordering.{int_eq}
 use Rattle.std.proofs.lemmas.Int.{ints, clamps}
-use Rattle.std.proofs.lemmas.Bool.{eq-eqb}
 use Rattle.std.proofs.lemmas.Bool.Decides.{Decides-int_eq}
 use Rattle.std.proofs.lemmas.Cmp.{int_eq_equiv}
 use Rattle.history_model.specs.History as history
@@ -13,10 +12,10 @@ use Rattle.history_model.specs.History.{StatementNumber}
 use Rattle.history_model.specs.Notes.{Note, Seen, new_statement, done_before, older_than, same_session, same_number, greatest_of, noted, seen_beside, seen, seen_with}
 use Rattle.history_model.specs.Merges.{seen_by_both}
 use Rattle.history_model.proofs.Noted.{one_more_note, same_session_is, same_number_is}
-use Rattle.history_model.proofs.Merged.{none_noted, both_new, seen_after_others}
+use Rattle.history_model.proofs.Merged.{both_new, seen_after_others}
 use Rattle.value_compare.specs.declared.words.Reply.{Reply}
 use Rattle.statement_views.specs.declared.sessions.StatementRecord.{StatementRecord}
-use Rattle.session_book.specs.Statements.{Statements, are_some, with_index, seen_as, seen_among}
+use Rattle.session_book.specs.Statements.{Statements, are_some, with_index, seen_as}
 use Rattle.session_book.specs.Books.{is_new, seen_of}
 use Rattle.session_book.specs.Records.{statement_note, statement_notes}
 use Rattle.session_book.proofs.Booked.{none_done}

@@ -1,7 +1,6 @@
-use Rattle.std.proofs.Common.{◌≡◌, ◌∙◌, sym, ap}
+use Rattle.std.proofs.Common.{◌∙◌, sym, ap}
 use Rattle.history_model.specs.Merges.{seen_by_both}
 use Rattle.history_model.specs.Notes.{seen}
-use Rattle.session_book.specs.Books.{seen_in}
 use Rattle.session_book.specs.Records.{session_notes}
 use Rattle.session_book.proofs.laws.floors_make_the_book.Goals as goal
 

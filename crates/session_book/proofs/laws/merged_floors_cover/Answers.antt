@@ -1,4 +1,4 @@
-use Rattle.std.proofs.Common.{◌≡◌, ◌∙◌, sym, ap}
+use Rattle.std.proofs.Common.{◌∙◌, sym}
 use Rattle.history_model.specs.Notes.{seen}
 use Rattle.history_model.proofs.Merged.{new_by_both}
 use Rattle.session_book.specs.Books.{seen_in}

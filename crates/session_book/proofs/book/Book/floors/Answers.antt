@@ -1,9 +1,7 @@
-use Rattle.std.proofs.Common.{◌≡◌, ◌∙◌, ◌∷◌, ◌++◌, List, Some, None, inl, refl, sym, ap, arith, rules}
+use Rattle.std.proofs.Common.{◌∙◌, inl, refl, sym, ap}
 use Rattle.std.specs.Map.Iter.{deref_pair}
 use Rattle.std.proofs.lemmas.Map.Iter.{rest_more}
 use Rattle.statement_views.specs.Views.{session_view}
-use Rattle.session_book.specs.Places.{statements_at}
-use Rattle.session_book.specs.Records.{session_notes}
 use Rattle.std.proofs.lemmas.List.Elements.{recursion_from_All}
 use Rattle.history_model.specs.Notes.{seen}
 use Rattle.session_book.specs.Books.{seen_in}

@@ -1,13 +1,11 @@
-use Rattle.std.proofs.Common.{◌≡◌, ◌∙◌, ◌+◌, ◌≤◌, ◌<◌, length, take, arith, sym, ap, refl, rules}
-use Rattle.std.specs.Prelude.{if◌then◌else◌}
+use Rattle.std.proofs.Common.{◌≡◌, ◌∙◌, length, take, sym, ap, refl}
 use Rattle.std.proofs.lemmas.List.{map-id}
 use Rattle.std.proofs.lemmas.Iterator.Adapters.{YieldsList-from_vec}
 use Rattle.std.proofs.lemmas.Iterator.Consumers.{YieldsList-end, YieldsList-so_far, YieldsList-turn}
 use Rattle.history_model.specs.Merges.{seen_by_both}
-use Rattle.history_model.specs.Notes.{same_session, seen}
+use Rattle.history_model.specs.Notes.{seen}
 use Rattle.history_model.proofs.Merged.{seen_after_others}
 use Rattle.statement_views.specs.Views.{session_view}
-use Rattle.session_book.specs.Books.{room_in}
 use Rattle.session_book.specs.Records.{count_of, session_notes}
 use Rattle.session_book.proofs.Joined.{count_push, count_reached, room_left, room_on, session_joined}
 use Rattle.session_book.proofs.book.Book.merge.Goals as goal
@@ -22,10 +20,12 @@ merge_session-requires c =
     record { room = room_left s c.in-Some.record _ _ _ _ _ (sym (ap (λ rs. count_of s rs) so_far)) reached (c.requires.room c.in-Some.record.session) (c.loop-record.invariant.3 c.in-Some.record.session) refl }
 
 pub loop-record-preserved : goal.loop-record-preserved
-loop-record-preserved c =
-    (tt, tt,
-      (λ n. session_joined _ _ _ c.loop-record.yielded c.in-Some.record n (c.loop-record.invariant.2 n) (c.merge_session.ensures.seen n)),
-      (λ t. room_on _ _ _ _ _ _ (count_push (session_view t) c.loop-record.yielded c.in-Some.record) (c.loop-record.invariant.3 t) (c.merge_session.ensures.room t)))
+loop-record-preserved c = (
+  tt,
+  tt,
+  (λ n. session_joined _ _ _ c.loop-record.yielded c.in-Some.record n (c.loop-record.invariant.2 n) (c.merge_session.ensures.seen n)),
+  (λ t. room_on _ _ _ _ _ _ (count_push (session_view t) c.loop-record.yielded c.in-Some.record) (c.loop-record.invariant.3 t) (c.merge_session.ensures.room t)),
+)
 
 pub returns-clause-so_far : goal.returns-clause-so_far
 returns-clause-so_far c = λ notes are n.

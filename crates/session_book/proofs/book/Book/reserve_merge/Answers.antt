@@ -1,5 +1,4 @@
-use Rattle.std.proofs.Common.{◌≡◌, ◌∙◌, ◌+◌, ◌≤◌, ◌∷◌, length, drop, suc, get_or, add-one, drop-cons, arith, sym, ap, true}
-use Rattle.std.specs.Prelude.{if◌then◌else◌}
+use Rattle.std.proofs.Common.{◌≡◌, ◌∙◌, ◌+◌, ◌≤◌, ◌∷◌, drop, suc, add-one, drop-cons, arith, sym, ap, true}
 use Rattle.history_model.specs.Notes.{same_session}
 use Rattle.history_model.proofs.Noted.{same_session_is}
 use Rattle.statement_views.specs.Views.{session_view}
@@ -24,11 +23,11 @@ loop-record-preserved c =
           let more = c.in_ok-count.ensures.counts (session_view t) in
           rw more (room_step (same_session s (session_view t)) _ _ _ _
           (λ (here : same_session (session_view c.record-item.result.session) (session_view t) ≡ true).
-            let same = same_session_is s (session_view t) here in
-            let counted_there = rw here at more in
-            let there : counted c.added.new.counts.entries (session_view t) ≤ room_of (kept_of c.reserve_run.new.self (session_view t)) =
-            rw (← same, ← c.in_ok-count.ensures.count) c.in_ok-reserve_run.ensures.room in
-            omega (arith, there, counted_there))
+          let same = same_session_is s (session_view t) here in
+          let counted_there = rw here at more in
+          let there : counted c.added.new.counts.entries (session_view t) ≤ room_of (kept_of c.reserve_run.new.self (session_view t)) =
+          rw (← same, ← c.in_ok-count.ensures.count) c.in_ok-reserve_run.ensures.room in
+          omega (arith, there, counted_there))
           (c.reserve_run.ensures.others t) (c.loop-record.invariant.room t));
       others = λ t. omega (arith, c.loop-record.invariant.others t, c.reserve_run.ensures.others t);
       same = λ n. c.reserve_run.ensures.same n ∙ c.loop-record.invariant.same n;
