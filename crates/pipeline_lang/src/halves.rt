@@ -7,7 +7,7 @@ use group_accum::GroupSpec;
 use sort_keys::SortSpec;
 use std::alloc::Global;
 use std::sync::Arc;
-use value_compare::Span;
+use value_compare::SpanList;
 
 /// What a half gives of the documents behind its stages.
 #[derive(Drop)]
@@ -23,8 +23,8 @@ pub enum HalfEnd {
 /// What each part of the documents gets of a pipeline.
 #[derive(Drop)]
 pub struct Half {
-    /// No document with a key outside adds anything.
-    pub span: Span,
+    /// Ranges and points; no document with a key outside adds anything.
+    pub span: SpanList,
     /// The stages, one behind the other.
     pub stages: Pipeline,
     /// What is given behind them.
