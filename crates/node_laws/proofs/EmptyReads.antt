@@ -5,14 +5,14 @@ use Rattle.std.specs.List.{AllByRecursion}
 use Rattle.std.proofs.lemmas.Bool.{eqb-true, leb-true, leb-false}
 use Rattle.chunk_model.proofs.FirstTables.{every_key_at}
 use Rattle.history_model.proofs.Lists.{all_at, all_from}
-use Rattle.node_model.specs.Tree.{null_value}
-use Rattle.node_model.specs.Keys.{Span}
-use Rattle.node_model.specs.Catalogue.{Creation}
-use Rattle.node_model.specs.Tables.{Table, first_table, table_of, with_table}
-use Rattle.node_model.specs.Stages.{Stage}
-use Rattle.node_model.specs.Split.{split}
-use Rattle.node_model.specs.History.{IsIn}
-use Rattle.node_model.specs.Exchanges.{Asked}
+use Rattle.bson_model.specs.Tree.{null_value}
+use Rattle.value_model.specs.Keys.{Span}
+use Rattle.chunk_model.specs.Catalogue.{Creation}
+use Rattle.chunk_model.specs.Tables.{Table, first_table, table_of, with_table}
+use Rattle.pipeline_model.specs.Stages.{Stage}
+use Rattle.pipeline_model.specs.Split.{split}
+use Rattle.history_model.specs.History.{IsIn}
+use Rattle.reply_model.specs.Exchanges.{Asked}
 use Rattle.node_model.specs.Letters.{At, no_time, at_time}
 use Rattle.node_model.specs.States.{Telling, reading}
 use Rattle.node_model.specs.RouterRows.{owner_of_span, enough_of, table_for, is_for, adopted}
