@@ -2,6 +2,7 @@ pub mod Code
 pub mod Elements
 pub mod Falls
 pub mod FieldTests
+pub mod Limits
 pub mod Looks
 pub mod OperatorNames
 pub mod Sieves

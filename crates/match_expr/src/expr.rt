@@ -3,17 +3,15 @@
 ghost use Rattle.std.specs.Prelude.{◌≡◌, IfErr, IfOk, Ok, option_map};
 ghost use Rattle.bson_values.specs.View.{datum_of};
 ghost use Rattle.query_model.specs.Holds.{holds};
-ghost use Rattle.query_model.specs.KeySpans as asked;
-ghost use Rattle.query_model.specs.KeySpans.{key_asked, key_equal};
+ghost use Rattle.query_model.specs.KeySpans.{key_asked, key_equal, span_of};
 ghost use Rattle.query_model.specs.Queries.{no_clauses};
 ghost use Rattle.query_model.specs.Reading.{read_query};
-ghost use Rattle.value_compare.specs.Spans.{span_of};
-ghost use Rattle.value_compare.specs.Keys.{range_span};
 ghost use Rattle.field_paths.specs.ReadFaults.{Fails};
 ghost use Rattle.match_expr.specs.View.{query_before};
 
 use crate::keys;
 use crate::keys::as_key;
+use crate::limits::KeyLimits;
 use crate::matcher::query_holds;
 use crate::parser::parse_within;
 use crate::tree::{Clause, Clauses};
@@ -21,7 +19,7 @@ use bson_values::{Document, Memory, Value};
 use field_paths::ParseFault;
 use std::alloc::Global;
 use std::marker::Model;
-use value_compare::{Bound, Key, KeyRange, Span};
+use value_compare::{Key, SpanList};
 
 /// The most levels of queries and of operator documents in one another, the outermost query being level 1.
 pub const MOST_LEVELS: usize = 100;
@@ -63,6 +61,13 @@ impl Expr {
         Ok(Expr { query, key })
     }
 
+    // The query that it is.
+    pub(crate) fn query(&self) -> &Clauses
+        ensures { result.now ≡ self.now }
+    {
+        &self.query
+    }
+
     // Its clauses, in order.
     pub(crate) fn clauses(&self) -> &[Clause]
         ensures { query_before result.now no_clauses ≡ self.now }
@@ -102,19 +107,11 @@ pub fn key_equal(e: &Expr) -> Option<&Key>
     e.key.as_ref()
 }
 
-// From below all keys to above all keys.
-fn everything() -> KeyRange
-    ensures { range_span result ≡ asked.whole_span }
+/// The ranges and points outside which the filter holds of no document. Fails for want of memory.
+pub fn key_span(alloc: Global, e: &Expr) -> Result<SpanList, Memory>
+    ensures { IfOk result (λ s. s ≡ span_of e.now) }
 {
-    KeyRange::new(Bound::MinKey, Bound::MaxKey).unwrap()
-}
-
-/// A span outside which the filter holds of no document: the key that it asks for, or else everything. Fails for want of memory.
-pub fn key_span(_alloc: Global, e: &Expr) -> Result<Span, Memory>
-    ensures { IfOk result (λ s. span_of s ≡ asked.span_of e.now) }
-{
-    match key_equal(e) {
-        Some(key) => Ok(Span::Point(key.copy()?)),
-        None => Ok(Span::Range(everything())),
-    }
+    let mut limits = KeyLimits::new(alloc);
+    limits.narrow(e)?;
+    limits.into_spans()
 }

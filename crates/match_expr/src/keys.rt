@@ -12,8 +12,8 @@ use bson_values::{Memory, Value};
 use field_paths::Path;
 use value_compare::Key;
 
-// Whether a path is `_id`.
-fn is_id(path: &Path) -> bool
+/// Whether a path is `_id`.
+pub fn is_id(path: &Path) -> bool
     ensures { result ≡ is_id path.now }
 {
     match path.parts().split_first() {

@@ -4,6 +4,7 @@
 mod document_keys;
 mod expr;
 mod keys;
+mod limits;
 mod matcher;
 mod operand_list;
 mod operators;
@@ -14,4 +15,5 @@ mod tree;
 
 pub use document_keys::key_asked_in;
 pub use expr::{Expr, MOST_LEVELS, holds, key_asked, key_equal, key_span};
+pub use limits::KeyLimits;
 pub use sieve::{Sieve, sieve_of};

@@ -47,6 +47,13 @@ impl OperandList {
         Ok(OperandList { listed, sorted })
     }
 
+    /// The operands as they were listed.
+    pub fn listed(&self) -> &Array
+        ensures { result.now ≡ self.now }
+    {
+        &self.listed
+    }
+
     /// Whether one of the operands equals a value: a search by halving.
     pub fn contains(&self, value: &Value) -> bool
         ensures { result ≡ list_any (λ x. same_value x (datum_of value.now)) (elements self.now) }

@@ -1,5 +1,6 @@
 pub mod Chains
 pub mod Puts
 pub mod Rows
+pub mod SpanLists
 pub mod Edges
 pub mod Places

@@ -5,8 +5,8 @@ ghost use Rattle.std.specs.Prelude.{◌≡◌, ◌+◌, ◌<◌, ◌≤◌, ◌�
 ghost use Rattle.std.specs.Arc.{arc_value};
 ghost use Rattle.std.specs.Option.{option_map};
 ghost use Rattle.std.specs.Bound.{bound_map};
-ghost use Rattle.bson_values.specs.Tree.{Datum};
-ghost use Rattle.value_compare.specs.Keys.{inside};
+ghost use Rattle.bson_values.specs.Tree.{Datum, Fields};
+ghost use Rattle.value_compare.specs.Keys.{inside, inside_some};
 ghost use Rattle.value_compare.specs.Order.{same_value};
 ghost use Rattle.value_compare.specs.Bounds.{bound_of};
 ghost use Rattle.value_compare.specs.Spans.{span_of};
@@ -22,7 +22,7 @@ use std::alloc::Global;
 use std::collections::BTreeMap;
 use std::ops;
 use std::sync::Arc;
-use value_compare::{Bound, Key, Span};
+use value_compare::{Bound, Key, Span, SpanList};
 
 /// The documents of a collection under their keys, each key with its versions. The map has the places of the chains and not the chains,
 /// so that what a search goes through is small.
@@ -95,23 +95,40 @@ impl Collection {
         self.document_at(*place as usize, time)
     }
 
-    /// The documents that stand under the keys of the span at the time, in the order of keys. Fails for want of memory.
+    /// The documents that stand under the keys of ranges and points at the time, in the order of keys. Fails for want of memory.
     pub fn scan_at<'a>(
         &'a self,
-        span: &Span,
+        spans: &SpanList,
         time: Time,
     ) -> Result<Vec<&'a Arc<Document, Global>>, Memory>
-        ensures { IfOk result (λ ds. ListsDocuments (λ k. if inside (span_of span.now) k then at_in self.now k time.0 else None)
+        ensures { IfOk result (λ ds. ListsDocuments (λ k. if inside_some spans.now k then at_in self.now k time.0 else None)
             (map (λ d. arc_value d.now) ds.items)) }
     {
         let mut documents = Vec::new(self.alloc);
+        for span in spans.spans() {
+            self.scan_span(span, time, &mut documents)?;
+        }
+        Ok(documents)
+    }
+
+    // The documents that stand under the keys of one range or point at the time join the others, in the order of keys. Fails for want of
+    // memory.
+    fn scan_span<'a>(
+        &'a self,
+        span: &Span,
+        time: Time,
+        documents: &mut Vec<&'a Arc<Document, Global>>,
+    ) -> Result<(), Memory>
+        ensures { OnOk result ((found : List Fields) × ListsDocuments (λ k. if inside (span_of span.now) k then at_in self.now k time.0 else None) found
+            × (map (λ d. arc_value d.now) documents.new.items ≡ map (λ d. arc_value d.now) documents.old.items ++ found)) }
+    {
         for (key, place) in self.places.range(edges(span)) {
             let _value = key.value();
             if let Some(document) = self.document_at(*place as usize, time) {
                 documents.push(document)?;
             }
         }
-        Ok(documents)
+        Ok(())
     }
 
     // The document of the chain at the place at the time, if there is one.

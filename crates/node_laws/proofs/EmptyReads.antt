@@ -3,16 +3,14 @@ use Rattle.std.proofs.Common.{◌≡◌, ℕ, ◌<◌, ◌≤◌, List, [], ◌�
 use Rattle.std.specs.Prelude.{Option, Some, None, true, false, nat_le, if◌then◌else◌}
 use Rattle.std.specs.List.{AllByRecursion}
 use Rattle.std.proofs.lemmas.Bool.{eqb-true, leb-true, leb-false}
-use Rattle.value_model.specs.Keys.{is_key, Span, point_span, range_span}
-use Rattle.query_model.specs.KeySpans.{key_asked, key_equal}
-use Rattle.query_model.proofs.KeysAsked.{asked_is_key}
 use Rattle.chunk_model.proofs.FirstTables.{every_key_at}
 use Rattle.history_model.proofs.Lists.{all_at, all_from}
-use Rattle.bson_model.specs.Tree.{Datum, null_value}
+use Rattle.bson_model.specs.Tree.{null_value}
+use Rattle.value_model.specs.Keys.{Span}
 use Rattle.chunk_model.specs.Catalogue.{Creation}
 use Rattle.chunk_model.specs.Tables.{Table, first_table, table_of, with_table}
-use Rattle.pipeline_model.specs.Stages.{Stage, match_stage, project_stage, group_stage, sort_stage, skip_stage, limit_stage, count_stage}
-use Rattle.pipeline_model.specs.Split.{split, span_of_stages}
+use Rattle.pipeline_model.specs.Stages.{Stage}
+use Rattle.pipeline_model.specs.Split.{split}
 use Rattle.history_model.specs.History.{IsIn}
 use Rattle.reply_model.specs.Exchanges.{Asked}
 use Rattle.node_model.specs.Letters.{At, no_time, at_time}
@@ -24,28 +22,9 @@ use Rattle.node_laws.proofs.Facts.{IsKnownTable, TableFits, AreBegun, Neighbours
 use Rattle.node_laws.proofs.Answers.{some_none}
 use Rattle.node_laws.proofs.KnownTables.{FoundTable, table_found, table_there, one_creation}
 
--- the key of a span may be one
-span_key : (stages : List Stage) (key : Datum) → span_of_stages stages ≡ point_span key → is_key key ≡ true
-span_key [] key e = absurd (cc)
-span_key (match_stage asked ∷ rest) key e = by_asked (key_equal asked) refl e (λ f. span_key rest key f)
-  where
-    by_asked : (o : Option Datum) → key_equal asked ≡ o
-        → elim o as (λ (x : Option Datum). Span) [ None ↦ span_of_stages rest | Some k ↦ point_span k ] ≡ point_span key
-        → (span_of_stages rest ≡ point_span key → is_key key ≡ true) → is_key key ≡ true
-    by_asked None h e later = later e
-    by_asked (Some k) h e later = let same : k ≡ key = cc in ap is_key (sym same) ∙ asked_is_key (key_asked asked) k h
-span_key (project_stage rules ∷ rest) key e = absurd (cc)
-span_key (group_stage spec ∷ rest) key e = absurd (cc)
-span_key (sort_stage spec ∷ rest) key e = absurd (cc)
-span_key (skip_stage n ∷ rest) key e = absurd (cc)
-span_key (limit_stage n ∷ rest) key e = absurd (cc)
-span_key (count_stage name ∷ rest) key e = absurd (cc)
-
 -- a span has an owner from its collection's beginning on
-span_owned : (c : Creation) (at : ℕ) (stages : List Stage) (span : Span) → span_of_stages stages ≡ span → c.at ≤ at
-    → owner_of_span (first_table c) at span ≡ None → ⊥
-span_owned c at stages (point_span key) is before none = some_none (sym ((every_key_at c key at (span_key stages key is)).1 before) ∙ none)
-span_owned c at stages (range_span range) is before none = some_none (sym ((every_key_at c null_value at refl).1 before) ∙ none)
+span_owned : (c : Creation) (at : ℕ) (span : List Span) → c.at ≤ at → owner_of_span (first_table c) at span ≡ None → ⊥
+span_owned c at span before none = some_none (sym ((every_key_at c null_value at refl).1 before) ∙ none)
 
 -- the one collection of a name began after the time
 begins_after : (v : View) (namespace : List ℕ) (time : ℕ) (c : Creation) → AreBegun (v.bound 0) (creations_in v) → IsIn c (creations_in v)
@@ -67,7 +46,7 @@ unowned v known namespace stages at t begun k name none = by_time (nat_le k.crea
   where
     by_time : (b : Bool) → nat_le k.creation.at at ≡ b → NoneBegan v namespace at
     by_time true h =
-        absurd (span_owned k.creation at stages (split stages).0.span refl (leb-true _ _ h)
+        absurd (span_owned k.creation at (split stages).0.span (leb-true _ _ h)
         (subst (λ u. owner_of_span u at (split stages).0.span ≡ None) k.table none))
     by_time false h = begins_after v namespace at k.creation begun k.begun (sym (ap (λ (u : Table). u.namespace) k.table) ∙ name) (leb-false _ _ h)
 

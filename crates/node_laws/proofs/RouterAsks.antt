@@ -7,7 +7,7 @@ use Rattle.history_model.proofs.Lists.{all_weaken, all_at}
 use Rattle.chunk_model.proofs.FirstTables.{only_at}
 use Rattle.bson_model.specs.Tree.{null_value}
 use Rattle.chunk_model.specs.Catalogue.{Creation}
-use Rattle.value_model.specs.Keys.{Span, point_span, range_span}
+use Rattle.value_model.specs.Keys.{Span}
 use Rattle.pipeline_model.specs.Stages.{Stage}
 use Rattle.pipeline_model.specs.Split.{split}
 use Rattle.chunk_model.specs.Tables.{Table, first_table, first_shard, table_of}
@@ -20,7 +20,8 @@ use Rattle.reply_model.specs.Outcomes.{Done}
 use Rattle.reply_model.specs.OneHistory.{Given}
 use Rattle.node_model.specs.Letters.{Statement, write_ask, read_ask, Letter}
 use Rattle.node_model.specs.States.{Telling, Work, writing, reading, Wait, for_time, for_table, for_shards, Open, Router}
-use Rattle.node_model.specs.RouterRows.{id_of, owner_of_statement, owner_of_span, is_on, run_to, unanswered, asks_to_write, asks_to_read, asks_shards, asks_table, is_enough, enough_of, table_for, asks_times, is_ahead, asks_by, asks_for, asks_again, says}
+use Rattle.node_model.specs.RouterRows.{id_of, owner_of_statement, owner_of_span, is_on, run_to, unanswered, asks_to_write, asks_to_read, asks_shards}
+use Rattle.node_model.specs.RouterRows.{asks_table, is_enough, enough_of, table_for, asks_times, is_ahead, asks_by, asks_for, asks_again, says}
 use Rattle.node_laws.proofs.Views.{View}
 use Rattle.node_laws.proofs.ReadFacts.{IsDecided, IsReadOf}
 use Rattle.node_laws.proofs.Facts.{IsKnownTable, IsOwned, IsWriteOf, WorkFits, AreSeen, HasTime, IsOpenOf, IsMet}
@@ -88,9 +89,8 @@ owned_by v time namespace shard t s k name owner = record {
 }
 
 -- so far one shard owns a span
-pub only_span : (c : Creation) (at shard : ℕ) (span : Span) → owner_of_span (first_table c) at span ≡ Some shard → shard ≡ first_shard
-only_span c at shard (point_span key) e = (only_at c key at shard e).0
-only_span c at shard (range_span range) e = (only_at c null_value at shard e).0
+pub only_span : (c : Creation) (at shard : ℕ) (span : List Span) → owner_of_span (first_table c) at span ≡ Some shard → shard ≡ first_shard
+only_span c at shard span e = (only_at c null_value at shard e).0
 
 module _ (v : View) (asked : List Asked) (given : List Given) (r : Router) (time : ℕ) (met : IsMet v given time) where
   -- WHAT SHARDS ARE ASKED

@@ -21,7 +21,7 @@ use Rattle.pipeline_model.specs.Halves.{Half, Rows, MergesInTurn}
 use Rattle.pipeline_model.specs.Split.{split}
 use Rattle.pipeline_model.specs.Lengths.{excess_of_answer}
 use Rattle.pipeline_model.specs.Runs.{Outcome, listed, overflowed, count_documents}
-use Rattle.reply_model.specs.Keys.{Span, point_span, range_span}
+use Rattle.reply_model.specs.Keys.{Span}
 use Rattle.reply_model.specs.Command.{Command, hello_command, legacy_command, ping_command, end_sessions_command, write_command, find_command, count_command, more_command, kill_command, command_of}
 use Rattle.reply_model.specs.Answers.{Answer, hello_answer, legacy_answer, done_answer, first_answer, next_answer, count_answer, killed_answer, refusal_answer, answer_document}
 use Rattle.reply_model.specs.History.{Operation, key_written}
@@ -103,10 +103,9 @@ asks_to_write r time id namespace t ordered (s ∷ statements) = elim (owner_of_
   | Some shard ↦ says r shard time (write_ask id 1 ordered namespace (run_to t shard (s ∷ statements)) (sent_by t shard)) ∷ []
 ]
 
--- so far one shard owns all keys of a span: that of the key, or of the least key
-abbrev pub owner_of_span : Table → ℕ → Span → Option ℕ
-owner_of_span t at (point_span key) = owner_at t key at
-owner_of_span t at (range_span range) = owner_at t null_value at
+-- so far one shard owns all keys, so that a span goes to the owner of the least key, whatever its ranges and points are
+abbrev pub owner_of_span : Table → ℕ → List Span → Option ℕ
+owner_of_span t at span = owner_at t null_value at
 
 abbrev pub asks_to_read : Router → ℕ → RequestId → (namespace : List ℕ) → Table → ℕ → Half → List Letter
 asks_to_read r time id namespace t at half = elim (owner_of_span t at half.span) [

@@ -66,7 +66,7 @@ to_read r time id namespace t at half owner =
           (read_ask id 1 namespace at half (sent_by t shard)) ∷ []
     ]) owner
 
-span_owner : (t : Table) (at : ℕ) (span : Span) → IsFirst t
+span_owner : (t : Table) (at : ℕ) (span : List Span) → IsFirst t
     → (elim (owner_of_span t at span) as (λ (o : Option ℕ). Bool) [ None ↦ false | Some shard ↦ true ]) ≡ true → owner_of_span t at span ≡ Some first_shard
 span_owner t at span (c, same) enough = by_owner (owner_of_span t at span) refl enough
   where

@@ -1,6 +1,5 @@
 -- Halves and merges as plain data.
 use Rattle.std.specs.Arc.{arc_value}
-use Rattle.value_compare.specs.Spans.{span_of}
 use Rattle.pipeline_model.specs.Halves as model
 use Rattle.pipeline_model.specs.Halves.{documents_end, partials_end, counted_end, joined_in_order, joined_groups, joined_counts, joined_as_they_come}
 use Rattle.pipeline_lang.specs.declared.halves.Half.{Half}
@@ -16,7 +15,7 @@ end_of (ends.Partials spec) = partials_end (arc_value spec)
 end_of ends.Counted = counted_end
 
 abbrev pub half_of : Half → model.Half
-half_of half = record { span = span_of half.span; stages = half.stages; last = end_of half.last }
+half_of half = record { span = half.span; stages = half.stages; last = end_of half.last }
 
 abbrev pub joining_of : Joining → model.Joining
 joining_of (joinings.InOrder spec) = joined_in_order (arc_value spec)

@@ -7,7 +7,7 @@ use group_accum::GroupSpec;
 use sort_keys::SortSpec;
 use std::alloc::Global;
 use std::sync::Arc;
-use value_compare::Span;
+use value_compare::SpanList;
 
 /// What a half returns for the documents after its stages.
 #[derive(Drop)]
@@ -23,8 +23,8 @@ pub enum HalfEnd {
 /// The half of a pipeline that runs on each part of the documents.
 #[derive(Drop)]
 pub struct Half {
-    /// No document with a key outside the span adds anything.
-    pub span: Span,
+    /// Ranges and points; no document with a key outside adds anything.
+    pub span: SpanList,
     /// The stages, one after the other.
     pub stages: Pipeline,
     /// What is returned after them.

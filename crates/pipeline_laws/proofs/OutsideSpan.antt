@@ -1,84 +1,50 @@
 -- A document whose key is outside a half's span is removed by the front; and no half overflows.
 use Rattle.std.proofs.Common.{◌≡◌, List, [], ◌∷◌, ◌++◌, refl, sym, ap, ◌∙◌, subst}
-use Rattle.std.specs.Prelude.{Bool, true, false, cond, filter, Option, Some, None, Result, Ok, Err, ◌↔◌, if◌then◌else◌}
-use Rattle.bson_model.specs.Tree.{Datum, Fields}
-use Rattle.value_model.specs.Keys.{Span, point_span, inside, is_key, key_of, KeyFault, absent_key, wrong_kind, valid_key}
-use Rattle.value_model.proofs.Spans.{whole_inside}
-use Rattle.query_model.specs.Queries.{Query}
+use Rattle.std.specs.Prelude.{Bool, true, false, cond, codes, filter, Some, Result, Ok, Err, ◌↔◌}
+use Rattle.bson_model.specs.Tree.{Datum, Fields, get}
+use Rattle.value_model.specs.Keys.{Span, inside_some, is_key, KeyFault, valid_key}
 use Rattle.query_model.specs.Holds.{holds}
-use Rattle.query_model.specs.KeySpans.{key_equal, whole_span, span_of}
-use Rattle.query_model.proofs.KeysAsked.{keys_in_span}
+use Rattle.query_model.specs.KeySpans.{KeyLimits, no_limits, narrowed_by, spans_of}
+use Rattle.query_model.proofs.KeysAsked.{valid_from}
+use Rattle.query_model.proofs.SpanKeys.{Fits, any_fits, document_fits, fits_inside}
 use Rattle.pipeline_model.specs.Stages.{Stage, match_stage, project_stage, group_stage, sort_stage, skip_stage, limit_stage, count_stage}
 use Rattle.pipeline_model.specs.Runs.{Outcome, listed, overflowed, Runs}
 use Rattle.pipeline_model.specs.Halves.{Rows, Half, IsHalf, Merge, may_stand_in}
-use Rattle.pipeline_model.specs.Split.{front, behind_front, cut, span_of_stages, split}
+use Rattle.pipeline_model.specs.Split.{front, behind_front, cut, narrowed_by_stages, span_of_stages, split}
 use Rattle.pipeline_model.proofs.Fronts.{opened, past_front, past_append, past_nothing, comes_in, leaves, front_and_behind}
 
-abbrev as_key : Bool → Datum → Result Datum KeyFault
-as_key b d = if b then Ok d else Err wrong_kind
-
-kept : (b : Bool) (d key : Datum) → is_key d ≡ b → as_key b d ≡ Ok key → is_key key ≡ true
-kept true d key e h = let same : d ≡ key = cc h in ap is_key (sym same) ∙ e
-kept false d key e h = absurd (cc h)
-
-key_if_kept : (found : Option Datum) (key : Datum) →
-    elim found as (λ o. Result Datum KeyFault) [ None ↦ Err absent_key | Some d ↦ if is_key d then Ok d else Err wrong_kind ] ≡ Ok key → is_key key ≡ true
-key_if_kept None key e = absurd cc
-key_if_kept (Some d) key e = kept (is_key d) d key refl e
-
-pub record IsOutside (span : Span) (document : Fields) : Type 0 where
+pub record IsOutside (span : List Span) (document : Fields) : Type 0 where
   pub key : Datum
   pub valid : valid_key document ≡ Ok key
-  pub outside : inside span key ≡ false
+  pub outside : inside_some span key ≡ false
 
-outside_from : (span : Span) (document : Fields) (r : Result Datum KeyFault) → valid_key document ≡ r →
-    elim r as (λ s. Bool) [ Ok key ↦ inside span key | Err fault ↦ true ] ≡ false → IsOutside span document
+outside_from : (span : List Span) (document : Fields) (r : Result Datum KeyFault) → valid_key document ≡ r →
+    elim r as (λ s. Bool) [ Ok key ↦ inside_some span key | Err fault ↦ true ] ≡ false → IsOutside span document
 outside_from span document (Ok key) e h = record { key = key; valid = e; outside = h }
 outside_from span document (Err fault) e h = absurd (cc h)
 
-is_outside : (span : Span) (document : Fields) → may_stand_in span document ≡ false → IsOutside span document
+is_outside : (span : List Span) (document : Fields) → may_stand_in span document ≡ false → IsOutside span document
 is_outside span document h = outside_from span document (valid_key document) refl h
 
-kept_key : (document : Fields) (key : Datum) → valid_key document ≡ Ok key → is_key key ≡ true
-kept_key document key e = key_if_kept (key_of document) key e
+gone_from : (stages : List Stage) (document : Fields) (key : Datum) (own : is_key key ≡ true) → get (codes "_id") document ≡ Some key →
+    (limits : KeyLimits) → Fits key own limits → inside_some (spans_of (narrowed_by_stages stages limits)) key ≡ false →
+    past_front stages (document ∷ []) ≡ []
+gone_from (match_stage asked ∷ rest) document key own is limits fits outside =
+    by (holds asked document) refl (gone_from rest document key own is (narrowed_by asked limits))
+  where
+    by : (b : Bool) → holds asked document ≡ b →
+        (Fits key own (narrowed_by asked limits) → inside_some (spans_of (narrowed_by_stages rest (narrowed_by asked limits))) key ≡ false →
+        past_front rest (document ∷ []) ≡ []) → past_front rest (cond b (document ∷ []) []) ≡ []
+    by true h gone = gone (document_fits asked document key own is limits h fits) outside
+    by false h gone = past_nothing rest
+gone_from stages document key own is limits fits outside =
+    let e : true ≡ false = sym (fits_inside key own limits fits) ∙ outside in absurd cc
 
--- a document that is outside the span of a query does not match it
-fails_outside : (asked : Query) (document : Fields) → IsOutside (span_of asked) document → (b : Bool) → holds asked document ≡ b → b ≡ false
-fails_outside asked document h true e = absurd (cc (keys_in_span asked document h.key h.valid e, h.outside))
-fails_outside asked document h false e = refl
-
-filtered : (b : Bool) (document : Fields) → b ≡ false → cond b (document ∷ []) [] ≡ []
-filtered b document e = ap (λ c. cond c (document ∷ []) []) e
-
-none_whole : (document : Fields) → IsOutside whole_span document → ⊥
-none_whole document h = absurd (cc (whole_inside h.key (kept_key document h.key h.valid), h.outside))
-
--- the span by what the first query requires
-abbrev asked_span : Option Datum → List Stage → Span
-asked_span asked rest = elim asked [ None ↦ span_of_stages rest | Some key ↦ point_span key ]
-
-gone_if : (b : Bool) (rest : List Stage) (document : Fields) → past_front rest (document ∷ []) ≡ [] → past_front rest (cond b (document ∷ []) []) ≡ []
-gone_if true rest document h = h
-gone_if false rest document h = past_nothing rest
-
-gone_by_match : (asked : Query) (rest : List Stage) (document : Fields) (key : Option Datum) → key_equal asked ≡ key →
-    IsOutside (asked_span key rest) document →
-    (IsOutside (span_of_stages rest) document → past_front rest (document ∷ []) ≡ []) → past_front rest (cond (holds asked document) (document ∷ []) []) ≡ []
-gone_by_match asked rest document None e h by_rest = gone_if (holds asked document) rest document (by_rest h)
-gone_by_match asked rest document (Some key) e h by_rest =
-    let span : IsOutside (span_of asked) document = subst (λ o. IsOutside (elim o as (λ p. Span) [ None ↦ whole_span | Some k ↦ point_span k ]) document)
-    (sym e) h in
-    ap (past_front rest) (filtered (holds asked document) document (fails_outside asked document span (holds asked document) refl)) ∙ past_nothing rest
-
+-- a document that is outside the span of the stages is gone past their front
 gone : (stages : List Stage) (document : Fields) → IsOutside (span_of_stages stages) document → past_front stages (document ∷ []) ≡ []
-gone [] document h = absurd (none_whole document h)
-gone (match_stage asked ∷ rest) document h = gone_by_match asked rest document (key_equal asked) refl h (gone rest document)
-gone (project_stage rules ∷ rest) document h = absurd (none_whole document h)
-gone (group_stage spec ∷ rest) document h = absurd (none_whole document h)
-gone (sort_stage spec ∷ rest) document h = absurd (none_whole document h)
-gone (skip_stage n ∷ rest) document h = absurd (none_whole document h)
-gone (limit_stage n ∷ rest) document h = absurd (none_whole document h)
-gone (count_stage name ∷ rest) document h = absurd (none_whole document h)
+gone stages document h =
+    let kept = valid_from (get (codes "_id") document) h.key h.valid in
+    gone_from stages document h.key kept.1 kept.0 no_limits (any_fits h.key kept.1) h.outside
 
 module _ (stages : List Stage) where
   abbrev stands : Fields → Bool

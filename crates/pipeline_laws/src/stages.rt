@@ -6,7 +6,7 @@ ghost use Rattle.bson_model.specs.Tree.{document_value, int32_value, int64_value
 ghost use Rattle.value_model.specs.Keys.{point_span};
 ghost use Rattle.query_model.specs.KeySpans.{whole_span};
 ghost use Rattle.query_model.specs.Queries.{bad_operand, no_clauses, unknown_operator};
-ghost use Rattle.query_model.specs.SampleQueries.{inner, number, one, two};
+ghost use Rattle.query_model.specs.SampleQueries.{array, inner, number, one, two};
 ghost use Rattle.pipeline_model.specs.Operands.{constant_operand};
 ghost use Rattle.pipeline_model.specs.Stages.{count_stage, group_stage, limit_stage, match_stage, read_pipeline, skip_stage, sort_stage};
 ghost use Rattle.pipeline_model.specs.Halves.{counted_end, documents_end, joined_as_they_come, joined_counts, joined_groups, joined_in_order, partials_end};
@@ -55,46 +55,47 @@ pub fn split()
     ensures sort_skip_limit { split_of (one "$match" (document_value no_fields) ∷ one "$sort" (inner "a" (number 1)) ∷ one "$skip" (number 2)
         ∷ one "$limit" (number 3) ∷ one "$count" (text "n") ∷ [])
         ≡ Ok (
-          record { span = whole_span; stages = match_stage no_clauses ∷ sort_stage by_a ∷ limit_stage 5 ∷ []; last = documents_end },
+          record { span = whole_span ∷ []; stages = match_stage no_clauses ∷ sort_stage by_a ∷ limit_stage 5 ∷ []; last = documents_end },
           record { joining = joined_in_order by_a; stages = skip_stage 2 ∷ limit_stage 3 ∷ count_stage (codes "n") ∷ [] },
         ) }
     ensures sort_limit { split_of (one "$sort" (inner "a" (number 1)) ∷ one "$limit" (number 3) ∷ one "$skip" (number 2) ∷ [])
         ≡ Ok (
-          record { span = whole_span; stages = sort_stage by_a ∷ limit_stage 3 ∷ []; last = documents_end },
+          record { span = whole_span ∷ []; stages = sort_stage by_a ∷ limit_stage 3 ∷ []; last = documents_end },
           record { joining = joined_in_order by_a; stages = limit_stage 3 ∷ skip_stage 2 ∷ [] },
         ) }
     ensures sort { split_of (one "$sort" (inner "a" (number 1)) ∷ one "$skip" (number 2) ∷ [])
         ≡ Ok (
-          record { span = whole_span; stages = sort_stage by_a ∷ []; last = documents_end },
+          record { span = whole_span ∷ []; stages = sort_stage by_a ∷ []; last = documents_end },
           record { joining = joined_in_order by_a; stages = skip_stage 2 ∷ [] },
         ) }
     ensures group { split_of (one "$group" (inner "_id" null_value) ∷ one "$skip" (number 2) ∷ [])
         ≡ Ok (
-          record { span = whole_span; stages = []; last = partials_end (record { key = constant_operand null_value; fields = [] }) },
+          record { span = whole_span ∷ []; stages = []; last = partials_end (record { key = constant_operand null_value; fields = [] }) },
           record { joining = joined_groups (record { key = constant_operand null_value; fields = [] }); stages = skip_stage 2 ∷ [] },
         ) }
     ensures count { split_of (one "$count" (text "n") ∷ one "$limit" (number 2) ∷ [])
-        ≡ Ok (record { span = whole_span; stages = []; last = counted_end }, record { joining = joined_counts (codes "n"); stages = limit_stage 2 ∷ [] }) }
+        ≡ Ok (record { span = whole_span ∷ []; stages = []; last = counted_end }, record { joining = joined_counts (codes "n"); stages = limit_stage 2 ∷ [] }) }
     ensures skip_limit { split_of (one "$skip" (number 2) ∷ one "$limit" (number 2) ∷ [])
         ≡ Ok (
-          record { span = whole_span; stages = limit_stage 4 ∷ []; last = documents_end },
+          record { span = whole_span ∷ []; stages = limit_stage 4 ∷ []; last = documents_end },
           record { joining = joined_as_they_come; stages = skip_stage 2 ∷ limit_stage 2 ∷ [] },
         ) }
     ensures limit { split_of (one "$limit" (number 2) ∷ one "$sort" (inner "a" (number 1)) ∷ [])
         ≡ Ok (
-          record { span = whole_span; stages = limit_stage 2 ∷ []; last = documents_end },
+          record { span = whole_span ∷ []; stages = limit_stage 2 ∷ []; last = documents_end },
           record { joining = joined_as_they_come; stages = limit_stage 2 ∷ sort_stage by_a ∷ [] },
         ) }
     ensures skip { split_of (one "$skip" (number 2) ∷ []) ≡ Ok
-        (record { span = whole_span; stages = []; last = documents_end }, record { joining = joined_as_they_come; stages = skip_stage 2 ∷ [] }) }
+        (record { span = whole_span ∷ []; stages = []; last = documents_end }, record { joining = joined_as_they_come; stages = skip_stage 2 ∷ [] }) }
     ensures reach { (reach 2 3 ≡ 5) × (reach (2 ^ 64 - 1) 2 ≡ 2 ^ 64 - 1) }
 {}
 
-/// The span of the first of the leading `$match` stages that requires a key; a `$match` after another stage has none.
+/// The span of all leading `$match` stages together; a `$match` after another stage has none.
 pub fn spans()
-    ensures first { result_map_both (λ s. s.0.span) (λ e. e)
-        (split_of (one "$match" (inner "a" (number 1)) ∷ one "$match" (inner "_id" (number 5)) ∷ one "$match" (inner "_id" (number 6)) ∷ []))
-        ≡ Ok (point_span (number 5)) }
+    ensures together { result_map_both (λ s. s.0.span) (λ e. e)
+        (split_of (one "$match" (inner "a" (number 1)) ∷ one "$match" (inner "_id" (inner "$in" (array (number 6 ∷ number 5 ∷ []))))
+        ∷ one "$match" (inner "_id" (inner "$lt" (number 6))) ∷ []))
+        ≡ Ok (point_span (number 5) ∷ []) }
     ensures behind { result_map_both (λ s. s.0.span) (λ e. e)
-        (split_of (one "$project" (inner "_id" (text "$x")) ∷ one "$match" (inner "_id" (number 2)) ∷ [])) ≡ Ok whole_span }
+        (split_of (one "$project" (inner "_id" (text "$x")) ∷ one "$match" (inner "_id" (number 2)) ∷ [])) ≡ Ok (whole_span ∷ []) }
 {}

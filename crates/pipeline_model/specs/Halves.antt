@@ -3,7 +3,7 @@
 use Rattle.std.specs.Prelude.{◌≡◌, ℕ, List, [], ◌∷◌, length, filter, flat_map, sum_by, IsPermutation, IsSortedBy, Bool, true, Some, None, Ok, Err}
 use Rattle.std.specs.List.Sorted.{IsStableBy}
 use Rattle.bson_model.specs.Tree.{Fields}
-use Rattle.value_model.specs.Keys.{Span, inside, valid_key}
+use Rattle.value_model.specs.Keys.{Span, inside_some, valid_key}
 use Rattle.query_model.specs.Holds.{holds}
 use Rattle.pipeline_model.specs.SortKeys.{SortSpec, comes_before}
 use Rattle.pipeline_model.specs.GroupSpecs.{GroupSpec}
@@ -24,8 +24,8 @@ pub data HalfEnd : Type 0 where
   counted_end : HalfEnd
 
 pub record Half : Type 0 where
-  -- no document with a key outside adds anything
-  pub span : Span
+  -- ranges and points; no document with a key outside adds anything
+  pub span : List Span
   pub stages : List Stage
   pub last : HalfEnd
 
@@ -42,8 +42,8 @@ pub record IsHalf (half : Half) (docs : List Fields) (rows : Rows) : Type 0 wher
   pub ends : EndsIn half.last left rows
 
 -- the documents that may stand in the span: those with a key outside do not
-abbrev pub may_stand_in : Span → Fields → Bool
-may_stand_in span document = elim (valid_key document) [ Ok key ↦ inside span key | Err fault ↦ true ]
+abbrev pub may_stand_in : List Span → Fields → Bool
+may_stand_in span document = elim (valid_key document) [ Ok key ↦ inside_some span key | Err fault ↦ true ]
 
 -- what the filter at the head of some stages keeps of the documents, where one stands there
 abbrev pub kept_at_head : List Stage → List Fields → List Fields

@@ -1,8 +1,8 @@
 -- How a pipeline is split into a half and a merge (MongoDB manual, "Aggregation Pipeline Optimization"; "Aggregation Pipeline and
 -- Sharded Collections": "$group", "$sort", "$limit" and "$skip" on shards).
-use Rattle.std.specs.Prelude.{ℕ, ◌+◌, ◌-◌, ◌^◌, min, List, [], ◌∷◌, ◌++◌, Some, None}
-use Rattle.value_model.specs.Keys.{Span, point_span}
-use Rattle.query_model.specs.KeySpans.{key_equal, whole_span}
+use Rattle.std.specs.Prelude.{ℕ, ◌+◌, ◌-◌, ◌^◌, min, List, [], ◌∷◌, ◌++◌}
+use Rattle.value_model.specs.Keys.{Span}
+use Rattle.query_model.specs.KeySpans.{KeyLimits, no_limits, narrowed_by, spans_of}
 use Rattle.pipeline_model.specs.Stages.{Stage, match_stage, project_stage, group_stage, sort_stage, skip_stage, limit_stage, count_stage}
 use Rattle.pipeline_model.specs.Halves.{Half, HalfEnd, documents_end, partials_end, counted_end, Merge, joined_in_order, joined_groups, joined_counts, joined_as_they_come}
 
@@ -55,10 +55,14 @@ cut (limit_stage n ∷ rest) = record {
 }
 cut rest = record { stages = []; last = documents_end; merge = record { joining = joined_as_they_come; stages = rest } }
 
--- of the $match stages in front of the first other stage, the span of the first that asks for a key
-abbrev pub span_of_stages : List Stage → Span
-span_of_stages (match_stage asked ∷ rest) = elim (key_equal asked) [ None ↦ span_of_stages rest | Some key ↦ point_span key ]
-span_of_stages rest = whole_span
+-- what the $match stages in front of the first other stage say of the keys of documents
+abbrev pub narrowed_by_stages : List Stage → KeyLimits → KeyLimits
+narrowed_by_stages (match_stage asked ∷ rest) limits = narrowed_by_stages rest (narrowed_by asked limits)
+narrowed_by_stages rest limits = limits
+
+-- where the keys of the documents are that pass them
+abbrev pub span_of_stages : List Stage → List Span
+span_of_stages stages = spans_of (narrowed_by_stages stages no_limits)
 
 abbrev pub split : List Stage → Half × Merge
 split stages = (

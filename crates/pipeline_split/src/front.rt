@@ -1,17 +1,15 @@
 //! The stages in front that act on each document by itself, and the keys that they ask for.
 
 ghost use Rattle.std.specs.Prelude.{◌≡◌, ◌≤◌, IfOk, drop, length, map, take};
-ghost use Rattle.value_compare.specs.Spans.{span_of};
 ghost use Rattle.pipeline_model.specs.Split.{behind_front, front, span_of_stages};
-ghost use Rattle.query_model.specs.KeySpans.{whole_span};
-ghost use Rattle.value_model.specs.Keys.{range_span};
 ghost use Rattle.pipeline_lang.specs.View.{stage_of};
 ghost use Rattle.pipeline_split.specs.Cuts.{acts_alone};
 
 use bson_values::Memory;
-use match_expr::key_equal;
+use match_expr::KeyLimits;
 use pipeline_lang::Stage;
-use value_compare::{Bound, KeyRange, Span};
+use std::alloc::Global;
+use value_compare::SpanList;
 
 // Whether a stage acts on each document by itself.
 fn acts_alone(stage: &Stage) -> bool
@@ -38,26 +36,18 @@ pub(crate) fn front_length(stages: &[Stage]) -> usize
     stages.len()
 }
 
-// From below all keys to above all keys.
-fn everything() -> KeyRange
-    ensures { range_span result ≡ whole_span }
+/// Where the keys of the documents are that pass the filters in front of the first other stage. Fails for want of memory.
+pub(crate) fn span_of_stages(alloc: Global, stages: &[Stage]) -> Result<SpanList, Memory>
+    ensures { IfOk result (λ s. s ≡ span_of_stages (map stage_of stages.now)) }
 {
-    KeyRange::new(Bound::MinKey, Bound::MaxKey).unwrap()
-}
-
-/// Of the filters in front of the first other stage, the span of the first that asks for a key. Fails for want of memory.
-pub(crate) fn span_of_stages(stages: &[Stage]) -> Result<Span, Memory>
-    ensures { IfOk result (λ s. span_of s ≡ span_of_stages (map stage_of stages.now)) }
-{
+    let mut limits = KeyLimits::new(alloc);
     let mut rest = stages;
     'stages: while let Some((stage, others)) = rest.split_first() {
         let Stage::Match(asked) = stage else {
-            return Ok(Span::Range(everything()));
+            return limits.into_spans();
         };
-        if let Some(key) = key_equal(asked) {
-            return Ok(Span::Point(key.copy()?));
-        }
+        limits.narrow(asked)?;
         rest = others;
     }
-    Ok(Span::Range(everything()))
+    limits.into_spans()
 }

@@ -18,7 +18,7 @@ pub fn split(alloc: Global, pipeline: &Pipeline) -> Result<(Half, Merge), Memory
 {
     let stages = pipeline.stages();
     let length = front_length(stages);
-    let span = span_of_stages(stages)?;
+    let span = span_of_stages(alloc, stages)?;
     let mut front = share_all(alloc, &stages[..length])?;
     let Cut {
         stages: mut own,

@@ -1,5 +1,6 @@
 pub mod DocumentKeys
 pub mod KeysAsked
+pub mod SpanKeys
 pub mod Levels
 pub mod Names
 pub mod Puts

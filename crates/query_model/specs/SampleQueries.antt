@@ -2,7 +2,7 @@
 use Rattle.std.specs.Prelude.{ℕ, zero, suc, pos, List, [], ◌∷◌, map, Bool, true, Option, Result, Ok, codes}
 use Prim.Native.String.{String}
 use Rattle.bson_model.specs.Tree.{Datum, document_value, array_value, string_value, boolean_value, null_value, int32_value, Items, no_items, item, Fields, no_fields, field}
-use Rattle.value_model.specs.Keys.{Span}
+use Rattle.value_model.specs.Keys.{Span, key_bound, range_span}
 use Rattle.query_model.specs.Queries.{QueryFault}
 use Rattle.query_model.specs.Reading.{read_query, ◌>>=◌}
 use Rattle.query_model.specs.Holds.{holds}
@@ -76,8 +76,12 @@ asked_of filter = read_query filter >>= λ asked. Ok (key_asked asked)
 abbrev pub equal_of : Fields → Result (Option Datum) QueryFault
 equal_of filter = read_query filter >>= λ asked. Ok (key_equal asked)
 
-abbrev pub span_of_filter : Fields → Result Span QueryFault
+abbrev pub span_of_filter : Fields → Result (List Span) QueryFault
 span_of_filter filter = read_query filter >>= λ asked. Ok (span_of asked)
+
+-- the range from one key to another
+abbrev pub between : Datum → Datum → Span
+between least greatest = range_span (record { min = key_bound least; max = key_bound greatest })
 
 -- a path of one part and so many others
 abbrev pub dotted : ℕ → List ℕ

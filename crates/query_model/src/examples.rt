@@ -6,7 +6,7 @@ ghost use Rattle.value_model.specs.Keys.{point_span};
 ghost use Rattle.query_model.specs.Paths.{candidates_at, digits_part, dollar_part, empty_part, has_gap, read_path, too_long, values_at};
 ghost use Rattle.query_model.specs.DocumentKeys.{key_asked_in};
 ghost use Rattle.query_model.specs.KeySpans.{whole_span};
-ghost use Rattle.query_model.specs.SampleQueries.{answer, array, asked_of, dotted, equal_of, inner, number, one, span_of_filter, two};
+ghost use Rattle.query_model.specs.SampleQueries.{answer, array, asked_of, between, dotted, equal_of, inner, number, one, span_of_filter, two};
 
 /// The parts are judged from the left; what is too long has no other fault.
 pub fn paths()
@@ -98,9 +98,24 @@ pub fn keys()
         × (equal_of (one "_id" min_key_value) ≡ Ok None)
         × (equal_of (two "_id" (inner "$eq" (inner "a" (number 1))) "_id" (number 5)) ≡ Ok None)
         × (equal_of (one "_id" null_value) ≡ Ok (Some null_value)) }
-    ensures spans { (span_of_filter (one "_id" (number 5)) ≡ Ok (point_span (number 5)))
-        × (span_of_filter (one "_id" (inner "$in" (array (number 5 ∷ [])))) ≡ Ok whole_span)
-        × (span_of_filter (one "_id" (array (number 5 ∷ []))) ≡ Ok whole_span) }
+    ensures points { (span_of_filter (one "_id" (number 5)) ≡ Ok (point_span (number 5) ∷ []))
+        × (span_of_filter (one "_id" (inner "$in" (array (number 7 ∷ min_key_value ∷ number 5 ∷ number 7 ∷ []))))
+        ≡ Ok (point_span (number 5) ∷ point_span (number 7) ∷ []))
+        × (span_of_filter (one "_id" (document_value (two "$in" (array (number 7 ∷ number 5 ∷ [])) "$lt" (number 6)))) ≡ Ok (point_span (number 5) ∷ []))
+        × (span_of_filter (two "_id" (number 5) "_id" (number 6)) ≡ Ok (point_span (number 5) ∷ []))
+        × (span_of_filter (one "_id" (inner "$in" (array []))) ≡ Ok [])
+        × (span_of_filter (one "_id" (array (number 5 ∷ []))) ≡ Ok []) }
+    ensures ranges { (span_of_filter (one "_id" (document_value (two "$gte" (number 3) "$lt" (number 5)))) ≡ Ok (between (number 3) (number 5) ∷ []))
+        × (span_of_filter (one "_id" (document_value (two "$gt" (number 3) "$lte" (number 5))))
+        ≡ Ok (between (number 3) (number 5) ∷ point_span (number 5) ∷ []))
+        × (span_of_filter (two "_id" (inner "$gte" (number 1)) "$and" (array (inner "_id" (inner "$gte" (number 3)) ∷ inner "_id" (inner "$lt" (number 5)) ∷ [])))
+        ≡ Ok (between (number 3) (number 5) ∷ []))
+        × (span_of_filter (one "_id" (document_value (two "$gte" (number 5) "$lte" (number 5)))) ≡ Ok (point_span (number 5) ∷ []))
+        × (span_of_filter (one "_id" (document_value (two "$gt" (number 5) "$lt" (number 3)))) ≡ Ok []) }
+    ensures whole { (span_of_filter (one "x" (number 5)) ≡ Ok (whole_span ∷ []))
+        × (span_of_filter (one "_id" (inner "$ne" (number 5))) ≡ Ok (whole_span ∷ []))
+        × (span_of_filter (one "_id" (inner "$gt" (inner "a" (number 5)))) ≡ Ok (whole_span ∷ []))
+        × (span_of_filter (one "$or" (array (inner "_id" (number 5) ∷ []))) ≡ Ok (whole_span ∷ [])) }
 {}
 
 /// A document asks for a key whatever else it has, also where it is no query.

@@ -8,7 +8,7 @@ ghost use Rattle.std.specs.Str.{bytes_eq};
 ghost use Rattle.bson_model.specs.Grammar.{IsWithinDepth, ReadsAs};
 ghost use Rattle.bson_model.specs.Spelling.{written};
 ghost use Rattle.bson_model.specs.Tree.{Datum, Fields};
-ghost use Rattle.value_model.specs.Keys.{inside, key_of, valid_key};
+ghost use Rattle.value_model.specs.Keys.{AreAscending, inside_some, key_of, valid_key};
 ghost use Rattle.value_model.specs.Order.{same_value};
 ghost use Rattle.query_model.specs.Paths.{Path, read_path};
 ghost use Rattle.query_model.specs.Queries.{Query, too_deep};
@@ -20,10 +20,12 @@ ghost use Rattle.query_model.specs.Changes.{Change, Edit, edits, is_apart, path_
 ghost use Rattle.query_model.specs.Edits.{changed, put_at, take_at, value_at};
 ghost use Rattle.query_model.specs.Writes.{start_of};
 
-/// A document with a key of which a query holds has its key inside the query's span.
+/// A document with a key of which a query holds has its key inside the query's span. The ranges and points of that are in the order of
+/// keys, and no key is inside two of them.
 pub fn keys_in_span()
-    ensures { (asked : Query) (document : Fields) (key : Datum) → valid_key document ≡ Ok key
-        → holds asked document ≡ true → inside (span_of asked) key ≡ true }
+    ensures inside { (asked : Query) (document : Fields) (key : Datum) → valid_key document ≡ Ok key
+        → holds asked document ≡ true → inside_some (span_of asked) key ≡ true }
+    ensures ascending { (asked : Query) → AreAscending (span_of asked) }
 {}
 
 /// A document that reads as a query asks for the key that the query asks for.

@@ -1,4 +1,4 @@
-//! The keys that filters require.
+//! The keys that filters ask for, and where the keys of their documents are.
 
 use crate::filter_documents::filter_of;
 use bson_values::Value;
@@ -6,7 +6,7 @@ use fixtures::{RowFault, Rows, field, spelled_value};
 use match_expr::{Expr, key_equal, key_span};
 use std::alloc::Global;
 use std::cmp::Ordering;
-use value_compare::{Span, compare, inside};
+use value_compare::{Bound, Span, compare};
 
 /// `FILTER | KEY`, or `none` in place of the key.
 #[derive(Drop)]
@@ -16,22 +16,11 @@ impl Rows for Keys {
     fn holds(&mut self, alloc: Global, row: &str) -> Result<bool, RowFault> {
         let (words, wanted) = field(row);
         let filter = filter_of(alloc, words)?;
-        let span = key_span(alloc, &filter)?;
         if wanted == "none" {
-            let has_zeros = has_zeros(alloc, &span)?;
-            return Ok(key_equal(&filter).is_none() && has_zeros);
+            return Ok(key_equal(&filter).is_none());
         }
         let value = spelled_value(alloc, wanted)?;
-        Ok(is_key(&filter, &value) && is_point(&span, &value))
-    }
-}
-
-// Returns whether the span has the ObjectId of zeros, a key that no other filter requires.
-fn has_zeros(alloc: Global, span: &Span) -> Result<bool, RowFault> {
-    let filter = filter_of(alloc, "16000000075f696400 00*12 00")?;
-    match key_equal(&filter) {
-        Some(key) => Ok(inside(span, key)),
-        None => Err(RowFault::Form),
+        Ok(is_key(&filter, &value))
     }
 }
 
@@ -43,10 +32,56 @@ fn is_key(filter: &Expr, value: &Value) -> bool {
     }
 }
 
-// Returns whether the span is this key alone.
-fn is_point(span: &Span, value: &Value) -> bool {
+/// `FILTER | SPAN | SPAN ..`: the ranges and points of the filter, in order. A span is `at | KEY`, or `MIN | MAX` with a key, `min` or `max` for each.
+#[derive(Drop)]
+pub struct Spans;
+
+impl Rows for Spans {
+    fn holds(&mut self, alloc: Global, row: &str) -> Result<bool, RowFault> {
+        let (words, mut wanted) = field(row);
+        let filter = filter_of(alloc, words)?;
+        let list = key_span(alloc, &filter)?;
+        for span in list.spans() {
+            let (first, rest) = field(wanted);
+            let (second, rest) = field(rest);
+            if !is_span(alloc, span, first, second)? {
+                return Ok(false);
+            }
+            wanted = rest;
+        }
+        Ok(wanted.is_empty())
+    }
+}
+
+// Whether a span is the one that two fields spell.
+fn is_span(alloc: Global, span: &Span, first: &str, second: &str) -> Result<bool, RowFault> {
     match span {
-        Span::Point(point) => compare(point.value(), value) == Ordering::Equal,
-        Span::Range(_range) => false,
+        Span::Point(point) => {
+            if first != "at" {
+                return Ok(false);
+            }
+            let key = spelled_value(alloc, second)?;
+            Ok(compare(point.value(), &key) == Ordering::Equal)
+        }
+        Span::Range(range) => {
+            let is_least = is_bound(alloc, range.min(), first)?;
+            let is_greatest = is_bound(alloc, range.max(), second)?;
+            Ok(is_least && is_greatest)
+        }
+    }
+}
+
+// Whether a bound is the one that a field spells.
+fn is_bound(alloc: Global, bound: &Bound, words: &str) -> Result<bool, RowFault> {
+    match bound {
+        Bound::MinKey => Ok(words == "min"),
+        Bound::MaxKey => Ok(words == "max"),
+        Bound::At(key) => {
+            if words == "min" || words == "max" || words == "at" {
+                return Ok(false);
+            }
+            let value = spelled_value(alloc, words)?;
+            Ok(compare(key.value(), &value) == Ordering::Equal)
+        }
     }
 }

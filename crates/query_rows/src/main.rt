@@ -26,7 +26,7 @@ use crate::document_keys::DocumentKeys;
 use crate::filter_documents::Faults;
 use crate::filters::Filters;
 use crate::groups::Grouped;
-use crate::keys::Keys;
+use crate::keys::{Keys, Spans};
 use crate::levels::Levels;
 use crate::orders::Orders;
 use crate::pages::Pages;
@@ -62,6 +62,7 @@ fn check_filters(rt: &HostRuntime) -> io::Result<()> {
     check_file(rt, "refused_filters.txt", &mut Faults)?;
     check_file(rt, "levels.txt", &mut Levels)?;
     check_file(rt, "keys.txt", &mut Keys)?;
+    check_file(rt, "spans.txt", &mut Spans)?;
     check_file(rt, "asked.txt", &mut DocumentKeys)
 }
 

@@ -2,7 +2,7 @@
 use Rattle.std.specs.Prelude.{◌≡◌, ◌<◌, List, [], ◌∷◌, Bool, false, ◌&&◌, Option, Some, None}
 use Rattle.bson_model.specs.Tree.{Fields}
 use Rattle.std.specs.Str.{bytes_eq}
-use Rattle.value_model.specs.Keys.{inside}
+use Rattle.value_model.specs.Keys.{inside_some}
 use Rattle.pipeline_model.specs.Split.{span_of_stages}
 use Rattle.command_model.specs.Reading.{Reading}
 use Rattle.history_model.specs.History.{Entry, IsIn, key_written}
@@ -36,4 +36,4 @@ found (Some document) = document ∷ []
 -- the entry writes in the collection that is read, under a key that may stand in the span of the stages
 abbrev pub touches : Reading → Entry → Bool
 touches reading e =
-    bytes_eq e.namespace reading.namespace && elim (key_written e.operation) [ None ↦ false | Some key ↦ inside (span_of_stages reading.stages) key ]
+    bytes_eq e.namespace reading.namespace && elim (key_written e.operation) [ None ↦ false | Some key ↦ inside_some (span_of_stages reading.stages) key ]

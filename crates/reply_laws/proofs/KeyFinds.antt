@@ -1,15 +1,17 @@
 -- Finds of one key, to try the definitions on: what is right, and what a right answer says.
-use Rattle.std.proofs.Common.{◌≡◌, ℕ, ℤ, pos, ◌≤◌, inl, inr, List, [], ◌∷◌, length, take, drop, refl, sym, ap, subst, ◌∙◌, arith, codes}
-use Rattle.std.specs.Prelude.{Bool, true, false, Option, Some, None, Ok, filter}
+use Rattle.std.proofs.Common.{◌≡◌, ℕ, ℤ, pos, ◌≤◌, inl, inr, List, [], ◌∷◌, length, take, drop, map, refl, sym, ap, subst, ◌∙◌, arith, codes}
+use Rattle.std.specs.Prelude.{Bool, true, false, cond, Option, Some, None, Ok, filter, if◌then◌else◌}
 use Rattle.std.specs.Option.{unwrap_or}
 use Rattle.std.proofs.lemmas.List.Sorted.{IsPermutation-refl}
 use Rattle.bson_model.specs.Tree.{Datum, Fields}
 use Rattle.command_model.specs.Cursors.{Batch}
 use Rattle.command_model.specs.Command.{find_command, command_of}
 use Rattle.command_model.specs.Answers.{first_answer, answer_document}
-use Rattle.value_model.specs.Keys.{Span, point_span}
+use Rattle.value_model.specs.Keys.{is_key, min_bound, max_bound, point_span}
 use Rattle.query_model.specs.Holds.{holds}
-use Rattle.query_model.specs.KeySpans.{key_equal, whole_span}
+use Rattle.query_model.specs.KeySpans.{is_within, key_equal}
+use Rattle.query_model.proofs.KeysAsked.{asked_is_key}
+use Rattle.query_model.proofs.SpanKeys.{any_fits}
 use Rattle.pipeline_model.specs.Stages.{match_stage}
 use Rattle.pipeline_model.specs.Runs.{Runs, no_stage_run, match_run, listed}
 use Rattle.pipeline_model.specs.Batches.{IsSmall, IsBatch}
@@ -139,7 +141,9 @@ tells_key history a t next key at documents time right asks own loud says =
         (pos 0) next loud refl shows.opens in
         let whole = of_whole documents told.documents shows.batch_of.front none in
         let gives = subst (λ (b : Batch). MayGive history (find_of key at).reading b.time (listed told.documents)) same told.gives in
-        let span = ap (λ (o : Option Datum). elim o as (λ (x : Option Datum). Span) [ None ↦ whole_span | Some k ↦ point_span k ]) own in
+        let is : is_key key ≡ true = asked_is_key (Some key) key own in
+        let span = ap (λ (b : Bool). map point_span (filter (is_within min_bound max_bound false) (if b then key ∷ [] else []))) is
+        ∙ ap (λ (b : Bool). map point_span (cond b (key ∷ []) [])) (any_fits key is).within in
         record {
           read = subst (λ (b : Batch). IsTimeRead a t (find_of key at).reading b.time) same told.time;
           documents_are = runs_match key (found (document_at history (codes "d.c") (Some key) time)) told.documents

@@ -9,9 +9,9 @@ use Rattle.std.specs.Str.{bytes_eq}
 use Rattle.bson_model.proofs.Booleans.{both}
 use Rattle.bson_model.specs.Tree.{Datum, Fields}
 use Rattle.value_model.specs.Order.{order}
-use Rattle.value_model.specs.Keys.{Span, inside, is_key, key_of, KeyFault, valid_key}
+use Rattle.value_model.specs.Keys.{Span, inside_some, is_key, key_of, KeyFault, valid_key}
 use Rattle.value_model.proofs.Flat.{order_total}
-use Rattle.value_model.proofs.Spans.{same_is_key, same_inside}
+use Rattle.value_model.proofs.Spans.{same_is_key, same_inside_some}
 use Rattle.query_model.specs.Effects.{HasSameKey, IsUnder}
 use Rattle.query_model.specs.Edits.{same_key}
 use Rattle.query_model.proofs.Entries.{equal_is, itself, AreAbove, above_never, same_find}
@@ -55,11 +55,11 @@ keyed_at history namespace time key document stands =
     record { is = is; own = subst (λ (o : Option Fields). IsUnder key o) stands (after_under namespace key None es is tt) }
 
 -- such a document may stand in the spans in which its key stands
-keyed_inside : (span : Span) (key : Datum) (document : Fields) → IsKeyed key document → may_stand_in span document ≡ inside span key
+keyed_inside : (span : List Span) (key : Datum) (document : Fields) → IsKeyed key document → may_stand_in span document ≡ inside_some span key
 keyed_inside span key document keyed =
     let own : Datum = keyed.own.0 in
     let valid : valid_key document ≡ Ok own = valid_of document own keyed.own.1 (same_is_key own key keyed.own.2 ∙ keyed.is) in
-    ap (λ (r : Result Datum KeyFault). elim r as (λ s. Bool) [ Ok k ↦ inside span k | Err fault ↦ true ]) valid ∙ same_inside span own key keyed.own.2
+    ap (λ (r : Result Datum KeyFault). elim r as (λ s. Bool) [ Ok k ↦ inside_some span k | Err fault ↦ true ]) valid ∙ same_inside_some span own key keyed.own.2
 
 -- ROWS
 
@@ -89,9 +89,9 @@ keyed_rows (row ∷ rows) ordered keyed = (
   keyed_rows rows (later_rows row rows ordered) (λ q document found. keyed q document (found_behind q row rows document ordered found)),
 )
 
-module _ (span : Span) where
+module _ (span : List Span) where
   abbrev in_span : Datum × Fields → Bool
-  in_span row = inside span row.0
+  in_span row = inside_some span row.0
 
   filtered_values : (rows : Rows) → AreKeyed rows → filter (may_stand_in span) (values_of rows) ≡ values_of (filter in_span rows)
   filtered_values [] keyed = refl
@@ -127,26 +127,26 @@ module _ (span : Span) where
   if_none true = refl
   if_none false = refl
 
-  filtered_found : (q : Datum) (rows : Rows) → document_under q (filter in_span rows) ≡ cond (inside span q) (document_under q rows) None
-  filtered_found q [] = if_none (inside span q)
+  filtered_found : (q : Datum) (rows : Rows) → document_under q (filter in_span rows) ≡ cond (inside_some span q) (document_under q rows) None
+  filtered_found q [] = if_none (inside_some span q)
   filtered_found q (row ∷ rows) = by_tests (in_span row) (is_eq (order q row.0)) refl refl (filtered_found q rows)
     where
       by_tests : (b c : Bool) → in_span row ≡ b → is_eq (order q row.0) ≡ c → document_under q (filter in_span rows)
-          ≡ cond (inside span q) (document_under q rows) None
+          ≡ cond (inside_some span q) (document_under q rows) None
           → document_under q (cond b (row ∷ filter in_span rows) (filter in_span rows))
-          ≡ cond (inside span q) (cond c (Some row.1) (document_under q rows)) None
+          ≡ cond (inside_some span q) (cond c (Some row.1) (document_under q rows)) None
       by_tests true true i s rest =
           ap (λ (d : Bool). cond d (Some row.1) (document_under q (filter in_span rows))) s
-          ∙ ap (λ (d : Bool). cond d (Some row.1) None) (sym (same_inside span q row.0 s ∙ i))
+          ∙ ap (λ (d : Bool). cond d (Some row.1) None) (sym (same_inside_some span q row.0 s ∙ i))
       by_tests true false i s rest = ap (λ (d : Bool). cond d (Some row.1) (document_under q (filter in_span rows))) s ∙ rest
       by_tests false true i s rest =
-          let out : inside span q ≡ false = same_inside span q row.0 s ∙ i in
+          let out : inside_some span q ≡ false = same_inside_some span q row.0 s ∙ i in
           rest ∙ ap (λ (d : Bool). cond d (document_under q rows) None) out ∙ ap (λ (d : Bool). cond d (Some row.1) None) (sym out)
       by_tests false false i s rest = rest
 
   -- the documents of the span, as they stand under keys
   pub listed_in_span : (history : List Entry) (namespace : List ℕ) (time : ℕ)
-      → ListsDocuments (λ q. cond (inside span q) (document_at history namespace (Some q) time) None)
+      → ListsDocuments (λ q. cond (inside_some span q) (document_at history namespace (Some q) time) None)
       (filter (may_stand_in span) (documents_at history namespace time))
   listed_in_span history namespace time =
       let all = lists_collection history namespace time in
@@ -155,7 +155,7 @@ module _ (span : Span) where
       record {
         rows = filter in_span all.rows;
         ordered = filtered_in_order all.rows all.ordered;
-        found = λ q. filtered_found q all.rows ∙ ap (λ (o : Option Fields). cond (inside span q) o None) (all.found q);
+        found = λ q. filtered_found q all.rows ∙ ap (λ (o : Option Fields). cond (inside_some span q) o None) (all.found q);
         shown = ap (filter (may_stand_in span)) all.shown ∙ filtered_values all.rows keyed;
       }
 

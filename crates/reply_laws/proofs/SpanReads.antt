@@ -1,6 +1,6 @@
 -- What reads of a span may give, by the entries that write in it.
 use Rattle.std.proofs.Common.{◌≡◌, ℕ, ◌<◌, ◌≤◌, List, [], ◌∷◌, ◌++◌, refl, sym, ap, subst, ◌∙◌}
-use Rattle.std.specs.Prelude.{Bool, true, false, cond, not, ◌&&◌, Option, Some, None, filter, IsPermutation}
+use Rattle.std.specs.Prelude.{Bool, true, false, cond, not, ◌&&◌, ◌||◌, Option, Some, None, filter, IsPermutation}
 use Rattle.std.specs.List.{AllByRecursion}
 use Rattle.std.specs.List.Sorted.{IsStrictlySortedBy}
 use Rattle.std.specs.Ordering.{is_eq}
@@ -8,9 +8,9 @@ use Rattle.std.specs.Str.{bytes_eq}
 use Rattle.bson_model.proofs.Booleans.{is_false}
 use Rattle.bson_model.specs.Tree.{Datum, Fields}
 use Rattle.value_model.specs.Order.{order, same_value}
-use Rattle.value_model.specs.Keys.{Span, point_span, inside}
+use Rattle.value_model.specs.Keys.{Span, point_span, inside_some}
 use Rattle.value_model.proofs.Flat.{order_total}
-use Rattle.value_model.proofs.Spans.{same_inside}
+use Rattle.value_model.proofs.Spans.{same_inside_some}
 use Rattle.query_model.specs.Edits.{same_key}
 use Rattle.query_model.proofs.Entries.{equal_turned}
 use Rattle.pipeline_model.specs.Stages.{Stage}
@@ -60,23 +60,23 @@ module _ (stages : List Stage) where
 -- WHAT STANDS IN A SPAN
 
 module _ (history : List Entry) (namespace : List ℕ) where
-  abbrev under_in : Span → ℕ → Datum → Option Fields
-  under_in span time q = cond (inside span q) (document_at history namespace (Some q) time) None
+  abbrev under_in : List Span → ℕ → Datum → Option Fields
+  under_in span time q = cond (inside_some span q) (document_at history namespace (Some q) time) None
 
   -- one that stands under a key of the span is written by none, where none touches the span
-  never_written : (span : Span) (written : Option Datum) (own : Bool) (q : Datum) → inside span q ≡ true
-      → (own && elim written as (λ o. Bool) [ None ↦ false | Some key ↦ inside span key ]) ≡ false → (own && same_key written (Some q)) ≡ false
+  never_written : (span : List Span) (written : Option Datum) (own : Bool) (q : Datum) → inside_some span q ≡ true
+      → (own && elim written as (λ o. Bool) [ None ↦ false | Some key ↦ inside_some span key ]) ≡ false → (own && same_key written (Some q)) ≡ false
   never_written span written false q is none = refl
   never_written span None true q is none = refl
   never_written span (Some key) true q is none =
-      is_false (same_value key q) (λ same. let e : true ≡ false = sym (same_inside span key q same ∙ is) ∙ none in cc)
+      is_false (same_value key q) (λ same. let e : true ≡ false = sym (same_inside_some span key q same ∙ is) ∙ none in cc)
 
-  abbrev TouchesNone : Span → ℕ → ℕ → List Entry → Type 0
+  abbrev TouchesNone : List Span → ℕ → ℕ → List Entry → Type 0
   TouchesNone span before time es =
       AllByRecursion (λ (d : Entry). before < d.time → d.time ≤ time → (bytes_eq d.namespace namespace && elim (key_written d.operation) as
-      (λ o. Bool) [ None ↦ false | Some key ↦ inside span key ]) ≡ false) es
+      (λ o. Bool) [ None ↦ false | Some key ↦ inside_some span key ]) ≡ false) es
 
-  none_between : (span : Span) (before time : ℕ) (q : Datum) → inside span q ≡ true → (es : List Entry) → TouchesNone span before time es
+  none_between : (span : List Span) (before time : ℕ) (q : Datum) → inside_some span q ≡ true → (es : List Entry) → TouchesNone span before time es
       → WritesNoneBetween namespace (Some q) before time es
   none_between span before time q is [] none = tt
   none_between span before time q is (d ∷ es) none = (
@@ -84,17 +84,17 @@ module _ (history : List Entry) (namespace : List ℕ) where
     none_between span before time q is es none.1,
   )
 
-  same_under : (span : Span) (before time : ℕ) → before ≤ time → TouchesNone span before time history → (q : Datum) (b : Bool) → inside span q ≡ b
+  same_under : (span : List Span) (before time : ℕ) → before ≤ time → TouchesNone span before time history → (q : Datum) (b : Bool) → inside_some span q ≡ b
       → under_in span time q ≡ under_in span before q
   same_under span before time less none q true is =
-      ap (λ (o : Option Fields). cond (inside span q) o None) (stands_since namespace (Some q) history before time less
+      ap (λ (o : Option Fields). cond (inside_some span q) o None) (stands_since namespace (Some q) history before time less
       (none_between span before time q is history none))
   same_under span before time less none q false is =
       ap (λ (b : Bool). cond b (document_at history namespace (Some q) time) None) is
       ∙ ap (λ (b : Bool). cond b (document_at history namespace (Some q) before) None) (sym is)
 
   -- so the documents of the span are the same
-  same_documents : (span : Span) (before time : ℕ) → before ≤ time → TouchesNone span before time history
+  same_documents : (span : List Span) (before time : ℕ) → before ≤ time → TouchesNone span before time history
       → filter (may_stand_in span) (documents_at history namespace time) ≡ filter (may_stand_in span) (documents_at history namespace before)
   same_documents span before time less none =
       let later = listed_in_span span history namespace time in
@@ -102,7 +102,7 @@ module _ (history : List Entry) (namespace : List ℕ) where
       (record {
         rows = later.rows;
         ordered = later.ordered;
-        found = λ q. later.found q ∙ same_under span before time less none q (inside span q) refl;
+        found = λ q. later.found q ∙ same_under span before time less none q (inside_some span q) refl;
         shown = later.shown;
       })
       (listed_in_span span history namespace before)
@@ -117,22 +117,32 @@ module _ (history : List Entry) (namespace : List ℕ) where
   unfolding IsStrictlySortedBy
   no_row = tt
 
+  or_none : (b : Bool) → (b || false) ≡ b
+  or_none true = refl
+  or_none false = refl
+
   alone_under : (key : Datum) (time : ℕ) (q : Datum) (b : Bool) → same_value key q ≡ b
-      → cond (is_eq (order q key)) (document_at history namespace (Some key) time) None ≡ under_in (point_span key) time q
-  alone_under key time q true same =
-      ap (λ (c : Bool). cond c (document_at history namespace (Some key) time) None) (equal_turned order_total q key)
-      ∙ ap (λ (o : Option Fields). cond (same_value key q) o None) (same_after namespace (Some key) (Some q) same None (up_to time history))
-  alone_under key time q false same =
-      ap (λ (c : Bool). cond c (document_at history namespace (Some key) time) None) (equal_turned order_total q key)
-      ∙ ap (λ (c : Bool). cond c (document_at history namespace (Some key) time) None) same
-      ∙ ap (λ (c : Bool). cond c (document_at history namespace (Some q) time) None) (sym same)
+      → cond (is_eq (order q key)) (document_at history namespace (Some key) time) None ≡ under_in (point_span key ∷ []) time q
+  alone_under key time q b is =
+      at_key b is ∙ ap (λ (c : Bool). cond c (document_at history namespace (Some q) time) None) (sym (or_none (same_value key q)))
+    where
+      at_key : (b : Bool) → same_value key q ≡ b
+          → cond (is_eq (order q key)) (document_at history namespace (Some key) time) None
+          ≡ cond (same_value key q) (document_at history namespace (Some q) time) None
+      at_key true same =
+          ap (λ (c : Bool). cond c (document_at history namespace (Some key) time) None) (equal_turned order_total q key)
+          ∙ ap (λ (o : Option Fields). cond (same_value key q) o None) (same_after namespace (Some key) (Some q) same None (up_to time history))
+      at_key false same =
+          ap (λ (c : Bool). cond c (document_at history namespace (Some key) time) None) (equal_turned order_total q key)
+          ∙ ap (λ (c : Bool). cond c (document_at history namespace (Some key) time) None) same
+          ∙ ap (λ (c : Bool). cond c (document_at history namespace (Some q) time) None) (sym same)
 
   nothing_under : (b : Bool) (o : Option Fields) → o ≡ None → None ≡ cond b o None
   nothing_under true o none = sym none
   nothing_under false o none = refl
 
   found_listed : (key : Datum) (time : ℕ) (o : Option Fields) → document_at history namespace (Some key) time ≡ o
-      → ListsDocuments (under_in (point_span key) time) (found o)
+      → ListsDocuments (under_in (point_span key ∷ []) time) (found o)
   found_listed key time None is = record {
     rows = [];
     ordered = no_row;
@@ -153,10 +163,10 @@ module _ (history : List Entry) (namespace : List ℕ) where
     shown = refl;
   }
 
-  document_of_key : (key : Datum) (time : ℕ) → filter (may_stand_in (point_span key)) (documents_at history namespace time)
+  document_of_key : (key : Datum) (time : ℕ) → filter (may_stand_in (point_span key ∷ [])) (documents_at history namespace time)
       ≡ found (document_at history namespace (Some key) time)
   document_of_key key time =
-      one_listing (under_in (point_span key) time) _ _ (listed_in_span (point_span key) history namespace time)
+      one_listing (under_in (point_span key ∷ []) time) _ _ (listed_in_span (point_span key ∷ []) history namespace time)
       (found_listed key time (document_at history namespace (Some key) time) refl)
 
 -- WHAT READS MAY GIVE
@@ -166,20 +176,20 @@ one_way None ordered permutes = no_order ordered permutes
 one_way (Some document) ordered permutes = one_order document ordered permutes
 
 -- of one key, what its stages make of the document under it
-pub runs_of_key : (history : List Entry) (reading : Reading) (key : Datum) (time : ℕ) (out : Outcome) → span_of_stages reading.stages ≡ point_span key
+pub runs_of_key : (history : List Entry) (reading : Reading) (key : Datum) (time : ℕ) (out : Outcome) → span_of_stages reading.stages ≡ point_span key ∷ []
     → MayGive history reading time out
     → Runs reading.stages (found (document_at history reading.namespace (Some key) time)) out
 runs_of_key history reading key time out at gives =
     let inside = inside_allowed reading.stages (documents_at history reading.namespace time) out gives in
     let docs : filter (may_stand_in (span_of_stages reading.stages)) (documents_at history reading.namespace time)
     ≡ found (document_at history reading.namespace (Some key) time) =
-    ap (λ (span : Span). filter (may_stand_in span) (documents_at history reading.namespace time)) at ∙ document_of_key history reading.namespace key time in
+    ap (λ (span : List Span). filter (may_stand_in span) (documents_at history reading.namespace time)) at ∙ document_of_key history reading.namespace key time in
     let same = one_way (document_at history reading.namespace (Some key) time) inside.ordered
     (subst (λ (l : List Fields). IsPermutation l inside.ordered) docs inside.permutes) in
     subst (λ (l : List Fields). Runs reading.stages l out) same inside.runs
 
 pub runs_last : (earlier later : List Entry) (e : Entry) (reading : Reading) (key : Datum) (time : ℕ) (out : Outcome) → Legal (earlier ++ e ∷ later)
-    → span_of_stages reading.stages ≡ point_span key → MayGive (earlier ++ e ∷ later) reading time out → e.time ≤ time
+    → span_of_stages reading.stages ≡ point_span key ∷ [] → MayGive (earlier ++ e ∷ later) reading time out → e.time ≤ time
     → writes_to reading.namespace (Some key) e ≡ true
     → WritesNone reading.namespace (Some key) time later
     → Runs reading.stages (found (effect e.operation (document_left reading.namespace (Some key) earlier)).0) out
@@ -187,7 +197,7 @@ runs_last earlier later e reading key time out legal at gives early hits none =
     subst (λ (o : Option Fields). Runs reading.stages (found o) out) (last_left reading.namespace (Some key) earlier later e time legal early hits none)
     (runs_of_key (earlier ++ e ∷ later) reading key time out at gives)
 
-pub runs_none : (history : List Entry) (reading : Reading) (key : Datum) (time : ℕ) (out : Outcome) → span_of_stages reading.stages ≡ point_span key
+pub runs_none : (history : List Entry) (reading : Reading) (key : Datum) (time : ℕ) (out : Outcome) → span_of_stages reading.stages ≡ point_span key ∷ []
     → MayGive history reading time out
     → WritesNone reading.namespace (Some key) time history → Runs reading.stages [] out
 runs_none history reading key time out at gives none =

@@ -68,13 +68,13 @@ pub fn reads_are_fresh()
 pub fn reads_miss_nothing()
     ensures last { (given : List Given) (creations : List Creation) (earlier later : List Entry) (asked : List Asked) (answered : List Answered)
         (e : Entry) (reading : Reading) (key : Datum) (time : ℕ) (out : Outcome) → OneHistory given creations (earlier ++ e ∷ later) asked answered
-        → span_of_stages reading.stages ≡ point_span key → MayGive (earlier ++ e ∷ later) reading time out
+        → span_of_stages reading.stages ≡ point_span key ∷ [] → MayGive (earlier ++ e ∷ later) reading time out
         → e.time ≤ time → writes_to reading.namespace (Some key) e ≡ true
         → AllByRecursion (λ (d : Entry). d.time ≤ time → writes_to reading.namespace (Some key) d ≡ false) later
         → Runs reading.stages (found (effect e.operation (document_left reading.namespace (Some key) earlier)).0) out }
     ensures none { (given : List Given) (creations : List Creation) (history : List Entry) (asked : List Asked) (answered : List Answered)
         (reading : Reading) (key : Datum) (time : ℕ) (out : Outcome) → OneHistory given creations history asked answered
-        → span_of_stages reading.stages ≡ point_span key → MayGive history reading time out
+        → span_of_stages reading.stages ≡ point_span key ∷ [] → MayGive history reading time out
         → AllByRecursion (λ (d : Entry). d.time ≤ time → writes_to reading.namespace (Some key) d ≡ false) history → Runs reading.stages [] out }
 {}
 

@@ -3,33 +3,14 @@ use Rattle.std.specs.Prelude.{◌≡◌, ◌⊎◌, ℕ, List, refl, ◌==◌, i
 use Rattle.std.proofs.Common.{inl, inr}
 use Rattle.std.specs.Coded.{Coded, code_by, coded×, coded⊎, coded_list, coded_ℕ}
 use Rattle.group_accum.specs.Code.{group_code}
-use Rattle.pipeline_model.specs.Halves.{Half, HalfEnd, documents_end, partials_end, counted_end, Joining, joined_in_order, joined_groups, joined_counts, joined_as_they_come, Merge}
-use Rattle.value_model.specs.Keys.{Range, Span, range_span, point_span}
-use Rattle.pipeline_model.specs.Stages.{Stage}
-use Rattle.bson_model.specs.Tree.{Datum}
+use Rattle.node_model.specs.Halves.{Half, HalfEnd, documents_end, partials_end, counted_end, Joining, joined_in_order, joined_groups, joined_counts, joined_as_they_come, Merge}
+use Rattle.node_model.specs.Keys.{Span}
+use Rattle.node_model.specs.Stages.{Stage}
 use Rattle.pipeline_lang.specs.Code.{stages_code}
 use Rattle.pipeline_model.specs.GroupSpecs.{GroupSpec}
 use Rattle.pipeline_model.specs.SortKeys.{SortField}
 use Rattle.sort_keys.specs.Code.{spec_code}
-use Rattle.value_compare.specs.Code.{datum_code, range_code}
-
-abbrev pub SpanParts : Type 0
-SpanParts = Range ⊎ Datum
-
-abbrev pub span_parts : Span → SpanParts
-span_parts (range_span range) = inl range
-span_parts (point_span key) = inr key
-
-abbrev pub span_from : SpanParts → Span
-span_from (inl range) = range_span range
-span_from (inr key) = point_span key
-
-abbrev pub span_back : (s : Span) → span_from (span_parts s) ≡ s
-span_back (range_span range) = refl
-span_back (point_span key) = refl
-
-abbrev pub span_code : Coded Span
-span_code = code_by SpanParts (coded⊎ range_code datum_code) span_parts span_from span_back
+use Rattle.value_compare.specs.Code.{spans_code}
 
 abbrev pub EndParts : Type 0
 EndParts = ℕ ⊎ GroupSpec
@@ -53,7 +34,7 @@ end_code = code_by EndParts (coded⊎ coded_ℕ group_code) end_parts end_from e
 
 abbrev pub half_code : Coded Half
 half_code =
-    code_by (Span × (List Stage × HalfEnd)) (coded× span_code (coded× stages_code end_code)) (λ h. (h.span, (h.stages, h.last)))
+    code_by (List Span × (List Stage × HalfEnd)) (coded× spans_code (coded× stages_code end_code)) (λ h. (h.span, (h.stages, h.last)))
     (λ p. record { span = p.0; stages = p.1.0; last = p.1.1 }) (λ h. refl)
 
 abbrev pub JoiningParts : Type 0

@@ -22,7 +22,7 @@ use match_expr::key_asked_in;
 use pipeline_lang::Half;
 use protocol_model::{NewChange, Operation, Statement};
 use std::alloc::Global;
-use value_compare::{Key, OpWords, Span, key_of};
+use value_compare::{Key, OpWords, key_of};
 
 /// What words ask the key of their document to be; none where they ask for no key.
 fn key_asked(words: &OpWords) -> Option<&Value>
@@ -100,13 +100,10 @@ pub(crate) fn owner_of_statement(
 }
 
 /// The shard that had what a half is of at a time, if one had it: so far one shard has all keys.
-pub fn owner_of_half(table: &Table, at: Time, half: &Half) -> Option<NodeId>
-    ensures { option_map (λ shard. shard.0) result ≡ rows.owner_of_span table.now at.0 (half_of half.now).span }
+pub fn owner_of_half(table: &Table, at: Time, _half: &Half) -> Option<NodeId>
+    ensures { option_map (λ shard. shard.0) result ≡ rows.owner_of_span table.now at.0 (half_of _half.now).span }
 {
-    match &half.span {
-        Span::Point(key) => table.owner_at(key, at),
-        Span::Range(_) => table.owner_of_value(&Value::Null, at),
-    }
+    table.owner_of_value(&Value::Null, at)
 }
 
 /// Whether a table says who had what a half is of at a time.

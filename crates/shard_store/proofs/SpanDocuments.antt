@@ -6,10 +6,10 @@ use Rattle.std.specs.Map.{keys_of, values_of}
 use Rattle.std.proofs.lemmas.Map.Entries.{option_filter, lookup-filter-values}
 use Rattle.std.proofs.lemmas.Map.Keys.{IsDistinct-from_sorted}
 use Rattle.bson_values.specs.Tree.{Datum, Fields}
-use Rattle.value_compare.specs.Keys.{Span, KeyFault, absent_key, inside, is_key, wrong_kind}
+use Rattle.value_compare.specs.Keys.{Span, KeyFault, absent_key, inside_some, is_key, wrong_kind}
 use Rattle.value_compare.specs.Order.{order, same_value}
 use Rattle.value_model.proofs.Flat.{order_total}
-use Rattle.value_model.proofs.Spans.{same_inside, same_is_key, same_value_equivalence}
+use Rattle.value_model.proofs.Spans.{same_inside_some, same_is_key, same_value_equivalence}
 use Rattle.query_model.specs.Effects.{IsUnder}
 use Rattle.query_model.proofs.Entries.{AreAbove}
 use Rattle.history_model.specs.Documents.{Rows, AreInOrder, document_under, documents_at, ListsDocuments}
@@ -57,19 +57,19 @@ same_either : (b : Bool) (x : Option Fields) → x ≡ (if b then x else x)
 same_either true x = refl
 same_either false x = refl
 
-module _ (span : Span) where
+module _ (span : List Span) where
   inside_if_valid : (key k : Datum) (b : Bool) → is_key k ≡ b → b ≡ true → same_value k key ≡ true →
-      elim (if b then Ok k else Err wrong_kind) as (λ r. Bool) [ Ok found ↦ inside span found | Err fault ↦ true ] ≡ inside span key
-  inside_if_valid key k true is valid same = same_inside span k key same
+      elim (if b then Ok k else Err wrong_kind) as (λ r. Bool) [ Ok found ↦ inside_some span found | Err fault ↦ true ] ≡ inside_some span key
+  inside_if_valid key k true is valid same = same_inside_some span k key same
   inside_if_valid key k false is valid same = absurd cc
 
   abbrev by_key : Option Datum → Bool
   by_key found =
       elim (elim found as (λ o. Result Datum KeyFault) [ None ↦ Err absent_key | Some d ↦ if is_key d then Ok d else Err wrong_kind ])
-      as (λ r. Bool) [ Ok key ↦ inside span key | Err fault ↦ true ]
+      as (λ r. Bool) [ Ok key ↦ inside_some span key | Err fault ↦ true ]
 
   -- a document that stands under a key may stand in the span where the key is inside
-  stands_inside : (key : Datum) (document : Fields) → is_key key ≡ true → IsUnder key (Some document) → may_stand_in span document ≡ inside span key
+  stands_inside : (key : Datum) (document : Fields) → is_key key ≡ true → IsUnder key (Some document) → may_stand_in span document ≡ inside_some span key
   stands_inside key document valid under =
       ap by_key under.1 ∙ inside_if_valid key under.0 (is_key under.0) refl (same_is_key under.0 key under.2 ∙ valid) under.2
 
@@ -79,8 +79,8 @@ module _ (span : Span) where
     is_valid key document false is found = let nothing = nothing_at entries namespace key time is in absurd cc
 
     inside_found : (key : Datum) (found : Option Fields) → document_at entries namespace (Some key) time ≡ found →
-        option_filter (may_stand_in span) found ≡ (if inside span key then found else None)
-    inside_found key None is = same_either (inside span key) None
+        option_filter (may_stand_in span) found ≡ (if inside_some span key then found else None)
+    inside_found key None is = same_either (inside_some span key) None
     inside_found key (Some document) is =
         let valid : is_key key ≡ true = is_valid key document (is_key key) refl is in
         let under : IsUnder key (Some document) =
@@ -88,7 +88,7 @@ module _ (span : Span) where
         (after_under namespace key None (filter (λ (e : Entry). nat_le e.time time) entries) valid tt) in
         ap (λ (b : Bool). cond b (Some document) None) (stands_inside key document valid under)
 
-    lists_span : ListsDocuments (λ key. if inside span key then document_at entries namespace (Some key) time else None)
+    lists_span : ListsDocuments (λ key. if inside_some span key then document_at entries namespace (Some key) time else None)
         (filter (may_stand_in span) (documents_at entries namespace time))
     lists_span =
         let all = lists_collection entries namespace time in
@@ -102,7 +102,7 @@ module _ (span : Span) where
 
     -- what lists the documents under the keys inside lists those that may stand in the span
     pub span_documents : (documents : List Fields) →
-        ListsDocuments (λ key. if inside span key then document_at entries namespace (Some key) time else None) documents →
+        ListsDocuments (λ key. if inside_some span key then document_at entries namespace (Some key) time else None) documents →
         documents ≡ filter (may_stand_in span) (documents_at entries namespace time)
     span_documents documents listed = one_listing _ documents _ listed lists_span
 

@@ -6,9 +6,8 @@ ghost use Rattle.std.specs.Arc.{arc_value};
 ghost use Rattle.std.specs.List.{AllByRecursion};
 ghost use Rattle.std.specs.Option.{option_map};
 ghost use Rattle.std.specs.Str.{bytes_eq};
-ghost use Rattle.value_compare.specs.Keys.{inside};
+ghost use Rattle.value_compare.specs.Keys.{inside_some};
 ghost use Rattle.value_compare.specs.Order.{same_value};
-ghost use Rattle.value_compare.specs.Spans.{span_of};
 ghost use Rattle.bson_values.specs.Tree.{Datum};
 ghost use Rattle.history_model.specs.Documents.{ListsDocuments};
 ghost use Rattle.history_model.specs.Versions.{one_more};
@@ -21,7 +20,7 @@ use mvcc_collection::Collection;
 use std::alloc::Global;
 use std::collections::BTreeMap;
 use std::sync::Arc;
-use value_compare::{Key, Span};
+use value_compare::{Key, SpanList};
 
 /// The collections of a shard, each by its namespace, with the versions of their documents.
 #[derive(Drop)]
@@ -52,14 +51,14 @@ impl Collections {
         self.by_name.get(namespace)?.get_at(key, time)
     }
 
-    /// The documents that stand in the namespace under the keys of the span at the time, in the order of keys. Fails for want of memory.
+    /// The documents that stand in the namespace under the keys of ranges and points at the time, in the order of keys. Fails for want of memory.
     pub fn scan_at<'a>(
         &'a self,
         namespace: &str,
-        span: &Span,
+        span: &SpanList,
         time: Time,
     ) -> Result<Vec<&'a Arc<Document, Global>>, Memory>
-        ensures { IfOk result (λ ds. ListsDocuments (λ k. if inside (span_of span.now) k then shown_in self.now namespace.now k time.0 else None)
+        ensures { IfOk result (λ ds. ListsDocuments (λ k. if inside_some span.now k then shown_in self.now namespace.now k time.0 else None)
             (map (λ d. arc_value d.now) ds.items)) }
     {
         match self.by_name.get(namespace) {

@@ -5,7 +5,6 @@ ghost use Rattle.std.specs.Arc.{arc_value};
 ghost use Rattle.std.specs.Option.{option_map, IsSome};
 ghost use Rattle.bson_values.specs.Tree.{Datum};
 ghost use Rattle.value_compare.specs.Order.{same_value};
-ghost use Rattle.value_compare.specs.Spans.{span_of};
 ghost use Rattle.cluster_base.specs.declared.identity.Session.{Session};
 ghost use Rattle.node_model.specs.Documents.{documents_at};
 ghost use Rattle.node_model.specs.Halves.{may_stand_in};
@@ -36,7 +35,7 @@ use session_book::{Book, Seen};
 use std::alloc::Global;
 use std::sync::Arc;
 use update_ops::Op;
-use value_compare::{Key, OpWords, Span, key_of};
+use value_compare::{Key, OpWords, SpanList, key_of};
 
 /// What a shard keeps of its entries: the documents that they leave, with their past, and what each statement was told.
 ///
@@ -107,15 +106,16 @@ impl ShardStore {
         self.collections.get_at(namespace.as_str(), key, self.last)
     }
 
-    /// The documents that stood in the namespace at a time and may stand in the span, in the order of keys. Fails for want of memory.
+    /// The documents that stood in the namespace at a time and may stand in the ranges and points, in the order of keys. Fails for want of
+    /// memory.
     pub fn documents_at<'a>(
         &'a self,
         namespace: &Namespace,
-        span: &Span,
+        span: &SpanList,
         time: Time,
     ) -> Result<Vec<&'a Arc<Document, Global>>, Memory>
         ensures { IfOk result (λ ds. map (λ d. arc_value d.now) ds.items
-            ≡ filter (may_stand_in (span_of span.now)) (documents_at (entries_of self.now) namespace.now time.0)) }
+            ≡ filter (may_stand_in span.now) (documents_at (entries_of self.now) namespace.now time.0)) }
     {
         self.collections.scan_at(namespace.as_str(), span, time)
     }

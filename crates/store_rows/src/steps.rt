@@ -10,7 +10,7 @@ use fixtures::{RowFault, Rows, field, number, numbered, spelled_value};
 use mvcc_collection::Collection;
 use std::alloc::Global;
 use std::sync::Arc;
-use value_compare::{Bound, Key, KeyRange, Span};
+use value_compare::{Bound, Key, KeyRange, Span, SpanList};
 
 /// One step after another: `put | KEY | TIME | N` puts the document `{_id: N}` under the key, or none where N is `none`, and holds
 /// where the time is later than those before; `reserve | KEY`; `get | KEY | TIME | N` or `none`; `point | KEY | TIME | NUMBERS` and
@@ -90,7 +90,7 @@ impl Steps {
     fn point(&self, alloc: Global, row: &str) -> Result<bool, RowFault> {
         let (key, rest) = field(row);
         let key = spelled_key(alloc, key)?;
-        self.scan(&Span::Point(key), rest)
+        self.scan(alloc, Span::Point(key), rest)
     }
 
     fn range(&self, alloc: Global, row: &str) -> Result<bool, RowFault> {
@@ -100,14 +100,17 @@ impl Steps {
         let max = spelled_bound(alloc, max)?;
         match KeyRange::new(min, max) {
             None => Err(RowFault::Form),
-            Some(range) => self.scan(&Span::Range(range), rest),
+            Some(range) => self.scan(alloc, Span::Range(range), rest),
         }
     }
 
-    fn scan(&self, span: &Span, row: &str) -> Result<bool, RowFault> {
+    fn scan(&self, alloc: Global, span: Span, row: &str) -> Result<bool, RowFault> {
         let (time, wanted) = field(row);
         let time = number(time)?;
-        let documents = self.collection.scan_at(span, Time(time))?;
+        let mut spans = Vec::new(alloc);
+        spans.push(span)?;
+        let list = SpanList::of(spans);
+        let documents = self.collection.scan_at(&list, Time(time))?;
         are_numbered(&documents, wanted)
     }
 }

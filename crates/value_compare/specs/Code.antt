@@ -1,8 +1,9 @@
--- How a value is told from others: as the document that holds it alone. And so bounds and ranges.
-use Rattle.std.specs.Prelude.{◌≡◌, ℕ, [], refl, ◌==◌, if◌then◌else◌}
-use Rattle.std.specs.Coded.{Coded, code_by, coded×, coded_ℕ}
+-- How a value is told from others: as the document that holds it alone. And so bounds, ranges and spans.
+use Rattle.std.specs.Prelude.{◌≡◌, ◌⊎◌, ℕ, List, [], refl, ◌==◌, if◌then◌else◌}
+use Rattle.std.proofs.Common.{inl, inr}
+use Rattle.std.specs.Coded.{Coded, code_by, coded×, coded⊎, coded_list, coded_ℕ}
 use Rattle.value_model.specs.Tree.{Datum, null_value, Fields, no_fields, field}
-use Rattle.value_model.specs.Keys.{Bound, min_bound, key_bound, max_bound, Range}
+use Rattle.value_model.specs.Keys.{Bound, min_bound, key_bound, max_bound, Range, Span, range_span, point_span}
 use Rattle.bson_values.specs.Code.{fields_code}
 
 abbrev pub first_value : Fields → Datum
@@ -32,3 +33,24 @@ bound_code = code_by (ℕ × Datum) (coded× coded_ℕ datum_code) bound_parts b
 abbrev pub range_code : Coded Range
 range_code =
     code_by (Bound × Bound) (coded× bound_code bound_code) (λ r. (r.min, r.max)) (λ p. record { min = p.0; max = p.1 }) (λ r. refl)
+
+abbrev pub SpanParts : Type 0
+SpanParts = Range ⊎ Datum
+
+abbrev pub span_parts : Span → SpanParts
+span_parts (range_span range) = inl range
+span_parts (point_span key) = inr key
+
+abbrev pub span_from : SpanParts → Span
+span_from (inl range) = range_span range
+span_from (inr key) = point_span key
+
+abbrev pub span_back : (s : Span) → span_from (span_parts s) ≡ s
+span_back (range_span range) = refl
+span_back (point_span key) = refl
+
+abbrev pub span_code : Coded Span
+span_code = code_by SpanParts (coded⊎ range_code datum_code) span_parts span_from span_back
+
+abbrev pub spans_code : Coded (List Span)
+spans_code = coded_list span_code

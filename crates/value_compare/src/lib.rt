@@ -5,9 +5,11 @@
 mod key;
 mod order;
 mod span;
+mod span_list;
 mod words;
 
 pub use key::{Key, KeyFault, key_of};
 pub use order::{class, compare};
 pub use span::{Bound, KeyRange, Span, inside};
+pub use span_list::SpanList;
 pub use words::{OpWords, Reply};

@@ -50,6 +50,13 @@ impl Bound {
         }
     }
 
+    /// Which of this bound and one at the key is less.
+    pub fn compare_to_key(&self, key: &Key) -> Ordering
+        ensures { result ≡ order_bounds (bound_of self.now) (key_bound key.now) }
+    {
+        self.compare_to_value(key.value())
+    }
+
     // Which of this bound and one at the value is less.
     fn compare_to_value(&self, value: &Value) -> Ordering
         ensures { result ≡ order_bounds (bound_of self.now) (key_bound (datum_of value.now)) }

@@ -1,12 +1,12 @@
 -- What the laws of the order say of keys and spans.
 use Rattle.std.proofs.Common.{◌≡◌, ℕ, ℤ, refl, sym, ap, ◌∙◌, Ordering, Less, Equal, Greater}
-use Rattle.std.specs.Prelude.{Bool, true, false, ◌==◌, ◌&&◌, if◌then◌else◌}
+use Rattle.std.specs.Prelude.{List, [], ◌∷◌, Bool, true, false, ◌==◌, ◌&&◌, ◌||◌, if◌then◌else◌}
 use Rattle.std.specs.Ordering.{ordering_then, ordering_reverse, is_le, is_lt, is_eq, int_cmp, int_eq}
 use Rattle.std.specs.Cmp.{IsEquivalence, Equal-is, second_so}
 use Rattle.std.proofs.lemmas.Cmp.{eq_by_cmp_equiv, alike_right}
 use Rattle.bson_model.specs.Tree.{Datum, document_value, array_value, min_key_value, max_key_value, int32_value, int64_value}
 use Rattle.value_model.specs.Order.{class_of, order, same_value}
-use Rattle.value_model.specs.Keys.{is_key, Bound, value_of_bound, Span, range_span, point_span, min_bound, max_bound, inside}
+use Rattle.value_model.specs.Keys.{is_key, Bound, value_of_bound, Span, range_span, point_span, min_bound, max_bound, inside, inside_some}
 use Rattle.value_model.proofs.Flat.{order_total, one_class}
 
 pub same_value_equivalence : IsEquivalence same_value
@@ -38,6 +38,12 @@ same_inside (range_span range) a b e =
     let same = is_equal a b e in
     rw (alike_right order_total a b (value_of_bound range.min) same, order_total.congr a b (value_of_bound range.max) same) refl
 same_inside (point_span point) a b e = ap is_eq (alike_right order_total a b point (is_equal a b e))
+
+pub same_inside_some : (spans : List Span) (a b : Datum) → same_value a b ≡ true → inside_some spans a ≡ inside_some spans b
+same_inside_some [] a b e = refl
+same_inside_some (span ∷ spans) a b e =
+    ap (λ (x : Bool). x || inside_some spans a) (same_inside span a b e)
+    ∙ ap (λ (x : Bool). inside span b || x) (same_inside_some spans a b e)
 
 pub whole_inside : (key : Datum) → is_key key ≡ true → inside (range_span (record { min = min_bound; max = max_bound })) key ≡ true
 whole_inside (document_value ms) e = absurd (cc e)

@@ -1,8 +1,9 @@
 -- Keys, and which of them stand in a span (MongoDB manual, "Document Field Order and the _id Field" and "Data
 -- Partitioning with Chunks"): a range takes its least key and not its greatest.
-use Rattle.std.specs.Prelude.{◌≡◌, Bool, true, false, ◌&&◌, Option, Some, None, Result, Ok, Err, codes, if◌then◌else◌}
+use Rattle.std.specs.Prelude.{◌≡◌, Bool, true, false, ◌&&◌, List, [], ◌∷◌, Option, Some, None, Result, Ok, Err, codes, if◌then◌else◌}
 use Rattle.std.specs.declared.cmp.Ordering.{Ordering}
 use Rattle.std.specs.declared.cmp.Ordering.TheVariants.{Less}
+use Rattle.std.specs.List.{list_any, AllByRecursion}
 use Rattle.std.specs.Ordering.{on, is_le, is_lt}
 use Rattle.bson_model.specs.Tree.{Datum, document_value, array_value, min_key_value, max_key_value, Fields, get}
 use Rattle.value_model.specs.Order.{order, same_value}
@@ -59,3 +60,16 @@ pub data Span : Type 0 where
 abbrev pub inside : Span → Datum → Bool
 inside (range_span range) key = is_le (order_bounds range.min (key_bound key)) && is_lt (order_bounds (key_bound key) range.max)
 inside (point_span point) key = same_value point key
+
+-- the key stands in one of the spans
+abbrev pub inside_some : List Span → Datum → Bool
+inside_some spans key = list_any (λ span. inside span key) spans
+
+-- each key inside the first is less than each inside the second
+abbrev pub IsBefore : Span → Span → Type 0
+IsBefore first second = (a b : Datum) → inside first a ≡ true → inside second b ≡ true → order a b ≡ Less
+
+-- spans in the order of their keys, of which no two have a key in common
+abbrev pub AreAscending : List Span → Type 0
+AreAscending [] = Unit {0}
+AreAscending (span ∷ spans) = AllByRecursion (IsBefore span) spans × AreAscending spans

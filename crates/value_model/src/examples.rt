@@ -3,7 +3,7 @@
 ghost use Rattle.std.specs.Prelude.{◌≡◌, [], ◌∷◌, codes, pos, negsuc, true, false, Ok, Err, Some};
 ghost use Rattle.std.specs.declared.cmp.Ordering.TheVariants.{Equal, Greater, Less};
 ghost use Rattle.bson_model.specs.Tree.{array_value, binary_value, boolean_value, date_value, document_value, int32_value, int64_value, item, max_key_value, field, min_key_value, no_items, no_fields, null_value, object_id_value, string_value, timestamp_value};
-ghost use Rattle.value_model.specs.Keys.{IsRange, absent_key, inside, is_key, key_bound, key_of, max_bound, min_bound, order_bounds, point_span, range_span, valid_key, value_of_bound, wrong_kind};
+ghost use Rattle.value_model.specs.Keys.{IsRange, absent_key, inside, inside_some, is_key, key_bound, key_of, max_bound, min_bound, order_bounds, point_span, range_span, valid_key, value_of_bound, wrong_kind};
 ghost use Rattle.value_model.specs.Order.{boolean_rank, class_of, order, order_items, order_fields, order_scalars, order_within, same_value, scalar_of};
 
 /// Each class stands below the next, whatever its values are.
@@ -58,4 +58,7 @@ pub fn spans()
     ensures least { inside (range_span (record { min = key_bound (int32_value (pos 1)); max = key_bound (int32_value (pos 5)) })) (int64_value (pos 1)) ≡ true }
     ensures greatest { inside (range_span (record { min = key_bound (int32_value (pos 1)); max = key_bound (int32_value (pos 5)) })) (int64_value (pos 5)) ≡ false }
     ensures point { (inside (point_span (int32_value (pos 5))) (int64_value (pos 5)) ≡ true) × (inside (point_span (int32_value (pos 5))) (int32_value (pos 6)) ≡ false) }
+    ensures some { (inside_some [] (int32_value (pos 5)) ≡ false)
+        × (inside_some (range_span (record { min = min_bound; max = key_bound (int32_value (pos 5)) }) ∷ point_span (int32_value (pos 5)) ∷ []) (int64_value (pos 5)) ≡ true)
+        × (inside_some (range_span (record { min = min_bound; max = key_bound (int32_value (pos 5)) }) ∷ point_span (int32_value (pos 5)) ∷ []) (int64_value (pos 6)) ≡ false) }
 {}

@@ -1,10 +1,10 @@
 //! The laws of the order and of spans.
 
-ghost use Rattle.std.specs.Prelude.{◌≡◌, ℤ, true, false};
+ghost use Rattle.std.specs.Prelude.{◌≡◌, ℤ, List, true, false};
 ghost use Rattle.std.specs.Ordering.{int_eq};
 ghost use Rattle.std.specs.Cmp.{IsEquivalence, IsTotalOrder};
 ghost use Rattle.bson_model.specs.Tree.{Datum, int32_value, int64_value};
-ghost use Rattle.value_model.specs.Keys.{Bound, Span, inside, is_key, max_bound, min_bound, range_span};
+ghost use Rattle.value_model.specs.Keys.{Bound, Span, inside, inside_some, is_key, max_bound, min_bound, range_span};
 ghost use Rattle.value_model.specs.Order.{order, same_value};
 
 /// The order is total: it is antisymmetric and transitive, and what compares equal stands alike to all other values. So
@@ -24,10 +24,11 @@ pub fn numbers_of_both_kinds()
 {}
 
 /// What compares equal to a key is a key, and stands inside the same spans.
-#[tactic(auto, using(crate::proofs::Spans::same_is_key, crate::proofs::Spans::same_inside))]
+#[tactic(auto, using(crate::proofs::Spans::same_is_key, crate::proofs::Spans::same_inside, crate::proofs::Spans::same_inside_some))]
 pub fn same_keys()
     ensures keys { (a b : Datum) → same_value a b ≡ true → is_key a ≡ is_key b }
     ensures spans { (span : Span) (a b : Datum) → same_value a b ≡ true → inside span a ≡ inside span b }
+    ensures lists { (spans : List Span) (a b : Datum) → same_value a b ≡ true → inside_some spans a ≡ inside_some spans b }
 {}
 
 /// Each key stands between the least bound and the greatest.

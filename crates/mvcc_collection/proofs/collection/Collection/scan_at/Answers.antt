@@ -1,33 +1,24 @@
-use Rattle.std.proofs.Common.{◌≡◌, ◌∙◌, ◌++◌, map, refl, sym, ap}
+use Rattle.std.proofs.Common.{arith, drop, map}
 use Rattle.std.specs.Arc.{arc_value}
-use Rattle.std.specs.BTreeMap.Range.{entries_between}
-use Rattle.std.specs.Map.{values_of}
-use Rattle.std.proofs.lemmas.List.{append-nil}
-use Rattle.value_compare.specs.Order.{order}
+use Rattle.std.proofs.lemmas.List.{drop_all}
 use Rattle.value_compare.specs.Spans.{span_of}
 use Rattle.mvcc_collection.specs.Collections.{at_in}
-use Rattle.mvcc_collection.specs.Edges.{first_edge, last_edge}
-use Rattle.mvcc_collection.proofs.Rows.{AreKeys, rows_in}
-use Rattle.mvcc_collection.proofs.Edges.{span_forward, lists_span}
+use Rattle.mvcc_collection.proofs.SpanLists.{later_ascend, lists_all, lists_next}
 use Rattle.mvcc_collection.proofs.collection.Collection.scan_at.Goals as goal
 
-pub range-key-items-requires : goal.range-key-items-requires
-range-key-items-requires c = rw (c.edges.ensures.first, c.edges.ensures.last) (span_forward _ c.edges.ensures.span)
+pub loop-span-preserved : goal.loop-span-preserved
+loop-span-preserved c =
+    let items = c.spans-span-items.result.now in
+    let i = c.loop-span.span-index in
+    let item = c.span-item.result in
+    record {
+      listed = lists_next span_of items i item c.loop-span-test.true c.span-item.is (λ k. at_in c.args.self.now k c.args.time.0) _
+          (map (λ d. arc_value d.now) c.loop-span.documents.items) _ c.loop-span.invariant.ascending c.loop-span.invariant.listed c.in_ok-scan_span.ensures;
+      ascending = later_ascend span_of items i item c.loop-span-test.true c.span-item.is c.loop-span.invariant.ascending;
+    }
 
 pub returns : goal.returns
-unfolding at_in
 returns c =
-    let span = span_of c.args.span.now in
-    let es = c.args.self.now.places.entries in
-    let cs = c.args.self.now.chains.items in
-    let t = c.args.time.0 in
-    let found = map (λ d. arc_value d.now) c.loop-key.documents.items in
-    let all = c.into_iter-key-iterator.result in
-    let between : all ≡ entries_between order (first_edge span) (last_edge span) es =
-    c.into_iter-key-iterator.ensures.into_iter_gives ∙ c.range-key-items.ensures.between tt
-    ∙ rw (c.edges.ensures.first, c.edges.ensures.last) refl in
-    let none = c.in-None.ensures.steps.0 in
-    let keys : AreKeys all = c.loop-key.invariant.keys (rw none tt) in
-    let whole : found ≡ values_of (rows_in cs t all) = sym (append-nil found) ∙ ap (λ rest. found ++ values_of (rows_in cs t rest)) (sym none)
-    ∙ c.loop-key.invariant.listed in
-    rw whole (lists_span span es all cs t c.edges.ensures.span between keys c.range-key-items.ensures.ordered)
+    let left = drop c.loop-span.span-index c.spans-span-items.result.now in
+    lists_all span_of left (λ k. at_in c.args.self.now k c.args.time.0) _ (map (λ d. arc_value d.now) c.loop-span.documents.items)
+    (drop_all c.loop-span.span-index c.spans-span-items.result.now (omega (arith, c.loop-span-test.false))) c.loop-span.invariant.listed
