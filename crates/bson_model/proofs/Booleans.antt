@@ -1,4 +1,4 @@
--- Tests that are joined and turned.
+-- Conjunctions and negations of tests.
 use Rattle.std.proofs.Common.{◌≡◌, refl}
 use Rattle.std.specs.Prelude.{Bool, true, false, ◌&&◌, ◌||◌, not}
 

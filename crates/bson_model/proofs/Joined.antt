@@ -1,4 +1,4 @@
--- Putting fields and values one behind the other.
+-- Joining fields, and joining values.
 use Rattle.std.proofs.Common.{◌≡◌, ℕ, List, ap, refl}
 use Rattle.bson_model.specs.Tree.{Datum, Items, no_items, item, joined_items, Fields, no_fields, field, joined}
 

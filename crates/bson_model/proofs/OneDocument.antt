@@ -1,4 +1,4 @@
--- Bytes spell one document at most: each part of a spelling ends where the bytes before say.
+-- Bytes encode at most one document: the bytes before a part of an encoding determine where the part ends.
 use Rattle.std.proofs.Common.{◌≡◌, ℕ, ◌+◌, ◌<◌, ◌^◌, List, [], ◌∷◌, ◌++◌, length, refl, sym, ap, ◌∙◌, arith, length-append, append_assoc}
 use Rattle.std.specs.Prelude.{ℤ, FitsSigned}
 use Rattle.std.specs.Int.{w32, w64, to_le_bytes, from_le_bytes, cast_unsigned, cast_signed}
@@ -41,7 +41,7 @@ same_wide_signed n m xs ys p q e =
     let prefix = same_wide (cast_unsigned w64 n) (cast_unsigned w64 m) xs ys (Fits-of_z p).fits (Fits-of_z q).fits e in
     (sym (to_z-of_z w64 n p) ∙ ap (λ (k : ℕ). cast_signed w64 k) prefix.0 ∙ to_z-of_z w64 m q, prefix.1)
 
--- what stands between a length and a 00
+-- what is between a length and a 00
 same_ended : (s t xs ys : List ℕ) → length s ≡ length t → (s ++ 0 ∷ []) ++ xs ≡ (t ++ 0 ∷ []) ++ ys → (s ≡ t) × (xs ≡ ys)
 same_ended s t xs ys same e =
     let prefix = same_prefix (s ++ 0 ∷ []) (t ++ 0 ∷ []) xs ys (omega (arith, length-append s (0 ∷ []), length-append t (0 ∷ []))) e in
@@ -63,7 +63,7 @@ same_binary subtype other s t xs ys p q e =
     let prefix = same_prefix s t xs ys number.0 (cc (number.1)) in
     (cc (number.1), prefix.0, prefix.1)
 
--- an element's kind, name and what follows
+-- an element's type, its name and what follows
 same_element : (k m : ℕ) (s t v w xs ys : List ℕ) → HasNoZero s → HasNoZero t → element k s v ++ xs ≡ element m t w ++ ys → (k ≡ m) × (s ≡ t) × (v ++ xs ≡ w ++ ys)
 same_element k m s t v w xs ys p q e =
     let tail : (s ++ 0 ∷ v) ++ xs ≡ (t ++ 0 ∷ w) ++ ys = cc in
@@ -140,7 +140,7 @@ mutual
       let same = value.0 in
       cc
 
--- the same bytes spell the same document
+-- the same bytes encode the same document
 pub one_document : (bytes : List ℕ) (a b : Fields) → ReadsAs bytes a → ReadsAs bytes b → a ≡ b
 one_document bytes a b r q =
     let same = same_framed r.0 q.0 [] [] r.2 q.2 (ap (λ (l : List ℕ). l ++ []) (sym r.1 ∙ q.1)) in

@@ -1,4 +1,4 @@
--- A walk that comes to a document's end has walked over some bytes.
+-- A walk that reaches a document's end has walked over some bytes.
 use Rattle.std.proofs.Common.{◌≡◌, ℕ, ◌+◌, ◌-◌, ◌<◌, ◌≤◌, Bool, true, false, Option, Some, None, List, [], ◌∷◌, length, take, drop, refl, arith}
 use Rattle.std.specs.Prelude.{nat_lt, nat_le, ◌==◌, ◌||◌, slice_index, if◌then◌else◌}
 use Rattle.std.specs.Int.{w32, from_le_bytes}
@@ -8,7 +8,7 @@ use Rattle.std.proofs.lemmas.Bool.Decides.{nat_tests}
 use Rattle.bson_model.specs.Limits.{length_limit, most_depth_kept}
 use Rattle.bson_model.specs.Faults.{length_fault, string_fault, boolean_fault, depth_fault, trailing_fault, Holder, last, Step, goes_on, ends_at, faulty, Form, fixed_form, string_form, holder_form, binary_form, boolean_form, form_of, before_zero, closed, short, fixed_step, boolean_step, stated_step, length_step, string_step, binary_step, holder_step, value_step, named_step, typed_step, element_step, first_step, Walks, walks_to_end, walks_to_fault, walks_on}
 
--- what is open ends behind the first byte, and so does the document
+-- every open document ends after the first byte, and so does the whole
 abbrev EndsLater : Step → Type 0
 EndsLater (goes_on offset holders) = AllByRecursion (λ h. 0 < h.end) holders
 EndsLater (ends_at offset) = 0 < offset

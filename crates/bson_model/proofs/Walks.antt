@@ -1,4 +1,4 @@
--- A walk over bytes comes to one outcome.
+-- A walk over bytes has one end.
 use Rattle.std.proofs.Common.{◌≡◌, ℕ, Bool, cond, List, [], sym, subst, refl, rules}
 use Rattle.std.specs.Str.{IsUtf8, is_utf8}
 use Rattle.std.proofs.lemmas.Str.{is_utf8-from_IsUtf8}
@@ -12,6 +12,6 @@ one_outcome bytes _ a b (walks_on offset h outer _ first) (walks_on _ _ _ _ seco
 no_bytes_are_utf8 : IsUtf8 []
 no_bytes_are_utf8 = search rules
 
--- behind the name of no bytes
+-- after an empty name
 pub behind_no_name : (bytes : List ℕ) (offset : ℕ) (step outcome : Step) → Walks bytes step outcome → Walks bytes (cond (is_utf8 []) step (faulty string_fault offset)) outcome
 behind_no_name bytes offset step outcome w = subst (λ (b : Bool). Walks bytes (cond b step (faulty string_fault offset)) outcome) (sym (is_utf8-from_IsUtf8 [] no_bytes_are_utf8)) w

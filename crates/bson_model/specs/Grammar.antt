@@ -1,5 +1,5 @@
--- Which bytes spell a document (BSON 1.1, "Specification"), by cases on the document: its stated length is the
--- number of its bytes, and each element spells its field. The names in an array are free.
+-- Which bytes encode a document (BSON 1.1, "Specification"), by cases on the document: its stated length is the
+-- number of its bytes, and each element encodes its field. The names in an array may be any.
 use Rattle.std.specs.Prelude.{◌≡◌, ◌≢◌, ℕ, ◌+◌, ◌<◌, ◌≤◌, ◌^◌, List, [], ◌∷◌, ◌++◌, length, take, slice_index, FitsSigned}
 use Rattle.std.specs.Int.{w32, w64, to_le_bytes, cast_unsigned}
 use Rattle.std.specs.Str.{IsUtf8}
@@ -8,7 +8,7 @@ use Rattle.bson_model.specs.Tree.{Datum, string_value, document_value, array_val
 use Rattle.bson_model.specs.Spelling.{type_byte_of, string, framed, element, boolean_byte}
 use Rattle.bson_model.specs.Limits.{length_limit, most_depth_kept}
 
--- Each item is a byte. Behind the last item stands 0.
+-- Each item is a byte. Reading past the last item gives 0.
 abbrev pub AreBytes : List ℕ → Type 0
 AreBytes bytes = (i : ℕ) → slice_index bytes i < 256
 
@@ -32,7 +32,7 @@ abbrev mutual
   ReadsValue bytes min_key_value = bytes ≡ []
   ReadsValue bytes max_key_value = bytes ≡ []
 
-  -- the elements of an array, whatever their names
+  -- the elements of an array, with any names
   pub ReadsItems : List ℕ → Items → Type 0
   ReadsItems bytes no_items = bytes ≡ []
   ReadsItems bytes (item d ds) = (name value rest : List ℕ) × (bytes ≡ element (type_byte_of d) name value ++ rest) × HasNoZero name × ReadsValue value d × ReadsItems rest ds
@@ -42,14 +42,14 @@ abbrev mutual
   ReadsFields bytes no_fields = bytes ≡ []
   ReadsFields bytes (field name d ms) = (value rest : List ℕ) × (bytes ≡ element (type_byte_of d) name value ++ rest) × HasNoZero name × IsUtf8 name × ReadsValue value d × ReadsFields rest ms
 
--- These bytes, all of them, spell this document.
+-- These bytes, all of them, encode this document.
 abbrev pub ReadsAs : List ℕ → Fields → Type 0
 ReadsAs bytes ms = (body : List ℕ) × (bytes ≡ framed body) × (length body + 5 < length_limit) × ReadsFields body ms
 
--- A document that is kept is nested within 100 levels (MongoDB manual, "MongoDB Limits and Thresholds", nested depth).
+-- A supported document is nested within 100 levels (MongoDB manual, "MongoDB Limits and Thresholds", nested depth).
 abbrev pub IsWithinDepth : Fields → Type 0
 IsWithinDepth ms = document_depth ms ≤ most_depth_kept
 
--- The bytes begin with this document, which so many of them spell, and it is kept.
+-- The bytes begin with this document, which is supported, and this number of them encode it.
 abbrev pub BeginsWith : List ℕ → ℕ → Fields → Type 0
 BeginsWith bytes n ms = (n ≤ length bytes) × ReadsAs (take n bytes) ms × IsWithinDepth ms

@@ -10,7 +10,7 @@ id_document n = field (codes "_id") (int32_value n) no_fields
 abbrev pub id_bytes : List ℕ
 id_bytes = 0x0E ∷ 0x00 ∷ 0x00 ∷ 0x00 ∷ 0x10 ∷ 0x5F ∷ 0x69 ∷ 0x64 ∷ 0x00 ∷ 0x01 ∷ 0x00 ∷ 0x00 ∷ 0x00 ∷ 0x00 ∷ []
 
--- an empty document within so many others
+-- an empty document nested in n others
 abbrev pub nested : ℕ → Fields
 nested zero = no_fields
 nested (suc n) = field (codes "a") (document_value (nested n)) no_fields

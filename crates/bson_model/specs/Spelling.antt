@@ -1,11 +1,11 @@
--- The one spelling of a document (BSON 1.1, `document`, `e_list`, `element`, `string`, `binary`; little-endian
+-- The one encoding of a document (BSON 1.1, `document`, `e_list`, `element`, `string`, `binary`; little-endian
 -- numbers). In an array the names are the decimal indices.
 use Rattle.std.specs.Prelude.{ℕ, ◌+◌, List, [], ◌∷◌, ◌++◌, length, Bool, true, false}
 use Rattle.std.specs.Int.{w32, w64, to_le_bytes, cast_unsigned}
 use Rattle.std.specs.Fmt.{decimal}
 use Rattle.bson_model.specs.Tree.{Datum, string_value, document_value, array_value, binary_value, object_id_value, boolean_value, date_value, null_value, int32_value, timestamp_value, int64_value, min_key_value, max_key_value, Items, no_items, item, Fields, no_fields, field}
 
--- the byte that names a value's type
+-- the byte that encodes a value's type
 abbrev pub type_byte_of : Datum → ℕ
 type_byte_of (string_value s) = 0x02
 type_byte_of (document_value ms) = 0x03
@@ -25,7 +25,7 @@ type_byte_of max_key_value = 0x7F
 abbrev pub string : List ℕ → List ℕ
 string s = to_le_bytes w32 (length s + 1) ++ (s ++ 0 ∷ [])
 
--- the length of the whole, what stands in it, and 00
+-- the length of the whole, its content, and 00
 abbrev pub framed : List ℕ → List ℕ
 framed body = to_le_bytes w32 (length body + 5) ++ (body ++ 0 ∷ [])
 
@@ -62,6 +62,6 @@ abbrev mutual
   written_fields no_fields = []
   written_fields (field name d ms) = element (type_byte_of d) name (written_value d) ++ written_fields ms
 
--- the one spelling of a document
+-- the one encoding of a document
 abbrev pub written : Fields → List ℕ
 written ms = framed (written_fields ms)

@@ -3,7 +3,7 @@ use Rattle.std.specs.Prelude.{ℕ, suc, List, Bool, Option, Some, None, max, if�
 use Rattle.std.specs.Str.{bytes_eq}
 
 mutual
-  -- a value of one of the thirteen kept types; strings and bytes are lists of bytes
+  -- a value of one of the thirteen supported types; strings and bytes are lists of bytes
   pub data Datum : Type 0 where
     string_value : List ℕ → Datum
     document_value : Fields → Datum

@@ -4,7 +4,7 @@ ghost use Rattle.std.specs.Prelude.{◌≡◌, ℕ, List};
 ghost use Rattle.bson_model.specs.Grammar.{ReadsAs};
 ghost use Rattle.bson_model.specs.Tree.{Fields};
 
-/// Bytes spell one document at most (BSON 1.1, "Specification").
+/// Bytes encode at most one document (BSON 1.1, "Specification").
 pub fn one_document()
     ensures { (bytes : List ℕ) (a b : Fields) → ReadsAs bytes a → ReadsAs bytes b → a ≡ b }
 {}

@@ -1,5 +1,4 @@
-//! What a BSON document is, and which bytes spell it (BSON 1.1, "Specification"). Definitions, which the
-//! crates above cite in their contracts, and worked examples of them.
+//! What a BSON document is, and which bytes encode it (BSON 1.1, "Specification"): definitions, which contracts of other crates name, and worked examples.
 #![tactic(auto)]
 
 pub mod examples;

@@ -1,4 +1,4 @@
--- What the bytes spell is read.
+-- What bytes encode is what is read from them.
 use Rattle.std.proofs.Common.{◌≡◌, ℕ, zero, suc, ◌+◌, ◌-◌, ◌<◌, ◌≤◌, Bool, true, false, ltb, eqb, List, [], ◌∷◌, ◌++◌, length, Option, Some, None, Result, Ok, refl, ap, subst, ◌∙◌, append_assoc, add-one, arith}
 use Rattle.std.specs.Prelude.{ℤ, FitsSigned}
 use Rattle.std.specs.Int.{w32, w64, from_le_bytes, to_le_bytes, cast_signed, cast_unsigned}
@@ -23,7 +23,7 @@ use Rattle.bson_values.specs.Readers.{Reader, length_at, fixed_at, string_at, co
 use Rattle.bson_values.proofs.TypeTests.{byte_of, type_byte_of-type, type_from-byte}
 use Rattle.bson_values.proofs.Leaves.{length_again, fixed_again, string_again, index_again, named_again}
 
--- ---- values without values inside
+-- values without nested values
 
 abbrev IsFlat : ElementType → Type 0
 IsFlat types.Doc = ⊥
@@ -45,11 +45,11 @@ number_64 : (v : List ℕ) (z : ℤ) → v ≡ to_le_bytes w64 (cast_unsigned w6
 number_64 v z e f =
     ap (λ (s : List ℕ). cast_signed w64 (from_le_bytes w64 s)) e ∙ ap (λ (n : ℕ). cast_signed w64 n) (from_le_bytes-to_le_bytes_8 (cast_unsigned w64 z) (Fits-of_z f).fits) ∙ to_z-of_z w64 z f
 
--- a value made of its bytes
+-- a value made from its bytes
 abbrev as_value : (List ℕ → Datum) → List ℕ × List ℕ → Result (Datum × List ℕ) BsonFault
 as_value made x = Ok (made x.0, x.1)
 
--- a value of so many bytes
+-- a value of a fixed number of bytes
 fixed : (total count room : ℕ) (v rest : List ℕ) (made : List ℕ → Datum) (d : Datum) → length v ≡ count → length v ≤ room → made v ≡ d → (fixed_at total count room (v ++ rest) >>= as_value made) ≡ Ok (d, rest)
 fixed total count room v rest made d len fits e =
     ap (λ (r : Result (List ℕ × List ℕ) BsonFault). r >>= as_value made) (fixed_again total count room v rest len (omega arith)) ∙ ap (λ (c : Datum). Ok (c, rest)) e

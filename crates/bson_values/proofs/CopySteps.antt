@@ -1,4 +1,4 @@
--- Putting fields behind others, one at a time.
+-- Appending fields to others, one at a time.
 use Rattle.std.proofs.Common.{◌≡◌, ℕ, suc, ◌+◌, ◌<◌, ◌≤◌, List, ◌∷◌, length, get_or, drop, sym, ◌∙◌, ap, add-one, drop-cons}
 use Rattle.std.proofs.lemmas.List.{drop_all}
 use Rattle.bson_model.specs.Tree.{Datum, Items, no_items, item, joined_items, Fields, no_fields, field, joined}

@@ -1,4 +1,4 @@
--- How deeply documents and arrays are nested, and what one more field changes: that, and how long the spelling is.
+-- How deeply documents and arrays are nested, and how one more field changes the depth and the length of the encoding.
 use Rattle.std.proofs.Common.{◌≡◌, ◌≤◌, ℕ, suc, ◌+◌, max, List, length, arith, length-append}
 use Rattle.bson_model.specs.Tree.{Datum, value_depth, array_depth, document_depth, Items, no_items, item, Fields, no_fields, field, joined}
 use Rattle.bson_model.specs.Spelling.{type_byte_of, element, written_value, written_fields}
@@ -14,7 +14,7 @@ written_pushed no_fields name d =
 written_pushed (field first value ms) name d =
     omega (arith, written_pushed ms name d, length-append (element (type_byte_of value) first (written_value value)) (written_fields ms), length-append (element (type_byte_of value) first (written_value value)) (written_fields (joined ms (field name d no_fields))))
 
--- a document and an array are a level themselves
+-- a document and an array count as a level themselves
 pub document_depth_some : (ms : Fields) → 1 ≤ document_depth ms
 document_depth_some no_fields = omega arith
 document_depth_some (field name d ms) = omega (arith, document_depth_some ms)

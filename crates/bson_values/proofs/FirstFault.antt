@@ -1,4 +1,4 @@
--- What a call tells is the first fault.
+-- The fault that a call returns is the first one.
 use Rattle.std.proofs.Common.{◌≡◌, ◌≢◌, ℕ, ◌<◌, ◌⊎◌, inl, inr, List, Result, Ok, Err, refl, sym, ap, subst, ◌∙◌, arith}
 use Rattle.std.specs.Prelude.{IfErr}
 use Rattle.bson_model.specs.Faults.{Fault, short_fault, length_fault, type_fault, string_fault, boolean_fault, depth_fault, trailing_fault, Step, ends_at, faulty, Walks, walks_to_end, walks_to_fault, first_step, HasFirstFault}
@@ -14,7 +14,7 @@ use Rattle.bson_values.proofs.ReaderWalks.{stop, Goes}
 use Rattle.bson_values.proofs.WalkedValues.{whole_goes}
 use Rattle.bson_values.proofs.Whole.{whole_takes, whole_again}
 
--- the error that a step tells
+-- the error that a step results in
 abbrev told : Step → BsonFault
 told (faulty fault offset) = fault_from fault offset
 told step = Memory
@@ -58,7 +58,7 @@ is_faulty bytes result is_bytes gives fault offset first =
 abbrev pub TellsFirst : List ℕ → BsonFault → Type 0
 TellsFirst bytes e = (fault : Fault) × (offset : ℕ) × (e ≡ fault_from fault offset) × HasFirstFault bytes fault offset
 
--- what an error tells, where the walk comes to its fault
+-- what an error says, where the walk ends at its fault
 tells : (bytes : List ℕ) (e : BsonFault) → e ≢ Memory → Walks bytes (first_step bytes) (stop e) → TellsFirst bytes e
 tells bytes (Short offset) other w = (short_fault, offset, refl, w)
 tells bytes (BadLength offset) other w = (length_fault, offset, refl, w)

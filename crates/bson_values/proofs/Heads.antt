@@ -1,4 +1,4 @@
--- A field, and a value of an array, behind what stands before it; and values of types that hold no values, at any level.
+-- A field, and a value of an array, after what precedes it; and values without nested values, at any level.
 use Rattle.std.proofs.Common.{◌≡◌, ℕ, zero, suc, ◌-◌, List, Option, Some, None, Result, Ok, Err, refl, ◌∙◌, ap}
 use Rattle.bson_model.specs.Tree.{Datum, string_value}
 use Rattle.bson_values.specs.declared.fault.BsonFault.{BsonFault}
@@ -64,7 +64,7 @@ item_behind_head total room value_at bytes head read h e =
     item_by_head total room value_at bytes
     ∙ (ap (λ (r : Result (Option (ElementType × ℕ) × List ℕ) BsonFault). r >>= λ h. item_from value_at h.0 h.1) h ∙ e)
 
--- ---- values that hold no values
+-- values without nested values
 
 pub int32_value_at : (total level room : ℕ) (bytes : List ℕ) → value_at total level types.Int32 room bytes ≡ scalar_at total types.Int32 room bytes
 unfolding value_at

@@ -1,4 +1,4 @@
--- Lengths, texts, names and other leaves: what is read is spelled so, and what is spelled so is read.
+-- Lengths, texts, names and other values without parts: what is read has the encoding that was read, and each encoding is read.
 use Rattle.std.proofs.Common.{◌≡◌, ◌≢◌, ℕ, zero, suc, ◌+◌, ◌-◌, ◌<◌, ◌≤◌, true, false, cond, ltb, leb, eqb, List, [], ◌∷◌, ◌++◌, length, get_or, take, drop, Result, Ok, Err, refl, sym, ap, subst, ◌∙◌, append_assoc, drop-cons, arith, inl, inr}
 use Rattle.std.specs.Prelude.{IsTrue}
 use Rattle.std.specs.Int.{w32, from_le_bytes, to_le_bytes}
@@ -27,7 +27,7 @@ AreBytes-drop n bytes h i = rw get_or-drop (h (n + i))
 pub AreBytes-take : (n : ℕ) (bytes : List ℕ) → AreBytes bytes → AreBytes (take n bytes)
 AreBytes-take n bytes h i = grind (arith, common_steps, h i)
 
--- what stands behind some bytes
+-- what follows some bytes
 pub AreBytes-rest : (bytes a rest : List ℕ) → bytes ≡ a ++ rest → AreBytes bytes → AreBytes rest
 AreBytes-rest bytes a rest e h = subst (λ (r : List ℕ). AreBytes r) (ap (λ (s : List ℕ). drop (length a) s) e ∙ drop_at a rest (length a) refl) (AreBytes-drop (length a) bytes h)
 
@@ -88,7 +88,7 @@ unfolding room_at
 room_again total zero rest lt = absurd (omega arith)
 room_again total (suc room) rest lt = refl
 
--- a name and what stands behind it
+-- a name and what follows it
 pub record PassesName (bytes : List ℕ) (room : ℕ) (name : List ℕ) (left : ℕ) (rest : List ℕ) : Type 0 where
   pub parts : bytes ≡ name ++ 0 ∷ rest
   pub no_zero : HasNoZero name
@@ -197,7 +197,7 @@ pub length_again : (total least beside room n : ℕ) (rest : List ℕ) → least
 length_again total least beside room n rest low high fits some =
     length_is total least beside room n (to_le_bytes w32 n ++ rest) rest (omega (arith, length-append (to_le_bytes w32 n) rest)) (from_le_bytes-to_le_bytes_4 n (omega arith)) refl low high fits some
 
--- ---- so many bytes
+-- n bytes
 
 pub record TakesFixed (bytes : List ℕ) (n room : ℕ) (prefix rest : List ℕ) : Type 0 where
   pub parts : bytes ≡ prefix ++ rest

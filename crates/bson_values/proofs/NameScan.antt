@@ -9,7 +9,7 @@ use Rattle.bson_values.specs.declared.fault.BsonFault.TheVariants.{Short, BadTex
 use Rattle.bson_values.specs.ReadFaults.{◌>>=◌}
 use Rattle.bson_values.specs.Readers.{name_from}
 
--- what was passed before, and what is still found
+-- the bytes already passed, and the result for the rest
 abbrev pub after : List ℕ → Result (List ℕ × List ℕ) BsonFault → Result (List ℕ × List ℕ) BsonFault
 after prefix read = read >>= λ x. Ok (prefix ++ x.0, x.1)
 

@@ -1,4 +1,4 @@
--- The test that a text holds no 00, and the fact.
+-- The test that a text has no 00, and the property that it decides.
 use Rattle.std.proofs.Common.{◌≡◌, ◌≢◌, ◌==◌, ℕ, List, [], ◌∷◌, Bool, true, false, refl, arith, cond}
 use Rattle.std.specs.Prelude.{IsTrue}
 use Rattle.std.proofs.lemmas.Bool.Decides.{nat_tests}

@@ -1,4 +1,4 @@
--- How the bytes grow: what is put stands behind what was there.
+-- How the bytes grow: what is written follows what was there.
 use Rattle.std.proofs.Common.{◌≡◌, ℕ, suc, ◌+◌, ◌-◌, ◌<◌, ◌≤◌, List, [], ◌∷◌, ◌++◌, length, get_or, take, drop, add-one, drop-cons, Result, Ok, Err, refl, sym, ◌∙◌, ap, arith, append_assoc, length-append}
 use Rattle.std.specs.Prelude.{OnOk, OnErr}
 use Rattle.std.specs.Fmt.{decimal}
@@ -11,13 +11,13 @@ use Rattle.bson_values.specs.declared.value.Field.{Field}
 use Rattle.bson_values.specs.declared.value.Value.{Value}
 use Rattle.bson_values.specs.View.{datum_of, fields_of, items_of}
 
--- while the parts of `all` are put behind `old`: the bytes so far, and what is left to put
+-- while the parts of `all` are appended to `old`: the bytes written, and what is left to write
 pub record Puts (all old out rest : List ℕ) : Type 0 where
   pub text : out ++ rest ≡ old ++ all
   pub kept : take (length old) out ≡ old
   pub room : length rest ≤ most_bytes_written
 
--- what was kept is kept again
+-- a prefix that is kept by two steps is kept by both together
 pub kept_on : (old out new : List ℕ) → take (length old) out ≡ old → take (length out) new ≡ out → take (length old) new ≡ old
 kept_on old out new first then =
     let new_is : new ≡ out ++ drop (length out) new = sym (take-append-drop (length out) new) ∙ ap (λ s. s ++ drop (length out) new) then in
@@ -34,11 +34,11 @@ written_over at bytes new four new_is =
     let tail : new ≡ four ++ drop (at + 4) bytes = new_is ∙ ap (λ s. four ++ drop 4 s) (take_rest bytes at) ∙ ap (λ s. four ++ s) (drop-drop 4 at bytes) in
     rw (rest, append-nil, tail) refl
 
--- what is put behind the bytes that were there leaves them as they were
+-- appending does not change the bytes that were there
 pub kept_behind : (old more out new : List ℕ) → out ≡ old ++ more → take (length out) new ≡ out → take (length old) new ≡ old
 kept_behind old more out new out_is then = kept_on old out new (rw out_is (take-append_seam old more)) then
 
--- ---- a document from `start` on: room for its length, and what stands in it
+-- a document that begins at `start`: room for its length, and its content
 
 pub opened_length : (start : ℕ) (old grown body out : List ℕ) → start ≡ length old → grown ≡ old ++ to_le_bytes w32 0 → out ≡ grown ++ body
     → length out ≡ start + 4 + length body
@@ -110,7 +110,7 @@ put_item all old out headed new name items i type_byte v puts inside v_is type_i
     put_element all old out headed new (decimal i) (written_value d) others (type_byte_of d) left
     (headed_is ∙ ap (λ (k : ℕ). out ++ (k ∷ name ++ 0 ∷ [])) type_is ∙ ap (λ (n : List ℕ). out ++ (type_byte_of d ∷ n ++ 0 ∷ [])) name_is) new_is
 
--- ---- nothing left to put
+-- nothing left to write
 
 all_put : (all old out rest : List ℕ) → Puts all old out rest → rest ≡ [] → out ≡ old ++ all
 all_put all old out rest puts none = let text : out ++ [] ≡ old ++ all = rw none at puts.text in rw append-nil at text

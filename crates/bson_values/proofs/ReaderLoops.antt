@@ -7,7 +7,7 @@ use Rattle.bson_values.specs.declared.fault.BsonFault.TheVariants as faults
 use Rattle.bson_values.specs.ReadFaults.{◌>>=◌, Fails}
 use Rattle.bson_values.specs.Readers.{Reader, length_at, field_at, fields_behind, fields_with, document_with, item_at, items_behind, items_with, array_with}
 
--- a reader that goes on after one that failed fails in the same way
+-- a reader that runs after one that failed fails in the same way
 pub passes_on : {A B : Type 0} (e : BsonFault) (r : Result A BsonFault) (s : Result B BsonFault) → (r ≡ Err e → s ≡ Err e) → Fails e r → Fails e s
 passes_on (faults.Short offset) r s on h = on h
 passes_on (faults.BadLength offset) r s on h = on h
@@ -20,11 +20,11 @@ passes_on faults.Memory r s on h = tt
 
 -- ---- fields
 
--- what was read before, and what is still read
+-- the fields already read, and the result of reading the rest
 abbrev pub with_prefix : Fields → Result (Fields × List ℕ) BsonFault → Result (Fields × List ℕ) BsonFault
 with_prefix prefix read = read >>= λ x. Ok (joined prefix x.0, x.1)
 
--- The fields so far and those that are left are those of the whole.
+-- The fields already read, and those that are left, are those of the whole.
 pub record ReadsOn (total : ℕ) (value_at : Reader) (room : ℕ) (bytes : List ℕ) (prefix : Fields) (space : ℕ) (left : List ℕ) : Type 0 where
   pub fuel : ℕ
   pub enough : length left < fuel
@@ -80,7 +80,7 @@ pub fails : (total : ℕ) (value_at : Reader) (room : ℕ) (bytes : List ℕ) (p
 fails total value_at room bytes prefix space left e h on =
     sym (spent total value_at room bytes prefix space left on) ∙ ap (λ (r : Result (Fields × List ℕ) BsonFault). with_prefix prefix r) (no_more total value_at (on.fuel - 1) space left e h)
 
--- a document behind its length
+-- a document after its length
 pub behind_length : (total : ℕ) (value_at : Reader) (room count : ℕ) (bytes rest : List ℕ) (read : Result (Fields × List ℕ) BsonFault) → length_at total 5 0 room bytes ≡ Ok (count, rest)
     → fields_with total value_at (length rest + 1) (count - 4) rest ≡ read → document_with total value_at room bytes ≡ read
 unfolding document_with
@@ -88,11 +88,11 @@ behind_length total value_at room count bytes rest read h e = rw h e
 
 -- ---- values of an array
 
--- what was read before, and what is still read
+-- the values already read, and the result of reading the rest
 abbrev pub items_with_prefix : Items → Result (Items × List ℕ) BsonFault → Result (Items × List ℕ) BsonFault
 items_with_prefix prefix read = read >>= λ x. Ok (joined_items prefix x.0, x.1)
 
--- The values so far and those that are left are those of the whole.
+-- The values already read, and those that are left, are those of the whole.
 pub record ReadsItemsOn (total : ℕ) (value_at : Reader) (room : ℕ) (bytes : List ℕ) (prefix : Items) (space : ℕ) (left : List ℕ) : Type 0 where
   pub fuel : ℕ
   pub enough : length left < fuel
@@ -148,7 +148,7 @@ pub items_fails : (total : ℕ) (value_at : Reader) (room : ℕ) (bytes : List �
 items_fails total value_at room bytes prefix space left e h on =
     sym (items_spent total value_at room bytes prefix space left on) ∙ ap (λ (r : Result (Items × List ℕ) BsonFault). items_with_prefix prefix r) (items_no_more total value_at (on.fuel - 1) space left e h)
 
--- an array behind its length
+-- an array after its length
 pub items_behind_length : (total : ℕ) (value_at : Reader) (room count : ℕ) (bytes rest : List ℕ) (read : Result (Items × List ℕ) BsonFault) → length_at total 5 0 room bytes ≡ Ok (count, rest)
     → items_with total value_at (length rest + 1) (count - 4) rest ≡ read → array_with total value_at room bytes ≡ read
 unfolding array_with

@@ -1,4 +1,4 @@
--- Reading and walking go together: where a reader fails, the walk comes to the same fault at the same offset.
+-- Reading and walking agree: where a reader fails, the walk ends with the same fault at the same offset.
 use Rattle.std.proofs.Common.{◌≡◌, ℕ, ◌+◌, ◌<◌, ◌≤◌, Bool, true, false, cond, ltb, List, ◌++◌, length, get_or, drop, Result, Ok, Err, refl, sym, ap, subst, ◌∙◌, append_assoc, arith, inl, inr}
 use Rattle.std.proofs.lemmas.Bool.{cases_lt, lt-ltb, le-ltb}
 use Rattle.std.proofs.lemmas.List.{drop_at, length-append, get_or-drop}
@@ -7,7 +7,7 @@ use Rattle.bson_values.specs.declared.fault.BsonFault.{BsonFault}
 use Rattle.bson_values.specs.declared.fault.BsonFault.TheVariants.{Short, BadLength, BadType, BadText, BadBool, Deep, Trailing, Memory}
 use Rattle.bson_values.specs.ReadFaults.{◌>>=◌}
 
--- what the walk comes to from the second step on, it comes to from the first one on
+-- every end of the walk from the second step is an end of the walk from the first
 abbrev pub Leads : List ℕ → Step → Step → Type 0
 Leads all s t = (outcome : Step) → Walks all t outcome → Walks all s outcome
 
@@ -21,7 +21,7 @@ stop (Deep offset) = faulty depth_fault offset
 stop (Trailing offset) = faulty trailing_fault offset
 stop Memory = ends_at 0
 
--- from a step on, the walk comes to the step behind what is read, or to the fault
+-- the walk from a step reaches the step after what is read, or ends at the fault
 abbrev pub Goes : {A : Type 0} → List ℕ → Step → Result A BsonFault → (A → Step) → Type 0
 Goes all s (Ok x) next = Leads all s (next x)
 Goes all s (Err e) next = Leads all s (stop e)
@@ -33,7 +33,7 @@ pub leads_goes : {A : Type 0} (all : List ℕ) (s t : Step) (r : Result A BsonFa
 leads_goes all s t (Ok x) next first goes = λ outcome w. first outcome (goes outcome w)
 leads_goes all s t (Err e) next first goes = λ outcome w. first outcome (goes outcome w)
 
--- one reader behind another
+-- one reader after another
 pub goes_bind : {A B : Type 0} (all : List ℕ) (s : Step) (r : Result A BsonFault) (f : A → Result B BsonFault) (middle : A → Step) (next : B → Step)
     → Goes all s r middle → ((x : A) → r ≡ Ok x → Goes all (middle x) (f x) next) → Goes all s (r >>= f) next
 goes_bind all s (Ok x) f middle next first then = leads_goes all s (middle x) (f x) next first (then x refl)
@@ -52,7 +52,7 @@ pub skip : {A : Type 0} (all : List ℕ) (t : Bool) (s s' : Step) (r : Result A 
 skip all false s s' r next e goes = goes
 skip all true s s' r next e goes = absurd cc
 
--- a test that the walk takes
+-- a test at which the walk ends
 pub take_it : {A : Type 0} (all : List ℕ) (t : Bool) (s s' : Step) (r : Result A BsonFault) (next : A → Step) → t ≡ true → Goes all s r next → Goes all (cond t s s') r next
 take_it all true s s' r next e goes = goes
 take_it all false s s' r next e goes = absurd cc
@@ -63,13 +63,13 @@ lt_same a b c d below above = elim (cases_lt c d) [
   | inr le ↦ le-ltb a b (above le) ∙ sym (le-ltb c d le)
 ]
 
--- ---- where the bytes stand
+-- where the bytes are
 
 -- these bytes are the last of all
 abbrev pub Stands : List ℕ → List ℕ → Type 0
 Stands all rest = (prefix : List ℕ) × (all ≡ prefix ++ rest)
 
--- what stands behind the first of them
+-- what follows the first of them
 pub stands_behind : (all bytes a rest : List ℕ) → Stands all bytes → bytes ≡ a ++ rest → Stands all rest
 stands_behind all bytes a rest s e = (s.0 ++ a, s.1 ∙ ap (λ (xs : List ℕ). s.0 ++ xs) e ∙ sym (append_assoc s.0 a rest))
 

@@ -1,4 +1,4 @@
--- What is written of a sound value spells it: its texts, names and numbers are as they must be.
+-- The bytes written for a sound value encode it: its texts, names and numbers are valid.
 use Rattle.std.proofs.Common.{◌≡◌, ◌≢◌, ℕ, ◌+◌, ◌%◌, ◌<◌, ◌≤◌, ◌^◌, List, [], ◌∷◌, ◌++◌, length, refl, arith, length-append}
 use Rattle.std.specs.Fmt.{decimal}
 use Rattle.std.proofs.lemmas.Fmt.{decimal_by_steps}
@@ -13,7 +13,7 @@ no_zero_behind : (s : List ℕ) (b : ℕ) → HasNoZero s → b ≢ 0 → HasNoZ
 no_zero_behind [] b all here = (here, tt)
 no_zero_behind (c ∷ s) b all here = (all.0, no_zero_behind s b all.1 here)
 
--- a number's digits are no 00
+-- no digit of a number is 00
 pub decimal_no_zero : (n : ℕ) → n < 2 ^ 64 → HasNoZero (decimal n)
 decimal_no_zero n small =
     decimal_by_steps (λ i s. HasNoZero s) (λ i l. (omega arith, tt)) (λ i s l all. no_zero_behind s (48 + i % 10) all (omega arith)) n small

@@ -1,4 +1,4 @@
--- What is read is spelled by the bytes.
+-- The bytes encode what is read from them.
 use Rattle.std.proofs.Common.{◌≡◌, ℕ, zero, suc, ◌+◌, ◌-◌, ◌^◌, ◌<◌, ◌≤◌, true, false, cond, ltb, eqb, List, [], ◌∷◌, ◌++◌, length, take, drop, Option, Some, None, Result, Ok, Err, refl, sym, ap, subst, ◌∙◌, append_assoc, arith, inl, inr}
 use Rattle.std.specs.Prelude.{FitsSigned}
 use Rattle.std.specs.Int.{w32, w64, from_le_bytes, to_le_bytes, cast_signed, cast_unsigned}
@@ -25,7 +25,7 @@ use Rattle.bson_values.proofs.TypeTests.{byte_of, type_byte_of-type, byte_from-t
 use Rattle.bson_values.proofs.Leaves.{AreBytes-take, AreBytes-rest, length_takes, fixed_takes, string_takes, PassesName, index_takes, named_takes}
 use Rattle.bson_values.proofs.Steps.{bind_ok, guard_ok, guard_true, chosen, done, ok_is}
 
--- what a reader of values took from the front
+-- what a reader of values took from the front of the bytes
 pub record Takes (n : ℕ) (type_byte : ElementType) (room : ℕ) (bytes : List ℕ) (x : Datum × List ℕ) : Type 0 where
   pub spelled : List ℕ
   pub parts : bytes ≡ spelled ++ x.1
@@ -55,7 +55,7 @@ signed_64 prefix len h =
     let lt = below_64 prefix h in
     (sym (ap (λ (n : ℕ). to_le_bytes w64 n) (of_z-to_z w64 (from_le_bytes w64 prefix) lt) ∙ le_bytes_8 prefix _ len h refl), sfits_to_z (Fits-of_lt lt))
 
--- a value of so many bytes
+-- a value of a fixed number of bytes
 fixed : (total n count room : ℕ) (type_byte : ElementType) (bytes : List ℕ) (x : Datum × List ℕ) (made : List ℕ → Datum) → AreBytes bytes
     → ((prefix : List ℕ) → AreBytes prefix → length prefix ≡ count → ReadsValue prefix (made prefix) × (type_of (made prefix) ≡ type_byte) × (value_depth (made prefix) ≤ n))
     → (fixed_at total count room bytes >>= λ y. Ok (made y.0, y.1)) ≡ Ok x → Takes n type_byte room bytes x
@@ -268,7 +268,7 @@ module _ (total : ℕ) (n : ℕ) (value_at : Reader) (sound : IsSound n value_at
       let a = bind_ok (type_at total room bytes) (λ type_byte. item_behind total value_at room type_byte.0 type_byte.1) x e in
       behind_item room bytes a.0.0 a.0.1 x h (type_takes total room bytes a.0 a.1) a.2
 
--- what a reader of fields, or of the values of an array, took from the front
+-- what a reader of fields, or of the values of an array, took from the front of the bytes
 pub record TakesFields (n room : ℕ) (bytes : List ℕ) (x : Fields × List ℕ) : Type 0 where
   pub body : List ℕ
   pub parts : bytes ≡ body ++ 0 ∷ x.1
@@ -346,7 +346,7 @@ behind_items total n room items_at bytes (Some d) rest x others h k e =
     let all : Items × List ℕ = (item d a.0.0, a.0.1) in
     subst (λ (y : Items × List ℕ). TakesItems n room bytes y) (ok_is all x a.2) (joined_values n room bytes rest k.0 d a.0 k.1 t)
 
--- what a reader of a document took from the front
+-- what a reader of a document took from the front of the bytes
 pub record TakesDocument (n room : ℕ) (bytes : List ℕ) (x : Fields × List ℕ) : Type 0 where
   pub body : List ℕ
   pub parts : bytes ≡ framed body ++ x.1

@@ -1,4 +1,4 @@
--- The test of UTF-8 and the fact.
+-- The test of UTF-8 and the property that it decides.
 use Rattle.std.proofs.Common.{◌≡◌, ℕ, List, Bool, true, false, refl}
 use Rattle.std.specs.Str.{IsUtf8, is_utf8}
 use Rattle.std.proofs.lemmas.Str.{IsUtf8-from_is_utf8, is_utf8-from_IsUtf8}

@@ -19,7 +19,7 @@ pub pushed_items : (vs : List Value) (v : Value) → items_of (vs ++ v ∷ []) �
 pushed_items [] v = refl
 pushed_items (first ∷ vs) v = ap (λ (rest : Items). item (datum_of first) rest) (pushed_items vs v)
 
--- a field that is sound goes behind sound fields
+-- sound fields with one more sound field are sound
 pub are_fields-joined : (ms : Fields) (name : List ℕ) (d : Datum) → AreFields ms → HasNoZero name → IsUtf8 name → IsDatum d → AreFields (joined ms (field name d no_fields))
 are_fields-joined no_fields name d sound no_zero utf8 is_datum = (no_zero, utf8, is_datum, tt)
 are_fields-joined (field first value ms) name d sound no_zero utf8 is_datum =

@@ -1,4 +1,4 @@
--- Lengths, texts, names and other leaves: reading and walking go together.
+-- Lengths, texts, names and other values without parts: reading and walking agree.
 use Rattle.std.proofs.Common.{◌≡◌, ℕ, zero, suc, ◌+◌, ◌-◌, ◌<◌, Bool, true, false, cond, ltb, leb, eqb, List, [], ◌∷◌, length, get_or, take, drop, Option, Some, None, Result, Ok, Err, refl, sym, ap, subst, ◌∙◌, arith, length-append}
 use Rattle.std.specs.Prelude.{◌||◌}
 use Rattle.std.specs.Int.{w32, from_le_bytes}
@@ -16,7 +16,7 @@ use Rattle.bson_values.specs.Readers.{length_within, length_at, fixed_at, utf8_a
 use Rattle.bson_values.proofs.Leaves.{TakesName, name_takes}
 use Rattle.bson_values.proofs.ReaderWalks.{Leads, stop, Goes, same_leads, goes_bind, split, lt_same, Stands, stands_at, byte_at, byte_here}
 
--- what follows is read behind the bytes
+-- the walk goes on after the bytes that were read
 abbrev pub on_behind : {A : Type 0} → List ℕ → Holder → List Holder → A × List ℕ → Step
 on_behind all h outer x = goes_on (length all - length x.1) (h ∷ outer)
 
@@ -58,7 +58,7 @@ deep_split all bytes false false s s' r r' e then other = other refl
 deep_split all bytes true false s s' r r' e then other = absurd cc
 deep_split all bytes false true s s' r r' e then other = absurd cc
 
--- the length is no fault
+-- the length has no fault
 deep_here : (all bytes : List ℕ) (offset : ℕ) (r : Result (ℕ × List ℕ) BsonFault) → offset + length bytes ≡ length all → 0 < length bytes → stop (deep_unless (length all) bytes r) ≡ stop (deep_unless (length all) bytes (Err (Short (length all)))) → faulty depth_fault offset ≡ stop (deep_unless (length all) bytes r)
 unfolding deep_unless
 deep_here all bytes offset r at some e =
@@ -182,7 +182,7 @@ named_is total offset zero bytes = let t : ltb (length bytes) 0 ≡ false = le-l
 named_is total offset (suc room) [] = let t : ltb 0 (suc room) ≡ true = lt-ltb _ _ (omega arith) in rw t refl
 named_is total offset (suc room) (b ∷ bytes) = named_by total offset room b bytes (eqb b 0) (named_is total offset room bytes)
 
--- the room behind a name
+-- the room after a name
 pub room_goes : (all : List ℕ) (offset room : ℕ) (h : Holder) (rest : List ℕ) (further : Step) → offset + 1 + length rest ≡ length all → offset + 1 + room ≡ h.end
     → Goes all (cond (eqb offset (last h)) (faulty trailing_fault (last h)) further) (room_at (length all) room rest) (λ left. further)
 unfolding room_at
@@ -208,7 +208,7 @@ by_option all form offset room h outer bytes f next (Some name) at within found 
 by_option all form offset room h outer bytes f next None at within found =
     cut_by all (ltb (length all) h.end) (ltb (length bytes) room) _ _ (Short (length all)) (BadText offset) f next (lt_same _ _ _ _ (λ l. omega arith) (λ l. omega arith)) refl refl
 
--- a name, and what is read behind it
+-- a name, and what is read after it
 by_name : {A : Type 0} (all : List ℕ) (form : Form) (offset room : ℕ) (h : Holder) (outer : List Holder) (bytes : List ℕ) (f : List ℕ × List ℕ → Result A BsonFault) (next : A → Step)
     → offset + length bytes ≡ length all → offset + room ≡ h.end
     → ((name : List ℕ) → TakesName bytes room name (drop (suc (length name)) bytes) → Goes all (named_step all form offset h outer (Some name)) (f (name, drop (suc (length name)) bytes)) next)
@@ -219,7 +219,7 @@ by_name all form offset room h outer bytes f next at within found =
     (by_option all form offset room h outer bytes f next (before_zero (take room bytes)) at within
     (λ name e. found name (name_takes (length all) offset room bytes (name, drop (suc (length name)) bytes) (sym is ∙ ap (λ (o : Option (List ℕ)). named (length all) offset room bytes o) e))))
 
--- behind a name there is room for a value
+-- after a name there is room for a value
 behind_name : {A : Type 0} (all : List ℕ) (form : Form) (offset room : ℕ) (h : Holder) (outer : List Holder) (bytes name rest : List ℕ) (made : ℕ → A) (next : A → Step) → ((left : ℕ) → next (made left) ≡ value_step all form (length all - length rest) h outer)
     → offset + length bytes ≡ length all → offset + room ≡ h.end → TakesName bytes room name rest
     → Goes all (cond (eqb (offset + length name) (last h)) (faulty trailing_fault (last h)) (value_step all form (offset + (length name + 1)) h outer)) (room_at (length all) (room - (length bytes - length rest)) rest >>= λ left. Ok (made left)) next
@@ -233,7 +233,7 @@ behind_name all form offset room h outer bytes name rest made next is at within 
     (room_goes all (offset + length name) (room - (length bytes - length rest)) h rest value (omega arith) (omega arith))
     (λ left e. same_leads all _ _ (sym (is left))))
 
--- the text of a name is tested in a document, and not in an array
+-- the text of a name is checked in a document, but not in an array
 tested : {A : Type 0} (all : List ℕ) (b u : Bool) (s s' : Step) (r : Result A BsonFault) (next : A → Step) → b ≡ false → Goes all (cond u s s') r next → Goes all (cond (b || u) s s') r next
 tested all false u s s' r next e goes = goes
 tested all true u s s' r next e goes = absurd cc

@@ -1,4 +1,4 @@
--- Elements, values and documents: reading and walking go together.
+-- Elements, values and documents: reading and walking agree.
 use Rattle.std.proofs.Common.{◌≡◌, ℕ, zero, suc, ◌+◌, ◌-◌, ◌<◌, ◌≤◌, Bool, true, false, cond, ltb, leb, eqb, List, [], ◌∷◌, length, get_or, take, drop, Option, Some, None, Result, Ok, Err, refl, sym, ap, subst, ◌∙◌, arith, length-append}
 use Rattle.std.specs.Int.{w32, w64, from_le_bytes, to_le_bytes, cast_signed}
 use Rattle.std.specs.Option.{option_map}
@@ -60,7 +60,7 @@ form_is b =
     (mapped (eqb b 0xFF) types.MinKey _ _
     (mapped (eqb b 0x7F) types.MaxKey None None refl))))))))))))
 
--- behind a type
+-- after a type
 abbrev kinded : List ℕ → ℕ → Holder → List Holder → Option ElementType → Step
 kinded all offset h outer None = closed h.end outer
 kinded all offset h outer (Some type_byte) = named_step all (form_of_type type_byte) (offset + 1) h outer (before_zero (take (h.end - (offset + 1)) (drop (offset + 1) all)))
@@ -107,9 +107,9 @@ type_goes all offset room h outer bytes stands at within =
     leads_goes all (goes_on offset (h ∷ outer)) (element_step all offset h outer) (type_at (length all) room bytes) (λ x. kinded all offset h outer x.0) (λ outcome w. walks_on offset h outer outcome w)
     (element_goes all offset room h outer bytes stands at within)
 
--- ---- values without values inside
+-- values without nested values
 
--- a value of so many bytes
+-- a value of a fixed number of bytes
 fixed : (all : List ℕ) (n offset room : ℕ) (h : Holder) (outer : List Holder) (bytes : List ℕ) (made : List ℕ → Datum) → offset + length bytes ≡ length all → offset + room ≡ h.end → 0 < room
     → Goes all (fixed_step all n offset h outer) (fixed_at (length all) n room bytes >>= λ x. Ok (made x.0, x.1)) (on_behind all h outer)
 fixed all n offset room h outer bytes made at within some =
@@ -125,7 +125,7 @@ empty all offset room h outer bytes d at within =
     let some : ltb (length all) offset ≡ false = le-ltb _ _ (omega arith) in
     same_leads all _ _ (rw (none, inside, some, k) refl)
 
--- what stands behind a length
+-- what follows a length
 stands_length_behind : (all : List ℕ) (least beside offset room n : ℕ) (bytes rest : List ℕ) → Stands all bytes → offset + length bytes ≡ length all → TakesLength bytes least beside room n rest → Stands all rest × (offset + 4 + length rest ≡ length all)
 stands_length_behind all least beside offset room n bytes rest stands at t =
     let len : length bytes ≡ 4 + length rest = ap (λ (s : List ℕ). length s) t.parts ∙ length-append (to_le_bytes w32 n) rest in
@@ -159,7 +159,7 @@ deep_goes all is_array offset room h outer bytes r e stands at within full =
     (subst (λ (read : Result (Datum × List ℕ) BsonFault). Goes all (length_step all 5 0 h.end offset (faulty depth_fault offset) (λ n. faulty depth_fault offset)) read (on_behind all h outer)) (sym e)
     (deep_leads all h.end offset room bytes stands at within))
 
--- a reader of values, where so many levels are left
+-- a reader of values, where n levels are left
 abbrev IsRight : List ℕ → ℕ → Reader → Type 0
 IsRight all n value_at = (type_byte : ElementType) (offset room : ℕ) (h : Holder) (outer : List Holder) (bytes : List ℕ) → AreBytes bytes → Stands all bytes → offset + length bytes ≡ length all → offset + room ≡ h.end → 0 < room → length (h ∷ outer) + n ≡ most_depth_kept
     → Goes all (value_step all (form_of_type type_byte) offset h outer) (value_at type_byte room bytes) (on_behind all h outer)
@@ -203,7 +203,7 @@ scalar_goes all type_byte offset room h outer bytes is_bytes stands at within so
 
 -- ---- elements
 
--- behind an element, or behind the last 00
+-- after an element, or after the last 00
 abbrev behind : {A : Type 0} → List ℕ → Holder → List Holder → Option A × List ℕ → Step
 behind all h outer (None, rest) = closed (length all - length rest) outer
 behind all h outer (Some m, rest) = goes_on (length all - length rest) (h ∷ outer)
@@ -376,7 +376,7 @@ value_right all (suc n) types.Doc offset room h outer bytes is_bytes stands at w
 value_right all (suc n) types.Array offset room h outer bytes is_bytes stands at within some depth = right_array all n offset room h outer bytes (value_right all n) is_bytes stands at within depth
 value_right all (suc n) type_byte offset room h outer bytes is_bytes stands at within some depth = flat_goes all type_byte offset room h outer bytes tt is_bytes stands at within some
 
--- the whole, which nothing holds
+-- the outermost document
 outermost_goes : (all : List ℕ) → AreBytes all → Goes all (first_step all) (document_at depth_inside all) (λ x. ends_at (length all - length x.1))
 unfolding document_at document_with
 outermost_goes all is_bytes =

@@ -42,7 +42,7 @@ whole_again bytes ms n le h low =
     let k : length bytes - length (drop n bytes) ≡ n = omega (arith, length-drop n bytes) in
     ap (λ (r : Result (Fields × List ℕ) BsonFault). r >>= λ x. Ok (x.0, length bytes - length x.1)) read ∙ ap (λ (m : ℕ). Ok (ms, m)) k
 
--- ---- what a call has of these
+-- what the clauses of a call need
 
 pub is_found : (bytes : List ℕ) (result : Result (Fields × ℕ) BsonFault) → AreBytes bytes → Gives (λ x. x) result (whole_at bytes)
     → IfOk result (λ x. (x.1 ≤ length bytes) × ReadsAs (take x.1 bytes) x.0 × IsWithinDepth x.0)
@@ -56,7 +56,7 @@ pub is_only : (bytes : List ℕ) (result : Result (Fields × ℕ) BsonFault) (ms
 is_only bytes result ms n e le reads low =
     subst (λ (r : Result (Fields × ℕ) BsonFault). Gives (λ x. x) result r) (whole_again bytes ms n le reads low) e
 
--- ---- one spelling
+-- ---- one encoding
 
 read_again : (n : ℕ) (a x : List ℕ) (ms : Fields) → ReadsAs a ms → document_depth ms ≤ suc n → document_with 0 (value_at 0 n) length_limit (a ++ x) ≡ Ok (ms, x)
 read_again n a x ms h low =

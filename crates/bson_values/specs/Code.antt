@@ -1,4 +1,4 @@
--- How a document is told from others: as a list of marks, parts before wholes, which a stack reads back.
+-- A code that determines a document: a list of marks, parts before wholes, which a stack reads back.
 use Rattle.std.specs.Prelude.{◌≡◌, ℕ, ℤ, pos, negsuc, List, [], ◌∷◌, ◌++◌, true, false, ◌==◌, if◌then◌else◌, refl}
 use Rattle.std.specs.Coded.{Coded, code_by, coded×, coded_list, coded_ℕ, coded_ℤ}
 use Rattle.std.proofs.Common.{ap, ◌∙◌}
@@ -8,7 +8,7 @@ use Rattle.bson_model.specs.Tree.{Datum, string_value, document_value, array_val
 abbrev pub Mark : Type 0
 Mark = ℕ × (List ℕ × ℤ)
 
--- what stands on the stack
+-- an item of the stack
 pub data Part : Type 0 where
   value_part : Datum → Part
   items_part : Items → Part

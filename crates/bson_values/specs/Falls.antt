@@ -1,4 +1,4 @@
--- What is inside a document or an array is smaller.
+-- What is nested in a document or an array is smaller.
 use Rattle.std.specs.Prelude.{◌≤◌, max, List, [], ◌∷◌}
 use Rattle.std.proofs.Common.{arith}
 use denote.Param.Weighed.{most}

@@ -1,4 +1,4 @@
--- The test that a text can be a name: it holds no 00.
+-- The test that a text can be a name: it has no 00.
 use Rattle.std.specs.Prelude.{ℕ, List, [], ◌∷◌, Bool, true, false, ◌==◌, if◌then◌else◌}
 
 abbrev pub has_no_zero : List ℕ → Bool

@@ -1,4 +1,4 @@
--- What a reader answers.
+-- What a reader returns.
 use Rattle.std.specs.Prelude.{◌≡◌, ℕ, Option, Some, None, Result, Ok, Err}
 use Rattle.bson_model.specs.Faults.{Fault, short_fault, length_fault, type_fault, string_fault, boolean_fault, depth_fault, trailing_fault}
 use Rattle.bson_values.specs.declared.fault.BsonFault.{BsonFault}
@@ -9,12 +9,12 @@ abbrev pub ◌>>=◌ : {A B : Type 0} → Result A BsonFault → (A → Result B
 (Ok x) >>= f = f x
 (Err e) >>= f = Err e
 
--- Unless memory ran out, an error is this one.
+-- Unless memory runs out, an error is this one.
 abbrev pub Fails : {Y : Type 0} → BsonFault → Result Y BsonFault → Type 0
 Fails Memory read = Unit {0}
 Fails e read = read ≡ Err e
 
--- What a function returned, seen by view, is what reading gives, unless memory ran out.
+-- Unless memory runs out, the result of a function, seen by `view`, is this result of reading.
 abbrev pub Gives : {X Y : Type 0} → (X → Y) → Result X BsonFault → Result Y BsonFault → Type 0
 Gives view (Ok x) read = read ≡ Ok (view x)
 Gives view (Err e) read = Fails e read
@@ -29,7 +29,7 @@ fault_offset (Deep offset) = Some offset
 fault_offset (Trailing offset) = Some offset
 fault_offset Memory = None
 
--- the fault of a definition, as the program tells it
+-- the program's error for a fault of the definitions
 abbrev pub fault_from : Fault → ℕ → BsonFault
 fault_from short_fault offset = Short offset
 fault_from length_fault offset = BadLength offset

@@ -1,4 +1,4 @@
--- How many documents and arrays are inside: the measure of a recursion over values.
+-- How many documents and arrays are nested in a value: the measure of a recursion over values.
 use Rattle.std.specs.Prelude.{ℕ, suc, ◌+◌}
 use Rattle.bson_model.specs.Tree.{Datum, document_value, array_value, Items, no_items, item, Fields, no_fields, field}
 
@@ -16,7 +16,7 @@ abbrev mutual
   fields_size no_fields = 0
   fields_size (field name d ms) = datum_size d + fields_size ms
 
--- how many fields stand in a document, and how many values in an array
+-- the number of fields of a document, and of values of an array
 abbrev pub fields_count : Fields → ℕ
 fields_count no_fields = 0
 fields_count (field name d ms) = fields_count ms + 1

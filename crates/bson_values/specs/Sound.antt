@@ -1,5 +1,4 @@
--- What holds of each value that the program can hold: texts and names are UTF-8, names hold no 00, numbers are in
--- the range of their type.
+-- What holds of each value that the program can hold: texts and names are UTF-8, names have no 00, numbers are in the range of their type.
 use Rattle.std.specs.Prelude.{◌≡◌, ◌<◌, ◌^◌, FitsSigned, length}
 use Rattle.std.specs.Int.{w32, w64}
 use Rattle.std.specs.Str.{IsUtf8}

@@ -1,4 +1,4 @@
--- Where the bytes of a text or a name stand.
+-- The bytes of a text or a name.
 use Rattle.std.specs.Prelude.{ℕ, List, take, string_bytes, box_value}
 use Rattle.bson_values.specs.declared.text.Held.{Held}
 use Rattle.bson_values.specs.declared.text.HeldName.{HeldName}
@@ -6,7 +6,7 @@ use Rattle.bson_values.specs.declared.text.Short.{Short as ShortText}
 use Rattle.bson_values.specs.declared.text.Held.TheVariants.{Short, Long}
 use Rattle.bson_values.specs.declared.text.HeldName.TheVariants.{Short as ShortBytes, Long as LongBytes}
 
--- those that count
+-- the bytes that are used
 abbrev pub short_bytes : {N : ℕ} → ShortText N → List ℕ
 short_bytes s = take s.length s.bytes
 

@@ -1,4 +1,4 @@
--- What a value of the program is as plain data. A document and an array inside are seen as data already.
+-- A value of the program as plain data. A nested document or array is already seen as data.
 use Rattle.std.specs.Prelude.{List, [], ◌∷◌}
 use Rattle.bson_values.specs.declared.value.Value.{Value}
 use Rattle.bson_values.specs.declared.value.Value.TheVariants.{Text, Doc, Array, Binary, ObjectId, Bool, Date, Null, Int32, Timestamp, Int64, MinKey, MaxKey}

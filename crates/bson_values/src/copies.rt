@@ -8,7 +8,7 @@ use crate::text::{Blob, Memory, Text};
 use crate::value::{Array, Document, Field, Value};
 
 impl Document {
-    /// The same document once more. Fails for want of memory.
+    /// Returns a copy of the document, or `Memory` if memory runs out.
     #[cycle(copy)]
     pub fn copy(&self) -> Result<Document, Memory>
         ensures { IfOk result (λ d. d ≡ self.now) }
@@ -23,7 +23,7 @@ impl Document {
 }
 
 impl Array {
-    /// The same array once more. Fails for want of memory.
+    /// Returns a copy of the array, or `Memory` if memory runs out.
     #[cycle(copy)]
     pub fn copy(&self) -> Result<Array, Memory>
         ensures { IfOk result (λ a. a ≡ self.now) }
@@ -38,7 +38,7 @@ impl Array {
 }
 
 impl Field {
-    // The same field once more. Fails for want of memory.
+    // Returns a copy of the field, or `Memory` if memory runs out.
     #[cycle(copy)]
     fn copy(&self) -> Result<Field, Memory>
         ensures { IfOk result (λ m. (m.name ≡ self.now.name) × (datum_of m.value ≡ datum_of self.now.value)) }
@@ -64,7 +64,7 @@ fn copy_binary(subtype: u8, bytes: &Blob) -> Result<Value, Memory>
 }
 
 impl Value {
-    /// The same value once more. Fails for want of memory.
+    /// Returns a copy of the value, or `Memory` if memory runs out.
     #[cycle(copy)]
     pub fn copy(&self) -> Result<Value, Memory>
         ensures { IfOk result (λ v. datum_of v ≡ datum_of self.now) }

@@ -3,7 +3,7 @@
 ghost use Rattle.std.specs.Prelude.{◌≡◌};
 ghost use Rattle.bson_values.specs.Types.{type_from};
 
-/// One of the kept types.
+/// One of the supported types.
 #[derive(Clone, Copy, Debug, PartialEq, Eq)]
 pub enum ElementType {
     Text,
@@ -22,7 +22,7 @@ pub enum ElementType {
 }
 
 impl ElementType {
-    /// The type that the byte names.
+    /// Returns the type that the byte encodes.
     #[inline(always)]
     pub fn from_byte(byte: u8) -> Option<ElementType>
         ensures { result ≡ type_from byte }

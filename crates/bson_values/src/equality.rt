@@ -1,4 +1,4 @@
-//! Whether documents, arrays and values are the same data.
+//! Comparison of documents, arrays and values as data.
 
 ghost use Rattle.std.specs.Prelude.{◌≡◌, ◌↔◌, IsTrue};
 ghost use Rattle.bson_model.specs.Tree.{binary_value, object_id_value, string_value, value_depth};
@@ -7,8 +7,8 @@ ghost use Rattle.bson_values.specs.View.{datum_of};
 use crate::value::{Array, Document, Field, Value};
 
 impl Document {
-    /// Whether both are the same data: the same fields in the same order, each with the same name, type and value. An int32 and an
-    /// int64 are different data.
+    /// Returns whether both are the same data: the same fields in the same order, each with the same name, type and value. An int32 and an int64 are
+    /// different data.
     #[cycle(equality)]
     pub fn same_data(&self, other: &Document) -> bool
         ensures { IsTrue result ↔ (self.now ≡ other.now) }
@@ -27,7 +27,7 @@ impl Document {
 }
 
 impl Array {
-    /// Whether both are the same data: the same values in the same order.
+    /// Returns whether both are the same data: the same values in the same order.
     #[cycle(equality)]
     pub fn same_data(&self, other: &Array) -> bool
         ensures { IsTrue result ↔ (self.now ≡ other.now) }
@@ -46,7 +46,7 @@ impl Array {
 }
 
 impl Field {
-    // Whether both have the same name, and their values are the same data.
+    // Returns whether both have the same name, and their values are the same data.
     #[cycle(equality)]
     fn same_data(&self, other: &Field) -> bool
         ensures { IsTrue result ↔ ((self.now.name ≡ other.now.name) × (datum_of self.now.value ≡ datum_of other.now.value)) }
@@ -56,7 +56,7 @@ impl Field {
 }
 
 impl Value {
-    /// Whether both are the same data: of the same type, and with the same content.
+    /// Returns whether both are the same data: of the same type, and with the same content.
     #[cycle(equality)]
     pub fn same_data(&self, other: &Value) -> bool
         ensures { IsTrue result ↔ (datum_of self.now ≡ datum_of other.now) }
@@ -74,7 +74,7 @@ impl Value {
         }
     }
 
-    // The same, where this value holds no values.
+    // The same, for a value without nested values.
     #[tactic(auto, using(crate::proofs::Depth::document_depth_some, crate::proofs::Depth::array_depth_some))]
     fn same_scalar(&self, other: &Value) -> bool
         requires { value_depth (datum_of self.now) ≡ 0 }

@@ -1,4 +1,4 @@
-//! Why bytes are no document.
+//! Why bytes do not encode a document.
 
 ghost use Rattle.std.specs.Prelude.{◌≡◌};
 ghost use Rattle.bson_values.specs.ReadFaults.{fault_offset};
@@ -7,29 +7,29 @@ ghost use Rattle.bson_values.specs.declared.fault.BsonFault.TheVariants.{Memory}
 use crate::text;
 use std::alloc::{AllocError, AllocFailed};
 
-/// Why bytes are no document. Each offset counts from the first byte that was handed in.
+/// Why bytes do not encode a document. Each offset is from the first byte passed in.
 #[derive(Clone, Copy, Debug, PartialEq, Eq)]
 pub enum BsonFault {
     /// The bytes end first; the offset is their number.
     Short { place: usize },
-    /// A length is below its least or past what holds it.
+    /// A length is below the least one, or exceeds the document or array that it is in.
     BadLength { place: usize },
-    /// The type of an element is not one that is read.
+    /// The type of an element is not supported.
     BadType { place: usize, byte: u8 },
-    /// A text is no UTF-8 or has no 00 at its end.
+    /// A text is not UTF-8 or has no 00 at its end.
     BadText { place: usize },
     /// A boolean is neither 00 nor 01.
     BadBool { place: usize },
     /// A document or an array at depth 101.
     Deep { place: usize },
-    /// The 00 of a document stands before its stated end, or another byte stands there.
+    /// The 00 of a document is before its stated end, or another byte is there.
     Trailing { place: usize },
-    /// Want of memory.
+    /// Out of memory.
     Memory,
 }
 
 impl BsonFault {
-    /// Where the fault is, unless memory ran out.
+    /// Returns the offset of the fault, or none if memory ran out.
     pub fn place(&self) -> Option<usize>
         ensures { result ≡ fault_offset self.now }
     {

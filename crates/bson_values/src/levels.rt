@@ -7,8 +7,8 @@ ghost use Rattle.bson_values.specs.View.{datum_of};
 use crate::value::{Array, Document, Value};
 
 impl Document {
-    /// The number of levels of the document, which is itself the first, or the greatest `usize` where that is more (MongoDB manual,
-    /// "MongoDB Limits and Thresholds", nested depth).
+    /// Returns the number of levels of the document, which is itself the first, or the greatest `usize` where that is more (MongoDB manual, "MongoDB Limits
+    /// and Thresholds", nested depth).
     #[cycle(levels)]
     pub fn levels(&self) -> usize
         ensures { result ≡ min (document_depth self.now) (2 ^ 64 - 1) }
@@ -22,7 +22,7 @@ impl Document {
 }
 
 impl Array {
-    /// The number of levels of the array, which is itself the first, or the greatest `usize` where that is more.
+    /// Returns the number of levels of the array, which is itself the first, or the greatest `usize` where that is more.
     #[cycle(levels)]
     fn levels(&self) -> usize
         ensures { result ≡ min (array_depth self.now) (2 ^ 64 - 1) }
@@ -36,7 +36,7 @@ impl Array {
 }
 
 impl Value {
-    /// The number of levels inside the value, or the greatest `usize` where that is more; none where it holds no values.
+    /// Returns the number of levels nested in the value, or the greatest `usize` where that is more; 0 for a value without nested values.
     #[cycle(levels)]
     fn levels(&self) -> usize
         ensures { result ≡ min (value_depth (datum_of self.now)) (2 ^ 64 - 1) }

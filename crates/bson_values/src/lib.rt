@@ -1,4 +1,4 @@
-//! BSON documents (BSON 1.1, "Specification") of the thirteen kept types: as values, from bytes and to bytes.
+//! BSON documents (BSON 1.1, "Specification") of the thirteen supported types: as values, from bytes and to bytes.
 #![tactic(auto)]
 
 mod copies;

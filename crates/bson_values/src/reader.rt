@@ -1,7 +1,7 @@
 //! Reading values, and the document at the beginning of some bytes.
 //!
-//! `total`, `room` and offsets are as in `scan`; `level` is how many levels a value may have inside. What is called for each field is
-//! inlined, so that its results stay in registers.
+//! `total`, `room` and offsets are as in `scan`; `level` is how many levels may be nested in a value. Functions that are called for each field are inlined,
+//! so that their results stay in registers.
 
 ghost use Rattle.std.specs.Prelude.{◌≡◌, ◌≢◌, ◌+◌, ◌<◌, ◌≤◌, ◌++◌, ◌⊎◌, ℕ, List, Ok, Err, IfOk, IfErr, IfNone, IfSome, length, take};
 ghost use Rattle.std.specs.Option.{option_map};
@@ -24,13 +24,13 @@ use crate::value::{Aligned, Array, Document, Field, Value};
 use byteorder::{ByteOrder, LittleEndian};
 use std::alloc::Global;
 
-// How many levels there may be inside the outermost document.
+// How many levels may be nested in the outermost document.
 const DEPTH: u32 = MOST_DEPTH_KEPT - 1;
 
-// How many levels there are where room is reserved before what is in them is counted.
+// In this many outermost levels room is reserved without counting the elements first.
 const FIRST_LEVELS: u32 = 3;
 
-/// The fault of a document or an array where no level is left: its length is judged first.
+/// The fault of a document or an array where no level is left: its length is checked first.
 #[tactic(auto, unfolding(crate::specs::Readers::deep_at, crate::specs::Readers::deep_unless))]
 fn deep_fault(total: usize, room: usize, bytes: &[u8]) -> BsonFault
     requires { length bytes.now ≤ total }
@@ -132,7 +132,7 @@ fn read_int32(total: usize, room: usize, bytes: &[u8]) -> Result<(i32, &[u8]), B
     Ok((LittleEndian::read_u32(prefix).cast_signed(), rest))
 }
 
-/// Reads a string with its length (BSON 1.1, `string`): its text, the bytes that the text begins, and those behind it.
+/// Reads a string with its length (BSON 1.1, `string`). Returns its text, the bytes from the text on, and those after it.
 #[tactic(auto, unfolding(crate::specs::Readers::string_at))]
 #[inline(always)]
 fn read_string(total: usize, room: usize, bytes: &[u8]) -> Result<(&str, &[u8], &[u8]), BsonFault>
@@ -170,7 +170,7 @@ fn read_int64(total: usize, room: usize, bytes: &[u8]) -> Result<(Value, &[u8]),
     Ok((Value::Int64(number), rest))
 }
 
-/// Reads a value that has no values inside. A document or an array has no level left.
+/// Reads a value without nested values. A document or an array has no level left.
 #[tactic(auto, unfolding(crate::specs::Readers::scalar_at))]
 fn read_scalar(
     alloc: Global,
@@ -207,7 +207,7 @@ fn read_scalar(
     }
 }
 
-// What stands before a field's value: its type, its name, and the room behind the name.
+// What precedes a field's value: its type, its name, and the room after the name.
 #[derive(Drop)]
 struct Head {
     type_byte: ElementType,
@@ -215,8 +215,8 @@ struct Head {
     room: usize,
 }
 
-/// Reads what stands before the next value of an array: its type, and the room behind its name, which is passed. There
-/// is no value at the end of the array.
+/// Reads what precedes the next value of an array: its type and its name, which is skipped. Returns the type and the room after the name, or none at the end
+/// of the array.
 #[tactic(auto, unfolding(crate::specs::Readers::item_head_at, crate::specs::Readers::index_behind))]
 #[inline(always)]
 fn read_item_head(
@@ -271,7 +271,7 @@ fn read_value(
     }
 }
 
-/// Reads the value behind a head, and puts it under its name behind the fields of a document.
+/// Reads the value after a head, and appends it under its name to the fields of a document.
 #[cycle(reader)]
 #[inline(never)]
 fn put_value<'a>(
@@ -295,8 +295,8 @@ fn put_value<'a>(
     Ok(rest)
 }
 
-/// Reads the value behind a head, and puts it under its name behind the fields of a document. The most frequent types
-/// are put where they are read, since a value of one type is not copied through memory.
+/// Reads the value after a head, and appends it under its name to the fields of a document. Values of the most frequent types are appended where they are
+/// read, since a value of a known type is not copied through memory.
 #[cycle(reader)]
 #[inline(always)]
 fn put_field<'a>(
@@ -338,7 +338,7 @@ fn put_field<'a>(
     }
 }
 
-/// Reads the next value of an array, whatever its name. There is none at the end of the array.
+/// Reads the next value of an array; its name may be any. Returns none at the end of the array.
 #[cycle(reader)]
 #[inline(always)]
 fn read_item(
@@ -363,8 +363,8 @@ fn read_item(
     Ok((Some(value), rest))
 }
 
-// For how many elements a document or an array of so many bytes has room at first. Its bytes count those of all levels in it, so they
-// say little of how many elements it has itself where there are many levels.
+// Returns for how many elements of a document or an array of `count` bytes room is reserved first. The bytes count those of all nested levels, so where there
+// are many levels they say little about the number of its own elements.
 fn first_room(level: u32, count: usize, bytes: &[u8]) -> usize {
     if DEPTH - FIRST_LEVELS < level {
         usual_room(count)
@@ -373,7 +373,7 @@ fn first_room(level: u32, count: usize, bytes: &[u8]) -> usize {
     }
 }
 
-/// Reads a document: its length, its fields and the 00 behind them (BSON 1.1, `document`).
+/// Reads a document: its length, its fields and the 00 after them (BSON 1.1, `document`).
 #[cycle(reader)]
 #[tactic(auto, unfolding(crate::specs::Readers::document_with))]
 fn read_document(
@@ -411,7 +411,7 @@ fn read_document(
     }
 }
 
-/// Reads an array: its length, its values and the 00 behind them.
+/// Reads an array: its length, its values and the 00 after them.
 #[cycle(reader)]
 #[tactic(auto, unfolding(crate::specs::Readers::array_with))]
 fn read_array(
@@ -441,7 +441,7 @@ fn read_array(
     }
 }
 
-// Which document, and which fault.
+// Returns the document with its length, or the fault.
 #[tactic(auto, unfolding(crate::specs::Readers::whole_at, crate::specs::Readers::document_at))]
 fn read_exactly(alloc: Global, bytes: &[u8]) -> Result<(Document, usize), BsonFault>
     ensures exact { Gives (λ x. x) result (whole_at bytes.now) }
@@ -451,41 +451,40 @@ fn read_exactly(alloc: Global, bytes: &[u8]) -> Result<(Document, usize), BsonFa
     Ok((document, total - rest.len()))
 }
 
-/// Reads the document that begins the bytes, and gives it with its length in bytes; what follows is left (BSON 1.1,
-/// `document`). Fails where no prefix of the bytes spells a document within 100 levels, with the first fault in the order
-/// of the bytes and its offset, or for want of memory.
+/// Reads the document at the beginning of the bytes, and returns it with its length in bytes; what follows is ignored (BSON 1.1, `document`). Where no prefix
+/// of the bytes encodes a document within 100 levels, returns the first fault in the order of the bytes, with its offset. Returns `Memory` if memory runs
+/// out.
 pub fn read(alloc: Global, bytes: &[u8]) -> Result<(Document, usize), BsonFault>
-    // What is read is spelled by the bytes.
+    // The bytes encode what is read.
     ensures found { IfOk result (λ x.
         (x.1 ≤ length bytes.now) × ReadsAs (take x.1 bytes.now) x.0 × IsWithinDepth x.0) }
-    // What some prefix of the bytes spells is read, unless memory runs out.
+    // What some prefix of the bytes encodes is read, unless memory runs out.
     ensures only { (ms : Fields) (n : ℕ) →
         n ≤ length bytes.now → ReadsAs (take n bytes.now) ms → IsWithinDepth ms →
         Gives (λ x. x) result (Ok (ms, n)) }
-    // An error is the first fault of the bytes, or want of memory.
+    // An error is the first fault of the bytes, or `Memory`.
     ensures first { IfErr result (λ e. e ≢ BsonFault.Memory →
         (fault : Fault) × (offset : ℕ) × (e ≡ fault_from fault offset) × HasFirstFault bytes.now fault offset) }
-    // The first fault of the bytes is told, unless memory runs out.
+    // The first fault of the bytes is returned, unless memory runs out.
     ensures faulty { (fault : Fault) (offset : ℕ) →
         HasFirstFault bytes.now fault offset → Gives (λ x. x) result (Err (fault_from fault offset)) }
 {
     read_exactly(alloc, bytes)
 }
 
-/// No spelling of a document begins another, and no bytes spell two documents: what was written is what is read,
-/// whatever follows it.
+/// No encoding of a document is a proper prefix of another, and no bytes encode two documents: what was written is read back, whatever bytes follow it.
 pub fn one_spelling()
     ensures { (a b x y : List ℕ) (ms ns : Fields) →
         ReadsAs a ms → ReadsAs b ns → a ++ x ≡ b ++ y → (a ≡ b) × (ms ≡ ns) }
 {}
 
-/// Bytes have one first fault at most, at one offset.
+/// Bytes have at most one first fault, at one offset.
 pub fn one_fault()
     ensures { (bytes : List ℕ) (f g : Fault) (p q : ℕ) →
         HasFirstFault bytes f p → HasFirstFault bytes g q → (f ≡ g) × (p ≡ q) }
 {}
 
-/// Bytes begin with a document within 100 levels, or they have a first fault, and never both.
+/// Bytes begin with a document within 100 levels or have a first fault, and never both.
 pub fn document_or_fault()
     ensures either { (bytes : List ℕ) → AreBytes bytes →
         ((n : ℕ) × (ms : Fields) × BeginsWith bytes n ms)

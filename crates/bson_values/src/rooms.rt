@@ -1,5 +1,5 @@
-//! Room for the fields of a document and the values of an array that are read. A field takes 64 bytes and can be encoded in 2, so where
-//! there are many levels, fields are counted before room is reserved, and much room that is not used is given back.
+//! Room for the fields of a document and the values of an array that are read. A field takes 64 bytes and can be encoded in 2, so where there are many levels
+//! the fields are counted before room is reserved, and much unused room is given back.
 
 ghost use Rattle.std.specs.Prelude.{◌≡◌, ◌<◌, ◌≤◌, length, IfSome};
 
@@ -7,15 +7,15 @@ use crate::element_type::ElementType;
 use crate::value::{Array, Document};
 use byteorder::{ByteOrder, LittleEndian};
 
-// How many bytes a document without fields has.
+// The number of bytes of a document without fields.
 const LEAST_DOCUMENT: usize = 5;
 
-// How many bytes most elements have, and how many have those of a short document.
+// The number of bytes of most elements, and of those of a short document.
 const USUAL_ELEMENT: usize = 16;
 
 const SHORT_ELEMENT: usize = 7;
 
-// What is after the name that begins the bytes.
+// Returns the bytes after the name at the beginning of the bytes.
 #[inline(always)]
 fn after_name(bytes: &[u8]) -> Option<&[u8]>
     ensures { IfSome result (λ rest. length rest.now ≤ length bytes.now) }
@@ -28,7 +28,7 @@ fn after_name(bytes: &[u8]) -> Option<&[u8]>
     None
 }
 
-// The length that begins the bytes, and so many bytes more.
+// Returns the length at the beginning of the bytes, plus `more`.
 #[inline(always)]
 fn length_and(more: usize, bytes: &[u8]) -> Option<usize> {
     if bytes.len() < 4 {
@@ -39,7 +39,7 @@ fn length_and(more: usize, bytes: &[u8]) -> Option<usize> {
     Some(count.saturating_add(more))
 }
 
-// How many bytes the value of that type has which begins the bytes.
+// Returns the number of bytes of the value of that type at the beginning of the bytes.
 #[inline(always)]
 fn value_bytes(type_byte: ElementType, bytes: &[u8]) -> Option<usize> {
     match type_byte {
@@ -54,7 +54,7 @@ fn value_bytes(type_byte: ElementType, bytes: &[u8]) -> Option<usize> {
     }
 }
 
-// What is after the element that begins the bytes. There is none at the end of a document.
+// Returns the bytes after the element at the beginning of the bytes, or none at the end of a document.
 #[inline(always)]
 fn after_element(bytes: &[u8]) -> Option<&[u8]>
     ensures { IfSome result (λ rest. length rest.now < length bytes.now) }
@@ -69,8 +69,8 @@ fn after_element(bytes: &[u8]) -> Option<&[u8]>
     Some(&rest[count..])
 }
 
-/// How many elements a document or an array of so many bytes has, whose elements begin these. What is nested in an element is passed
-/// by its length.
+/// Returns the number of elements of a document or an array of `count` bytes whose elements begin the bytes. What is nested in an element is skipped by its
+/// length.
 #[inline(never)]
 pub fn count_elements(count: usize, bytes: &[u8]) -> usize {
     let mut elements = 0usize;
@@ -82,7 +82,7 @@ pub fn count_elements(count: usize, bytes: &[u8]) -> usize {
     elements
 }
 
-/// For how many elements there is room at first where a document or an array has so many bytes.
+/// Returns for how many elements room is reserved first where a document or an array has `count` bytes.
 #[inline(always)]
 pub fn usual_room(count: usize) -> usize {
     if count <= LEAST_DOCUMENT {
@@ -92,14 +92,14 @@ pub fn usual_room(count: usize) -> usize {
     short.min((count / USUAL_ELEMENT).max(4).min(16))
 }
 
-// Whether so much room is much beside so many bytes.
+// Returns whether the unused room is much in comparison with the bytes.
 #[inline(always)]
 fn is_much(room: usize, count: usize) -> bool {
     count / SHORT_ELEMENT < room
 }
 
 impl Document {
-    // Gives back the room for more fields, where it is much beside the bytes of the document.
+    // Gives back the room for more fields, where it is much in comparison with the bytes of the document.
     #[inline(always)]
     pub(crate) fn give_back_room(&mut self, count: usize)
         ensures { self.new ≡ self.old }
@@ -120,7 +120,7 @@ impl Document {
 }
 
 impl Array {
-    // Gives back the room for more values, where it is much beside the bytes of the array.
+    // Gives back the room for more values, where it is much in comparison with the bytes of the array.
     #[inline(always)]
     pub(crate) fn give_back_room(&mut self, count: usize)
         ensures { self.new ≡ self.old }

@@ -1,8 +1,7 @@
-//! Reading what holds no value: lengths, strings, names and types.
+//! Reading values without nested values: lengths, strings, names and types.
 //!
-//! `total` is the number of all bytes that were handed in, so the offset of the first of some bytes is total less
-//! their number. `room` is how many bytes, the last 00 with them, the document still has by its length. What is called for each
-//! field is inlined, so that its results stay in registers.
+//! `total` is the number of all bytes that were passed in, so the offset of the first of some bytes is total less their number. `room` is how many bytes the
+//! document still has by its length, including the last 00. Functions that are called for each field are inlined, so that their results stay in registers.
 
 ghost use Rattle.std.specs.Prelude.{◌≡◌, ◌≢◌, ◌+◌, ◌<◌, ◌≤◌, length, take, IfOk, IfErr, IfNone, IsTrue, Some};
 ghost use Rattle.std.specs.Str.{IsAscii};
@@ -17,7 +16,7 @@ use crate::limits::LENGTH_LIMIT;
 use byteorder::{ByteOrder, LittleEndian};
 use std::str;
 
-/// Judges a length that stands at an offset, and gives it with what stands behind it.
+/// Checks a length at an offset, and returns it with the bytes after it.
 #[tactic(auto, unfolding(crate::specs::Readers::length_within))]
 #[inline(always)]
 fn check_length(
@@ -40,7 +39,7 @@ fn check_length(
     Ok((count, rest))
 }
 
-/// Reads a length that is at least so much, and has so many bytes beside those that it counts.
+/// Reads a length that is at least `least`; the value has `beside` bytes more than its length counts.
 #[tactic(auto, unfolding(crate::specs::Readers::length_at))]
 #[inline(always)]
 pub fn read_length(
@@ -72,7 +71,7 @@ pub fn read_length(
     check_length(least, beside, room, offset, count, rest)
 }
 
-/// Reads so many bytes.
+/// Reads `count` bytes.
 #[tactic(auto, unfolding(crate::specs::Readers::fixed_at))]
 #[inline(always)]
 pub fn read_fixed(
@@ -100,7 +99,7 @@ pub fn read_fixed(
     Ok(bytes.split_at(count))
 }
 
-/// Whether the bytes are ASCII, as most texts are: one test of all their bits costs less than a test of each byte.
+/// Returns whether the bytes are ASCII, as most texts are. One test of the bitwise or of all bytes costs less than a test of each byte.
 #[inline(always)]
 fn is_ascii(bytes: &[u8]) -> bool
     ensures { IsTrue result → IsAscii bytes.now }
@@ -112,7 +111,7 @@ fn is_ascii(bytes: &[u8]) -> bool
     joined < 0x80
 }
 
-/// The text that the bytes are.
+/// Returns the bytes as a text, or the fault that they are not UTF-8.
 #[tactic(auto, unfolding(crate::specs::Readers::utf8_at), using(crate::proofs::Utf8Tests::utf8_tests))]
 #[inline(always)]
 pub fn read_utf8(offset: usize, bytes: &[u8]) -> Result<&str, BsonFault>
@@ -129,7 +128,7 @@ pub fn read_utf8(offset: usize, bytes: &[u8]) -> Result<&str, BsonFault>
     }
 }
 
-/// Reads a text whose length with its final 00 is known.
+/// Reads a text, given its length including the final 00.
 #[tactic(auto, unfolding(crate::specs::Readers::text_at))]
 #[inline(always)]
 pub fn read_text(total: usize, count: usize, bytes: &[u8]) -> Result<(&str, &[u8]), BsonFault>
@@ -152,7 +151,7 @@ pub fn read_text(total: usize, count: usize, bytes: &[u8]) -> Result<(&str, &[u8
     Ok((text, rest))
 }
 
-/// Finds a name's end, and gives the bytes before and behind it (BSON 1.1, `cstring`).
+/// Finds the end of a name, and returns the bytes before and after it (BSON 1.1, `cstring`).
 #[inline(always)]
 pub fn scan_name(
     total: usize,
@@ -177,7 +176,7 @@ pub fn scan_name(
     Err(BsonFault::BadText { place: offset })
 }
 
-/// What room is left behind a name, which is some.
+/// Returns the room that is left after a name, which must be some.
 #[tactic(auto, unfolding(crate::specs::Readers::room_at))]
 #[inline(always)]
 pub fn check_room(total: usize, room: usize, rest: &[u8]) -> Result<usize, BsonFault>
@@ -193,7 +192,7 @@ pub fn check_room(total: usize, room: usize, rest: &[u8]) -> Result<usize, BsonF
     Ok(room)
 }
 
-/// Passes a name in an array, and gives the room and the bytes behind it.
+/// Skips a name in an array, and returns the room and the bytes after it.
 #[tactic(auto, unfolding(crate::specs::Readers::index_at))]
 #[inline(always)]
 pub fn skip_name(total: usize, room: usize, bytes: &[u8]) -> Result<(usize, &[u8]), BsonFault>
@@ -207,7 +206,7 @@ pub fn skip_name(total: usize, room: usize, bytes: &[u8]) -> Result<(usize, &[u8
     Ok((left, rest))
 }
 
-/// Reads a name in a document, and gives its text, and the room and the bytes behind it.
+/// Reads a name in a document, and returns its text, and the room and the bytes after it.
 #[tactic(auto, unfolding(crate::specs::Readers::name_at))]
 #[inline(always)]
 pub fn read_name(total: usize, room: usize, bytes: &[u8]) -> Result<(&str, usize, &[u8]), BsonFault>
@@ -224,7 +223,7 @@ pub fn read_name(total: usize, room: usize, bytes: &[u8]) -> Result<(&str, usize
     Ok((text, left, rest))
 }
 
-/// Judges the byte of an element's type, behind which there is so much room and these bytes stand.
+/// Checks the byte of an element's type, which has this room and these bytes after it.
 #[tactic(auto, unfolding(crate::specs::Readers::checked_type))]
 #[inline(always)]
 fn check_type(total: usize, room: usize, byte: u8, rest: &[u8]) -> Result<ElementType, BsonFault>
@@ -242,7 +241,7 @@ fn check_type(total: usize, room: usize, byte: u8, rest: &[u8]) -> Result<Elemen
     }
 }
 
-/// Reads the type of the next element. There is none at the 00 that ends the document.
+/// Reads the type of the next element. Returns none at the 00 that ends the document.
 #[tactic(auto, unfolding(crate::specs::Readers::type_at))]
 #[inline(always)]
 pub fn read_type(

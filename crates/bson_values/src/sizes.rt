@@ -1,4 +1,4 @@
-//! How many bytes documents, arrays and values are spelled in.
+//! The lengths of the encodings of documents, arrays and values.
 
 ghost use Rattle.std.specs.Prelude.{◌≡◌, ◌-◌, ◌^◌, min, length};
 ghost use Rattle.bson_model.specs.Spelling.{framed, written, written_value, written_items};
@@ -7,11 +7,11 @@ ghost use Rattle.bson_values.specs.View.{datum_of};
 use crate::value::{Array, Document, Value};
 use itoa::Buffer;
 
-/// The bytes of a document besides its elements: four for its length, and the last 00.
+/// The bytes of a document in addition to its elements: four for its length, and the last 00.
 const FRAME: usize = 5;
 
 impl Document {
-    /// The number of bytes of the document's spelling, or the greatest `usize` where that is more.
+    /// Returns the number of bytes of the document's encoding, or the greatest `usize` where that is more.
     #[cycle(size)]
     pub fn size(&self) -> usize
         ensures { result ≡ min (length (written self.now)) (2 ^ 64 - 1) }
@@ -26,7 +26,7 @@ impl Document {
 }
 
 impl Array {
-    /// The number of bytes of the array's spelling, or the greatest `usize` where that is more.
+    /// Returns the number of bytes of the array's encoding, or the greatest `usize` where that is more.
     #[cycle(size)]
     fn size(&self) -> usize
         ensures { result ≡ min (length (framed (written_items 0 self.now))) (2 ^ 64 - 1) }
@@ -42,7 +42,7 @@ impl Array {
 }
 
 impl Value {
-    /// The number of bytes of the value, without its type and its name, or the greatest `usize` where that is more.
+    /// Returns the number of bytes of the value, without its type and its name, or the greatest `usize` where that is more.
     #[cycle(size)]
     pub fn size(&self) -> usize
         ensures { result ≡ min (length (written_value (datum_of self.now))) (2 ^ 64 - 1) }

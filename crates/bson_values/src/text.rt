@@ -1,4 +1,4 @@
-//! Texts, names and bytes: the parts of a document that hold no value.
+//! Texts, names and bytes: the parts of a document without nested values.
 
 ghost use Rattle.std.specs.Prelude.{◌≡◌, ◌≤◌, ◌<◌, length, take, IfOk, IfSome, IsTrue};
 ghost use Rattle.std.specs.Str.{IsUtf8};
@@ -10,7 +10,7 @@ use std::alloc::{AllocError, AllocFailed, Global};
 use std::marker::Model;
 use std::str;
 
-/// Want of memory, the only way in which building a value fails.
+/// Out of memory, the only error of building a value.
 #[derive(Clone, Copy, Debug, PartialEq, Eq)]
 pub struct Memory;
 
@@ -26,13 +26,13 @@ impl<T: Drop> From<AllocFailed<T>> for Memory {
     }
 }
 
-/// How many bytes of a text stand in the value itself at most: as many as a `String` and its tag leave room for.
+/// The greatest number of bytes of a text that are stored in the value itself: the room that a `String` and its tag take.
 const MOST_SHORT: usize = 30;
 
-/// How many bytes of a name stand in the field itself at most: with their length they are two words.
+/// The greatest number of bytes of a name that are stored in the field itself: with their length they are two words.
 const MOST_SHORT_NAME: usize = 15;
 
-/// The bytes of a short text, at most N, and how many of them count. A length of one byte leaves room for more of them.
+/// The bytes of a short text, at most N, and how many of them are used. A length of one byte keeps more room for the text.
 #[derive(Clone, Copy, Debug)]
 struct Short<const N: usize> {
     length: u8,
@@ -62,8 +62,8 @@ impl<const N: usize> Short<N> {
         })
     }
 
-    /// Copies the text that the bytes begin with, where it is short: as many bytes as there is room for, whatever stands behind the text, since
-    /// a copy whose length is known stays in registers.
+    /// Copies the text at the beginning of the bytes, where it is short. The copy always has N bytes, whatever follows the text, since a copy of a known
+    /// length stays in registers.
     #[inline(always)]
     fn of_front(text: &str, bytes: &[u8]) -> Option<Short<N>>
         requires length_fits { N < 256 }
@@ -74,7 +74,7 @@ impl<const N: usize> Short<N> {
         if length > N {
             return None;
         }
-        // Where too few bytes stand, as many are made of them, so that there is one copy.
+        // Where fewer than N bytes are left they are padded to N, so that there is one copy.
         let mut padded = [0; N];
         let front = if bytes.len() < N {
             padded[..length].copy_from_slice(text.as_bytes());
@@ -95,12 +95,12 @@ impl<const N: usize> Short<N> {
     fn as_str(&self) -> &str
         ensures { result.now ≡ short_bytes self.now }
     {
-        // The bytes that count are those of a text, by the invariant.
+        // The bytes that are used are those of a text, by the invariant.
         unsafe { str::from_utf8_unchecked(&self.bytes[..self.length as usize]) }
     }
 }
 
-/// Where the bytes of a text stand: those of a short one in the value itself, since most texts are short.
+/// Where the bytes of a text are: a short text in the value itself, since most texts are short.
 #[derive(Debug, Drop)]
 enum Held {
     Short(Short<MOST_SHORT>),
@@ -126,7 +126,7 @@ impl Model for Text {
 }
 
 impl Text {
-    /// Copies the text. Fails for want of memory.
+    /// Copies the text. Returns `Memory` if memory runs out.
     #[inline(always)]
     pub fn of(alloc: Global, text: &str) -> Result<Text, Memory>
         ensures { IfOk result (λ t. t ≡ text.now) }
@@ -138,7 +138,7 @@ impl Text {
         Ok(Text { held })
     }
 
-    /// The text that the bytes begin with, where it is short: it asks for no memory, and may be put where it is read.
+    /// Returns the text at the beginning of the bytes, where it is short. It allocates nothing, and may be stored where it is read.
     #[inline(always)]
     pub(crate) fn of_short_front(text: &str, bytes: &[u8]) -> Option<Text>
         requires { text.now ≡ take (length text.now) bytes.now }
@@ -161,7 +161,7 @@ impl Text {
         }
     }
 
-    /// The same text once more. Fails for want of memory.
+    /// Returns a copy of the text, or `Memory` if memory runs out.
     pub fn copy(&self) -> Result<Text, Memory>
         ensures { IfOk result (λ t. t ≡ self.now) }
     {
@@ -173,14 +173,14 @@ impl Text {
     }
 }
 
-/// The bytes of a short name. They are aligned, since a name that is moved is then moved in whole words.
+/// The bytes of a short name. They are aligned, so that a name is moved in whole words.
 #[derive(Clone, Copy, Debug)]
 struct ShortName {
     bytes: Short<MOST_SHORT_NAME>,
     aligned: [u64; 0],
 }
 
-/// Where the bytes of a name stand: those of a short one in the field itself, since most names are short.
+/// Where the bytes of a name are: a short name in the field itself, since most names are short.
 #[derive(Debug, Drop)]
 enum HeldName {
     Short(ShortName),
@@ -207,7 +207,7 @@ impl Model for Name {
 }
 
 impl Name {
-    /// Copies the text, which holds no 00. Fails for want of memory.
+    /// Copies the text, which has no 00. Returns `Memory` if memory runs out.
     #[inline(always)]
     pub fn of(alloc: Global, text: &str) -> Result<Name, Memory>
         requires { IsTrue (has_no_zero text.now) }
@@ -220,7 +220,7 @@ impl Name {
         Ok(Name { held })
     }
 
-    /// Copies the text that the bytes begin with, which holds no 00. Fails for want of memory.
+    /// Copies the text at the beginning of the bytes, which has no 00. Returns `Memory` if memory runs out.
     #[inline(always)]
     pub(crate) fn of_front(alloc: Global, text: &str, bytes: &[u8]) -> Result<Name, Memory>
         requires name { IsTrue (has_no_zero text.now) }
@@ -246,7 +246,7 @@ impl Name {
         }
     }
 
-    /// The same name once more. Fails for want of memory.
+    /// Returns a copy of the name, or `Memory` if memory runs out.
     pub fn copy(&self) -> Result<Name, Memory>
         ensures { IfOk result (λ n. n ≡ self.now) }
     {
@@ -258,7 +258,7 @@ impl Name {
     }
 }
 
-/// Whether a text can be a name: it holds no 00.
+/// Returns whether a text can be a name: it has no 00.
 pub fn is_name(text: &str) -> bool
     ensures { result ≡ has_no_zero text.now }
 {
@@ -285,7 +285,7 @@ impl Model for Blob {
 }
 
 impl Blob {
-    /// Copies the bytes. Fails for want of memory.
+    /// Copies the bytes. Returns `Memory` if memory runs out.
     pub fn of(alloc: Global, bytes: &[u8]) -> Result<Blob, Memory>
         ensures { IfOk result (λ b. b ≡ bytes.now) }
     {
@@ -300,7 +300,7 @@ impl Blob {
         self.bytes.as_slice()
     }
 
-    /// The same bytes once more. Fails for want of memory.
+    /// Returns a copy of the bytes, or `Memory` if memory runs out.
     pub fn copy(&self) -> Result<Blob, Memory>
         ensures { IfOk result (λ b. b ≡ self.now) }
     {

@@ -1,4 +1,4 @@
-//! Values, and the documents and arrays that hold them.
+//! Values, and the documents and arrays that contain them.
 
 ghost use Rattle.std.specs.Prelude.{◌≡◌, ◌≤◌, ◌==◌, length, All, IfOk, OnOk, OnErr};
 ghost use Rattle.std.specs.Option.{option_map};
@@ -11,10 +11,10 @@ use crate::text::{Blob, Memory, Name, Text};
 use std::alloc::Global;
 use std::marker::Model;
 
-/// What need not stand at the beginning of a word, at the beginning of one: so a value of any type is moved in whole words.
+/// Content that needs no alignment, aligned to a word: so a value of any type is moved in whole words.
 #[derive(Clone, Copy, Debug)]
 pub struct Aligned<T> {
-    /// What is aligned.
+    /// The aligned content.
     pub content: T,
     words: [u64; 0],
 }
@@ -28,7 +28,7 @@ impl<T> Aligned<T> {
     }
 }
 
-/// A value of one of the kept types (BSON 1.1, `element`).
+/// A value of one of the supported types (BSON 1.1, `element`).
 #[cycle(value)]
 #[derive(Drop)]
 pub enum Value {
@@ -38,7 +38,7 @@ pub enum Value {
     Doc(Document),
     /// An array, type 04.
     Array(Array),
-    /// Bytes and their subtype, type 05. The bytes stand first, since they begin a word.
+    /// Bytes and their subtype, type 05. The bytes come first, since they are aligned to a word.
     Binary { bytes: Blob, subtype: u8 },
     /// An ObjectId, type 07.
     ObjectId(Aligned<[u8; 12]>),
@@ -128,7 +128,7 @@ impl Model for Array {
     ghost size_decreases = { λ a h. items_fall a.values.items };
 }
 
-// The length that the type states.
+// The type states the length.
 fn look_at_id(bytes: &[u8; 12])
     ensures { length bytes.now ≡ 12 }
 {
@@ -136,7 +136,7 @@ fn look_at_id(bytes: &[u8; 12])
 }
 
 impl Value {
-    // What the types alone say of the value; each arm touches it, so that the fact is known.
+    // What the type alone says about the value; each arm uses the value, so that the fact is known.
     #[inline(always)]
     fn look(&self)
         ensures { IsDatum (datum_of self.now) }
@@ -187,7 +187,7 @@ impl Document {
         }
     }
 
-    // The document without fields, with room for so many. Fails for want of memory.
+    // Returns the document without fields, with room for `room`, or `Memory` if memory runs out.
     #[inline(always)]
     pub(crate) fn with_room(alloc: Global, room: usize) -> Result<Document, Memory>
         ensures { IfOk result (λ d. d ≡ no_fields) }
@@ -196,7 +196,7 @@ impl Document {
         Ok(Document { fields })
     }
 
-    /// How many fields there are.
+    /// Returns the number of fields.
     #[tactic(auto, using(crate::proofs::Views::count_fields))]
     pub fn len(&self) -> usize
         ensures { result ≡ fields_count self.now }
@@ -204,14 +204,14 @@ impl Document {
         self.fields.len()
     }
 
-    /// Whether there is no field.
+    /// Returns whether there is no field.
     pub fn is_empty(&self) -> bool
         ensures { result ≡ (fields_count self.now == 0) }
     {
         self.len() == 0
     }
 
-    /// Puts a field behind the others. Fails for want of memory, and then changes nothing.
+    /// Appends a field. Returns `Memory` if memory runs out, and then changes nothing.
     #[inline(always)]
     #[tactic(auto, using(crate::proofs::Views::pushed_fields))]
     pub fn push(&mut self, name: Name, value: Value) -> Result<(), Memory>
@@ -220,7 +220,7 @@ impl Document {
     {
         let _name = name.as_str();
         value.look();
-        // Where there is room, what is put is not moved through a call.
+        // Where there is room, the field is not moved through a call.
         if self.fields.len() < self.fields.capacity() {
             self.fields.push_reserved(Field { name, value });
             return Ok(());
@@ -239,7 +239,7 @@ impl Document {
         self.fields.as_slice()
     }
 
-    /// The fields, in order. The document is taken apart, and nothing is copied.
+    /// Returns the fields, in order. The document is taken apart, and nothing is copied.
     #[tactic(auto, using(crate::proofs::Views::fields_inside))]
     pub fn into_fields(self) -> Vec<Field>
         ensures fields { fields_of result.items ≡ self }
@@ -249,7 +249,7 @@ impl Document {
         self.fields
     }
 
-    /// The value of the first field of that name.
+    /// Returns the value of the first field of that name.
     pub fn get(&self, name: &str) -> Option<&Value>
         ensures { option_map (λ v. datum_of v.now) result ≡ get name.now self.now }
     {
@@ -272,7 +272,7 @@ impl Array {
         }
     }
 
-    // The array without values, with room for so many. Fails for want of memory.
+    // Returns the array without values, with room for `room`, or `Memory` if memory runs out.
     #[inline(always)]
     pub(crate) fn with_room(alloc: Global, room: usize) -> Result<Array, Memory>
         ensures { IfOk result (λ a. a ≡ no_items) }
@@ -281,7 +281,7 @@ impl Array {
         Ok(Array { values })
     }
 
-    /// How many values there are.
+    /// Returns the number of values.
     #[tactic(auto, using(crate::proofs::Views::count_items))]
     pub fn len(&self) -> usize
         ensures { result ≡ items_count self.now }
@@ -289,14 +289,14 @@ impl Array {
         self.values.len()
     }
 
-    /// Whether there is no value.
+    /// Returns whether there is no value.
     pub fn is_empty(&self) -> bool
         ensures { result ≡ (items_count self.now == 0) }
     {
         self.len() == 0
     }
 
-    /// Puts a value behind the others. Fails for want of memory, and then changes nothing.
+    /// Appends a value. Returns `Memory` if memory runs out, and then changes nothing.
     #[tactic(auto, using(crate::proofs::Views::pushed_items))]
     pub fn push(&mut self, value: Value) -> Result<(), Memory>
         ensures ok { OnOk result (self.new ≡ joined_items self.old (item (datum_of value) no_items)) }
@@ -317,7 +317,7 @@ impl Array {
         self.values.as_slice()
     }
 
-    /// The values, in order. The array is taken apart, and nothing is copied.
+    /// Returns the values, in order. The array is taken apart, and nothing is copied.
     #[tactic(auto, using(crate::proofs::Views::items_inside))]
     pub fn into_values(self) -> Vec<Value>
         ensures values { items_of result.items ≡ self }

@@ -13,14 +13,14 @@ use crate::value::{Array, Document, Value};
 use byteorder::{ByteOrder, LittleEndian};
 use itoa::Buffer;
 
-/// Puts the document's one spelling behind the bytes (BSON 1.1, `document`). The document has at most 104 levels and
-/// its spelling at most 300,000,000 bytes. Fails for want of memory, and then leaves the bytes as they were.
+/// Appends the one encoding of the document to the bytes (BSON 1.1, `document`). The document has at most 104 levels and its encoding at most 300,000,000
+/// bytes. Returns `Memory` if memory runs out; then the bytes are as before.
 #[tactic(auto, using(crate::proofs::Spells::written_spelled))]
 pub fn write(doc: &Document, out: &mut Vec<u8>) -> Result<(), Memory>
     requires depth { document_depth doc.now ≤ most_depth_written }
     requires size { length (written doc.now) ≤ most_bytes_written }
     ensures ok { OnOk result (out.new.items ≡ out.old.items ++ written doc.now) }
-    // What was written is read again.
+    // What was written reads back.
     ensures spells { OnOk result (ReadsAs (written doc.now) doc.now) }
     ensures err { OnErr result (out.new.items ≡ out.old.items) }
 {
@@ -33,7 +33,7 @@ pub fn write(doc: &Document, out: &mut Vec<u8>) -> Result<(), Memory>
     done
 }
 
-/// The byte that names the type (BSON 1.1, `element`).
+/// Returns the byte that encodes the type (BSON 1.1, `element`).
 fn type_byte(value: &Value) -> u8
     ensures { result ≡ type_byte_of (datum_of value.now) }
 {
@@ -54,7 +54,7 @@ fn type_byte(value: &Value) -> u8
     }
 }
 
-/// Puts the bytes.
+/// Appends the bytes.
 fn put(bytes: &[u8], out: &mut Vec<u8>) -> Result<(), Memory>
     ensures ok { OnOk result (out.new.items ≡ out.old.items ++ bytes.now) }
     ensures err { OnErr result (out.new.items ≡ out.old.items) }
@@ -64,7 +64,7 @@ fn put(bytes: &[u8], out: &mut Vec<u8>) -> Result<(), Memory>
     Ok(())
 }
 
-/// Puts the number's four bytes, the lowest first.
+/// Appends the number's four bytes, the lowest first.
 fn put_u32(n: u32, out: &mut Vec<u8>) -> Result<(), Memory>
     ensures ok { OnOk result (out.new.items ≡ out.old.items ++ to_le_bytes w32 n) }
     ensures err { OnErr result (out.new.items ≡ out.old.items) }
@@ -75,7 +75,7 @@ fn put_u32(n: u32, out: &mut Vec<u8>) -> Result<(), Memory>
     put(&bytes, out)
 }
 
-/// Puts the number's eight bytes, the lowest first.
+/// Appends the number's eight bytes, the lowest first.
 fn put_u64(n: u64, out: &mut Vec<u8>) -> Result<(), Memory>
     ensures ok { OnOk result (out.new.items ≡ out.old.items ++ to_le_bytes w64 n) }
     ensures err { OnErr result (out.new.items ≡ out.old.items) }
@@ -86,7 +86,7 @@ fn put_u64(n: u64, out: &mut Vec<u8>) -> Result<(), Memory>
     put(&bytes, out)
 }
 
-/// Puts what stands before a value: its type, its name and 00.
+/// Appends what precedes a value: its type, its name and 00.
 fn put_head(type_byte: u8, name: &str, out: &mut Vec<u8>) -> Result<(), Memory>
     ensures ok { OnOk result (out.new.items ≡ out.old.items ++ (type_byte ∷ name.now ++ 0 ∷ [])) }
     ensures kept { take (length out.old.items) out.new.items ≡ out.old.items }
@@ -96,7 +96,7 @@ fn put_head(type_byte: u8, name: &str, out: &mut Vec<u8>) -> Result<(), Memory>
     put(&[0], out)
 }
 
-/// Puts a string: its length with the last 00, its bytes, and 00 (BSON 1.1, `string`).
+/// Appends a string: its length including the last 00, its bytes, and 00 (BSON 1.1, `string`).
 fn put_text(text: &str, out: &mut Vec<u8>) -> Result<(), Memory>
     requires { length text.now + 1 < 2 ^ 32 }
     ensures ok { OnOk result (out.new.items ≡ out.old.items ++ string text.now) }
@@ -107,7 +107,7 @@ fn put_text(text: &str, out: &mut Vec<u8>) -> Result<(), Memory>
     put(&[0], out)
 }
 
-/// Puts bytes: their number, the subtype, and themselves (BSON 1.1, `binary`).
+/// Appends bytes: their number, the subtype, and the bytes (BSON 1.1, `binary`).
 fn put_binary(subtype: u8, bytes: &[u8], out: &mut Vec<u8>) -> Result<(), Memory>
     requires { length bytes.now < 2 ^ 32 }
     ensures ok { OnOk result (out.new.items ≡ out.old.items ++ (to_le_bytes w32 (length bytes.now) ++ (subtype ∷ bytes.now))) }
@@ -118,7 +118,7 @@ fn put_binary(subtype: u8, bytes: &[u8], out: &mut Vec<u8>) -> Result<(), Memory
     put(bytes, out)
 }
 
-/// Writes the number over the four bytes at that offset, the lowest first.
+/// Overwrites the four bytes at that offset with the number, the lowest first.
 fn set_u32(at: usize, n: u32, bytes: &mut [u8])
     requires { at + 4 ≤ length bytes.old }
     ensures { bytes.new ≡ take at bytes.old ++ (to_le_bytes w32 n ++ drop (at + 4) bytes.old) }
@@ -126,8 +126,8 @@ fn set_u32(at: usize, n: u32, bytes: &mut [u8])
     LittleEndian::write_u32(&mut bytes[at..], n);
 }
 
-/// Ends a document that begins at `start` with room for its length: puts the last 00, and then the length, which is
-/// that of all bytes from `start` on (BSON 1.1, `document`).
+/// Ends a document that begins at `start` with room for its length: appends the last 00, and then writes the length, which is that of all bytes from `start`
+/// on (BSON 1.1, `document`).
 fn end_document(start: usize, out: &mut Vec<u8>) -> Result<(), Memory>
     requires room { start + 4 ≤ length out.old.items }
     requires short { length out.old.items + 1 - start < 2 ^ 32 }
@@ -140,7 +140,7 @@ fn end_document(start: usize, out: &mut Vec<u8>) -> Result<(), Memory>
     Ok(())
 }
 
-/// Puts the bytes of a value that holds no values.
+/// Appends the bytes of a value without nested values.
 #[tactic(auto, using(crate::proofs::Depth::document_depth_some, crate::proofs::Depth::array_depth_some))]
 fn put_scalar(value: &Value, out: &mut Vec<u8>) -> Result<(), Memory>
     requires scalar { value_depth (datum_of value.now) ≡ 0 }
@@ -162,7 +162,7 @@ fn put_scalar(value: &Value, out: &mut Vec<u8>) -> Result<(), Memory>
     }
 }
 
-/// Puts a value's bytes.
+/// Appends a value's bytes.
 #[cycle(writer)]
 fn put_value(value: &Value, out: &mut Vec<u8>) -> Result<(), Memory>
     requires { length (written_value (datum_of value.now)) ≤ most_bytes_written }
@@ -176,7 +176,7 @@ fn put_value(value: &Value, out: &mut Vec<u8>) -> Result<(), Memory>
     }
 }
 
-/// Puts a document. An `Err` may leave a part of it.
+/// Appends a document. After an error a part of it may have been written.
 #[cycle(writer)]
 fn put_document(document: &Document, out: &mut Vec<u8>) -> Result<(), Memory>
     requires { length (written document.now) ≤ most_bytes_written }
@@ -192,7 +192,7 @@ fn put_document(document: &Document, out: &mut Vec<u8>) -> Result<(), Memory>
     end_document(start, out)
 }
 
-/// Puts an array, its values under their indices as names: `0`, `1` and so on. An `Err` may leave a part of it.
+/// Appends an array: its values under their indices as names, `0`, `1` and so on. After an error a part of it may have been written.
 #[cycle(writer)]
 fn put_array(array: &Array, out: &mut Vec<u8>) -> Result<(), Memory>
     requires { length (framed (written_items 0 array.now)) ≤ most_bytes_written }

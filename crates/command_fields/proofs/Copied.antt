@@ -1,4 +1,4 @@
--- Documents that are copied out of an array, and lists of documents.
+-- Documents that are copied from an array, and lists of documents.
 use Rattle.std.proofs.Common.{◌≡◌, ℕ, suc, ◌+◌, ◌<◌, ◌≤◌, List, [], ◌∷◌, ◌++◌, length, get_or, drop, refl, sym, ◌∙◌, ap, add-one, drop-cons, Option, Some, None, append_assoc, append-nil, true, false, arith}
 use Rattle.std.specs.Option.{is_some}
 use Rattle.std.proofs.lemmas.List.{drop_all}
@@ -37,7 +37,7 @@ all_copied all prefix values i whole outside =
     let left : with_prefix prefix (Some []) ≡ all = rw (drop_all i values outside) at whole in
     ap (λ (l : List Fields). Some l) (sym (append-nil prefix)) ∙ left
 
--- documents of a list, copied so far
+-- the documents of a list that were copied
 pub one_listed : (all prefix new documents : List Fields) (i : ℕ) (ms : Fields) → prefix ++ drop i documents ≡ all → i < length documents → ms ≡ get_or documents i ms → new ≡ prefix ++ ms ∷ [] → new ++ drop (i + 1) documents ≡ all
 one_listed all prefix new documents i ms whole inside is new_is =
     let cut : drop i documents ≡ ms ∷ drop (i + 1) documents = rw add-one (drop-cons documents i ms inside ∙ ap (λ (first : Fields). first ∷ drop (suc i) documents) (sym is)) in
@@ -49,7 +49,7 @@ all_listed all prefix documents i whole outside =
     let left : prefix ++ [] ≡ all = rw (drop_all i documents outside) at whole in
     sym (append-nil prefix) ∙ left
 
--- an array of documents holds as many documents as values
+-- an array of documents has as many documents as values
 counted : (o : Option (List Fields)) (n : ℕ) (ms : Fields) → ((documents : List Fields) → o ≡ Some documents → length documents ≡ n) → (documents : List Fields) → elim o [ None ↦ None | Some more ↦ Some (ms ∷ more) ] ≡ Some documents → length documents ≡ n + 1
 counted None n ms h documents e = cc
 counted (Some more) n ms h documents e =

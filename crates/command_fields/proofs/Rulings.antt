@@ -1,4 +1,4 @@
--- Fields by their rules: a loop over them tells the first error.
+-- Fields by their rules: a loop over them returns the first error.
 use Rattle.std.proofs.Common.{◌≡◌, ℕ, suc, ◌+◌, ◌<◌, List, [], ◌∷◌, ◌++◌, length, get_or, take, drop, refl, sym, ◌∙◌, ap, add-one, drop-cons, arith, Bool, true, false, ◌||◌, Some, None}
 use Rattle.std.specs.List.{list_any}
 use Rattle.std.specs.Str.{bytes_eq}
@@ -12,7 +12,7 @@ use Rattle.command_model.specs.Fields.{Rule, by_rule, check_fields, find_rule}
 use Rattle.command_fields.specs.FieldNames.{names_given}
 use Rattle.bson_model.proofs.Booleans.{or_false}
 
--- what is told of one field
+-- the error of one field
 abbrev pub field_verdict : Verdict → List Rule → List Field → Field → Verdict
 field_verdict unlisted rules given m = by_rule unlisted (find_rule m.name rules) (list_any (λ n. bytes_eq n.name m.name) given) (datum_of m.value)
 
@@ -40,7 +40,7 @@ prefix_of ms i m inside is = let on : i + 1 ≡ suc i = omega arith in ap (λ n.
 pub back_of : (ms : List Field) (i : ℕ) (m : Field) → i < length ms → m ≡ get_or ms i m → drop i ms ≡ m ∷ drop (i + 1) ms
 back_of ms i m inside is = rw add-one (drop-cons ms i m inside ∙ ap (λ (first : Field). first ∷ drop (suc i) ms) (sym is))
 
--- the fields of which nothing was told yet, behind those before them
+-- the error of the fields that are not checked yet, after those before them
 abbrev pub rest_verdict : Verdict → List Rule → List Field → ℕ → Verdict
 rest_verdict unlisted rules ms i = check_fields unlisted rules (names_given [] (take i ms)) (fields_of (drop i ms))
 
@@ -52,19 +52,19 @@ rest_cons unlisted rules ms i m inside is =
     let given : is_one_of m.name (names_given [] (take i ms)) ≡ list_any (λ n. bytes_eq n.name m.name) (take i ms) = given_so_far m.name (take i ms) [] ∙ or_false _ in
     rw (cut, named, given) refl
 
--- nothing is told of one more
+-- one more field passes
 pub passes : (whole now first rest : Verdict) → now ≡ first_of (first ∷ rest ∷ []) → first ≡ None → now ≡ whole → rest ≡ whole
 passes whole now first rest cons none so_far =
     let told : now ≡ first_of (rest ∷ []) = cons ∙ ap (λ v. first_of (v ∷ rest ∷ [])) none in
     sym (last_of rest) ∙ sym told ∙ so_far
 
--- an error is told
+-- a field has an error
 pub stops : (whole now first rest : Verdict) (e : ErrorCode) → now ≡ first_of (first ∷ rest ∷ []) → first ≡ Some e → now ≡ whole → Some e ≡ whole
 stops whole now first rest e cons some so_far =
     let told : now ≡ Some e = cons ∙ ap (λ v. first_of (v ∷ rest ∷ [])) some in
     sym told ∙ so_far
 
--- the fields behind a command's own
+-- the fields after a command's own
 pub behind_own : (unlisted : Verdict) (rules : List Rule) (ms : List Field) (own : List ℕ) (value : Datum) (others : Fields) → fields_of ms ≡ field own value others → rest_verdict unlisted rules ms 1 ≡ check_fields unlisted rules (own ∷ []) others
 behind_own unlisted rules [] own value others e = cc
 behind_own unlisted rules (m ∷ ms) own value others e =

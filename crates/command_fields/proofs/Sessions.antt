@@ -1,4 +1,4 @@
--- What is told of the session that a write names.
+-- The check of the session that a write names.
 use Rattle.std.proofs.Common.{◌≡◌, ℕ, List, [], ◌∷◌, length, refl, Option, Some, None, codes}
 use Rattle.std.specs.Prelude.{ℤ, pos}
 use Rattle.std.specs.Option.{unwrap_or}

@@ -1,4 +1,4 @@
--- What a fault of a statement's words is told as.
+-- The error of a fault of a statement's operands.
 use Rattle.cluster_base.specs.declared.code.Code.TheVariants.{BadValue}
 use Rattle.field_paths.specs.declared.path.ParseFault.{ParseFault}
 use Rattle.field_paths.specs.declared.path.ParseFault.TheVariants as faults

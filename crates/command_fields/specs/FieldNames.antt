@@ -1,4 +1,4 @@
--- What stands before other fields.
+-- The fields before other fields.
 use Rattle.std.specs.Prelude.{◌≡◌, ℕ, List, [], ◌∷◌, Some}
 use Rattle.bson_model.specs.Tree.{Datum}
 use Rattle.base_model.specs.Names.{full_name}

@@ -1,4 +1,4 @@
--- What the program's times are.
+-- The program's times, by the definitions.
 use Rattle.std.specs.Prelude.{ℕ, Option}
 use Rattle.std.specs.Option.{option_map}
 use Rattle.cluster_base.specs.declared.time.Time.{Time}

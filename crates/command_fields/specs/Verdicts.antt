@@ -1,4 +1,4 @@
--- What the program's checks tell.
+-- The program's checks, by the definitions.
 use Rattle.std.specs.Prelude.{◌≡◌, Option, Some, None, Result, Ok, Err}
 use Rattle.std.specs.Option.{option_map}
 use Rattle.cluster_base.specs.Codes.{meaning_of}
@@ -10,11 +10,11 @@ use Rattle.command_fields.specs.declared.fault.CheckFault.TheVariants.{Refused, 
 abbrev pub verdict_view : Option Code → Verdict
 verdict_view verdict = option_map meaning_of verdict
 
--- what a rule tells, if there is one
+-- the result of a rule, if there is one
 abbrev pub ruling_view : Option (Option Code) → Option Verdict
 ruling_view ruling = option_map verdict_view ruling
 
--- something so read, where the check passes, or its error; want of memory is free
+-- what is read, where the check passes, or its error; nothing is said where memory runs out
 abbrev pub ReadsBy : {X : Type 0} → (X → Type 0) → Result X CheckFault → Verdict → Type 0
 ReadsBy reads (Ok x) verdict = (verdict ≡ None) × reads x
 ReadsBy reads (Err (Refused code)) verdict = verdict ≡ Some (meaning_of code)

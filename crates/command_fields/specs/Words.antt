@@ -1,4 +1,4 @@
--- The words of a pipeline in a command's fields.
+-- The operands of a pipeline in a command's fields.
 use Rattle.std.specs.Prelude.{List, [], ◌∷◌, Option, Some, None, Result, Ok, Err}
 use Rattle.bson_model.specs.Tree.{Datum, document_value, array_value, Fields}
 use Rattle.cluster_base.specs.Codes.{meaning_of}
@@ -21,7 +21,7 @@ abbrev pub words_given : Option Datum → Option Fields
 words_given (Some (document_value ms)) = Some ms
 words_given value = None
 
--- what words of this kind read as: a stage, or none
+-- what an operand of this kind reads as: a stage, or none
 abbrev pub read_words : WordKind → Fields → Result (List Stage) QueryFault
 read_words Filter ms = read_query ms >>= λ asked. Ok (match_stage asked ∷ [])
 read_words Sort ms = read_sort ms >>= λ spec. Ok (sort_stage spec ∷ [])
@@ -31,7 +31,7 @@ abbrev pub stage_list : Option program.Stage → List Stage
 stage_list None = []
 stage_list (Some stage) = stage_of stage ∷ []
 
--- what is read, or the error that its field is told
+-- what is read, or the error that its field returns
 abbrev pub or_bad_value : Result (List Stage) QueryFault → Result (List Stage) ErrorCode
 or_bad_value (Ok stages) = Ok stages
 or_bad_value (Err fault) = Err bad_value
@@ -51,7 +51,7 @@ abbrev pub pipeline_view : Result Pipeline Code → Result (List Stage) ErrorCod
 pipeline_view (Ok pipeline) = Ok pipeline
 pipeline_view (Err code) = Err (meaning_of code)
 
--- the error of what is not read
+-- the error of what can't be read
 abbrev pub told : {X : Type 0} → Result X ErrorCode → Verdict
 told (Ok x) = None
 told (Err error) = Some error
@@ -60,7 +60,7 @@ abbrev pub or_no_stages : Result (List Stage) ErrorCode → List Stage
 or_no_stages (Ok stages) = stages
 or_no_stages (Err error) = []
 
--- an array that is told this
+-- the check of an array, given its result
 abbrev pub array_needed : Verdict → Datum → Verdict
 array_needed verdict (array_value stages) = verdict
 array_needed verdict value = Some type_mismatch

@@ -1,4 +1,4 @@
-//! Checks of values, as they stand in all commands. Each tells the error, if any.
+//! Checks of values that all commands share. Each returns the error, if any.
 
 ghost use Rattle.std.specs.Prelude.{◌≡◌, [], None, Some};
 ghost use Rattle.bson_model.specs.Tree.{get};
@@ -20,14 +20,14 @@ use cluster_base::Code;
 /// The subtype of a binary that is a UUID (BSON 1.1, `subtype`).
 const UUID: u8 = 4;
 
-/// Gives the error, unless the test passes.
+/// Returns the error, unless the test passes.
 pub fn unless_passes(passes: bool, code: Code) -> Option<Code>
     ensures { verdict_view result ≡ checks.unless_passes passes (meaning_of code) }
 {
     if passes { None } else { Some(code) }
 }
 
-/// Fails with the error that a check tells, if any.
+/// Returns the error of a check as an `Err`, if there is one.
 pub fn passed(verdict: Option<Code>) -> Result<(), CheckFault>
     ensures { ReadsBy (λ read. Unit {0}) result (verdict_view verdict) }
 {
@@ -37,7 +37,7 @@ pub fn passed(verdict: Option<Code>) -> Result<(), CheckFault>
     }
 }
 
-/// Takes a boolean; of another value it gives `TypeMismatch`.
+/// Accepts a boolean; returns `TypeMismatch` for another value.
 pub fn boolean_needed(value: &Value) -> Option<Code>
     ensures { verdict_view result ≡ fields.boolean_needed (datum_of value.now) }
 {
@@ -47,7 +47,7 @@ pub fn boolean_needed(value: &Value) -> Option<Code>
     }
 }
 
-/// Takes `false` alone, which is like no field; of another value it gives `FailedToParse`.
+/// Accepts only `false`, which is like no field; returns `FailedToParse` for another value.
 pub fn false_needed(value: &Value) -> Option<Code>
     ensures { verdict_view result ≡ fields.false_needed (datum_of value.now) }
 {
@@ -57,7 +57,7 @@ pub fn false_needed(value: &Value) -> Option<Code>
     }
 }
 
-/// Takes a string; of another value it gives `TypeMismatch`.
+/// Accepts a string; returns `TypeMismatch` for another value.
 pub fn string_needed(value: &Value) -> Option<Code>
     ensures { verdict_view result ≡ fields.string_needed (datum_of value.now) }
 {
@@ -67,7 +67,7 @@ pub fn string_needed(value: &Value) -> Option<Code>
     }
 }
 
-/// Takes a document, whatever is in it; of another value it gives `TypeMismatch`.
+/// Accepts any document; returns `TypeMismatch` for another value.
 pub fn document_needed(value: &Value) -> Option<Code>
     ensures { verdict_view result ≡ fields.document_needed (λ ms. None) (datum_of value.now) }
 {
@@ -77,7 +77,7 @@ pub fn document_needed(value: &Value) -> Option<Code>
     }
 }
 
-/// A field that must be there; else it gives `FailedToParse`.
+/// Requires a field of that name; returns `FailedToParse` where there is none.
 pub fn check_required(name: &str, document: &Document) -> Option<Code>
     ensures { verdict_view result ≡ fields.check_required name.now document.now }
 {
@@ -87,7 +87,7 @@ pub fn check_required(name: &str, document: &Document) -> Option<Code>
     }
 }
 
-/// The identifier of a session: a UUID.
+/// Accepts the identifier of a session: a UUID.
 pub(crate) fn session_id(value: &Value) -> Option<Code>
     ensures { verdict_view result ≡ fields.session_id (datum_of value.now) }
 {
@@ -100,7 +100,7 @@ pub(crate) fn session_id(value: &Value) -> Option<Code>
     }
 }
 
-/// The text of a value; the empty text of other values.
+/// Returns the text of a value, or the empty text for another value.
 pub(crate) fn text_in(value: &Value) -> &str
     ensures { result.now ≡ forms.string_or [] (Some (datum_of value.now)) }
 {
@@ -110,7 +110,7 @@ pub(crate) fn text_in(value: &Value) -> &str
     }
 }
 
-/// The boolean of the first field of that name, or `other` where there is none.
+/// Returns the boolean in the first field of that name, or `other` where there is none.
 pub fn boolean_or(other: bool, document: &Document, name: &str) -> bool
     ensures { result ≡ fields.boolean_or other (get name.now document.now) }
 {
@@ -132,7 +132,7 @@ pub(crate) fn timestamp_needed(value: &Value) -> Option<Code>
     }
 }
 
-/// The whole number that a value is, an int32 or an int64; none of another value.
+/// Returns the whole number that a value is, an int32 or an int64, or none for another value.
 pub fn whole_number(value: &Value) -> Option<i64>
     ensures { result ≡ whole_number (datum_of value.now) }
 {
@@ -143,7 +143,7 @@ pub fn whole_number(value: &Value) -> Option<i64>
     }
 }
 
-// The number, where it is not negative.
+// Returns the number, where it is not negative.
 fn natural_of(number: i64) -> Option<u64>
     ensures { result ≡ if_read (as_natural number) }
 {
@@ -154,7 +154,7 @@ fn natural_of(number: i64) -> Option<u64>
     }
 }
 
-/// Takes a whole number that is not negative; of a negative one it gives `BadValue`, of another value `TypeMismatch`.
+/// Accepts a whole number that is not negative; returns `BadValue` for a negative one, and `TypeMismatch` for another value.
 pub fn natural_needed(value: &Value) -> Option<Code>
     ensures { verdict_view result ≡ reading.natural_needed (datum_of value.now) }
 {
@@ -164,7 +164,7 @@ pub fn natural_needed(value: &Value) -> Option<Code>
     }
 }
 
-// The number that a value is, where it is whole and not negative.
+// Returns the number that a value is, where it is whole and not negative.
 fn natural_in(value: &Value) -> Option<u64>
     ensures { result ≡ if_read (read_natural (datum_of value.now)) }
 {
@@ -174,7 +174,7 @@ fn natural_in(value: &Value) -> Option<u64>
     }
 }
 
-/// The whole number of the first field of that name, where it is there and not negative.
+/// Returns the whole number in the first field of that name, where it is there and not negative.
 pub fn number_given(document: &Document, name: &str) -> Option<u64>
     ensures { result ≡ reading.number_given name.now document.now }
 {

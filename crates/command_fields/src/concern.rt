@@ -1,4 +1,4 @@
-//! Read concerns: at which time a read reads (MongoDB manual, "Read Concern").
+//! Read concerns: the time of a read (MongoDB manual, "Read Concern").
 
 ghost use Rattle.std.specs.Prelude.{◌≡◌, ◌∷◌, [], Some, codes};
 ghost use Rattle.bson_model.specs.Tree.{document_value, get};
@@ -16,14 +16,14 @@ use crate::rules::{Rules, check_fields};
 use bson_values::{Document, Value};
 use cluster_base::{Code, Time};
 
-// Whether a read is of one of the levels that there are.
+// Returns whether the level of a read is one of the supported ones.
 fn is_level(level: &str) -> bool
     ensures { result ≡ checks.is_one_of level.now (codes "local" ∷ codes "majority" ∷ codes "available" ∷ codes "snapshot" ∷ []) }
 {
     "local" == level || "majority" == level || "available" == level || "snapshot" == level
 }
 
-// The level of a read.
+// Checks the level of a read.
 fn check_level(value: &Value) -> Option<Code>
     ensures { verdict_view result ≡ model.check_level (datum_of value.now) }
 {
@@ -33,7 +33,7 @@ fn check_level(value: &Value) -> Option<Code>
     }
 }
 
-// Whether the level of a read concern is `snapshot`.
+// Returns whether the level of a read concern is `snapshot`.
 fn is_snapshot(concern: &Document) -> bool
     ensures { result ≡ model.is_snapshot (get (codes "level") concern.now) }
 {
@@ -70,7 +70,7 @@ impl Rules for ConcernRules {
     }
 }
 
-// Whether a time may be named: with the level `snapshot` alone, and not beside one to be reached.
+// Returns whether a time may be named: only with the level `snapshot`, and not together with a time to be reached.
 fn may_name_time(concern: &Document) -> bool
     ensures { result ≡ model.may_name_time concern.now }
 {
@@ -89,7 +89,7 @@ fn check_concern(concern: &Document) -> Option<Code>
     }
 }
 
-/// Takes a read concern; of another value it gives `TypeMismatch`, and of another document the first error of its fields.
+/// Accepts a read concern; returns `TypeMismatch` for another value, and for a document the first error of its fields.
 pub fn concern_needed(value: &Value) -> Option<Code>
     ensures { verdict_view result ≡ fields.document_needed model.check_concern (datum_of value.now) }
 {
@@ -99,7 +99,7 @@ pub fn concern_needed(value: &Value) -> Option<Code>
     }
 }
 
-// The time that a field of a read concern gives.
+// Returns the time in a field of a read concern.
 fn time_in(concern: &Document, name: &str) -> Option<Time>
     ensures { time_view result ≡ model.time_given name.now (Some (document_value concern.now)) }
 {
@@ -112,7 +112,7 @@ fn time_in(concern: &Document, name: &str) -> Option<Time>
     }
 }
 
-/// The time that the field of that name of a command's read concern gives, if any.
+/// Returns the time in the field of that name of a command's read concern, if any.
 pub fn time_given(document: &Document, name: &str) -> Option<Time>
     ensures { time_view result ≡ model.time_given name.now (get (codes "readConcern") document.now) }
 {

@@ -1,4 +1,4 @@
-//! The documents of statements, copied out of a request that is kept.
+//! The documents of statements, copied from a request that is kept.
 
 ghost use Rattle.std.specs.Prelude.{◌≡◌, IfOk};
 ghost use Rattle.std.specs.Option.{option_map};
@@ -14,7 +14,7 @@ use command_replies::WriteKind;
 use opmsg_frames::Sequence;
 use std::alloc::Global;
 
-// The documents of an array, copied; none where a value is no document.
+// Returns copies of the documents of an array, or none where a value is not a document.
 fn documents_in(alloc: Global, values: &[Value]) -> Result<Option<Vec<Document>>, Memory>
     ensures { IfOk result (λ o. option_map (λ v. v.items) o ≡ model.documents_in (items_of values.now)) }
 {
@@ -28,7 +28,7 @@ fn documents_in(alloc: Global, values: &[Value]) -> Result<Option<Vec<Document>>
     Ok(Some(documents))
 }
 
-// Copies of documents.
+// Returns copies of documents.
 fn copies_of(alloc: Global, documents: &[Document]) -> Result<Vec<Document>, Memory>
     ensures { IfOk result (λ v. v.items ≡ documents.now) }
 {
@@ -39,7 +39,7 @@ fn copies_of(alloc: Global, documents: &[Document]) -> Result<Vec<Document>, Mem
     Ok(copies)
 }
 
-// The documents of statements by their field.
+// Returns the documents of statements from their field.
 fn documents_of_value(alloc: Global, value: &Value) -> Result<Option<Vec<Document>>, Memory>
     ensures { IfOk result (λ o. option_map (λ v. v.items) o ≡ model.documents_of_value (datum_of value.now)) }
 {
@@ -49,7 +49,7 @@ fn documents_of_value(alloc: Global, value: &Value) -> Result<Option<Vec<Documen
     }
 }
 
-// The documents of statements, by their field or by their sequence.
+// Returns the documents of statements, from their field or from their sequence.
 fn documents_asked(
     alloc: Global,
     kind: WriteKind,
@@ -70,8 +70,8 @@ fn documents_asked(
     }
 }
 
-/// The documents of a command's statements, by their field or else by its first sequence, copied; none where it has none. Fails for want
-/// of memory.
+/// Returns copies of the documents of a command's statements, from their field or else from its first sequence, or none where it has none. Returns `Memory`
+/// if memory runs out.
 pub fn documents_or_none(
     alloc: Global,
     kind: WriteKind,

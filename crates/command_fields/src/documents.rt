@@ -1,4 +1,4 @@
-//! The documents of statements, moved out of a request that is given away.
+//! The documents of statements, moved out of a request that is consumed.
 
 ghost use Rattle.std.specs.Prelude.{◌≡◌, IfOk};
 ghost use Rattle.std.specs.Option.{option_map};
@@ -16,7 +16,7 @@ use command_replies::WriteKind;
 use opmsg_frames::{Sequence, SequenceList};
 use std::alloc::Global;
 
-/// The value of the first field of that name.
+/// Returns the value of the first field of that name.
 pub(crate) fn value_named(fields: Vec<Field>, name: &str) -> Option<Value>
     ensures { option_map datum_of result ≡ get name.now (fields_of fields.items) }
 {
@@ -28,7 +28,7 @@ pub(crate) fn value_named(fields: Vec<Field>, name: &str) -> Option<Value>
     None
 }
 
-// The documents of an array; none where a value is no document.
+// Returns the documents of an array, or none where a value is not a document.
 fn documents_in(alloc: Global, values: Vec<Value>) -> Result<Option<Vec<Document>>, Memory>
     ensures { IfOk result (λ o. option_map (λ v. v.items) o ≡ model.documents_in (items_of values.items)) }
 {
@@ -42,7 +42,7 @@ fn documents_in(alloc: Global, values: Vec<Value>) -> Result<Option<Vec<Document
     Ok(Some(documents))
 }
 
-// The documents of statements by their field.
+// Returns the documents of statements from their field.
 fn documents_of_value(alloc: Global, value: Value) -> Result<Option<Vec<Document>>, Memory>
     ensures { IfOk result (λ o. option_map (λ v. v.items) o ≡ model.documents_of_value (datum_of value)) }
 {
@@ -52,7 +52,7 @@ fn documents_of_value(alloc: Global, value: Value) -> Result<Option<Vec<Document
     }
 }
 
-// The documents of the first sequence.
+// Returns the documents of the first sequence.
 fn documents_of_first(sequences: Vec<Sequence>) -> Option<Vec<Document>>
     ensures { option_map (λ v. v.items) result ≡ first_documents (pairs_of sequences.items) }
 {
@@ -63,7 +63,7 @@ fn documents_of_first(sequences: Vec<Sequence>) -> Option<Vec<Document>>
     }
 }
 
-// The documents of statements, by their field or by their sequence.
+// Returns the documents of statements, from their field or from their sequence.
 fn documents_asked(
     alloc: Global,
     kind: WriteKind,
@@ -78,8 +78,8 @@ fn documents_asked(
     }
 }
 
-/// The documents of a command's statements, moved out of its request; none where it has none. Room is made for their row alone. Fails
-/// for want of memory.
+/// Returns the documents of a command's statements, moved out of its request, or none where it has none. Only the list of them is allocated. Returns `Memory`
+/// if memory runs out.
 pub fn documents_moved(
     alloc: Global,
     kind: WriteKind,

@@ -1,4 +1,4 @@
-//! Why a check gives nothing.
+//! Why a check fails.
 
 ghost use Rattle.std.specs.Prelude.{◌≡◌};
 ghost use Rattle.command_fields.specs.Faults.{fault_told};
@@ -9,12 +9,12 @@ use cluster_base::Code;
 use field_paths::ParseFault;
 use std::alloc::AllocFailed;
 
-/// Why documents ask for no command, or a field for nothing.
+/// Why documents are not a command, or a field is not valid.
 #[derive(Clone, Copy, Debug, PartialEq, Eq)]
 pub enum CheckFault {
-    /// A check tells this error.
+    /// A check returns this error.
     Refused(Code),
-    /// Want of memory.
+    /// Out of memory.
     Memory,
 }
 

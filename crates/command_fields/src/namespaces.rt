@@ -18,7 +18,7 @@ use cluster_base::{Code, NameFault, Namespace, is_reserved_database};
 use opmsg_frames::Form;
 use std::alloc::Global;
 
-/// The database has to be named by a string, but in OP_QUERY: else `FailedToParse`, and `TypeMismatch` of another value.
+/// Requires the database as a string, except in OP_QUERY: returns `FailedToParse` where it is missing, and `TypeMismatch` for another value.
 pub fn check_database(sent: Form, document: &Document) -> Option<Code>
     ensures { verdict_view result ≡ model.check_database (form_view sent) (get (codes "$db") document.now) }
 {
@@ -31,7 +31,7 @@ pub fn check_database(sent: Form, document: &Document) -> Option<Code>
     }
 }
 
-/// The database that a request names; of OP_QUERY it is `admin`.
+/// Returns the database that a request names; in OP_QUERY it is `admin`.
 pub fn database_of(sent: Form, document: &Document) -> &str
     ensures { result.now ≡ model.database_of (form_view sent) document.now }
 {
@@ -44,7 +44,7 @@ pub fn database_of(sent: Form, document: &Document) -> &str
     }
 }
 
-/// The namespace that these texts make, if clients may use it. Fails with `InvalidNamespace`, and for want of memory.
+/// Returns the namespace of these texts, if clients may use it. Returns `InvalidNamespace` if they may not, and `Memory` if memory runs out.
 pub fn namespace_of(
     alloc: Global,
     database: &str,
@@ -63,8 +63,8 @@ pub fn namespace_of(
     }
 }
 
-/// The namespace of the collection that a command's own field names. Fails with `TypeMismatch` for a value that is no string, with
-/// `InvalidNamespace`, and for want of memory.
+/// Returns the namespace of the collection that a command's own field names. Returns `TypeMismatch` for a value that is not a string, `InvalidNamespace` for
+/// a namespace that clients may not use, and `Memory` if memory runs out.
 pub fn collection_of(alloc: Global, database: &str, own: &Value) -> Result<Namespace, CheckFault>
     ensures { ReadsBy (λ n. NamesCollection n database.now (datum_of own.now)) result (model.check_collection database.now (datum_of own.now)) }
 {

@@ -1,4 +1,4 @@
-//! The pipeline in a field of a command. It is read once, before the fields are checked in their order; its rule tells what came of it.
+//! The pipeline in a field of a command. It is read once, before the fields are checked in their order; its rule returns the result of that reading.
 
 ghost use Rattle.std.specs.Prelude.{◌≡◌, IfOk, Ok, codes};
 ghost use Rattle.bson_model.specs.Tree.{get};
@@ -15,7 +15,7 @@ use cluster_base::Code;
 use pipeline_lang::Pipeline;
 use std::alloc::Global;
 
-/// A pipeline that was read, or the error that it is told.
+/// A pipeline that was read, or the error that its field returns.
 pub type PipelineWord = Result<Pipeline, Code>;
 
 fn read_stages(alloc: Global, array: &Array) -> Result<Pipeline, CheckFault>
@@ -25,7 +25,7 @@ fn read_stages(alloc: Global, array: &Array) -> Result<Pipeline, CheckFault>
     Ok(pipeline)
 }
 
-/// The pipeline of an aggregate's document, read; none where none is given. Fails for want of memory.
+/// Reads the pipeline in an aggregate's document; it is empty where none is given. Returns `Memory` if memory runs out.
 pub fn pipeline_in(alloc: Global, document: &Document) -> Result<PipelineWord, Memory>
     ensures { IfOk result (λ word. pipeline_view word ≡ pipeline_read (get (codes "pipeline") document.now)) }
 {
@@ -38,7 +38,7 @@ pub fn pipeline_in(alloc: Global, document: &Document) -> Result<PipelineWord, M
     }
 }
 
-/// What the rule of the pipeline tells of a value, where the first one was read: its error, or `TypeMismatch` of a value that is no array.
+/// Returns the result of the pipeline's rule for a value, given the first one as it was read: its error, or `TypeMismatch` for a value that is not an array.
 pub fn pipeline_told(word: &PipelineWord, value: &Value) -> Option<Code>
     ensures { verdict_view result ≡ array_needed (told (pipeline_view word.now)) (datum_of value.now) }
 {

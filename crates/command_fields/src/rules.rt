@@ -1,4 +1,4 @@
-//! Which fields a document may have: each by a rule, and none twice. Each check tells the error, if any.
+//! Which fields a document may have: each by a rule, and none twice. Each check returns the error, if any.
 
 ghost use Rattle.std.specs.Prelude.{◌≡◌, ℕ, List, [], ◌∷◌, take, drop, Some, None, codes};
 ghost use Rattle.std.specs.List.{list_any};
@@ -22,19 +22,19 @@ pub trait Rules {
     // The rules.
     ghost rules: { Self → List Rule };
 
-    // What is told of a field without a rule.
+    // The error of a field without a rule.
     ghost unlisted_verdict: { Self → Verdict };
 
-    /// What the rule of that name tells of a value, if there is one.
+    /// Returns the result of the rule of that name for a value, if there is one.
     fn ruling(&self, name: &str, value: &Value) -> Option<Option<Code>>
         ensures { ruling_view result ≡ option_map (λ r. r.check (datum_of value.now)) (find_rule name.now (rules self.now)) };
 
-    /// What is told of a field without a rule.
+    /// Returns the error of a field without a rule.
     fn unlisted(&self) -> Option<Code>
         ensures { verdict_view result ≡ unlisted_verdict self.now };
 }
 
-// Whether a field of that name is among these.
+// Returns whether one of these fields has that name.
 fn is_given(given: &[Field], name: &str) -> bool
     ensures { result ≡ list_any (λ m. bytes_eq m.name name.now) given.now }
 {
@@ -46,7 +46,7 @@ fn is_given(given: &[Field], name: &str) -> bool
     false
 }
 
-// One field, behind those that are given.
+// Checks one field, after those before it.
 fn check_field<R: Rules>(rules: &R, given: &[Field], field: &Field) -> Option<Code>
     ensures { verdict_view result ≡ by_rule (R.unlisted_verdict rules.now) (find_rule field.now.name (R.rules rules.now))
         (list_any (λ m. bytes_eq m.name field.now.name) given.now) (datum_of field.now.value) }
@@ -64,8 +64,8 @@ fn check_field<R: Rules>(rules: &R, given: &[Field], field: &Field) -> Option<Co
     }
 }
 
-/// The first error of the fields from an index on, behind those before it: what the rule of a field tells, `FailedToParse` of one that is
-/// given before, or what is told of one without a rule.
+/// Returns the first error of the fields from an index on, after those before it: the result of a field's rule, `FailedToParse` for a name that occurred
+/// before, or the error of a field without a rule.
 pub fn check_fields<R: Rules>(rules: &R, fields: &[Field], from: usize) -> Option<Code>
     ensures { verdict_view result ≡ model.check_fields (R.unlisted_verdict rules.now) (R.rules rules.now)
         (names_given [] (take from fields.now)) (fields_of (drop from fields.now)) }
@@ -78,7 +78,7 @@ pub fn check_fields<R: Rules>(rules: &R, fields: &[Field], from: usize) -> Optio
     None
 }
 
-/// The same of the fields of a command behind its own.
+/// The same for the fields of a command after its own.
 pub fn check_behind_own<R: Rules>(rules: &R, document: &Document) -> Option<Code>
     ensures { (own : List ℕ) (value : Datum) (others : Fields) → document.now ≡ field own value others →
         verdict_view result ≡ model.check_fields (R.unlisted_verdict rules.now) (R.rules rules.now) (own ∷ []) others }
@@ -126,7 +126,7 @@ fn session_needed(value: &Value) -> Option<Code>
     }
 }
 
-/// What the rules that all commands have tell of a value, if there is one of that name.
+/// Returns the result of the rules that all commands have for a value, if there is one of that name.
 pub fn common_ruling(name: &str, value: &Value) -> Option<Option<Code>>
     ensures { ruling_view result ≡ option_map (λ r. r.check (datum_of value.now)) (find_rule name.now common_rules) }
 {

@@ -1,4 +1,4 @@
-//! Statements: the fields of each, its key and its words (MongoDB manual, "insert", "update", "delete").
+//! Statements: the fields of each, its key and its operands (MongoDB manual, "insert", "update", "delete").
 
 ghost use Rattle.std.specs.Prelude.{◌≡◌, map, None, Some, codes};
 ghost use Rattle.std.specs.Option.{option_map, option_or};
@@ -51,7 +51,7 @@ impl Rules for UpdateRules {
     }
 }
 
-// A delete's limit, which is 0 or 1.
+// Checks a delete's limit, which is 0 or 1.
 fn limit_needed(value: &Value) -> Option<Code>
     ensures { verdict_view result ≡ deletes.limit_needed (datum_of value.now) }
 {
@@ -89,7 +89,7 @@ impl Rules for DeleteRules {
     }
 }
 
-// The fields of an update's statement.
+// Checks the fields of an update's statement.
 fn check_update(statement: &Document) -> Option<Code>
     ensures { verdict_view result ≡ updates.check_update statement.now }
 {
@@ -102,7 +102,7 @@ fn check_update(statement: &Document) -> Option<Code>
     check_required("u", statement)
 }
 
-// The fields of a delete's statement.
+// Checks the fields of a delete's statement.
 fn check_delete(statement: &Document) -> Option<Code>
     ensures { verdict_view result ≡ deletes.check_delete statement.now }
 {
@@ -115,7 +115,7 @@ fn check_delete(statement: &Document) -> Option<Code>
     check_required("limit", statement)
 }
 
-// The fields of a statement.
+// Checks the fields of a statement.
 fn check_form(kind: WriteKind, statement: &Document) -> Option<Code>
     ensures { verdict_view result ≡ (statement_form (kind_view kind)).check statement.now }
 {
@@ -126,7 +126,7 @@ fn check_form(kind: WriteKind, statement: &Document) -> Option<Code>
     }
 }
 
-// The document that a value is; of another value, or of none, the empty document.
+// Returns the document that a value is, or the empty document for another value or none.
 fn document_or_none(alloc: Global, value: Option<Value>) -> Document
     ensures { result ≡ model.document_or_none (option_map datum_of value) }
 {
@@ -139,7 +139,7 @@ fn document_or_none(alloc: Global, value: Option<Value>) -> Document
     }
 }
 
-// Keeps a value, unless one was found before it.
+// Stores a value, unless one was found before it.
 fn keep_first(found: &mut Option<Value>, value: Value)
     ensures { option_map datum_of found.new ≡ option_or (option_map datum_of found.old) (Some (datum_of value)) }
 {
@@ -148,7 +148,7 @@ fn keep_first(found: &mut Option<Value>, value: Value)
     }
 }
 
-// The first values that are named `q` and `u`.
+// Returns the first values that are named `q` and `u`.
 fn filter_and_change(fields: Vec<Field>) -> (Option<Value>, Option<Value>)
     ensures filter { option_map datum_of result.0 ≡ get (codes "q") (fields_of fields.items) }
     ensures change { option_map datum_of result.1 ≡ get (codes "u") (fields_of fields.items) }
@@ -166,7 +166,7 @@ fn filter_and_change(fields: Vec<Field>) -> (Option<Value>, Option<Value>)
     (filter, change)
 }
 
-// The words of an update, moved out of its statement.
+// Returns the operands of an update, moved out of its statement.
 fn update_of(alloc: Global, statement: Document) -> OpWords
     ensures { operation_view result ≡ updates.update_of statement }
 {
@@ -179,7 +179,7 @@ fn update_of(alloc: Global, statement: Document) -> OpWords
     }
 }
 
-// The words of a delete, moved out of its statement.
+// Returns the operands of a delete, moved out of its statement.
 fn delete_of(alloc: Global, statement: Document) -> OpWords
     ensures { operation_view result ≡ deletes.delete_of statement }
 {
@@ -189,7 +189,7 @@ fn delete_of(alloc: Global, statement: Document) -> OpWords
     }
 }
 
-// The words of a statement.
+// Returns the operands of a statement.
 fn words_of(alloc: Global, kind: WriteKind, statement: Document) -> OpWords
     ensures { operation_view result ≡ (statement_form (kind_view kind)).operation statement }
 {
@@ -200,7 +200,7 @@ fn words_of(alloc: Global, kind: WriteKind, statement: Document) -> OpWords
     }
 }
 
-// Whether a value may be a key.
+// Returns whether a value may be a key.
 fn is_key(value: &Value) -> bool
     ensures { result ≡ keys.is_key (datum_of value.now) }
 {
@@ -210,7 +210,7 @@ fn is_key(value: &Value) -> bool
     )
 }
 
-// The key that words ask for, before they are read.
+// Returns the key that operands require, before they are read.
 fn key_asked_by(words: &OpWords) -> Option<&Value>
     ensures { option_map (λ v. datum_of v.now) result ≡ model.key_asked_by (operation_view words.now) }
 {
@@ -221,7 +221,7 @@ fn key_asked_by(words: &OpWords) -> Option<&Value>
     }
 }
 
-// The key that words ask for.
+// Checks the key that operands require.
 fn check_key(words: &OpWords) -> Option<Code>
     ensures { verdict_view result ≡ model.check_key (model.key_asked_by (operation_view words.now)) }
 {
@@ -231,7 +231,7 @@ fn check_key(words: &OpWords) -> Option<Code>
     }
 }
 
-// The words as they are read. Fails with their first fault, and for want of memory.
+// Reads the operands. Returns their first fault, and `Memory` if memory runs out.
 fn read_words(alloc: Global, words: &OpWords) -> Result<(), CheckFault>
     ensures { ReadsBy (λ read. Unit {0}) result (model.check_words (operation_view words.now)) }
 {
@@ -239,8 +239,7 @@ fn read_words(alloc: Global, words: &OpWords) -> Result<(), CheckFault>
     Ok(())
 }
 
-// The words of a statement whose key passes, of which an insert need not be read. Fails with their first fault, and for want of
-// memory.
+// Checks the operands of a statement whose key passes; those of an insert need not be read. Returns their first fault, and `Memory` if memory runs out.
 fn check_words(alloc: Global, words: &OpWords) -> Result<(), CheckFault>
     requires { model.check_key (model.key_asked_by (operation_view words.now)) ≡ None }
     ensures { ReadsBy (λ read. Unit {0}) result (model.check_words (operation_view words.now)) }
@@ -251,7 +250,7 @@ fn check_words(alloc: Global, words: &OpWords) -> Result<(), CheckFault>
     }
 }
 
-// The words of a statement that passes. Fails with its first error, and for want of memory.
+// Returns the operands of a statement that passes. Returns its first error, and `Memory` if memory runs out.
 fn statement_of(alloc: Global, kind: WriteKind, statement: Document) -> Result<OpWords, CheckFault>
     ensures { ReadsBy (λ words. operation_view words ≡ (statement_form (kind_view kind)).operation statement) result
         (model.check_statement (statement_form (kind_view kind)) statement) }
@@ -269,8 +268,8 @@ fn statement_of(alloc: Global, kind: WriteKind, statement: Document) -> Result<O
     }
 }
 
-/// The words of statements that all pass, in order. Fails with the first error: of a statement the first of its fields, of its key and of
-/// its words; and for want of memory.
+/// Returns the operands of statements that all pass, in order. Returns the first error: of a statement the first of its fields, of its key and of its
+/// operands; and `Memory` if memory runs out.
 pub fn operations_of(
     alloc: Global,
     kind: WriteKind,

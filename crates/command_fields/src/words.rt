@@ -1,5 +1,5 @@
-//! The words of a pipeline in the fields of a command. They are read once, before the fields are checked in their order; the rule of
-//! such a field tells what came of it.
+//! The operands of a pipeline in the fields of a command. They are read once, before the fields are checked in their order; the rule of such a field returns
+//! the result of that reading.
 
 ghost use Rattle.std.specs.Prelude.{◌≡◌, ◌++◌, IfOk, Ok, OnOk, codes, map};
 ghost use Rattle.std.specs.Option.{option_map};
@@ -26,19 +26,19 @@ use sort_keys::SortSpec;
 use std::alloc::Global;
 use std::sync::Arc;
 
-/// What words are read as.
+/// What an operand is read as.
 #[derive(Clone, Copy)]
 pub enum WordKind {
     Filter,
     Sort,
-    /// An empty projection leaves all.
+    /// A projection; an empty one keeps all fields.
     Projection,
 }
 
-/// The stage of words that were read, if they are given; or the error that they are told.
+/// The stage of an operand that was read, if it is given; or the error that its field returns.
 pub type Word = Result<Option<Stage>, Code>;
 
-/// What was read, or the error that it is told later. Fails for want of memory.
+/// Returns what was read, or the error that is returned later. Returns `Memory` if memory runs out.
 pub fn held<T: Drop>(read: Result<T, CheckFault>) -> Result<Result<T, Code>, Memory>
     ensures { Held read result }
 {
@@ -49,7 +49,7 @@ pub fn held<T: Drop>(read: Result<T, CheckFault>) -> Result<Result<T, Code>, Mem
     }
 }
 
-/// The document that the first field of that name is, if it is one.
+/// Returns the document in the first field of that name, if it is one.
 pub fn words_in<'a>(document: &'a Document, name: &str) -> Option<&'a Document>
     ensures { option_map (λ words. words.now) result ≡ words_given (get name.now document.now) }
 {
@@ -89,7 +89,7 @@ fn read_projection(alloc: Global, words: &Document) -> Result<Option<Stage>, Che
     Ok(Some(Stage::Project(rules)))
 }
 
-// The stage that words are, if any.
+// Returns the stage that an operand is, if any.
 fn read_stage(alloc: Global, kind: WordKind, words: &Document) -> Result<Option<Stage>, CheckFault>
     ensures { ReadsBy (λ stage. read_words kind words.now ≡ Ok (stage_list stage)) result (unless_faulty (read_words kind words.now)) }
 {
@@ -100,7 +100,7 @@ fn read_stage(alloc: Global, kind: WordKind, words: &Document) -> Result<Option<
     }
 }
 
-/// The words of the first field of that name, read; no stage where it is no document. Fails for want of memory.
+/// Reads the operand in the first field of that name; no stage where it is not a document. Returns `Memory` if memory runs out.
 pub fn word_in(
     alloc: Global,
     kind: WordKind,
@@ -115,8 +115,7 @@ pub fn word_in(
     }
 }
 
-/// What the rule of a field tells of a value, where the words of its first value were read: their error, or `TypeMismatch` of a value that
-/// is no document.
+/// Returns the result of a field's rule for a value, given the first one as it was read: its error, or `TypeMismatch` for a value that is not a document.
 pub fn word_told(word: &Word, value: &Value) -> Option<Code>
     ensures { verdict_view result ≡ fields.document_needed (λ ms. told (word_view word.now)) (datum_of value.now) }
 {
@@ -129,7 +128,7 @@ pub fn word_told(word: &Word, value: &Value) -> Option<Code>
     }
 }
 
-/// Puts a stage behind the others, if there is one. Fails for want of memory.
+/// Appends a stage, if there is one. Returns `Memory` if memory runs out.
 pub(crate) fn put(stages: &mut Vec<Stage>, stage: Option<Stage>) -> Result<(), Memory>
     ensures { OnOk result (map stage_of stages.new.items ≡ map stage_of stages.old.items ++ stage_list stage) }
 {
@@ -139,7 +138,7 @@ pub(crate) fn put(stages: &mut Vec<Stage>, stage: Option<Stage>) -> Result<(), M
     Ok(())
 }
 
-/// Puts the stage of words behind the others, if they are given. Fails for want of memory.
+/// Appends the stage of an operand, if it is given. Returns `Memory` if memory runs out.
 pub fn put_word(stages: &mut Vec<Stage>, word: Word) -> Result<(), Memory>
     ensures { OnOk result (map stage_of stages.new.items ≡ map stage_of stages.old.items ++ or_no_stages (word_view word)) }
 {
@@ -149,7 +148,7 @@ pub fn put_word(stages: &mut Vec<Stage>, word: Word) -> Result<(), Memory>
     }
 }
 
-// How many documents are passed over or kept, where it is some.
+// Returns how many documents are skipped or kept, where the number is not 0.
 fn some_given(document: &Document, name: &str) -> Option<u64>
     ensures { result ≡ unless_zero (number_given name.now document.now) }
 {
@@ -159,7 +158,7 @@ fn some_given(document: &Document, name: &str) -> Option<u64>
     }
 }
 
-/// Puts how many documents are passed over, and how many are shown, behind the other stages. Fails for want of memory.
+/// Appends the stages of how many documents are skipped, and how many are kept. Returns `Memory` if memory runs out.
 pub fn put_numbers(stages: &mut Vec<Stage>, document: &Document) -> Result<(), Memory>
     ensures { OnOk result (map stage_of stages.new.items ≡ (map stage_of stages.old.items
         ++ stage_counted model.skip_stage (codes "skip") document.now) ++ stage_counted model.limit_stage (codes "limit") document.now) }

@@ -20,7 +20,7 @@ use cluster_base::Code;
 use command_replies::{ClientNumber, MOST_STATEMENTS, WriteKind};
 use opmsg_frames::Sequence;
 
-/// The field, or document sequence, that has a command's statements.
+/// Returns the name of the field, or document sequence, with a command's statements.
 pub fn statements_name(kind: WriteKind) -> &'static str
     ensures { result.now ≡ (statement_form (kind_view kind)).identifier }
 {
@@ -31,7 +31,7 @@ pub fn statements_name(kind: WriteKind) -> &'static str
     }
 }
 
-// Whether all values are documents.
+// Returns whether all values are documents.
 fn are_documents(values: &[Value]) -> bool
     ensures { result ≡ is_some (model.documents_in (items_of values.now)) }
 {
@@ -43,7 +43,7 @@ fn are_documents(values: &[Value]) -> bool
     true
 }
 
-/// Takes a count of statements that a command may have; else it gives `BadValue`.
+/// Accepts a number of statements that a command may have; returns `BadValue` for another one.
 pub fn check_count(count: usize) -> Option<Code>
     ensures { verdict_view result ≡ unless_passes (model.is_statement_count count) bad_value }
 {
@@ -53,7 +53,7 @@ pub fn check_count(count: usize) -> Option<Code>
     )
 }
 
-/// Takes the statements of a command, by their field: an array of documents, else `TypeMismatch`, of so many as there may be, else
+/// Accepts the statements of a command in their field: an array of documents, else `TypeMismatch`, whose number is one that a command may have, else
 /// `BadValue`.
 pub fn documents_needed(value: &Value) -> Option<Code>
     ensures { verdict_view result ≡ model.documents_needed (datum_of value.now) }
@@ -71,7 +71,7 @@ pub fn documents_needed(value: &Value) -> Option<Code>
     }
 }
 
-/// Takes a whole number, also below 0; of another value it gives `TypeMismatch`.
+/// Accepts a whole number, also below 0; returns `TypeMismatch` for another value.
 pub fn whole_needed(value: &Value) -> Option<Code>
     ensures { verdict_view result ≡ model.whole_needed (datum_of value.now) }
 {
@@ -81,7 +81,7 @@ pub fn whole_needed(value: &Value) -> Option<Code>
     }
 }
 
-/// A transaction's number is one of a session: where there is none it gives `FailedToParse`.
+/// Requires a session for a transaction's number: returns `FailedToParse` where there is none.
 pub fn session_needed(document: &Document) -> Option<Code>
     ensures { verdict_view result ≡ model.session_needed document.now }
 {
@@ -91,7 +91,7 @@ pub fn session_needed(document: &Document) -> Option<Code>
     }
 }
 
-// The bytes of a binary; of another value no bytes.
+// Returns the bytes of a binary, or no bytes for another value.
 fn bytes_in(value: &Value) -> &[u8]
     ensures { result.now ≡ model.session_bytes (Some (datum_of value.now)) }
 {
@@ -101,7 +101,7 @@ fn bytes_in(value: &Value) -> &[u8]
     }
 }
 
-// The identifier of a session; no bytes where it has none.
+// Returns the identifier of a session, or no bytes where it has none.
 fn id_in(session: &Document) -> &[u8]
     ensures { result.now ≡ model.session_bytes (get (codes "id") session.now) }
 {
@@ -111,7 +111,7 @@ fn id_in(session: &Document) -> &[u8]
     }
 }
 
-// The same of a value; no bytes where it is no document.
+// The same for a value, or no bytes where it is not a document.
 fn session_in(value: &Value) -> &[u8]
     ensures { result.now ≡ model.session_in (Some (datum_of value.now)) }
 {
@@ -121,7 +121,7 @@ fn session_in(value: &Value) -> &[u8]
     }
 }
 
-// The identifier of the session that a document names, where it has 16 bytes.
+// Returns the identifier of the session that a document names, where it has 16 bytes.
 fn session_of(document: &Document) -> [u8; 16]
     ensures { length (model.session_in (get (codes "lsid") document.now)) ≡ 16 → result ≡ model.session_in (get (codes "lsid") document.now) }
 {
@@ -135,7 +135,7 @@ fn session_of(document: &Document) -> [u8; 16]
     session
 }
 
-// The whole number that a value is, or 0.
+// Returns the whole number that a value is, or 0.
 fn whole_or_zero(value: &Value) -> i64
     ensures { result ≡ unwrap_or (whole_number (datum_of value.now)) (pos 0) }
 {
@@ -145,7 +145,7 @@ fn whole_or_zero(value: &Value) -> i64
     }
 }
 
-/// The number that a client gives its statements, if it gives one, of a document whose session passes.
+/// Returns the number that a client gives its statements, if it gives one, from a document whose session passes.
 pub fn client_number(document: &Document) -> Option<ClientNumber>
     ensures { HasSession document.now → model.session_needed document.now ≡ None → given_view result ≡ model.number_given document.now }
 {
@@ -158,7 +158,7 @@ pub fn client_number(document: &Document) -> Option<ClientNumber>
     }
 }
 
-/// Whether there are statements, in the field or in a sequence.
+/// Returns whether there are statements, in the field or in a sequence.
 pub fn has_documents(kind: WriteKind, document: &Document, sequences: &[Sequence]) -> bool
     ensures { result ≡ is_some (model.documents_asked (statement_form (kind_view kind)) document.now (pairs_of sequences.now)) }
 {

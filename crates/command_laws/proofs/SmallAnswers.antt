@@ -98,7 +98,7 @@ errors_small i (e ∷ errors) few all =
       omega (arith, first.1, others.1, length-decimal-le 5 i (omega arith) (omega arith) (omega arith), length-item i (document_value (write_error e.index e.refusal)) (write_error_items errors)),
     )
 
--- the errors, and what every answer ends with
+-- the errors, and the last fields of every answer
 errors_behind_small : (errors : List WriteError) (time : ℕ) → length errors ≤ most_statements → AllByRecursion IsSmallError errors →
     (document_depth (write_errors_shown errors (ok (operation_time_at time))) ≤ 103) × (length (written_fields (write_errors_shown errors (ok (operation_time_at time)))) ≤ 41001000)
 errors_behind_small [] time few all = (omega arith, omega arith)
@@ -130,7 +130,7 @@ keys_small i (u ∷ upserted) few all =
       omega (arith, first.1, others.1, length-decimal-le 5 i (omega arith) (omega arith) (omega arith), length-item i (document_value (key_shown u)) (upserted_items upserted)),
     )
 
--- the keys, in front of what is small
+-- the keys, before small fields
 keys_behind_small : (upserted : List Upserted) (more : Fields) → length upserted ≤ most_statements → AllByRecursion (λ (u : Upserted). (u.index < most_statements) × (value_depth u.key ≡ 0)) upserted →
     keys_length upserted ≤ most_bytes_upserted → document_depth more ≤ 103 → length (written_fields more) ≤ 41001000 →
     (document_depth (upserted_shown upserted more) ≤ 103) × (length (written_fields (upserted_shown upserted more)) ≤ 295002000)
@@ -142,7 +142,7 @@ keys_behind_small (u ∷ upserted) more few all short low rest =
       omega (arith, few, short, items.1, rest, length-framed (written_items 0 shown), length-field (codes "upserted") (array_value shown) more),
     )
 
--- a count takes eight bytes at most
+-- a count takes at most eight bytes
 count_small : (n : ℕ) → (value_depth (count n) ≡ 0) × (length (written_value (count n)) ≤ 8)
 count_small n = by_test (nat_lt n (2 ^ 31))
   where
@@ -150,7 +150,7 @@ count_small n = by_test (nat_lt n (2 ^ 31))
     by_test true = (refl, omega arith)
     by_test false = (refl, omega arith)
 
--- what stands behind the count
+-- what follows the count
 changes_small : (kind : WriteKind) (told : WriteSummary) → IsSmallSummary told →
     (document_depth (changes_shown kind told (write_errors_shown told.errors (ok (operation_time_at told.time)))) ≤ 103)
     × (length (written_fields (changes_shown kind told (write_errors_shown told.errors (ok (operation_time_at told.time))))) ≤ 295003000)
@@ -188,7 +188,7 @@ items_within i depth (document ∷ documents) few low =
       ),
     )
 
--- a document has five bytes at least
+-- a document has at least five bytes
 five_each : (documents : List Fields) → 5 * length documents ≤ documents_length documents
 five_each [] = omega arith
 five_each (document ∷ documents) = omega (arith, five_each documents, sum_by-cons document_length document documents, length-framed (written_fields document))

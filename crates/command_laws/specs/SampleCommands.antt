@@ -4,7 +4,7 @@ use Rattle.bson_model.specs.Tree.{Datum, string_value, document_value, array_val
 use Rattle.query_model.specs.Queries.{Query, no_clauses, clause, path_clause, no_tests, test, eq_test}
 use Rattle.opmsg_model.specs.Requests.{Body, Form, Request, msg_form, read_body}
 
--- the request with this body, of some message
+-- a request with this body
 abbrev pub sent_as : Form → Body → Request
 sent_as form body = record { id = pos 1; more = false; form = form; body = body; bytes = [] }
 
@@ -79,6 +79,6 @@ update_two first second =
 abbrev pub dotted : Fields
 dotted = field (codes "_id") number_one (field (codes "a.b") number_one no_fields)
 
--- the query that {_id: 1} is
+-- the query that {_id: 1} reads as
 abbrev pub id_is_one : Query
 id_is_one = clause (path_clause (codes "_id" ∷ []) (test (eq_test number_one) no_tests)) no_clauses

@@ -59,7 +59,7 @@ delete_one others =
 abbrev pub number_of : ℤ → Option ClientNumber
 number_of n = Some (record { session = sevens; transaction = n })
 
--- what these ask for, with a number or without one
+-- the commands of these requests, with a number or without one
 abbrev pub one_inserted : Option ClientNumber → WriteCommand
 one_inserted number = record {
   kind = insert_kind;

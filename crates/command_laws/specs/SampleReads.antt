@@ -50,7 +50,7 @@ five_with name value =
     ∷ kill_with (field (codes "cursors") (array_value no_items) (only name value))
     ∷ []
 
--- finds with one option of four
+-- finds with one of four options
 abbrev pub four_with : Datum → List Request
 four_with value =
     find_with (only (codes "returnKey") value)
@@ -62,7 +62,7 @@ four_with value =
 abbrev pub told_each : List Request → List (Result Command Refusal)
 told_each requests = map command_of requests
 
--- what is read of d.c
+-- a read of d.c
 abbrev pub read_of : List Stage → (at after : Option ℕ) → Reading
 read_of stages at after = record { namespace = codes "d.c"; stages = stages; at = at; after = after }
 

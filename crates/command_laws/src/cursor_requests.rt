@@ -1,4 +1,4 @@
-//! Worked requests of `getMore` and `killCursors`, and the answers that cursors make.
+//! Worked requests of `getMore` and `killCursors`, and the answers with cursors.
 
 ghost use Rattle.std.specs.Prelude.{◌≡◌, ◌∷◌, [], codes, pos, negsuc, true, None, Ok, Err};
 ghost use Rattle.bson_model.specs.Tree.{array_value, boolean_value, document_value, int32_value, int64_value, item, field, no_items, no_fields, string_value, timestamp_value};
@@ -10,7 +10,7 @@ ghost use Rattle.command_model.specs.Command.{command_of, kill_command, more_com
 ghost use Rattle.command_laws.specs.SampleCommands.{id_only, message, number_one};
 ghost use Rattle.command_laws.specs.SampleReads.{concern, kill_with, more_with, only};
 
-/// Requests of cursors: any whole number may be named. The cursor comes before the database, and the database before the fields.
+/// Requests with cursors: any whole number may be named. The cursor is checked before the database, and the database before the fields.
 pub fn named_cursors()
     ensures below { command_of (more_with (int32_value (negsuc 0)) (only (codes "collection") (string_value (codes "c")))) ≡ Ok (more_command (record { namespace = codes "d.c"; cursor = negsuc 0; size = None })) }
     ensures cursor_type { command_of (more_with (string_value (codes "x")) no_fields) ≡ Err (without_evidence type_mismatch) }
@@ -23,7 +23,7 @@ pub fn named_cursors()
     ensures two_named { command_of (kill_with (only (codes "cursors") (array_value (item number_one (item (int64_value (negsuc 0)) no_items))))) ≡ Ok (kill_command (record { namespace = codes "d.c"; cursors = pos 1 ∷ negsuc 0 ∷ [] })) }
 {}
 
-/// Answers, as documents: a later batch, a count that 32 bits do not hold, and cursors that were closed and not found.
+/// Answers, as documents: a later batch, a count that does not fit into 32 bits, and cursors that were closed and not found.
 pub fn cursor_answers()
     ensures next { answer_document (next_answer (record { cursor = pos 1; namespace = codes "d.c"; documents = id_only number_one ∷ []; time = timestamp 1000 2 })) ≡
         field (codes "cursor") (document_value

@@ -12,7 +12,7 @@ ghost use Rattle.command_model.specs.Command.{command_of, count_command};
 ghost use Rattle.command_laws.specs.SampleCommands.{database_d, id_is_one, id_only, number_one, with_sequence, without_id};
 ghost use Rattle.command_laws.specs.SampleReads.{aggregate_with, at_seven, concern, count_with, find_with, five_with, found, four_with, only, plain_pipeline, read_of, told_each};
 
-/// What is read: the stages in their own order and not in that of the fields, where 0 is as none; at which time.
+/// What is read: the stages in their own order and not in that of the fields, where 0 is like no field; and the time.
 pub fn readings()
     ensures stages { command_of (find_with
         (field (codes "projection") (document_value without_id)
@@ -36,7 +36,7 @@ pub fn readings()
     ensures count_after { command_of (count_with (concern (only (codes "afterClusterTime") (timestamp_value 7)))) ≡ Ok (count_command (read_of (count_stage (codes "n") ∷ []) None (Some 7))) }
 {}
 
-/// Read concerns that are refused: a time without the level `snapshot`, after the fields have passed; a level that is none.
+/// Read concerns that are refused: a time without the level `snapshot`, after the fields have passed; an unknown level.
 pub fn refused_concerns()
     ensures no_level { command_of (find_with (concern (only (codes "atClusterTime") (timestamp_value 7)))) ≡ Err (without_evidence bad_value) }
     ensures other_level { command_of (find_with (concern (at_seven (string_value (codes "majority"))))) ≡ Err (without_evidence bad_value) }
@@ -46,7 +46,7 @@ pub fn refused_concerns()
     ensures no_such_level { command_of (find_with (concern (only (codes "level") (string_value (codes "linearizable"))))) ≡ Err (without_evidence bad_value) }
 {}
 
-/// Fields whose values are refused, and fields that no command has which reads.
+/// Fields whose values are refused, and fields that no reading command has.
 pub fn refused_fields()
     ensures size_below { command_of (find_with (only (codes "batchSize") (int32_value (negsuc 0)))) ≡ Err (without_evidence bad_value) }
     ensures size_type { command_of (find_with (only (codes "batchSize") (boolean_value false))) ≡ Err (without_evidence type_mismatch) }
@@ -64,7 +64,7 @@ pub fn refused_fields()
     ensures no_collation { told_each (five_with (codes "collation") (document_value without_id)) ≡ replicate 5 (Err (without_evidence failed_to_parse)) }
 {}
 
-/// Options that are taken where they are false, each like no option; other values of them are refused, and other commands have none of them.
+/// Options that are accepted where they are false, like no option; their other values are refused, and other commands have none of them.
 pub fn false_options()
     ensures taken { told_each (four_with (boolean_value false)) ≡ replicate 4 (Ok (found [] None None)) }
     ensures true_refused { told_each (four_with (boolean_value true)) ≡ replicate 4 (Err (without_evidence failed_to_parse)) }

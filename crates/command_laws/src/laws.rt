@@ -14,26 +14,26 @@ ghost use Rattle.command_model.specs.Reading.{Reading};
 ghost use Rattle.command_model.specs.CommandSizes.{IsSmallAnswer, IsTaken};
 ghost use Rattle.bson_model.specs.Limits.{most_bytes_written, most_depth_written};
 
-/// What a request asks for is as small as the request: at most 100,000 documents, each with a key and no larger than a
-/// document that is read, or a refusal with a short name.
+/// The command of a request is as small as the request: at most 100,000 documents, each with a key and no larger than a document that is read; or it is a
+/// refusal with a short name.
 #[tactic(auto, using(command_model::proofs::Taken::command_taken))]
 pub fn commands_are_small()
     ensures { (request : Request) → IsSmallBody request.body → IsTaken (command_of request) }
 {}
 
-/// There is little evidence.
+/// Evidence is small.
 #[tactic(auto, using(crate::proofs::SmallAnswers::evidence_within))]
 pub fn evidence_is_small()
     ensures { (evidence : Evidence) (document : Fields) → evidence_document evidence ≡ Some document → IsWithin 10 1000 document }
 {}
 
-/// The documents of small answers are within what is written.
+/// The documents of small answers are within the limits of what is written.
 #[tactic(auto, using(crate::proofs::SmallAnswers::answer_small))]
 pub fn answers_are_small()
     ensures { (answer : Answer) → IsSmallAnswer answer → IsWithin most_depth_written most_bytes_written (answer_document answer) }
 {}
 
-/// How many documents a command passes over or keeps is a number that a message can have.
+/// The numbers of documents that a command skips or keeps are less than 2^63.
 #[tactic(auto, using(command_model::proofs::Taken::int64_of_find, command_model::proofs::Taken::int64_of_count))]
 pub fn numbers_are_small()
     ensures find { (request : Request) (find : Find) → command_of request ≡ Ok (find_command find) → list_all has_int64 find.reading.stages ≡ true }

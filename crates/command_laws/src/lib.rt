@@ -1,5 +1,4 @@
-//! The laws of commands and answers, and worked requests: each is a function that does nothing, whose contract says what the
-//! definitions make of it.
+//! The laws of commands and answers, and worked requests: each is a function that does nothing, whose contract says what the definitions say of it.
 #![tactic(auto)]
 
 mod cursor_requests;
@@ -71,7 +70,7 @@ pub fn reads()
     ensures no_cursors { command_of (message (field (codes "killCursors") (string_value (codes "c")) (field (codes "cursors") (array_value (item (boolean_value true) no_items)) database_d))) ≡ Err (without_evidence type_mismatch) }
 {}
 
-/// A document that is no BSON is refused with the offset of its fault as evidence.
+/// A document that is not BSON is refused with the offset of its fault as evidence.
 pub fn faulty_documents()
     ensures faulty { command_of (sent_as msg_form (faulty_body string_fault 49)) ≡ Err (record { error = invalid_bson; evidence = place_evidence 49 }) }
 {}
@@ -86,7 +85,7 @@ pub fn first_refusals()
     ensures namespace { command_of (message (field (codes "insert") (string_value (codes ".c")) database_d)) ≡ Err (without_evidence invalid_namespace) }
 {}
 
-/// Refusals of inserts by the other fields, by a document sequence, for want of documents, and by a document's `_id`.
+/// Refusals of inserts by the other fields, by a document sequence, because documents are missing, and by a document's `_id`.
 pub fn later_refusals()
     ensures given_twice { command_of (message (insert_with (field (codes "ordered") (boolean_value true) (field (codes "ordered") (boolean_value true) database_d)))) ≡ Err (without_evidence failed_to_parse) }
     ensures not_listed { command_of (message (insert_with (field (codes "limit") number_one database_d))) ≡ Err (without_evidence failed_to_parse) }
@@ -99,7 +98,7 @@ pub fn later_refusals()
     ensures second_document { command_of (message (insert_two (id_only number_one) (id_only (array_value no_items)))) ≡ Err (without_evidence bad_value) }
 {}
 
-/// Refusals of updates and deletes by the fields of a statement, by its key and by its words, in this order.
+/// Refusals of updates and deletes by the fields of a statement, by its key and by its operands, in this order.
 pub fn refused_statements()
     ensures not_listed { command_of (message (update_with (set_one (id_only number_one) (field (codes "hint") number_one no_fields)))) ≡ Err (without_evidence failed_to_parse) }
     ensures given_twice { command_of (message (update_with (set_one (id_only number_one) (field (codes "q") (document_value no_fields) no_fields)))) ≡ Err (without_evidence failed_to_parse) }
@@ -132,9 +131,9 @@ pub fn refused_statements()
     ensures change_fault { command_of (message (update_with (field (codes "q") (document_value (id_only number_one)) (field (codes "u") (document_value (field (codes "$foo") number_one no_fields)) no_fields)))) ≡ Err (without_evidence bad_value) }
 {}
 
-/// Requests that two checks refuse, of which the earlier decides: the name and `$db`, `$db` and the own field, the own field
-/// and another, a field and a sequence, a sequence and a filter that is wanted, a sequence and a document; and of two
-/// documents the first. A request without documents can't also have a bad one, so there is no pair of these two.
+/// Requests that two checks refuse, of which the earlier decides: the name and `$db`, `$db` and the own field, the own field and another, a field and a
+/// sequence, a sequence and a filter that is required, a sequence and a document; and of two documents the first. A request without documents can't also have
+/// a bad one, so there is no pair of these two.
 pub fn earlier_refusals()
     ensures name_first { command_of (message (field (codes "foo") number_one no_fields)) ≡ Err (without_evidence command_not_found) }
     ensures database_first { command_of (message (field (codes "insert") number_one no_fields)) ≡ Err (without_evidence failed_to_parse) }
@@ -145,8 +144,8 @@ pub fn earlier_refusals()
     ensures first_document { command_of (message (insert_two without_id (id_only (document_value no_fields)))) ≡ Err (without_evidence shard_key_not_found) }
 {}
 
-/// Answers, as documents: a find's, the refusal of a command that is none, one with evidence, the errors of an insert's
-/// statements with and without evidence, an update's with what an upsert put in, and a delete's.
+/// Answers, as documents: a find's, the refusal of an unknown command, one with evidence, the errors of an insert's statements with and without evidence, an
+/// update's with an upserted key, and a delete's.
 pub fn answers()
     ensures find { answer_document (first_answer (record { cursor = pos 0; namespace = codes "d.c"; documents = id_only number_one ∷ []; time = 4294967296002 })) ≡
         field (codes "cursor") (document_value

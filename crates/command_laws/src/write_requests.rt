@@ -1,4 +1,4 @@
-//! Worked requests that write in a session, with and without a client's number, and the answers that numbers make.
+//! Worked requests that write in a session, with and without a client's number, and the answers to numbered writes.
 
 ghost use Rattle.std.specs.Prelude.{◌≡◌, ◌∷◌, [], codes, false, pos, negsuc, true, None, Ok, Err};
 ghost use Rattle.bson_model.specs.Tree.{array_value, boolean_value, document_value, int32_value, int64_value, item, field, no_items, no_fields, string_value, timestamp_value};
@@ -10,7 +10,7 @@ ghost use Rattle.command_model.specs.Writes.{insert_kind, update_kind};
 ghost use Rattle.command_laws.specs.SampleCommands.{database_d, id_only, insert_with, message, number_one, with_sequence, without_id};
 ghost use Rattle.command_laws.specs.SampleNumbers.{delete_one, fifteen_sevens, in_session, insert_one, insert_so, number_of, numbered, one_deleted, one_inserted, one_updated, session_of, sevens, transaction, update_one};
 
-/// Writes with a client's number: any whole number, in any place. A session alone numbers nothing.
+/// Writes with a client's number: any whole number, at any position. A session alone numbers nothing.
 pub fn client_numbers()
     ensures insert { command_of (insert_one (numbered number_one)) ≡ Ok (write_command (one_inserted (number_of (pos 1)))) }
     ensures long { command_of (insert_one (numbered (int64_value (pos 1)))) ≡ Ok (write_command (one_inserted (number_of (pos 1)))) }
@@ -22,7 +22,7 @@ pub fn client_numbers()
     ensures session_alone { command_of (insert_one (in_session no_fields)) ≡ Ok (write_command (one_inserted None)) }
 {}
 
-/// A number without a session is refused behind the fields, and in front of the statements.
+/// A number without a session is refused after the fields, and before the statements.
 pub fn numbers_without_sessions()
     ensures alone { command_of (insert_one (transaction number_one no_fields)) ≡ Err (without_evidence failed_to_parse) }
     ensures before_key { command_of (insert_so without_id (transaction number_one no_fields)) ≡ Err (without_evidence failed_to_parse) }
@@ -32,7 +32,7 @@ pub fn numbers_without_sessions()
         ≡ Err (without_evidence type_mismatch) }
 {}
 
-/// Numbers that are none are refused as fields, in their order.
+/// Values that are not a number are refused as fields, in their order.
 pub fn refused_numbers()
     ensures boolean { command_of (insert_one (numbered (boolean_value true))) ≡ Err (without_evidence type_mismatch) }
     ensures string { command_of (insert_one (numbered (string_value (codes "1")))) ≡ Err (without_evidence type_mismatch) }
@@ -42,7 +42,7 @@ pub fn refused_numbers()
     ensures second { command_of (insert_one (field (codes "x") number_one (numbered (boolean_value true)))) ≡ Err (without_evidence failed_to_parse) }
 {}
 
-/// Sessions that are none, fields of transactions that are not served, and numbers in commands that don't write.
+/// Values that are not a session, fields of transactions that are not supported, and numbers in commands that don't write.
 pub fn refused_sessions()
     ensures user { command_of (insert_one (session_of 4 sevens (field (codes "uid") number_one no_fields) no_fields)) ≡ Err (without_evidence failed_to_parse) }
     ensures short { command_of (insert_one (session_of 4 fifteen_sevens no_fields no_fields)) ≡ Err (without_evidence bad_value) }
@@ -56,7 +56,7 @@ pub fn refused_sessions()
     ensures ping { command_of (message (field (codes "ping") number_one (transaction (boolean_value true) database_d))) ≡ Ok ping_command }
 {}
 
-/// Answers, as documents: to a statement whose session has a greater transaction, and all that an update may be told.
+/// Answers, as documents: to a statement whose session has a greater transaction, and all fields that an update's may have.
 pub fn numbered_answers()
     ensures older { answer_document (write_answer insert_kind (record {
       count = 0;

@@ -1,4 +1,4 @@
--- Which operation times answers show.
+-- The operation times that answers show.
 use Rattle.std.proofs.Common.{◌≡◌, ℕ, List, [], ◌∷◌, refl}
 use Rattle.std.specs.Prelude.{ℤ, Some, None, Bool, true, false}
 use Rattle.base_model.specs.Refusals.{Refusal}

@@ -1,4 +1,4 @@
--- What stands inside a small document is small.
+-- The parts of a small document are small.
 use Rattle.std.proofs.Common.{◌≡◌, ℕ, suc, ◌+◌, ◌≤◌, List, [], ◌∷◌, length, refl, Bool, true, false, Option, Some, None, if◌then◌else◌, arith, subst}
 use Rattle.std.specs.List.{AllByRecursion}
 use Rattle.std.specs.Str.{bytes_eq}

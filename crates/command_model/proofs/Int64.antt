@@ -1,4 +1,4 @@
--- How many documents the stages of a command pass over or keep is a number that a message can have.
+-- The numbers of documents that a command skips or keeps are less than 2^63.
 use Rattle.std.proofs.Common.{◌≡◌, ℕ, List, [], ◌∷◌, ◌++◌, refl, ◌∙◌, Bool, true, false, Option, Some, None, Ok, Err, if◌then◌else◌, codes}
 use Rattle.std.specs.Prelude.{Result, nat_lt}
 use Rattle.std.specs.List.{list_all}
@@ -21,7 +21,7 @@ HaveInt64 stages = list_all has_int64 stages ≡ true
 both_have : (xs ys : List Stage) → HaveInt64 xs → HaveInt64 ys → HaveInt64 (xs ++ ys)
 both_have xs ys first others = list_all-append has_int64 xs ys ∙ (rw (first, others) refl)
 
--- a number that is read is one that $skip can have
+-- a number that is read is less than 2^63, as `$skip` requires
 skip_read : (value : Datum) (n : ℕ) → read_natural value ≡ Ok n → HaveInt64 (skip_stage n ∷ [])
 skip_read value n is = read_int64 (item (document_value (field (codes "$skip") value no_fields)) no_items) (skip_stage n ∷ []) (rw is refl)
 
@@ -46,7 +46,7 @@ skip_int64 ms = counted skip_stage (λ n int64. int64) (get (codes "skip") ms)
 limit_int64 : (ms : Fields) → HaveInt64 (stage_counted limit_stage (codes "limit") ms)
 limit_int64 ms = counted limit_stage (λ n int64. int64) (get (codes "limit") ms)
 
--- a stage of words passes nothing over
+-- a stage read from a document skips nothing
 module _ {A : Type 0} (read : Fields → Result A QueryFault) (stage : A → Stage) (none : (x : A) → has_int64 (stage x) ≡ true) where
   words_read : (r : Result A QueryFault) → HaveInt64 (elim r [ Ok x ↦ stage x ∷ [] | Err fault ↦ [] ])
   words_read (Ok x) = rw (none x) refl

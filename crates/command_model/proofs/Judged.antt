@@ -1,4 +1,4 @@
--- Statements that pass are writes under keys; where their documents are small they may be kept.
+-- Statements that pass are writes under keys; where their documents are small they may be stored.
 use Rattle.std.proofs.Common.{◌≡◌, List, [], ◌∷◌, refl, sym, ap, ◌∙◌, Bool, true, Option, Some, None, Ok, Err, codes}
 use Rattle.std.specs.Prelude.{Result, map, if◌then◌else◌}
 use Rattle.std.specs.List.{AllByRecursion}
@@ -35,7 +35,7 @@ record IsRead (operation : Operation) : Type 0 where
   key : Datum
   under : write_key write ≡ Some key
 
--- a document that is read as a query asks for the key under which the query's write acts
+-- a document that reads as a query requires the key that the query's write has
 
 record AsksFor (document : Fields) (write : Write) : Type 0 where
   asked : Query
@@ -78,7 +78,7 @@ insert_acts document write key e found is =
     let same : insert_write document ≡ write = let both : Path (Result Write QueryFault) (Ok (insert_write document)) (Ok write) = sym (insert_read document key valid) ∙ e in cc in
     ap write_key (sym same) ∙ (rw valid refl)
 
--- an operation that is a write acts under the key that it asks for
+-- an operation that reads as a write has the key that it requires
 pub key_of_write : (operation : Operation) (write : Write) (key : Datum) → read_operation operation ≡ Ok write → key_asked_by operation ≡ Some key → is_key key ≡ true → write_key write ≡ Some key
 key_of_write (insert_operation document) write key e found is = insert_acts document write key e found is
 key_of_write (update_operation filter words upsert) write key e found is = acts_under filter write key (update_asks filter words upsert (read_query filter) write refl e) found is
@@ -95,7 +95,7 @@ judged_words : (read : Result Write QueryFault) → words_verdict read ≡ None 
 judged_words (Ok write) e = (write, refl)
 judged_words (Err fault) e = absurd cc
 
--- the document of an insert that has a key is a write
+-- the document of an insert that has a key reads as a write
 pub insert_reads : (document : Fields) → check_key (key_of document) ≡ None → check_words (insert_operation document) ≡ None
 insert_reads document keyed =
     let key = judged_key (key_of document) keyed in
@@ -116,7 +116,7 @@ statement_judged form statement e =
 with_key : (operation : Operation) → IsRead operation → HasKey operation
 with_key operation read = (read.key, ap key_read read.reads ∙ read.under)
 
--- the words of a small statement are small
+-- the documents of a small statement are small
 words_small : (kind : WriteKind) (statement : Fields) → IsSmall statement → AreSmallWords ((statement_form kind).operation statement)
 words_small insert_kind statement small = small
 words_small update_kind statement small = (document_small (codes "q") statement small, document_small (codes "u") statement small)
@@ -132,7 +132,7 @@ keys_passed form (statement ∷ statements) e =
     let told = passed_parts (check_statement form statement) (check_statements form statements ∷ []) e in
     (with_key (form.operation statement) (statement_judged form statement told.0), keys_passed form statements (passed_last (check_statements form statements) told.1))
 
--- small statements that pass may be kept
+-- small statements that pass may be stored
 pub keepable : (kind : WriteKind) (statements : List Fields) → AllByRecursion IsSmall statements → check_statements (statement_form kind) statements ≡ None →
     AllByRecursion IsKeepable (map (statement_form kind).operation statements)
 keepable kind [] small e = tt

@@ -25,7 +25,7 @@ pub passed_else : (b : Bool) (v : Verdict) → (if b then Some failed_to_parse e
 passed_else true v e = cc
 passed_else false v e = e
 
--- a value that passes by a rule passes the rule
+-- a value that passes by a rule passes the check of the rule
 by_rule_passed : (o : Option Rule) (given : Bool) (value : Datum) → by_rule (Some failed_to_parse) o given value ≡ None → by_rule (Some failed_to_parse) o false value ≡ None
 by_rule_passed None given value e = absurd cc
 by_rule_passed (Some rule) true value e = absurd cc
@@ -42,7 +42,7 @@ one_passed true rules given first name d value rest is got told others =
     subst (λ (n : List ℕ). by_rule (Some failed_to_parse) (find_rule n rules) false value ≡ None) same (subst (λ (v : Datum). by_rule (Some failed_to_parse) (find_rule first rules) false v ≡ None) value_is here)
 one_passed false rules given first name d value rest is got told others = others got
 
--- a field that is got passed its rule, where all that are not listed are refused
+-- a field that is found passed its rule, where all fields without a rule are refused
 pub field_passed : (rules : List Rule) (given : List (List ℕ)) (ms : Fields) (name : List ℕ) (value : Datum) → check_fields (Some failed_to_parse) rules given ms ≡ None → get name ms ≡ Some value → by_rule (Some failed_to_parse) (find_rule name rules) false value ≡ None
 field_passed rules given no_fields name value e got = absurd cc
 field_passed rules given (field first d ms) name value e got =
@@ -56,7 +56,7 @@ few_documents documents e =
     let count : is_statement_count (length documents) ≡ true = passed_test (is_statement_count (length documents)) bad_value e in
     leb-true (length documents) most_statements (and_parts _ _ count).1
 
--- and some
+-- and at least one
 pub some_counted : (documents : List Fields) → check_count documents ≡ None → documents ≢ []
 some_counted [] e none = absurd cc
 some_counted (document ∷ documents) e none = absurd cc

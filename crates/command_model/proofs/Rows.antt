@@ -1,4 +1,4 @@
--- What holds of each row holds of the form that is found by a name.
+-- What holds of each entry of the table holds of the form that is found by a name.
 use Rattle.std.proofs.Common.{◌≡◌, ℕ, List, [], ◌∷◌, refl, Bool, true, false, Some, if◌then◌else◌, subst}
 use Rattle.std.specs.List.{AllByRecursion}
 use Rattle.std.specs.Str.{bytes_eq}

@@ -1,4 +1,4 @@
--- The name of an error that a check tells is short.
+-- The name of each error that a check returns is short.
 use Rattle.std.proofs.Common.{ℕ, ◌≤◌, List, [], ◌∷◌, ◌++◌, length, Bool, true, false, ◌||◌, not, Option, Some, None, if◌then◌else◌, codes, arith}
 use Rattle.std.specs.List.{AllByRecursion}
 use Rattle.std.specs.Str.{bytes_eq}
@@ -51,7 +51,7 @@ if_short : (b : Bool) (v : Verdict) → IsShort v → IsShort (if b then Some fa
 if_short true v short = omega arith
 if_short false v short = short
 
--- a check by rules, each of which tells short errors
+-- a check by rules, each of which returns short errors
 
 rule_short : (unlisted : Verdict) (name : List ℕ) (rules : List Rule) (given : Bool) (value : Datum) → IsShort unlisted → AreShort rules → IsShort (by_rule unlisted (find_rule name rules) given value)
 rule_short unlisted name [] given value none short = none
@@ -292,7 +292,7 @@ IsShortSequence (Some rule) = (documents : List Fields) → IsShort (rule.check 
 pub documents_sequence_short : (identifier : List ℕ) → IsShortSequence (Some (record { identifier = identifier; check = check_count }))
 documents_sequence_short identifier = count_short
 
--- each check of the form tells short errors
+-- each check of the form returns short errors
 pub record IsShortForm (form : CommandForm Command) : Type 0 where
   pub own_check : (database : List ℕ) (value : Datum) → IsShort (form.check_own database value)
   pub each_rule : (database : List ℕ) → AreShort (form.rules database)

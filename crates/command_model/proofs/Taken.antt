@@ -1,4 +1,4 @@
--- What a small request asks for is small, and a write command has statements.
+-- The command of a small request is small, and a write command has statements.
 use Rattle.std.proofs.Common.{◌≡◌, ◌≢◌, ℕ, ◌≤◌, List, [], ◌∷◌, length, refl, false, Option, Some, None, Ok, Err, codes, arith, subst, ◌∙◌, sym}
 use Rattle.std.specs.Prelude.{Result, drop, map}
 use Rattle.std.specs.Str.{bytes_eq}
@@ -48,7 +48,7 @@ HasStatements (count_command reading) = Unit {0}
 HasStatements (more_command more) = Unit {0}
 HasStatements (kill_command kill) = Unit {0}
 
--- how many documents a command passes over or keeps is a number that a message can have
+-- the numbers of documents that a command skips or keeps are less than 2^63
 abbrev HasNumbers : Command → Type 0
 HasNumbers hello_command = Unit {0}
 HasNumbers (legacy_command legacy) = Unit {0}
@@ -115,7 +115,7 @@ record Passes (form : StatementForm) (document : Fields) (sequences : Sequences)
   needed : some_needed (documents_asked form document sequences) ≡ None
   judged : check_statements form (or_documents (documents_asked form document sequences)) ≡ None
 
--- the field of the statements is looked at by its own rule
+-- the field of the statements is checked by its own rule
 statements_rule : (kind : WriteKind) (value : Datum) → by_rule (Some failed_to_parse) (find_rule (statement_form kind).identifier (write_rules (statement_form kind))) false value ≡ documents_needed value
 statements_rule insert_kind value = refl
 statements_rule update_kind value = refl
@@ -124,7 +124,7 @@ statements_rule delete_kind value = refl
 behind_own : (own name : List ℕ) (value : Datum) (others : Fields) → bytes_eq own name ≡ false → get name (field own value others) ≡ get name others
 behind_own own name value others differs = rw differs refl
 
--- the names of write commands, which are no names of their statements
+-- the names of write commands, which differ from those of their statements
 abbrev name_of_kind : WriteKind → List ℕ
 name_of_kind insert_kind = codes "insert"
 name_of_kind update_kind = codes "update"
@@ -270,7 +270,7 @@ kill_sound = record {
   numbers = λ sent value others sequences. tt;
 }
 
--- the commands that look at two fields alone
+-- the commands that read only two fields
 handshake_is_short : (command : Fields → Command) → IsShortForm (handshake_form command)
 handshake_is_short command = record {
   own_check = λ database value. tt;
@@ -340,7 +340,7 @@ body_taken sent (faulty_body fault place) small = omega arith
 pub command_taken : (request : Request) → IsSmallBody request.body → IsTaken (command_of request)
 command_taken request small = body_taken request.form request.body small
 
--- what holds of each command that passes holds of what a request asks for
+-- what holds of each command that passes holds of the command of a request
 
 abbrev IfAsked : (Command → Type 0) → Result Command Refusal → Type 0
 IfAsked P (Ok command) = P command

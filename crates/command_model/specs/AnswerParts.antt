@@ -5,11 +5,11 @@ use Rattle.bson_model.specs.Tree.{Datum, document_value, date_value, int32_value
 abbrev pub number : ℕ → Datum
 number n = int32_value (pos n)
 
--- a count, in 64 bits where 32 do not hold it
+-- a count, in 64 bits where it does not fit into 32
 abbrev pub count : ℕ → Datum
 count n = if nat_lt n (2 ^ 31) then int32_value (pos n) else int64_value (pos n)
 
--- a moment, in milliseconds since 1970, at most the greatest that a date can tell
+-- a moment, in milliseconds since 1970, or the greatest date where that is less
 abbrev pub moment_shown : ℕ → Datum
 moment_shown moment = date_value (pos (if nat_lt moment (2 ^ 63) then moment else 2 ^ 63 - 1))
 

@@ -12,18 +12,18 @@ use Rattle.command_model.specs.Cursors.{Batch, batch_document}
 use Rattle.command_model.specs.KillCursors.{killed_document}
 
 pub data Answer : Type 0 where
-  -- the router's last moment
+  -- to `hello`, with the router's last moment
   hello_answer : ℕ → Answer
-  -- the same in the words of the old handshake, and whether `helloOk` is shown
+  -- to `isMaster`, with the old field names, and whether `helloOk` is shown
   legacy_answer : ℕ → Bool → Answer
   -- to `ping` and `endSessions`
   done_answer : Answer
-  -- what its statements are told together
+  -- the joint outcome of its statements
   write_answer : WriteKind → WriteSummary → Answer
   -- to `find` and `aggregate`, and to `getMore`
   first_answer : Batch → Answer
   next_answer : Batch → Answer
-  -- how many documents there were, and the time that was read at
+  -- the number of documents, and the time of the read
   count_answer : ℕ → ℕ → Answer
   -- the cursors that were closed, and those that were not found
   killed_answer : (killed missing : List ℤ) → Answer

@@ -1,10 +1,10 @@
--- Checks in order: the first that fails tells why.
+-- Checks in order: the first that fails decides.
 use Rattle.std.specs.Prelude.{ℕ, List, [], ◌∷◌, Bool, true, false, Option, Some, None}
 use Rattle.std.specs.List.{list_any}
 use Rattle.std.specs.Str.{bytes_eq}
 use Rattle.base_model.specs.Errors.{ErrorCode}
 
--- what a check tells: nothing, or an error
+-- the result of a check: an error, or none
 abbrev pub Verdict : Type 0
 Verdict = Option ErrorCode
 

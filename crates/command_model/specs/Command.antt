@@ -1,5 +1,5 @@
--- What a request asks for, or its first refusal with its evidence (MongoDB manual, "Database Commands"; the order of refusals
--- and the evidence are own). Each command is a row of the list: its name and its form.
+-- The command of a request, or its first refusal with its evidence (MongoDB manual, "Database Commands"; the order of refusals and the evidence are own).
+-- Each command is an entry of the list: its name and its form.
 use Rattle.std.specs.Prelude.{ℕ, List, [], ◌∷◌, Option, Some, None, Result, Ok, Err, if◌then◌else◌, codes}
 use Rattle.std.specs.Str.{bytes_eq}
 use Rattle.bson_model.specs.Tree.{Datum, Fields, no_fields, field}
@@ -69,7 +69,7 @@ abbrev pub by_form : Option (CommandForm Command) → Form → (own : List ℕ) 
 by_form None sent own value others sequences = Err command_not_found
 by_form (Some form) sent own value others sequences = by_verdict (check_command form sent own value others sequences) (command_by form sent own value others sequences)
 
--- the command that documents ask for, or the first error
+-- the command of these documents, or the first error
 abbrev pub command_asked : Form → Fields → Sequences → Result Command ErrorCode
 command_asked sent no_fields sequences = Err command_not_found
 command_asked sent (field own value others) sequences = by_form (form_of own) sent own value others sequences
@@ -78,11 +78,11 @@ abbrev pub or_refusal : Result Command ErrorCode → Result Command Refusal
 or_refusal (Ok command) = Ok command
 or_refusal (Err error) = Err (without_evidence error)
 
--- a document that is no BSON comes first; the error of a check has no evidence
+-- a document that is not BSON is refused first; the error of a check has no evidence
 abbrev pub command_in : Form → Body → Result Command Refusal
 command_in sent (read_body document sequences) = or_refusal (command_asked sent document sequences)
 command_in sent (faulty_body fault place) = Err (no_document_at place)
 
--- the command that a request asks for, or its first refusal
+-- the command of a request, or its first refusal
 abbrev pub command_of : Request → Result Command Refusal
 command_of request = command_in request.form request.body

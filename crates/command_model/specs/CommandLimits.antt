@@ -5,10 +5,10 @@ use Rattle.std.specs.Prelude.{ℕ}
 abbrev pub most_statements : ℕ
 most_statements = 100000
 
--- the keys that the statements of one command put in, in bytes, so that the reply is within the longest written one (own)
+-- the keys of the documents that the statements of one command upsert, in bytes, so that the reply is within the longest written one (own)
 abbrev pub most_bytes_upserted : ℕ
 most_bytes_upserted = 250000000
 
--- the cursors that are told in one answer: no message names more, and more can't be told (own)
+-- the cursors that one answer names: no message names more, and no answer can (own)
 abbrev pub most_cursors : ℕ
 most_cursors = 8000000

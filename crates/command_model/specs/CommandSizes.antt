@@ -23,7 +23,7 @@ AreSmallWords (insert_operation document) = IsSmall document
 AreSmallWords (update_operation filter words upsert) = IsSmall filter × IsSmall words
 AreSmallWords (delete_operation filter) = IsSmall filter
 
--- an operation that is kept is a write, under a key
+-- an operation that may be stored is a write, under a key
 pub record IsKeepable (operation : Operation) : Type 0 where
   pub small : AreSmallWords operation
   pub write : Write
@@ -31,7 +31,7 @@ pub record IsKeepable (operation : Operation) : Type 0 where
   pub key : Datum
   pub under : write_key write ≡ Some key
 
--- few statements, each of which may be kept
+-- few statements, each of which may be stored
 abbrev pub IsSmallWrite : WriteCommand → Type 0
 IsSmallWrite command = (length command.operations ≤ most_statements) × AllByRecursion IsKeepable command.operations
 
@@ -54,12 +54,12 @@ IsSmallRefusal refusal = length refusal.error.name ≤ 100
 abbrev pub IsSmallError : WriteError → Type 0
 IsSmallError e = (e.index < most_statements) × IsSmallRefusal e.refusal
 
--- what a request asks for, or its refusal
+-- the command of a request is small, or its refusal
 abbrev pub IsTaken : Result Command Refusal → Type 0
 IsTaken (Ok command) = IsSmallCommand command
 IsTaken (Err refusal) = IsSmallRefusal refusal
 
--- how many bytes keys take
+-- the number of bytes of keys
 abbrev pub keys_length : List Upserted → ℕ
 keys_length [] = 0
 keys_length (u ∷ upserted) = length (written_value u.key) + keys_length upserted
@@ -72,13 +72,13 @@ pub record IsSmallSummary (told : WriteSummary) : Type 0 where
   pub flat : AllByRecursion (λ (u : Upserted). (u.index < most_statements) × (value_depth u.key ≡ 0)) told.upserted
   pub short_keys : keys_length told.upserted ≤ most_bytes_upserted
 
--- a batch of few bytes, or of one document, as documents are kept or made of such
+-- a batch of few bytes, or of one document, each within 101 levels and the size of a stored document
 pub record IsSmallBatch (batch : Batch) : Type 0 where
   pub name : length batch.namespace ≤ 255
   pub bytes : batches.IsSmall batch.documents
   pub each : AllByRecursion (IsWithin 101 most_bytes_kept) batch.documents
 
--- an answer to such
+-- a small answer
 abbrev pub IsSmallAnswer : Answer → Type 0
 IsSmallAnswer (hello_answer moment) = Unit {0}
 IsSmallAnswer (legacy_answer moment shown) = Unit {0}

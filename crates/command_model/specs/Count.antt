@@ -1,5 +1,5 @@
--- `count` (MongoDB manual, "count"; the order of refusals is own): how many documents meet the query, of those that are not passed
--- over, and no more than a limit.
+-- `count` (MongoDB manual, "count"; the order of refusals is own): the number of documents that match the query, after those that are skipped, and at most a
+-- limit.
 use Rattle.std.specs.Prelude.{ℕ, List, [], ◌∷◌, ◌++◌, Some, None, codes}
 use Rattle.bson_model.specs.Tree.{timestamp_value, Fields, field, get}
 use Rattle.base_model.specs.Errors.{failed_to_parse}
@@ -43,6 +43,6 @@ count_form = record {
   };
 }
 
--- the number, and the time that was read at
+-- the number, and the time of the read
 abbrev pub count_document : ℕ → ℕ → Fields
 count_document n time = field (codes "n") (count n) (field (codes "atClusterTime") (timestamp_value time) (ok (operation_time_at time)))

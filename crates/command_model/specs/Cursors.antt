@@ -1,5 +1,5 @@
--- Cursors: what `getMore` and `killCursors` share, and the batches that `find`, `aggregate` and `getMore` are answered (MongoDB
--- manual, "Cursors", "Cursor Batches"; the order of the answers' fields is own).
+-- Cursors: what `getMore` and `killCursors` share, and the batches that answer `find`, `aggregate` and `getMore` (MongoDB manual, "Cursors", "Cursor
+-- Batches"; the order of the answers' fields is own).
 use Rattle.std.specs.Prelude.{ℕ, ℤ, pos, List, Bool, ◌&&◌, not, codes}
 use Rattle.std.specs.Option.{unwrap_or}
 use Rattle.bson_model.specs.Tree.{Datum, string_value, document_value, array_value, int64_value, timestamp_value, Fields, no_fields, field}
@@ -13,7 +13,7 @@ number_in value = unwrap_or (whole_number value) (pos 0)
 abbrev pub is_open_database : List ℕ → Bool
 is_open_database database = is_database_name database && not (is_reserved database)
 
--- some of the documents that were read of a collection at a time, and the cursor that has the others, 0 where there are none
+-- some of the documents that were read from a collection at a time, and the cursor that has the others, 0 where there are none
 pub record Batch : Type 0 where
   pub cursor : ℤ
   pub namespace : List ℕ

@@ -1,5 +1,4 @@
--- The statements of `delete` (MongoDB manual, "delete"): each has a filter that names one `_id`. `limit`, which is 0 or 1, means nothing
--- then.
+-- The statements of `delete` (MongoDB manual, "delete"): each has a filter that names one `_id`. `limit`, which is 0 or 1, then changes nothing.
 use Rattle.std.specs.Prelude.{pos, List, [], ◌∷◌, ◌||◌, Some, None, codes}
 use Rattle.std.specs.Ordering.{int_eq}
 use Rattle.bson_model.specs.Tree.{Datum, Fields, get}

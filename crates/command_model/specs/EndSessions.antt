@@ -1,4 +1,4 @@
--- `endSessions` (MongoDB manual, "endSessions"): its sessions are not looked at, and the answer is `done_document`.
+-- `endSessions` (MongoDB manual, "endSessions"): its sessions are not read, and the answer is `done_document`.
 use Rattle.command_model.specs.Forms.{CommandForm}
 use Rattle.command_model.specs.Handshake.{handshake_form}
 

@@ -1,6 +1,5 @@
--- The fields of a command, and of the documents inside it (MongoDB manual, "Database Commands"; the order of refusals is
--- own). A rule is a name with a check of its value. A field is refused where its name was given before, and else where its
--- value fails the check.
+-- The fields of a command, and of the documents nested in it (MongoDB manual, "Database Commands"; the order of refusals is own). A rule is a name with a
+-- check of its value. A field is refused where its name occurred before, and else where its value fails the check.
 use Rattle.std.specs.Prelude.{ℕ, List, [], ◌∷◌, length, Bool, false, ◌&&◌, Option, Some, None, ◌==◌, if◌then◌else◌, codes}
 use Rattle.std.specs.Str.{bytes_eq}
 use Rattle.bson_model.specs.Tree.{Datum, string_value, document_value, binary_value, boolean_value, timestamp_value, Fields, no_fields, field, get}
@@ -15,19 +14,18 @@ abbrev pub find_rule : List ℕ → List Rule → Option Rule
 find_rule name [] = None
 find_rule name (rule ∷ rules) = if bytes_eq rule.name name then Some rule else find_rule name rules
 
--- what is told of a value by a rule, whether a field of its name was given before it; where there is no rule, what is told of
--- fields that are not listed
+-- the error of a value by a rule, given whether its name occurred before; where there is no rule, the error of fields that are not listed
 abbrev pub by_rule : Verdict → Option Rule → (given : Bool) → Datum → Verdict
 by_rule unlisted None given value = unlisted
 by_rule unlisted (Some rule) given value = if given then Some failed_to_parse else rule.check value
 
--- the fields in order, behind those of these names
+-- the fields in order, after those with these names
 abbrev pub check_fields : Verdict → List Rule → List (List ℕ) → Fields → Verdict
 check_fields unlisted rules given no_fields = None
 check_fields unlisted rules given (field name value ms) =
     first_of (by_rule unlisted (find_rule name rules) (is_one_of name given) value ∷ check_fields unlisted rules (name ∷ given) ms ∷ [])
 
--- the fields of a document inside a command: none but those that are listed
+-- the fields of a document nested in a command: only those that are listed
 abbrev pub check_inner_fields : List Rule → Fields → Verdict
 check_inner_fields rules ms = check_fields (Some failed_to_parse) rules [] ms
 
@@ -35,7 +33,7 @@ abbrev pub names_of : Fields → List (List ℕ)
 names_of no_fields = []
 names_of (field name value ms) = name ∷ names_of ms
 
--- a field that must be there
+-- a field that is required
 abbrev pub check_required : List ℕ → Fields → Verdict
 check_required name ms = elim (get name ms) [ None ↦ Some failed_to_parse | Some value ↦ None ]
 
@@ -68,7 +66,7 @@ abbrev pub timestamp_needed : Datum → Verdict
 timestamp_needed (timestamp_value n) = None
 timestamp_needed value = Some type_mismatch
 
--- a document that passes
+-- a document that passes a check
 abbrev pub document_needed : (Fields → Verdict) → Datum → Verdict
 document_needed check (document_value ms) = check ms
 document_needed check value = Some type_mismatch
@@ -84,7 +82,7 @@ session_rules = record { name = codes "id"; check = session_id } ∷ []
 abbrev pub check_session : Fields → Verdict
 check_session ms = first_of (check_inner_fields session_rules ms ∷ check_required (codes "id") ms ∷ [])
 
--- what every command may have
+-- the fields that every command may have
 abbrev pub common_rules : List Rule
 common_rules =
     record { name = codes "$db"; check = string_needed }

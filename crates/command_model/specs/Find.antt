@@ -1,5 +1,4 @@
--- `find` (MongoDB manual, "find"; the order of refusals is own): the stages are a filter, a sort, how many are passed over, how many
--- are shown, and a projection, each where it is given.
+-- `find` (MongoDB manual, "find"; the order of refusals is own): the stages are a filter, a sort, a skip, a limit, and a projection, each where it is given.
 use Rattle.std.specs.Prelude.{ℕ, List, [], ◌∷◌, ◌++◌, false, Option, Some, None, Result, Ok, Err, codes}
 use Rattle.bson_model.specs.Tree.{Datum, document_value, Fields, no_fields, field, get}
 use Rattle.base_model.specs.Errors.{failed_to_parse}
@@ -13,19 +12,19 @@ use Rattle.command_model.specs.Fields.{Rule, boolean_needed, boolean_or, common_
 use Rattle.command_model.specs.Forms.{CommandForm, check_collection, nothing_judged, string_or}
 use Rattle.command_model.specs.Reading.{Reading, Batches, natural_needed, number_given, unless_zero, unless_faulty, check_concern, time_given}
 
--- the documents in batches
+-- to return the documents in batches
 pub record Find : Type 0 where
   pub reading : Reading
   pub batches : Batches
 
--- a stage of words, where they are given
+-- a stage whose operand is a document, where it is given
 abbrev pub stage_given : {A : Type 0} → (Fields → Result A QueryFault) → (A → Stage) → List ℕ → Fields → List Stage
 stage_given read stage name ms = elim (get name ms) [
   | Some (document_value words) ↦ elim (read words) [ Ok x ↦ stage x ∷ [] | Err fault ↦ [] ]
   | other ↦ []
 ]
 
--- what a projection leaves: all, where it is empty (MongoDB manual, "find", "Projections"; `$project` refuses an empty one)
+-- the projection, or none where it is empty and all fields are kept (MongoDB manual, "find", "Projections"; `$project` refuses an empty one)
 abbrev pub read_shown : Fields → Result (Option Projection) QueryFault
 read_shown no_fields = Ok None
 read_shown (field name value ms) = read_projection (field name value ms) >>= λ rules. Ok (Some rules)
@@ -34,11 +33,11 @@ abbrev pub shown_stages : Option Datum → List Stage
 shown_stages (Some (document_value words)) = elim (read_shown words) [ Ok shown ↦ elim shown [ None ↦ [] | Some rules ↦ project_stage rules ∷ [] ] | Err fault ↦ [] ]
 shown_stages value = []
 
--- a stage of a number, where one is given that is not 0
+-- a stage whose operand is a number, where one is given that is not 0
 abbrev pub stage_counted : (ℕ → Stage) → List ℕ → Fields → List Stage
 stage_counted stage name ms = elim (unless_zero (number_given name ms)) [ None ↦ [] | Some n ↦ stage n ∷ [] ]
 
--- options that are taken only where they are false, their default (MongoDB manual, "find"): some drivers send them with each find
+-- options that are accepted only where they are false, their default (MongoDB manual, "find"): some drivers send them with each find
 abbrev pub only_false : List (List ℕ)
 only_false = codes "returnKey" ∷ codes "showRecordId" ∷ codes "tailable" ∷ codes "awaitData" ∷ []
 

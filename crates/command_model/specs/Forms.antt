@@ -1,5 +1,4 @@
--- The form of a command, and the one order in which its checks come (MongoDB manual, "Database Commands"; the order of
--- refusals is own).
+-- The form of a command, and the one order of its checks (MongoDB manual, "Database Commands"; the order of refusals is own).
 use Rattle.std.specs.Prelude.{ℕ, List, [], ◌∷◌, Bool, ◌||◌, not, Option, Some, None, if◌then◌else◌, codes}
 use Rattle.std.specs.Str.{bytes_eq}
 use Rattle.bson_model.specs.Tree.{Datum, string_value, Fields, field, get}
@@ -13,26 +12,26 @@ use Rattle.command_model.specs.Fields.{Rule, check_fields, names_of}
 abbrev pub Sequences : Type 0
 Sequences = List (List ℕ × List Fields)
 
--- a document sequence that a command may have: its identifier, and the check of its documents
+-- the document sequence that a command may have: its identifier, and the check of its documents
 pub record SequenceRule : Type 0 where
   pub identifier : List ℕ
   pub check : List Fields → Verdict
 
 -- the form of a command that is read as a value of C
 pub record CommandForm (C : Type 0) : Type 0 where
-  -- of the database, the value of the command's own field
+  -- the value of the command's own field, given the database
   pub check_own : (database : List ℕ) → Datum → Verdict
-  -- the fields behind it, of the database, and what is told of one that has no rule
+  -- the fields after it, given the database, and the error of one that has no rule
   pub rules : (database : List ℕ) → List Rule
   pub unlisted : Verdict
   pub sequence : Option SequenceRule
-  -- of the whole document and the sequences: what is needed, and what is judged last
+  -- the whole document and the sequences: what is required, and what is checked last
   pub check_needed : Fields → Sequences → Verdict
   pub check_last : Fields → Sequences → Verdict
-  -- the command, where all passes: of the database, the value of its own field, the document and the sequences
+  -- the command, where all passes, from the database, the value of its own field, the document and the sequences
   pub command : (database : List ℕ) → Datum → Fields → Sequences → C
 
--- the database has to be named, but in OP_QUERY
+-- the database is required, except in OP_QUERY
 abbrev pub check_database : Form → Option Datum → Verdict
 check_database sent (Some (string_value database)) = None
 check_database sent (Some value) = Some type_mismatch
@@ -43,7 +42,7 @@ abbrev pub string_or : List ℕ → Option Datum → List ℕ
 string_or other (Some (string_value s)) = s
 string_or other value = other
 
--- the database; of OP_QUERY it is `admin`
+-- the database; in OP_QUERY it is `admin`
 abbrev pub database_of : Form → Fields → List ℕ
 database_of query_form document = codes "admin"
 database_of msg_form document = string_or [] (get (codes "$db") document)
@@ -53,17 +52,17 @@ abbrev pub check_collection : List ℕ → Datum → Verdict
 check_collection database (string_value collection) = unless_passes (is_open_namespace database collection) invalid_namespace
 check_collection database value = Some type_mismatch
 
--- one sequence, where a field or a sequence of its identifier was given before it or not
+-- one sequence, given whether a field or a sequence with its identifier occurred before
 abbrev pub check_sequence : Option SequenceRule → (given : Bool) → List ℕ × List Fields → Verdict
 check_sequence None given s = Some failed_to_parse
 check_sequence (Some rule) given s = if given || not (bytes_eq s.0 rule.identifier) then Some failed_to_parse else rule.check s.1
 
--- the sequences in order, behind the fields and sequences of these names
+-- the sequences in order, after the fields and sequences with these names
 abbrev pub check_sequences : Option SequenceRule → List (List ℕ) → Sequences → Verdict
 check_sequences rule given [] = None
 check_sequences rule given (s ∷ sequences) = first_of (check_sequence rule (is_one_of s.0 given) s ∷ check_sequences rule (s.0 ∷ given) sequences ∷ [])
 
--- all checks of a command, in their order: the own field has this name and value, and the others stand behind it
+-- all checks of a command, in their order: the own field has this name and value, and these are the others
 abbrev pub check_command : {C : Type 0} → CommandForm C → Form → (own : List ℕ) → (value : Datum) → (others : Fields) → Sequences → Verdict
 check_command form sent own value others sequences =
     first_of
@@ -78,7 +77,7 @@ check_command form sent own value others sequences =
 abbrev pub command_by : {C : Type 0} → CommandForm C → Form → (own : List ℕ) → (value : Datum) → (others : Fields) → Sequences → C
 command_by form sent own value others sequences = form.command (database_of sent (field own value others)) value (field own value others) sequences
 
--- the form of a command whose values are made into these
+-- the form of a command whose values are mapped by a function
 abbrev pub made_into : {C D : Type 0} → (C → D) → CommandForm C → CommandForm D
 made_into make form = record {
   check_own = form.check_own;

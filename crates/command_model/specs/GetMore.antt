@@ -1,4 +1,4 @@
--- `getMore` (MongoDB manual, "getMore"; the order of refusals is own). It is answered a batch under `nextBatch`.
+-- `getMore` (MongoDB manual, "getMore"; the order of refusals is own). It is answered with a batch under `nextBatch`.
 use Rattle.std.specs.Prelude.{ℕ, ℤ, List, [], ◌∷◌, Option, Some, None, codes, is_some, if◌then◌else◌}
 use Rattle.bson_model.specs.Tree.{Datum, get}
 use Rattle.base_model.specs.Errors.{failed_to_parse, invalid_namespace, type_mismatch}
@@ -10,7 +10,7 @@ use Rattle.command_model.specs.Fields.{Rule, check_required, common_rules}
 use Rattle.command_model.specs.Forms.{CommandForm, check_collection, nothing_judged, string_or}
 use Rattle.command_model.specs.Reading.{natural_needed, number_given}
 
--- the next batch of a cursor, of so many documents at most, where a size is given
+-- to return the next batch of a cursor, of at most this many documents, where a size is given
 pub record GetMore : Type 0 where
   pub namespace : List ℕ
   pub cursor : ℤ

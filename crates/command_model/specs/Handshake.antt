@@ -1,5 +1,5 @@
--- What commands share that look at `$db` and `helloOk` alone: `hello`, `isMaster`, `ping` and `endSessions` (MongoDB manual,
--- "hello", "ping", "endSessions"; the order of fields is own).
+-- What the commands share that read only `$db` and `helloOk`: `hello`, `isMaster`, `ping` and `endSessions` (MongoDB manual, "hello", "ping", "endSessions";
+-- the order of fields is own).
 use Rattle.std.specs.Prelude.{ℕ, List, [], ◌∷◌, Bool, true, false, None, if◌then◌else◌, codes}
 use Rattle.bson_model.specs.Tree.{string_value, boolean_value, Fields, no_fields, field}
 use Rattle.command_model.specs.Fields.{Rule, boolean_needed, string_needed}
@@ -11,7 +11,7 @@ use Rattle.command_model.specs.CommandLimits.{most_statements}
 abbrev pub handshake_rules : List Rule
 handshake_rules = record { name = codes "$db"; check = string_needed } ∷ record { name = codes "helloOk"; check = boolean_needed } ∷ []
 
--- other fields are passed over
+-- other fields are ignored
 abbrev pub handshake_form : {C : Type 0} → (Fields → C) → CommandForm C
 handshake_form command = record {
   check_own = any_own;
@@ -23,7 +23,7 @@ handshake_form command = record {
   command = λ database own document sequences. command document;
 }
 
--- what a handshake tells at a moment, behind the field that says that writes are taken
+-- the fields of a handshake at a moment, after the one that says that writes are accepted
 abbrev pub handshake : ℕ → Fields → Fields
 handshake moment more =
     field (codes "msg") (string_value (codes "isdbgrid"))

@@ -5,7 +5,7 @@ use Rattle.command_model.specs.AnswerParts.{ok}
 use Rattle.command_model.specs.Forms.{CommandForm}
 use Rattle.command_model.specs.Handshake.{handshake_form, handshake}
 
--- nothing is asked but the answer
+-- a command without parameters
 abbrev pub hello_form : CommandForm (Unit {0})
 hello_form = handshake_form (λ document. tt)
 

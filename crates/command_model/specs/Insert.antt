@@ -1,4 +1,4 @@
--- The statements of `insert` (MongoDB manual, "insert"): each is the document to put in.
+-- The statements of `insert` (MongoDB manual, "insert"): each is the document to insert.
 use Rattle.std.specs.Prelude.{None, codes}
 use Rattle.history_model.specs.History.{insert_operation}
 use Rattle.command_model.specs.Statements.{StatementForm}

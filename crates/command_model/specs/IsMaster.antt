@@ -1,5 +1,5 @@
--- `isMaster`, also `ismaster`, the older `hello` (MongoDB manual, "hello"; the order of fields is own): the handshake in the old
--- words, at the moment of the answer.
+-- `isMaster`, also `ismaster`, the older `hello` (MongoDB manual, "hello"; the order of fields is own): the handshake with the old field names, at the moment
+-- of the answer.
 use Rattle.std.specs.Prelude.{ℕ, Bool, true, false, codes}
 use Rattle.bson_model.specs.Tree.{boolean_value, Fields, no_fields, field, get}
 use Rattle.command_model.specs.AnswerParts.{ok}
@@ -7,7 +7,7 @@ use Rattle.command_model.specs.Fields.{boolean_or}
 use Rattle.command_model.specs.Forms.{CommandForm}
 use Rattle.command_model.specs.Handshake.{handshake_form, handshake, hello_ok}
 
--- whether `helloOk` is to be shown
+-- whether `helloOk` is shown
 pub record Legacy : Type 0 where
   pub shows_hello_ok : Bool
 

@@ -1,4 +1,4 @@
--- `ping` (MongoDB manual, "ping"): nothing is asked but the answer, `done_document`.
+-- `ping` (MongoDB manual, "ping"): a command without parameters, whose answer is `done_document`.
 use Rattle.command_model.specs.Forms.{CommandForm}
 use Rattle.command_model.specs.Handshake.{handshake_form}
 

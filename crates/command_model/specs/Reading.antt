@@ -1,5 +1,5 @@
--- What is read of a collection, at which time, and in which batches (MongoDB manual, "find", "aggregate", "count", "Read Concern",
--- "Cursor Batches"; the order of refusals is own).
+-- What is read from a collection, at which time, and in which batches (MongoDB manual, "find", "aggregate", "count", "Read Concern", "Cursor Batches"; the
+-- order of refusals is own).
 use Rattle.std.specs.Prelude.{ℕ, List, [], ◌∷◌, Bool, false, ◌&&◌, not, Option, Some, None, Result, Ok, Err, is_some, nat_lt, codes, if◌then◌else◌}
 use Rattle.std.specs.Str.{bytes_eq}
 use Rattle.bson_model.specs.Tree.{Datum, string_value, document_value, timestamp_value, Fields, get}
@@ -10,21 +10,21 @@ use Rattle.pipeline_model.specs.Stages.{Stage, as_natural, read_natural}
 use Rattle.command_model.specs.Checks.{Verdict, first_of, is_one_of, unless_passes}
 use Rattle.command_model.specs.Fields.{Rule, check_inner_fields, timestamp_needed}
 
--- the documents that these stages make of the collection at a time: at the one that is named, or at one that is not before `after`
+-- to return the result of these stages on the collection at a time: at the one that is named, or at one that is not before `after`
 pub record Reading : Type 0 where
   pub namespace : List ℕ
   pub stages : List Stage
   pub at : Option ℕ
   pub after : Option ℕ
 
--- how many documents the first batch has at most, where a size is given; `single`: no other batch is asked for
+-- the greatest size of the first batch, where one is given; `single`: no other batch is requested
 pub record Batches : Type 0 where
   pub size : Option ℕ
   pub single : Bool
 
--- WORDS OF A PIPELINE
+-- OPERANDS OF A PIPELINE
 
--- words that do not read are refused at their field
+-- an operand that can't be read is refused at its field
 abbrev pub unless_faulty : {A : Type 0} → Result A QueryFault → Verdict
 unless_faulty (Ok x) = None
 unless_faulty (Err fault) = Some bad_value
@@ -35,11 +35,11 @@ unless_faulty (Err fault) = Some bad_value
 abbrev pub natural_needed : Datum → Verdict
 natural_needed value = elim (whole_number value) [ None ↦ Some type_mismatch | Some n ↦ unless_faulty (as_natural n) ]
 
--- the number that a field gives, if it is there
+-- the number in a field, if it is there
 abbrev pub number_given : List ℕ → Fields → Option ℕ
 number_given name ms = elim (get name ms) [ None ↦ None | Some value ↦ elim (read_natural value) [ Ok n ↦ Some n | Err fault ↦ None ] ]
 
--- the same where 0 is as none
+-- the same, where 0 is like no field
 abbrev pub unless_zero : Option ℕ → Option ℕ
 unless_zero None = None
 unless_zero (Some n) = if nat_lt 0 n then Some n else None
@@ -64,7 +64,7 @@ concern_rules =
     ∷ record { name = codes "afterClusterTime"; check = timestamp_needed }
     ∷ []
 
--- a time is named with the level snapshot alone, and not beside one to be reached
+-- a time is named only with the level snapshot, and not together with a time to be reached
 abbrev pub may_name_time : Fields → Bool
 may_name_time ms = is_snapshot (get (codes "level") ms) && not (is_some (get (codes "afterClusterTime") ms))
 
@@ -75,7 +75,7 @@ check_concern ms =
     ∷ elim (get (codes "atClusterTime") ms) [ None ↦ None | Some value ↦ unless_passes (may_name_time ms) bad_value ]
     ∷ [])
 
--- a time that a field of the read concern gives
+-- a time in a field of the read concern
 abbrev pub time_given : List ℕ → Option Datum → Option ℕ
 time_given name (Some (document_value ms)) = elim (get name ms) [ None ↦ None | Some d ↦ elim d [ timestamp_value n ↦ Some n | other ↦ None ] ]
 time_given name value = None

@@ -7,14 +7,13 @@ use Rattle.history_model.specs.History.{Operation, insert_operation, update_oper
 use Rattle.base_model.specs.Errors.{bad_value, shard_key_not_found}
 use Rattle.command_model.specs.Checks.{Verdict, first_of, unless_passes}
 
--- what is a command's own about its statements: the field, or document sequence, that has them; what is told of the fields of one; and
--- what it does
+-- what each write command has of its own: the field, or document sequence, with its statements; the check of the fields of one; and its operation
 pub record StatementForm : Type 0 where
   pub identifier : List ℕ
   pub check : Fields → Verdict
   pub operation : Fields → Operation
 
--- the key that an operation asks for, before its words are read
+-- the key that an operation requires, before its operands are read
 abbrev pub key_asked_by : Operation → Option Datum
 key_asked_by (insert_operation document) = key_of document
 key_asked_by (update_operation filter words upsert) = key_asked_in filter
@@ -24,11 +23,11 @@ abbrev pub check_key : Option Datum → Verdict
 check_key None = Some shard_key_not_found
 check_key (Some key) = unless_passes (is_key key) bad_value
 
--- the first fault of an operation's words
+-- the first fault of an operation's operands
 abbrev pub check_words : Operation → Verdict
 check_words operation = elim (read_operation operation) [ Ok write ↦ None | Err fault ↦ Some bad_value ]
 
--- one statement: its fields, its key, its words
+-- one statement: its fields, its key, its operands
 abbrev pub check_statement : StatementForm → Fields → Verdict
 check_statement form statement = first_of (form.check statement ∷ check_key (key_asked_by (form.operation statement)) ∷ check_words (form.operation statement) ∷ [])
 

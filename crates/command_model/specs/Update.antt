@@ -1,5 +1,5 @@
--- The statements of `update` (MongoDB manual, "update"): each has a filter that names one `_id`, a change, and whether a document is
--- put in where none is met. `multi` means nothing then.
+-- The statements of `update` (MongoDB manual, "update"): each has a filter that names one `_id`, a change, and whether it is an upsert. `multi` then changes
+-- nothing.
 use Rattle.std.specs.Prelude.{List, [], ◌∷◌, false, None, codes}
 use Rattle.bson_model.specs.Tree.{Fields, get}
 use Rattle.history_model.specs.History.{Operation, update_operation}

@@ -34,7 +34,7 @@ pub record ClientNumber : Type 0 where
   pub session : List ℕ
   pub transaction : ℤ
 
--- to do these in a collection, in order; `ordered`: the first error ends it; `number`: the client's, if it gives one
+-- to apply these operations to a collection, in order; `ordered`: the first error ends it; `number`: the client's, if it gives one
 pub record WriteCommand : Type 0 where
   pub kind : WriteKind
   pub namespace : List ℕ
@@ -48,7 +48,7 @@ documents_in no_items = Some []
 documents_in (item (document_value ms) ds) = elim (documents_in ds) [ None ↦ None | Some documents ↦ Some (ms ∷ documents) ]
 documents_in (item d ds) = None
 
--- so many statements as a command may have
+-- as many statements as a command may have
 abbrev pub is_statement_count : ℕ → Bool
 is_statement_count n = nat_le 1 n && nat_le n most_statements
 
@@ -67,7 +67,7 @@ documents_needed value = Some type_mismatch
 abbrev pub whole_needed : Datum → Verdict
 whole_needed value = elim (whole_number value) [ None ↦ Some type_mismatch | Some n ↦ None ]
 
--- a transaction's number is one of a session
+-- a transaction's number requires a session
 abbrev pub session_needed : Fields → Verdict
 session_needed document = elim (get (codes "txnNumber") document) [ None ↦ None | Some value ↦ check_required (codes "lsid") document ]
 
@@ -79,7 +79,7 @@ abbrev pub session_in : Option Datum → List ℕ
 session_in (Some (document_value ms)) = session_bytes (get (codes "id") ms)
 session_in value = []
 
--- the session without a transaction numbers nothing
+-- a session without a transaction numbers nothing
 abbrev pub number_given : Fields → Option ClientNumber
 number_given document = elim (get (codes "txnNumber") document) [
   | None ↦ None
@@ -99,7 +99,7 @@ abbrev pub documents_of_value : Datum → Option (List Fields)
 documents_of_value (array_value ds) = documents_in ds
 documents_of_value value = None
 
--- the statements' documents, by the field or by the sequence
+-- the statements' documents, from the field or from the sequence
 abbrev pub documents_asked : StatementForm → Fields → Sequences → Option (List Fields)
 documents_asked form document sequences = elim (get form.identifier document) [
   | Some value ↦ documents_of_value value
@@ -136,13 +136,13 @@ pub record WriteError : Type 0 where
   pub index : ℕ
   pub refusal : Refusal
 
--- the key of the document that the statement with this index put in, having met none
+-- the key of the document that the statement with this index upserted
 pub record Upserted : Type 0 where
   pub index : ℕ
   pub key : Datum
 
--- what the statements of a command are told together: how many documents were put in, met or taken out, how many were changed, which
--- upserts put in, the errors, the operation's time
+-- the joint outcome of the statements of a command: how many documents were inserted, matched or deleted, how many were changed, the upserted keys, the
+-- errors, and the operation's time
 pub record WriteSummary : Type 0 where
   pub count : ℕ
   pub modified : ℕ
@@ -167,7 +167,7 @@ abbrev pub upserted_shown : List Upserted → Fields → Fields
 upserted_shown [] more = more
 upserted_shown (u ∷ upserted) more = field (codes "upserted") (array_value (upserted_items (u ∷ upserted))) more
 
--- what is told behind the count: of updates alone what they changed and put in
+-- the fields after the count: only for updates, what they changed and upserted
 abbrev pub changes_shown : WriteKind → WriteSummary → Fields → Fields
 changes_shown insert_kind told more = more
 changes_shown update_kind told more = field (codes "nModified") (count told.modified) (upserted_shown told.upserted more)

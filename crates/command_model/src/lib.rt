@@ -1,2 +1,2 @@
-//! What a request asks for, or its first refusal with its evidence. Definitions, and what the code above cites of them.
+//! The command of a request, or its first refusal with its evidence. Definitions, and lemmas that other crates use.
 #![tactic(auto)]

@@ -1,4 +1,4 @@
--- Arrays, made a value at a time.
+-- Arrays, built one value at a time.
 use Rattle.std.proofs.Common.{◌≡◌, ℕ, suc, ◌+◌, ◌<◌, ◌≤◌, List, ◌∷◌, length, get_or, drop, refl, sym, ◌∙◌, ap, add-one, drop-cons, arith, codes, [], Option, Some, None}
 use Rattle.std.proofs.lemmas.List.{drop_all}
 use Rattle.bson_model.specs.Tree.{Datum, array_value, Items, no_items, item, joined_items, Fields, no_fields, field, joined}
@@ -17,7 +17,7 @@ pub nothing_shown : (ms : Fields) (o : Option Fields) → None ≡ o → ms ≡ 
 nothing_shown ms None e = sym (joined_none ms)
 nothing_shown ms (Some document) e = absurd cc
 
--- arrays of the values of such a list
+-- arrays of the values of a list
 module _ {A : Type 0} (items : List A → Items) (value : A → Datum) (none : items [] ≡ no_items) (more : (x : A) (xs : List A) → items (x ∷ xs) ≡ item (value x) (items xs)) where
   -- one more value
   pub one_more : (all made new : Items) (list : List A) (i : ℕ) (x other : A) → joined_items made (items (drop i list)) ≡ all → i < length list → x ≡ get_or list i other → new ≡ joined_items made (item (value x) no_items) →
@@ -38,7 +38,7 @@ pub errors_shown : (errors : List WriteError) (more : Fields) → ¬ (length err
 errors_shown [] more some = absurd (some refl)
 errors_shown (e ∷ errors) more some = refl
 
--- a key that an upsert put in
+-- the key of an upserted document
 abbrev pub key_shown : Upserted → Fields
 key_shown u = field (codes "index") (number u.index) (field (codes "_id") (arc_value u.key) no_fields)
 

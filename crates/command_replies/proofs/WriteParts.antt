@@ -1,4 +1,4 @@
--- The answer to a write, a part at a time.
+-- The answer to a write, one part at a time.
 use Rattle.std.proofs.Common.{◌≡◌, List, [], ◌∷◌, refl, ◌∙◌, ap, codes}
 use Rattle.bson_model.specs.Tree.{Fields, no_fields, field, joined}
 use Rattle.command_model.specs.AnswerParts.{count, ok, operation_time_at}
@@ -22,7 +22,7 @@ changes_before insert_kind told more = refl
 changes_before update_kind told more = ap (λ (rest : Fields). field (codes "nModified") (count told.modified) rest) (upserted_before told.upserted more)
 changes_before delete_kind told more = refl
 
--- the count, the changes, the errors and the end, one behind the other
+-- the count, the changes, the errors and the end, one after the other
 pub parts_of_write : (kind : WriteKind) (told : WriteSummary) →
     joined (joined (joined (field (codes "n") (count told.count) no_fields) (changes_shown kind (changes_alone told.modified told.upserted) no_fields)) (write_errors_shown told.errors no_fields)) (ok (operation_time_at told.time))
     ≡ write_document kind told

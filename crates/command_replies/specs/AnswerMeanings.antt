@@ -1,4 +1,4 @@
--- What the program's answers mean.
+-- The program's answers, by the definitions.
 use Rattle.command_model.specs.Answers as model
 use Rattle.command_replies.specs.declared.answer.Answer.{Answer}
 use Rattle.command_replies.specs.declared.answer.Answer.TheVariants.{Hello, Legacy, Done, Write, First, Next, Count, Killed, Refused}

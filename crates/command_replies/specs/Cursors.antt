@@ -1,4 +1,4 @@
--- What the program's batches mean.
+-- The program's batches, by the definitions.
 use Rattle.std.specs.Arc.{arc_value}
 use Rattle.std.specs.Prelude.{map}
 use Rattle.command_model.specs.Cursors as model

@@ -1,4 +1,4 @@
--- What the program's errors of statements mean.
+-- The program's errors of statements, by the definitions.
 use Rattle.std.specs.Prelude.{List, [], ◌∷◌}
 use Rattle.command_model.specs.Writes as model
 use Rattle.command_replies.specs.declared.answer.WriteError.{WriteError}

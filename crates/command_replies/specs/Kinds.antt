@@ -1,4 +1,4 @@
--- What the program's kinds of writes, and the numbers that clients give them, mean.
+-- The program's kinds of writes, and the numbers that clients give them, by the definitions.
 use Rattle.std.specs.Prelude.{Option}
 use Rattle.std.specs.Option.{option_map}
 use Rattle.command_model.specs.Writes as model

@@ -1,4 +1,4 @@
--- What the program's evidence and refusals mean.
+-- The program's evidence and refusals, by the definitions.
 use Rattle.base_model.specs.Refusals as model
 use Rattle.cluster_base.specs.Codes.{meaning_of}
 use Rattle.command_replies.specs.declared.refusal.Evidence.{Evidence}

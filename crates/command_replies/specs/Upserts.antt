@@ -1,4 +1,4 @@
--- What the program's keys mean that upserts put in.
+-- The program's upserted keys, by the definitions.
 use Rattle.std.specs.Arc.{arc_value}
 use Rattle.std.specs.Prelude.{ℕ, List, [], ◌∷◌}
 use Rattle.command_model.specs.Writes as model
@@ -11,6 +11,6 @@ abbrev pub upserted_view : List Upserted → List model.Upserted
 upserted_view [] = []
 upserted_view (u ∷ upserted) = key_view u ∷ upserted_view upserted
 
--- what is told where nothing but changes is
+-- a summary with only changes
 abbrev pub changes_alone : (modified : ℕ) → List model.Upserted → model.WriteSummary
 changes_alone modified upserted = record { count = 0; modified = modified; upserted = upserted; errors = []; time = 0 }

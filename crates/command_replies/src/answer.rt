@@ -1,4 +1,4 @@
-//! What requests are answered.
+//! The answers to requests.
 
 ghost use Rattle.std.specs.Prelude.{◌≡◌, ◌<◌, Some, None, nat_lt, if◌then◌else◌};
 ghost use Rattle.command_model.specs.CommandLimits.{most_statements};
@@ -11,10 +11,10 @@ use std::marker::Model;
 use std::sync::Arc;
 use value_compare::Key;
 
-/// The most statements of one command (MongoDB manual, "hello", `maxWriteBatchSize`).
+/// The greatest number of statements of one command (MongoDB manual, "hello", `maxWriteBatchSize`).
 pub const MOST_STATEMENTS: u32 = 100_000;
 
-/// The index of a statement in its command, from 0 on, below `MOST_STATEMENTS`.
+/// The index of a statement in its command, from 0, less than `MOST_STATEMENTS`.
 #[derive(Debug, Drop)]
 pub struct StatementIndex {
     index: u32,
@@ -32,7 +32,7 @@ impl Model for StatementIndex {
 }
 
 impl StatementIndex {
-    /// The index of that number, if a command can have so many statements.
+    /// Returns the index with that number, if a command can have such an index.
     pub fn of(index: u32) -> Option<StatementIndex>
         ensures { result ≡ (if nat_lt index most_statements then Some index else None) }
     {
@@ -43,7 +43,7 @@ impl StatementIndex {
         }
     }
 
-    /// The number.
+    /// Returns the number.
     pub fn number(&self) -> u32
         ensures number { result ≡ self.now }
         ensures small { self.now < most_statements }
@@ -59,7 +59,7 @@ pub struct WriteError {
     pub refusal: Refusal,
 }
 
-/// What a write does with documents (MongoDB manual, "insert", "update", "delete").
+/// The kind of a write (MongoDB manual, "insert", "update", "delete").
 #[derive(Clone, Copy, Debug, PartialEq, Eq)]
 pub enum WriteKind {
     Insert,
@@ -77,25 +77,25 @@ pub struct ClientNumber {
     pub transaction: i64,
 }
 
-/// The key of the document that the statement with this index put in, having met none (MongoDB manual, "update", `upserted`).
+/// The key of the document that the statement with this index upserted (MongoDB manual, "update", `upserted`).
 #[derive(Drop)]
 pub struct Upserted {
     pub index: StatementIndex,
     pub key: Arc<Key, Global>,
 }
 
-/// Some of the documents that were read of a collection (MongoDB manual, "Cursor Batches").
+/// Some of the documents that were read from a collection (MongoDB manual, "Cursor Batches").
 #[derive(Drop)]
 pub struct Batch {
     /// The cursor that has the others; 0 where there are none.
     pub cursor: i64,
     pub namespace: Namespace,
     pub documents: Vec<Arc<Document, Global>>,
-    /// The time that they were read at.
+    /// The time of the read.
     pub time: Time,
 }
 
-/// What a request is answered.
+/// The answer to a request.
 #[derive(Drop)]
 pub enum Answer {
     /// To `hello`: the moment, in milliseconds since 1970.
@@ -109,8 +109,7 @@ pub enum Answer {
     },
     /// To `ping` and `endSessions`.
     Done,
-    /// To a write: how many documents were put in, met or taken out, how many were changed, the keys that upserts put in, the errors, and
-    /// the time of the operation.
+    /// To a write: how many documents were inserted, matched or deleted, how many were changed, the upserted keys, the errors, and the time of the operation.
     Write {
         kind: WriteKind,
         count: u32,
@@ -123,7 +122,7 @@ pub enum Answer {
     First(Batch),
     /// To `getMore`.
     Next(Batch),
-    /// To `count`: how many documents there were, and the time that was read at.
+    /// To `count`: the number of documents, and the time of the read.
     Count {
         count: u64,
         time: Time,

@@ -13,7 +13,7 @@ use bson_values::{Array, Document, Memory, Text, Value};
 use std::alloc::Global;
 use std::sync::Arc;
 
-// Copies of the documents, as the values of an array.
+// Returns copies of the documents, as the values of an array.
 fn document_array(alloc: Global, documents: &[Arc<Document, Global>]) -> Result<Array, Memory>
     ensures { IfOk result (λ a. a ≡ document_items (map arc_value documents.now)) }
 {
@@ -24,7 +24,7 @@ fn document_array(alloc: Global, documents: &[Arc<Document, Global>]) -> Result<
     Ok(items)
 }
 
-// The cursor of a batch, which stands under that name.
+// Returns the cursor of a batch, which is shown under that name.
 fn cursor_shown(alloc: Global, name: &str, batch: &Batch) -> Result<Document, Memory>
     requires { IsTrue (has_no_zero name.now) }
     ensures { IfOk result (λ d. d ≡ model.cursor_shown name.now (batch_view batch.now)) }
@@ -44,7 +44,7 @@ fn cursor_shown(alloc: Global, name: &str, batch: &Batch) -> Result<Document, Me
     Ok(shown)
 }
 
-/// The answer that a batch is, under its name, `firstBatch` or `nextBatch`. Fails for want of memory.
+/// Returns the answer with a batch, under its name, `firstBatch` or `nextBatch`. Returns `Memory` if memory runs out.
 pub(crate) fn batch_document(alloc: Global, name: &str, batch: &Batch) -> Result<Document, Memory>
     requires { IsTrue (has_no_zero name.now) }
     ensures { IfOk result (λ d. d ≡ model.batch_document name.now (batch_view batch.now)) }

@@ -8,8 +8,8 @@ use bson_values::{Document, Memory, Value};
 use cluster_base::Time;
 use std::alloc::Global;
 
-/// The answer to a count: how many documents there were, and the time that was read at. Fails for want of memory, and where there are
-/// 2^63 or more.
+/// Returns the answer to a count: the number of documents, and the time of the read. Returns `Memory` if memory runs out, and where the number is 2^63 or
+/// more.
 pub(crate) fn count_document(alloc: Global, count: u64, time: Time) -> Result<Document, Memory>
     ensures { IfOk result (λ d. d ≡ model.count_document count time.0) }
 {

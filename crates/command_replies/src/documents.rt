@@ -16,8 +16,8 @@ use crate::writes::write_document;
 use bson_values::{Document, Memory};
 use std::alloc::Global;
 
-/// The document of an answer (MongoDB manual, "Command Response"). Fails for want of memory, and of a `Count` that is 2^63 or more, as no
-/// number of documents in memory is.
+/// Returns the document of an answer (MongoDB manual, "Command Response"). Returns `Memory` if memory runs out, and for a `Count` of 2^63 or more, which no
+/// number of documents in memory reaches.
 pub fn write_answer(alloc: Global, answer: &Answer) -> Result<Document, Memory>
     ensures { IfOk result (λ d. d ≡ answer_document (answer_view answer.now)) }
 {

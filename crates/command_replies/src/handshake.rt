@@ -1,5 +1,4 @@
-//! What the answers to `hello` and `isMaster` share, and the answer to `ping` and `endSessions` (MongoDB manual, "hello", "ping",
-//! "endSessions").
+//! What the answers to `hello` and `isMaster` share, and the answer to `ping` and `endSessions` (MongoDB manual, "hello", "ping", "endSessions").
 
 ghost use Rattle.std.specs.Prelude.{◌≡◌, IfOk, IsTrue, true};
 ghost use Rattle.bson_model.specs.Tree.{boolean_value, no_fields, field};
@@ -13,22 +12,22 @@ use crate::parts::{add, add_boolean, add_number, add_text};
 use bson_values::{Document, MOST_BYTES_KEPT, Memory, Value};
 use std::alloc::Global;
 
-/// The greatest BSON document, in bytes.
+/// The greatest length of a BSON document, in bytes.
 const MOST_DOCUMENT_BYTES: i32 = MOST_BYTES_KEPT as i32;
 
-/// The greatest message, in bytes.
+/// The greatest length of a message, in bytes.
 const MOST_MESSAGE_BYTES: i32 = 48_000_000;
 
-/// The most statements of one command.
+/// The greatest number of statements of one command.
 const MOST_STATEMENTS: i32 = answer::MOST_STATEMENTS as i32;
 
 /// How long a session lives without a request.
 const SESSION_MINUTES: i32 = 30;
 
-/// The last version of the wire protocol that is spoken.
+/// The greatest version of the wire protocol that is supported.
 const LAST_WIRE_VERSION: i32 = 17;
 
-// A moment as a date; the greatest date tells of those behind it too.
+// Returns a moment as a date, or the greatest date where that is less.
 fn moment_shown(moment: u64) -> Value
     ensures { datum_of result ≡ shown.moment_shown moment }
 {
@@ -39,7 +38,7 @@ fn moment_shown(moment: u64) -> Value
     }
 }
 
-/// A handshake, whose first field, which says that writes are taken, has that name. Fails for want of memory.
+/// Returns a handshake, whose first field, which says that writes are accepted, has that name. Returns `Memory` if memory runs out.
 pub(crate) fn handshake_of(alloc: Global, writable: &str, moment: u64) -> Result<Document, Memory>
     requires { IsTrue (has_no_zero writable.now) }
     ensures { IfOk result (λ d. d ≡ field writable.now (boolean_value true) (handshake moment no_fields)) }
@@ -68,7 +67,7 @@ pub(crate) fn handshake_of(alloc: Global, writable: &str, moment: u64) -> Result
     Ok(answer)
 }
 
-/// The answer to `ping` and `endSessions`. Fails for want of memory.
+/// Returns the answer to `ping` and `endSessions`, or `Memory` if memory runs out.
 pub(crate) fn done_answer(alloc: Global) -> Result<Document, Memory>
     ensures { IfOk result (λ d. d ≡ done_document) }
 {

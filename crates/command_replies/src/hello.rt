@@ -8,7 +8,7 @@ use crate::parts::add_number;
 use bson_values::{Document, Memory};
 use std::alloc::Global;
 
-/// The answer to `hello` at a moment. Fails for want of memory.
+/// Returns the answer to `hello` at a moment, or `Memory` if memory runs out.
 pub(crate) fn hello_answer(alloc: Global, moment: u64) -> Result<Document, Memory>
     ensures { IfOk result (λ d. d ≡ hello_document moment) }
 {

@@ -10,7 +10,7 @@ use crate::parts::{add_boolean, add_number};
 use bson_values::{Document, Memory};
 use std::alloc::Global;
 
-// The handshake in the old words, and `helloOk`, if it is shown.
+// Returns the handshake with the old field names, and `helloOk`, if it is shown.
 fn old_handshake(alloc: Global, moment: u64, shown: bool) -> Result<Document, Memory>
     ensures { IfOk result (λ d. d ≡ field (codes "ismaster") (boolean_value true) (handshake moment (hello_ok shown no_fields))) }
 {
@@ -21,7 +21,7 @@ fn old_handshake(alloc: Global, moment: u64, shown: bool) -> Result<Document, Me
     Ok(answer)
 }
 
-/// The answer to `isMaster` at a moment. Fails for want of memory.
+/// Returns the answer to `isMaster` at a moment, or `Memory` if memory runs out.
 pub(crate) fn legacy_answer(alloc: Global, moment: u64, shown: bool) -> Result<Document, Memory>
     ensures { IfOk result (λ d. d ≡ legacy_document moment shown) }
 {

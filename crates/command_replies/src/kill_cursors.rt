@@ -7,7 +7,7 @@ use crate::parts::{add, add_number};
 use bson_values::{Array, Document, Memory, Value};
 use std::alloc::Global;
 
-// Cursors, as the values of an array.
+// Returns cursors, as the values of an array.
 fn cursor_array(alloc: Global, cursors: &[i64]) -> Result<Array, Memory>
     ensures { IfOk result (λ a. a ≡ model.number_items cursors.now) }
 {
@@ -18,7 +18,7 @@ fn cursor_array(alloc: Global, cursors: &[i64]) -> Result<Array, Memory>
     Ok(items)
 }
 
-/// The answer to `killCursors`: the cursors that were closed, and those that were not found. Fails for want of memory.
+/// Returns the answer to `killCursors`: the cursors that were closed, and those that were not found. Returns `Memory` if memory runs out.
 pub(crate) fn killed_document(
     alloc: Global,
     killed: &[i64],

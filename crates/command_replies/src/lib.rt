@@ -1,4 +1,4 @@
-//! Answers as values, and the documents that they are.
+//! Answers as values, and their documents.
 #![tactic(auto)]
 
 mod answer;

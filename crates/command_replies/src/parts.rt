@@ -1,4 +1,4 @@
-//! Building documents, a field at a time.
+//! Building documents, one field at a time.
 
 ghost use Rattle.std.specs.Prelude.{◌≡◌, ◌<◌, ◌^◌, IsTrue, OnOk, pos};
 ghost use Rattle.bson_model.specs.Tree.{boolean_value, int32_value, string_value, no_fields, field, joined};
@@ -11,7 +11,7 @@ use bson_values::{Aligned, Document, Memory, Name, Text, Value};
 use cluster_base::Time;
 use std::alloc::Global;
 
-/// A count, in 64 bits where 32 do not hold it.
+/// Returns a count, in 64 bits where it does not fit into 32.
 pub(crate) fn count_shown(count: u64) -> Value
     requires { count < 2 ^ 63 }
     ensures { datum_of result ≡ shown.count count }
@@ -23,7 +23,7 @@ pub(crate) fn count_shown(count: u64) -> Value
     }
 }
 
-/// Puts a field behind the others. Fails for want of memory.
+/// Appends a field. Returns `Memory` if memory runs out.
 pub(crate) fn add(
     document: &mut Document,
     alloc: Global,
@@ -37,7 +37,7 @@ pub(crate) fn add(
     document.push(name, value)
 }
 
-/// Puts a text behind the others. Fails for want of memory.
+/// Appends a text. Returns `Memory` if memory runs out.
 pub(crate) fn add_text(
     document: &mut Document,
     alloc: Global,
@@ -51,7 +51,7 @@ pub(crate) fn add_text(
     add(document, alloc, name, Value::Text(text))
 }
 
-/// Puts a number behind the others. Fails for want of memory.
+/// Appends a number. Returns `Memory` if memory runs out.
 pub(crate) fn add_number(
     document: &mut Document,
     alloc: Global,
@@ -64,7 +64,7 @@ pub(crate) fn add_number(
     add(document, alloc, name, Value::Int32(Aligned::of(number)))
 }
 
-/// Puts a boolean behind the others. Fails for want of memory.
+/// Appends a boolean. Returns `Memory` if memory runs out.
 pub(crate) fn add_boolean(
     document: &mut Document,
     alloc: Global,
@@ -77,7 +77,7 @@ pub(crate) fn add_boolean(
     add(document, alloc, name, Value::Bool(Aligned::of(boolean)))
 }
 
-/// Puts what the answer of an operation ends with behind the others: `ok`, and the time. Fails for want of memory.
+/// Appends the last fields of an operation's answer: `ok`, and the time. Returns `Memory` if memory runs out.
 pub(crate) fn add_end(answer: &mut Document, alloc: Global, time: Time) -> Result<(), Memory>
     ensures { OnOk result (answer.new ≡ joined answer.old (ok (operation_time_at time.0))) }
 {

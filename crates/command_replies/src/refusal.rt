@@ -13,13 +13,13 @@ use bson_values::{Aligned, Document, Memory, Value};
 use cluster_base::{Code, NodeId, Time};
 use std::alloc::Global;
 
-/// What an error is shown with.
+/// The evidence that is shown with an error.
 #[derive(Clone, Copy, Debug, PartialEq, Eq)]
 pub enum Evidence {
     Nothing,
-    /// How many bytes stand before a fault.
+    /// How many bytes are before a fault.
     Place { place: u64 },
-    /// The greatest time that was met.
+    /// The greatest time that occurred.
     Greatest { time: Time },
     /// The cursor that was named.
     Cursor { cursor: i64 },
@@ -34,18 +34,18 @@ pub enum Evidence {
     Number { number: i64 },
     /// The time before which no history is kept.
     Oldest { time: Time },
-    /// How many bytes were wanted.
+    /// The number of bytes that were needed.
     Bytes { bytes: u64 },
 }
 
-/// Why a request is not done: the error, and its evidence.
+/// Why a request is refused: the error, and its evidence.
 #[derive(Clone, Copy, Debug, PartialEq, Eq)]
 pub struct Refusal {
     pub code: Code,
     pub evidence: Evidence,
 }
 
-// A count or a moment in 64 bits, at most the greatest of them.
+// Returns a count or a moment in 64 bits, at most the greatest of them.
 fn count_shown(count: u64) -> Value
     ensures { datum_of result ≡ history.count_shown count }
 {
@@ -56,7 +56,7 @@ fn count_shown(count: u64) -> Value
     }
 }
 
-// A node, in 32 bits, at most the greatest of them.
+// Returns a node, in 32 bits, at most the greatest of them.
 fn node_shown(node: NodeId) -> Value
     ensures { datum_of result ≡ history.node_shown node.0 }
 {
@@ -67,7 +67,7 @@ fn node_shown(node: NodeId) -> Value
     }
 }
 
-// A document of one field.
+// Returns a document of one field.
 fn one(alloc: Global, name: &str, value: Value) -> Result<Option<Document>, Memory>
     requires { IsTrue (has_no_zero name.now) }
     ensures { IfOk result (λ o. o ≡ Some (field name.now (datum_of value) no_fields)) }
@@ -77,7 +77,7 @@ fn one(alloc: Global, name: &str, value: Value) -> Result<Option<Document>, Memo
     Ok(Some(document))
 }
 
-// A document of two fields.
+// Returns a document of two fields.
 fn two(
     alloc: Global,
     first: &str,
@@ -95,7 +95,7 @@ fn two(
     Ok(Some(document))
 }
 
-// The document that is shown as evidence, if any.
+// Returns the document that is shown as evidence, if any.
 fn evidence_document(alloc: Global, evidence: Evidence) -> Result<Option<Document>, Memory>
     ensures { IfOk result (λ o. o ≡ history.evidence_document (evidence_view evidence)) }
 {
@@ -132,7 +132,7 @@ fn evidence_document(alloc: Global, evidence: Evidence) -> Result<Option<Documen
     }
 }
 
-/// Puts the evidence behind the other fields, if there is any. Fails for want of memory.
+/// Appends the evidence, if there is any. Returns `Memory` if memory runs out.
 pub(crate) fn add_evidence(
     document: &mut Document,
     alloc: Global,
@@ -146,7 +146,7 @@ pub(crate) fn add_evidence(
     }
 }
 
-/// The reply to a request that is refused (MongoDB manual, "Command Response"). Fails for want of memory.
+/// Returns the reply to a request that is refused (MongoDB manual, "Command Response"), or `Memory` if memory runs out.
 pub(crate) fn refusal_document(alloc: Global, refusal: Refusal) -> Result<Document, Memory>
     ensures { IfOk result (λ d. d ≡ refusal_reply (refusal_view refusal)) }
 {

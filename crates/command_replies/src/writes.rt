@@ -19,7 +19,7 @@ use bson_values::{Array, Document, Memory, Value};
 use cluster_base::Time;
 use std::alloc::Global;
 
-// The document of one write error.
+// Returns the document of one write error.
 fn write_error(alloc: Global, error: &WriteError) -> Result<Document, Memory>
     ensures { IfOk result (λ d. d ≡ replies.write_error error.now.index (refusal_view error.now.refusal)) }
 {
@@ -32,7 +32,7 @@ fn write_error(alloc: Global, error: &WriteError) -> Result<Document, Memory>
     Ok(document)
 }
 
-// The documents of all write errors.
+// Returns the documents of all write errors.
 fn write_errors(alloc: Global, errors: &[WriteError]) -> Result<Array, Memory>
     ensures { IfOk result (λ a. a ≡ model.write_error_items (errors_view errors.now)) }
 {
@@ -43,7 +43,7 @@ fn write_errors(alloc: Global, errors: &[WriteError]) -> Result<Array, Memory>
     Ok(items)
 }
 
-// The document of one key that an upsert put in.
+// Returns the document of one upserted key.
 fn upserted_key(alloc: Global, upserted: &Upserted) -> Result<Document, Memory>
     ensures { IfOk result (λ d. d ≡ field (codes "index") (shown.number upserted.now.index) (field (codes "_id") (arc_value upserted.now.key) no_fields)) }
 {
@@ -58,7 +58,7 @@ fn upserted_key(alloc: Global, upserted: &Upserted) -> Result<Document, Memory>
     Ok(document)
 }
 
-// The documents of all keys that upserts put in.
+// Returns the documents of all upserted keys.
 fn upserted_keys(alloc: Global, upserted: &[Upserted]) -> Result<Array, Memory>
     ensures { IfOk result (λ a. a ≡ model.upserted_items (upserted_view upserted.now)) }
 {
@@ -69,7 +69,7 @@ fn upserted_keys(alloc: Global, upserted: &[Upserted]) -> Result<Array, Memory>
     Ok(items)
 }
 
-// Puts the errors behind the other fields, if there are any. Fails for want of memory.
+// Appends the errors, if there are any. Returns `Memory` if memory runs out.
 fn add_errors(answer: &mut Document, alloc: Global, errors: &[WriteError]) -> Result<(), Memory>
     ensures { OnOk result (answer.new ≡ joined answer.old (model.write_errors_shown (errors_view errors.now) no_fields)) }
 {
@@ -80,7 +80,7 @@ fn add_errors(answer: &mut Document, alloc: Global, errors: &[WriteError]) -> Re
     add(answer, alloc, "writeErrors", Value::Array(errors))
 }
 
-// Puts the keys that upserts put in behind the other fields, if there are any. Fails for want of memory.
+// Appends the upserted keys, if there are any. Returns `Memory` if memory runs out.
 fn add_upserted(answer: &mut Document, alloc: Global, upserted: &[Upserted]) -> Result<(), Memory>
     ensures { OnOk result (answer.new ≡ joined answer.old (model.upserted_shown (upserted_view upserted.now) no_fields)) }
 {
@@ -91,7 +91,7 @@ fn add_upserted(answer: &mut Document, alloc: Global, upserted: &[Upserted]) -> 
     add(answer, alloc, "upserted", Value::Array(upserted))
 }
 
-// Puts what an update is told behind its count, and no other write. Fails for want of memory.
+// Appends the fields after the count: only for an update. Returns `Memory` if memory runs out.
 fn add_changes(
     answer: &mut Document,
     alloc: Global,
@@ -112,8 +112,8 @@ fn add_changes(
     }
 }
 
-/// The answer to a write: how many documents were put in, met or taken out, of an update how many it changed and the keys that it put
-/// in, the errors, and the operation's time. Fails for want of memory.
+/// Returns the answer to a write: how many documents were inserted, matched or deleted, for an update how many were changed and the upserted keys, the
+/// errors, and the operation's time. Returns `Memory` if memory runs out.
 pub(crate) fn write_document(
     alloc: Global,
     kind: WriteKind,

@@ -1,4 +1,4 @@
--- Rules that tell the same of the values that they come to: of each name, its first value.
+-- Rules that agree on the values that they are applied to: for each name, its first value.
 use Rattle.std.proofs.Common.{◌≡◌, ℕ, List, [], ◌∷◌, refl, ◌∙◌, ap, Bool, true, false, ◌||◌, Option, Some, if◌then◌else◌}
 use Rattle.std.specs.Str.{bytes_eq}
 use Rattle.std.proofs.lemmas.Slice.Eq.{bytes_eq-Decides}
@@ -7,7 +7,7 @@ use Rattle.command_model.specs.Checks.{Verdict, first_of, is_one_of}
 use Rattle.base_model.specs.Errors.{failed_to_parse}
 use Rattle.command_model.specs.Fields.{Rule, by_rule, check_fields, find_rule}
 
--- rules of the same names, which tell the same of the values that these fields have
+-- rules of the same names, which agree on the values that these fields have
 abbrev pub TellAlike : Fields → List Rule → List Rule → Type 0
 TellAlike whole [] [] = Unit {0}
 TellAlike whole (r ∷ rs) (s ∷ ss) = (r.name ≡ s.name) × (((value : Datum) → get r.name whole ≡ Some value → r.check value ≡ s.check value) × TellAlike whole rs ss)
@@ -46,7 +46,7 @@ first_got name value ms = rw ((bytes_eq-Decides name name).1 refl) refl
 pub later_got : (first name : List ℕ) (value : Datum) (ms : Fields) → bytes_eq first name ≡ false → get name (field first value ms) ≡ get name ms
 later_got first name value ms differs = rw differs refl
 
--- fields whose names that are not given stand in the whole
+-- fields whose first occurrences are in the whole
 fields_alike : (whole : Fields) (rs ss : List Rule) (unlisted : Verdict) (given : List (List ℕ)) (ms : Fields) → TellAlike whole rs ss → ((name : List ℕ) → is_one_of name given ≡ false → get name whole ≡ get name ms) →
     check_fields unlisted rs given ms ≡ check_fields unlisted ss given ms
 fields_alike whole rs ss unlisted given no_fields alike ahead = refl
@@ -59,7 +59,7 @@ fields_alike whole rs ss unlisted given (field name value ms) alike ahead =
     ap (λ (v : Verdict). first_of (v ∷ check_fields unlisted rs (name ∷ given) ms ∷ [])) first
     ∙ ap (λ (v : Verdict). first_of (by_rule unlisted (find_rule name ss) (is_one_of name given) value ∷ v ∷ [])) others
 
--- the fields behind a command's own
+-- the fields after a command's own
 pub behind_alike : (whole : Fields) (rs ss : List Rule) (unlisted : Verdict) (own : List ℕ) (value : Datum) (others : Fields) → TellAlike whole rs ss → whole ≡ field own value others →
     check_fields unlisted rs (own ∷ []) others ≡ check_fields unlisted ss (own ∷ []) others
 behind_alike whole rs ss unlisted own value others alike is =

@@ -1,4 +1,4 @@
--- What the rules of `getMore` tell of a collection that was read.
+-- The results of the rules of `getMore` for a collection that was read.
 use Rattle.std.proofs.Common.{◌≡◌, ℕ, List, [], ◌∷◌, refl, sym, ◌∙◌, ap, subst, Option, Some, None, Ok, Err, codes}
 use Rattle.std.specs.Prelude.{Result, drop}
 use Rattle.bson_model.specs.Tree.{Datum, Fields, field, get}
@@ -14,7 +14,7 @@ use Rattle.command_words.specs.Held.{IsCollection, collection_told}
 use Rattle.command_words.specs.HeldRules.{more_rules_held}
 use Rattle.command_words.proofs.Alike.{TellAlike, alike_self, behind_alike, later_got}
 
--- a collection that was read is told what its name is
+-- the error of a collection that was read is that of its name
 told_of_collection : (collection : Result (Option Namespace) Code) (database : List ℕ) (o : Option Datum) (value : Datum) → IsCollection collection database o → o ≡ Some value →
     collection_told collection ≡ check_collection database value
 told_of_collection (Ok None) database o value h is = let none : Path (Option Datum) None (Some value) = sym h ∙ is in cc
@@ -38,7 +38,7 @@ pub more_behind : (collection : Result (Option Namespace) Code) (database : List
 more_behind collection database document own value others h is =
     behind_alike document (more_rules_held (collection_told collection)) (more_rules database) (Some failed_to_parse) own value others (more_alike collection database document h) is
 
--- where the fields pass, there is no error of the collection's
+-- where the fields pass, the collection has no error
 pub none_refused : (code : Code) (database : List ℕ) (document : Fields) (own : List ℕ) (value : Datum) (others : Fields) → IsCollection (Err code) database (get (codes "collection") document) →
     own ≡ codes "getMore" → document ≡ field own value others → check_fields (Some failed_to_parse) (more_rules database) (own ∷ []) others ≡ None → ⊥
 none_refused code database document own value others h named is passed =

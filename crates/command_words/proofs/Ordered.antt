@@ -47,7 +47,7 @@ module _ (form : CommandForm Command) (sent : Form) (own : List ℕ) (value : Da
   fields_refused reads (Refused code) told = refused_so code told
   fields_refused reads Memory told = tt
 
-  -- all passes, but for what is judged last
+  -- all passes, except what is checked last
   pub all_passed : (result : Result Draft CheckFault) → check_fields form.unlisted (form.rules database) (own ∷ []) others ≡ None → check_sequences form.sequence (names_of document) sequences ≡ None →
       form.check_needed document sequences ≡ None →
       Drafts document sequences result (by_verdict (form.check_last document sequences) (form.command database value document sequences)) →

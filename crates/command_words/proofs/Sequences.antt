@@ -15,12 +15,12 @@ given_step : (b x : Bool) (value : Datum) (rest : Option Datum) → x ≡ is_som
 given_step true x value rest e = refl
 given_step false x value rest e = e
 
--- a name is given where there is a field of that name
+-- a name occurred where there is a field of that name
 pub given_is : (name : List ℕ) (ms : Fields) → is_one_of name (names_of ms) ≡ is_some (get name ms)
 given_is name no_fields = refl
 given_is name (field first value ms) = given_step (bytes_eq first name) (is_one_of name (names_of ms)) value (get name ms) (given_is name ms)
 
--- a second sequence is refused: its identifier is given, or it is none that the command has
+-- a second sequence is refused: its identifier occurred before, or the command does not have it
 second_told : (rule : SequenceRule) (first name : List ℕ) (documents : List Fields) (given : List (List ℕ)) (w : Verdict) → bytes_eq first rule.identifier ≡ true →
     first_of (check_sequence (Some rule) (is_one_of name (first ∷ given)) (name, documents) ∷ w ∷ []) ≡ Some failed_to_parse
 second_told rule first name documents given w named = by_test (bytes_eq name rule.identifier) refl
@@ -45,7 +45,7 @@ passed_name rule given s none = by_case given (bytes_eq s.0 rule.identifier) (ru
     by_case true false v e = cc
     by_case false false v e = cc
 
--- so it is where the first one passes
+-- this decides where the first one passes
 two_refused : (rule : Option SequenceRule) (given : List (List ℕ)) (s t : List ℕ × List Fields) (more : Sequences) → check_sequence rule (is_one_of s.0 given) s ≡ None → check_sequences rule given (s ∷ t ∷ more) ≡ Some failed_to_parse
 two_refused None given s t more none = absurd cc
 two_refused (Some rule) given s t more none =
@@ -53,7 +53,7 @@ two_refused (Some rule) given s t more none =
     second_told rule s.0 t.0 t.1 given (check_sequences (Some rule) (t.0 ∷ s.0 ∷ given) more) (passed_name rule (is_one_of s.0 given) s none) in
     ap (λ v. first_of (v ∷ check_sequences (Some rule) (s.0 ∷ given) (t ∷ more) ∷ [])) none ∙ ap (λ v. first_of (None ∷ v ∷ [])) second
 
--- the same of a list that is known by its length and its first sequence
+-- the same for a list with a known length and first sequence
 pub two_known : (rule : Option SequenceRule) (given : List (List ℕ)) (sequences : List Sequence) (s : Sequence) → 2 ≤ length sequences → s ≡ get_or sequences 0 s → None ≡ check_sequence rule (is_one_of s.identifier given) (s.identifier, s.documents) →
     Some failed_to_parse ≡ check_sequences rule given (pairs_of sequences)
 two_known rule given [] s two is none = absurd (omega arith)
@@ -66,6 +66,6 @@ mapped : {A : Type 0} (f : A → Datum) (o : Option A) → is_some (option_map f
 mapped f None = refl
 mapped f (Some x) = refl
 
--- a name is given where a field of it was found
+-- a name occurred where a field of it was found
 pub given_by_get : {A : Type 0} (f : A → Datum) (o : Option A) (found : Bool) (name : List ℕ) (ms : Fields) → option_map f o ≡ get name ms → found ≡ is_some o → is_one_of name (names_of ms) ≡ found
 given_by_get f o found name ms got is = given_is name ms ∙ ap (λ (p : Option Datum). is_some p) (sym got) ∙ mapped f o ∙ sym is

@@ -1,4 +1,4 @@
--- What the rules of writes tell of the session that they name.
+-- The results of the rules of writes for the session that they name.
 use Rattle.std.proofs.Common.{◌≡◌, ℕ, List, [], ◌∷◌, refl, sym, ◌∙◌, ap, subst, false, Some, None, codes}
 use Rattle.std.specs.Prelude.{Result, Ok, Err}
 use Rattle.std.specs.Str.{bytes_eq}
@@ -44,7 +44,7 @@ read_so kind own value others document (Ok passed) named is told = (told.0, sess
 read_so kind own value others document (Err (Refused code)) named is told = told
 read_so kind own value others document (Err Memory) named is told = tt
 
--- what is read of the fields of a write is its session
+-- what is read from the fields of a write has its session
 pub session_read : (kind : WriteKind) (own : List ℕ) (value : Datum) (others document : Fields) (read : Result (Unit {0}) CheckFault) (verdict : Verdict) → own ≡ name_view kind → document ≡ field own value others →
     verdict ≡ check_fields (Some failed_to_parse) (write_rules (statement_form (kind_view kind))) (own ∷ []) others → ReadsBy (λ passed. Unit {0}) read verdict →
     ReadsBy (λ passed. HasSession document) read (check_fields (Some failed_to_parse) (write_rules (statement_form (kind_view kind))) (own ∷ []) others)

@@ -1,4 +1,4 @@
--- What the rules tell of words that were read, and which stages these are.
+-- The results of rules for operands that were read, and the stages of these.
 use Rattle.std.proofs.Common.{◌≡◌, ℕ, List, [], ◌∷◌, ◌++◌, append_assoc, refl, ◌∙◌, ap, Option, Some, None, Ok, Err, codes}
 use Rattle.std.specs.Prelude.{Result, drop}
 use Rattle.bson_model.specs.Tree.{Datum, document_value, array_value, Fields, field, get}
@@ -22,7 +22,7 @@ use Rattle.command_fields.specs.declared.words.WordKind.{WordKind}
 use Rattle.command_fields.specs.declared.words.WordKind.TheVariants.{Filter, Sort, Projection as Shown}
 use Rattle.command_words.proofs.Alike.{TellAlike, alike_self, behind_alike}
 
--- WHAT IS TOLD
+-- ERRORS
 
 told_read : (read : Result (List Stage) QueryFault) → told (or_bad_value read) ≡ unless_faulty read
 told_read (Ok stages) = refl
@@ -40,7 +40,7 @@ told_shown : (r : Result (Option Projection) QueryFault) (show : Option Projecti
 told_shown (Ok shown) show = refl
 told_shown (Err fault) show = refl
 
--- the error that words are told
+-- the error of an operand
 abbrev words_verdict : WordKind → Fields → Verdict
 words_verdict Filter ms = unless_faulty (read_query ms)
 words_verdict Sort ms = unless_faulty (read_sort ms)
@@ -74,7 +74,7 @@ told_of_pipeline word found value read is = refl
 aggregate_alike : (word : Result (List Stage) ErrorCode) (document : Fields) → word ≡ pipeline_read (get (codes "pipeline") document) → TellAlike document (aggregate_rules_held (told word)) aggregate_rules
 aggregate_alike word document read = (refl, ((λ value is. told_of_pipeline word (get (codes "pipeline") document) value read is), alike_self document (drop 1 aggregate_rules)))
 
--- the fields behind a command's own, as they are told by what was read
+-- the fields after a command's own, by what was read
 pub find_behind : (words : FindWords) (document : Fields) (own : List ℕ) (value : Datum) (others : Fields) → AreFindWords words document → document ≡ field own value others →
     check_fields (Some failed_to_parse) (rules_with words) (own ∷ []) others
     ≡ check_fields (Some failed_to_parse) find_rules (own ∷ []) others
@@ -89,7 +89,7 @@ pub aggregate_behind : (word : Result (List Stage) ErrorCode) (document : Fields
     check_fields (Some failed_to_parse) (aggregate_rules_held (told word)) (own ∷ []) others ≡ check_fields (Some failed_to_parse) aggregate_rules (own ∷ []) others
 aggregate_behind word document own value others read is = behind_alike document (aggregate_rules_held (told word)) aggregate_rules (Some failed_to_parse) own value others (aggregate_alike word document read) is
 
--- WHICH STAGES
+-- STAGES
 
 stages_filter : (r : Result Query QueryFault) → or_no_stages (or_bad_value (r >>= λ asked. Ok (match_stage asked ∷ []))) ≡ elim r [ Ok x ↦ match_stage x ∷ [] | Err fault ↦ [] ]
 stages_filter (Ok asked) = refl
@@ -136,7 +136,7 @@ pipeline_stages (Some (array_value stages)) = stages_or_none (read_pipeline stag
 pipeline_stages (Some value) = refl
 pipeline_stages None = refl
 
--- the stages of a find and of a count, a part behind the other
+-- the stages of a find and of a count, one part after the other
 pub find_parts : (words : FindWords) (document : Fields) → AreFindWords words document →
     ((((or_no_stages (word_view words.filter) ++ or_no_stages (word_view words.sort)) ++ stage_counted skip_stage (codes "skip") document) ++ stage_counted limit_stage (codes "limit") document)
     ++ or_no_stages (word_view words.projection)) ≡ find_stages document

@@ -1,4 +1,4 @@
--- What the program's commands are.
+-- The program's commands, by the definitions.
 use Rattle.std.specs.Prelude.{◌≡◌, ℕ, map, Option, Result, Ok, Err}
 use Rattle.base_model.specs.Errors.{ErrorCode}
 use Rattle.base_model.specs.Refusals as history
@@ -62,13 +62,13 @@ command_view (Count reading) = model.count_command (reading_view reading)
 command_view (GetMore more) = model.more_command (more_view more)
 command_view (KillCursors kill) = model.kill_command (kill_view kill)
 
--- the program gives the command or the error that the checks tell; want of memory is free
+-- the program returns the command or the error that the checks return; nothing is said where memory runs out
 abbrev pub Tells : Result Command CheckFault → Result model.Command ErrorCode → Type 0
 Tells (Ok command) told = told ≡ Ok (command_view command)
 Tells (Err (Refused code)) told = told ≡ Err (meaning_of code)
 Tells (Err Memory) told = Unit {0}
 
--- the program answers the command or the refusal that the definitions tell; want of memory is free
+-- the program returns the command or the refusal of the definitions; nothing is said where memory runs out
 abbrev pub Answers : Result Command CommandFault → Result model.Command history.Refusal → Type 0
 Answers (Ok command) told = told ≡ Ok (command_view command)
 Answers (Err (faults.Refused refusal)) told = told ≡ Err (refusal_view refusal)

@@ -26,7 +26,7 @@ judged kind namespace ordered number statements =
       number = number;
     }))
 
--- the program gives what the checks tell, but that the statements of a write are still to be put in and judged
+-- the program returns what the checks return, except that the statements of a write are still to be added and checked
 abbrev pub Drafts : Fields → Sequences → Result Draft CheckFault → Result model.Command ErrorCode → Type 0
 Drafts document sequences (Ok (Whole command)) told = told ≡ Ok (command_view command)
 Drafts document sequences (Ok (Write draft)) told =

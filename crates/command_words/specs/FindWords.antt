@@ -1,4 +1,4 @@
--- The words of a find, read.
+-- The operands of a find, as they were read.
 use Rattle.std.specs.Prelude.{◌≡◌, List, codes}
 use Rattle.bson_model.specs.Tree.{Fields, get}
 use Rattle.command_model.specs.Fields.{Rule}
@@ -13,6 +13,6 @@ pub record AreFindWords (words : FindWords) (document : Fields) : Type 0 where
   pub sort : word_view words.sort ≡ word_read Sort (get (codes "sort") document)
   pub projection : word_view words.projection ≡ word_read Projection (get (codes "projection") document)
 
--- the rules of a find with these words
+-- the rules of a find with these operands
 abbrev pub rules_with : FindWords → List Rule
 rules_with words = find_rules_held (told (word_view words.filter)) (told (word_view words.sort)) (told (word_view words.projection))

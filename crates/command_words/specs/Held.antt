@@ -1,4 +1,4 @@
--- A collection that is read before its turn comes to be checked.
+-- A collection that is read before its turn to be checked.
 use Rattle.std.specs.Prelude.{◌≡◌, List, ℕ, Option, Some, None, Result, Ok, Err}
 use Rattle.bson_model.specs.Tree.{Datum}
 use Rattle.cluster_base.specs.Codes.{meaning_of}
@@ -13,7 +13,7 @@ abbrev pub IsGiven : Option Namespace → (database : List ℕ) → Datum → Ty
 IsGiven None database value = ⊥
 IsGiven (Some namespace) database value = NamesCollection namespace database value
 
--- a namespace that a field names, if there is the field; or the error that it is told
+-- the namespace that a field names, if there is the field; or the error that the field returns
 abbrev pub IsCollection : Result (Option Namespace) Code → (database : List ℕ) → Option Datum → Type 0
 IsCollection (Ok None) database field = field ≡ None
 IsCollection (Ok (Some namespace)) database field =

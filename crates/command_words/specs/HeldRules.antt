@@ -1,4 +1,4 @@
--- Rules that tell of words which were read before.
+-- Rules for operands that were read before.
 use Rattle.std.specs.Prelude.{List, [], ◌∷◌, drop, codes}
 use Rattle.command_model.specs.Checks.{Verdict}
 use Rattle.command_model.specs.Fields.{Rule, document_needed}

@@ -1,4 +1,4 @@
--- What the program's rows are.
+-- The program's table of commands, by the definitions.
 use Rattle.std.specs.Prelude.{◌≡◌, ℕ, List, Option, Some, codes}
 use Rattle.command_model.specs.Forms.{CommandForm, made_into}
 use Rattle.command_model.specs.Hello.{hello_form}
@@ -29,7 +29,7 @@ row_view (Count form) = made_into count_command count_form
 row_view (GetMore form) = made_into more_command more_form
 row_view (KillCursors form) = made_into kill_command kill_form
 
--- the name of a row, where it is looked at
+-- the name of an entry, where it is compared
 abbrev pub IsRowNamed : Option AnyForm → List ℕ → Type 0
 IsRowNamed (Some (Write form)) name = name ≡ name_view form.kind
 IsRowNamed (Some (GetMore form)) name = name ≡ codes "getMore"

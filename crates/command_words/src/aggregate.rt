@@ -62,7 +62,7 @@ fn cursor_needed(value: &Value) -> Option<Code>
     }
 }
 
-// The size of the first batch, where the cursor gives it.
+// Returns the size of the first batch, where the cursor gives it.
 fn size_given(document: &Document) -> Option<u64>
     ensures { result ≡ readings.number_given (codes "batchSize") (document_or_none (get (codes "cursor") document.now)) }
 {

@@ -1,4 +1,4 @@
-//! Commands: what requests ask for.
+//! The commands of requests.
 
 ghost use Rattle.std.specs.Prelude.{◌≡◌, ℕ, Result, drop};
 ghost use Rattle.std.specs.Option.{option_map, option_or};
@@ -38,7 +38,7 @@ use command_replies::{Evidence, Refusal, WriteKind};
 use opmsg_frames::{Body, Form, Request, Sequence, SequenceList};
 use std::alloc::Global;
 
-/// What a request asks for.
+/// The command of a request.
 #[derive(Drop)]
 pub enum Command {
     Hello,
@@ -55,7 +55,7 @@ pub enum Command {
     KillCursors(KillCursors),
 }
 
-/// The forms that there are.
+/// The forms of commands.
 #[derive(Clone, Copy)]
 pub(crate) enum AnyForm {
     Hello(HandshakeForm<Hello>),
@@ -70,7 +70,7 @@ pub(crate) enum AnyForm {
     KillCursors(KillForm),
 }
 
-// The form of the handshake of that name.
+// Returns the form of the handshake of that name.
 fn handshake_named(name: &str) -> Option<AnyForm>
     ensures found { option_or (option_map row_view result) (model.find_form_in name.now (drop 5 model.rows)) ≡ model.form_of name.now }
     ensures named { IsRowNamed result name.now }
@@ -92,7 +92,7 @@ fn handshake_named(name: &str) -> Option<AnyForm>
     }
 }
 
-// The form of the write of that name.
+// Returns the form of the write of that name.
 fn write_named(name: &str) -> Option<WriteForm>
     ensures found { option_or (option_map (λ form. row_view (Write form)) result) (model.find_form_in name.now (drop 8 model.rows))
         ≡ model.find_form_in name.now (drop 5 model.rows) }
@@ -115,7 +115,7 @@ fn write_named(name: &str) -> Option<WriteForm>
     }
 }
 
-// The form of the reading command of that name.
+// Returns the form of the reading command of that name.
 fn read_named(name: &str) -> Option<AnyForm>
     ensures found { option_map row_view result ≡ model.find_form_in name.now (drop 8 model.rows) }
     ensures named { IsRowNamed result name.now }
@@ -135,7 +135,7 @@ fn read_named(name: &str) -> Option<AnyForm>
     }
 }
 
-// The form of the command of that name.
+// Returns the form of the command of that name.
 fn form_of(name: &str) -> Option<AnyForm>
     ensures found { option_map row_view result ≡ model.form_of name.now }
     ensures named { IsRowNamed result name.now }
@@ -149,7 +149,7 @@ fn form_of(name: &str) -> Option<AnyForm>
     read_named(name)
 }
 
-// What the document of a body and document sequences ask for, by the form of their request; but for the statements of a write.
+// Returns the command of the document of a body and document sequences, by the form of their request; without the statements of a write.
 fn draft_of(
     alloc: Global,
     sent: Form,
@@ -178,7 +178,7 @@ fn draft_of(
     }
 }
 
-// What the document of a body and document sequences ask for; the documents of a write's statements are copied.
+// Returns the command of the document of a body and document sequences; the documents of a write's statements are copied.
 fn read_documents(
     alloc: Global,
     sent: Form,
@@ -197,7 +197,7 @@ fn read_documents(
     }
 }
 
-// The same of a document and sequences that are given away; the documents of a write's statements are moved into it.
+// The same for a document and sequences that are consumed; the documents of a write's statements are moved into it.
 fn take_documents(
     alloc: Global,
     sent: Form,
@@ -216,7 +216,7 @@ fn take_documents(
     }
 }
 
-// A command, or its refusal without evidence.
+// Returns a command, or its refusal without evidence.
 fn answered(read: Result<Command, CheckFault>) -> Result<Command, CommandFault>
     ensures { (told : Result model.Command ErrorCode) → Tells read told → Answers result (model.or_refusal told) }
 {
@@ -230,7 +230,7 @@ fn answered(read: Result<Command, CheckFault>) -> Result<Command, CommandFault>
     }
 }
 
-// The refusal of a document that is no BSON, with the offset of its fault.
+// Returns the refusal of a document that is not BSON, with the offset of its fault.
 fn no_document(fault: &BsonFault) -> Refusal
     ensures { (first : Fault) (place : ℕ) → fault.now ≡ fault_from first place → refusal_view result ≡ no_document_at place }
 {
@@ -245,8 +245,8 @@ fn no_document(fault: &BsonFault) -> Refusal
 }
 
 impl Command {
-    /// What a request asks for (MongoDB manual, "Database Commands"). Fails with its first refusal in the order of the
-    /// definitions, which shows the offset of the fault where a document is no BSON; and for want of memory.
+    /// Returns the command of a request (MongoDB manual, "Database Commands"). Returns its first refusal in the order of the definitions, which shows the
+    /// offset of the fault where a document is not BSON; and `Memory` if memory runs out.
     pub fn read(alloc: Global, request: &Request) -> Result<Command, CommandFault>
         ensures { (meant : wire.Request) → IsMeant request.now meant → Answers result (model.command_of meant) }
     {
@@ -261,8 +261,8 @@ impl Command {
         }
     }
 
-    /// The same of what the documents of a request are, which are given away: those of a write's statements are moved into the command, and none
-    /// is copied. The caller keeps the rest of the request.
+    /// The same for the documents of a request, which are consumed: those of a write's statements are moved into the command, and none is copied. The caller
+    /// keeps the rest of the request.
     pub fn take_body(alloc: Global, sent: Form, body: Body) -> Result<Command, CommandFault>
         ensures { (meant : wire.Body) → IsBody body meant → Answers result (model.command_in (form_view sent) meant) }
     {

@@ -25,7 +25,7 @@ use opmsg_frames::Sequence;
 use pipeline_lang::{Pipeline, Stage};
 use std::alloc::Global;
 
-// The pipeline of a count with this query. Fails for want of memory.
+// Returns the pipeline of a count with this query, or `Memory` if memory runs out.
 fn pipeline_of(alloc: Global, query: Word, document: &Document) -> Result<Pipeline, Memory>
     ensures { word_view query ≡ word_read Filter (get (codes "query") document.now) → IfOk result (λ pipeline. pipeline ≡ count_stages document.now) }
 {

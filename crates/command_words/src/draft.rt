@@ -13,7 +13,7 @@ use command_fields::{CheckFault, operations_of};
 use command_replies::{ClientNumber, WriteKind};
 use std::alloc::Global;
 
-/// A write, but for its statements.
+/// A write without its statements.
 #[derive(Drop)]
 pub(crate) struct WriteDraft {
     pub kind: WriteKind,
@@ -22,7 +22,7 @@ pub(crate) struct WriteDraft {
     pub number: Option<ClientNumber>,
 }
 
-/// A command, but for the statements of a write.
+/// A command, without the statements of a write.
 #[derive(Drop)]
 pub(crate) enum Draft {
     Whole(Command),
@@ -30,7 +30,7 @@ pub(crate) enum Draft {
 }
 
 impl WriteDraft {
-    /// The write of these statements, unless one of them is refused; or want of memory.
+    /// Returns the write with these statements, unless one of them is refused; or `Memory` if memory runs out.
     pub(crate) fn with_statements(
         self,
         alloc: Global,

@@ -11,7 +11,7 @@ use command_replies::Refusal;
 pub enum CommandFault {
     /// The request is refused.
     Refused(Refusal),
-    /// Want of memory.
+    /// Out of memory.
     Memory,
 }
 

@@ -34,7 +34,7 @@ pub struct Find {
     pub batches: Batches,
 }
 
-/// The words of a find, read.
+/// The operands of a find, as they were read.
 #[derive(Drop)]
 pub(crate) struct FindWords {
     pub filter: Word,
@@ -42,7 +42,7 @@ pub(crate) struct FindWords {
     pub projection: Word,
 }
 
-// The words of a find's document. Fails for want of memory.
+// Reads the operands in a find's document. Returns `Memory` if memory runs out.
 fn words_of(alloc: Global, document: &Document) -> Result<FindWords, Memory>
     ensures { IfOk result (λ words. AreFindWords words document.now) }
 {
@@ -53,7 +53,7 @@ fn words_of(alloc: Global, document: &Document) -> Result<FindWords, Memory>
     })
 }
 
-// The pipeline of a find with these words. Fails for want of memory.
+// Returns the pipeline of a find with these operands, or `Memory` if memory runs out.
 fn pipeline_of(alloc: Global, words: FindWords, document: &Document) -> Result<Pipeline, Memory>
     ensures { AreFindWords words document.now → IfOk result (λ pipeline. pipeline ≡ find_stages document.now) }
 {
@@ -65,7 +65,7 @@ fn pipeline_of(alloc: Global, words: FindWords, document: &Document) -> Result<P
     Ok(Pipeline::of(stages))
 }
 
-// What the rules tell of a value that is no word.
+// Returns the result of the rules for a field that is not an operand.
 fn plain_ruling(name: &str, value: &Value) -> Option<Option<Code>>
     ensures { ruling_view result ≡ option_map (λ r. r.check (datum_of value.now)) (find_rule name.now (drop 3 find_rules)) }
 {
@@ -90,7 +90,7 @@ fn plain_ruling(name: &str, value: &Value) -> Option<Option<Code>>
     }
 }
 
-/// The rules of a find whose words were read.
+/// The rules of a find whose operands were read.
 #[derive(Clone, Copy)]
 struct FindRules<'a> {
     words: &'a FindWords,

@@ -1,4 +1,4 @@
-//! The form of a command, and the one order in which its checks come.
+//! The form of a command, and the one order of its checks.
 
 ghost use Rattle.std.specs.Prelude.{◌≡◌, ℕ, List, [], ◌∷◌, None, Some};
 ghost use Rattle.bson_model.specs.Tree.{Datum, Fields, field};
@@ -19,12 +19,12 @@ use command_fields::{CheckFault, check_database, database_of, passed};
 use opmsg_frames::{Form, Sequence};
 use std::alloc::Global;
 
-/// The form of a command: what is checked of each part of a request, and the command that it asks for.
+/// The form of a command: the check of each part of a request, and the command that it results in.
 pub(crate) trait CommandForm {
     /// What the command's own field is read as.
     type Own: Drop;
 
-    /// What the fields behind it are read as.
+    /// What the fields after it are read as.
     type Given: Drop;
 
     // The form.
@@ -43,7 +43,7 @@ pub(crate) trait CommandForm {
     fn read_own(&self, alloc: Global, database: &str, own: &Value) -> Result<Self::Own, CheckFault>
         ensures { ReadsBy (λ x. is_read self.now x database.now (datum_of own.now)) result ((form self.now).check_own database.now (datum_of own.now)) };
 
-    /// Reads the fields behind it.
+    /// Reads the fields after it.
     fn read_fields(
         &self,
         alloc: Global,
@@ -54,15 +54,15 @@ pub(crate) trait CommandForm {
             ReadsBy (λ given. are_read self.now given database.now document.now) result
             (fields.check_fields (form self.now).unlisted ((form self.now).rules database.now) (own ∷ []) others) };
 
-    /// Checks a document sequence; `given`: a field or a sequence of its identifier stands before it.
+    /// Checks a document sequence; `given`: a field or a sequence with its identifier precedes it.
     fn check_sequence(&self, given: bool, sequence: &Sequence) -> Option<Code>
         ensures { verdict_view result ≡ model.check_sequence (form self.now).sequence given (sequence.now.identifier, sequence.now.documents) };
 
-    /// Checks that there is what is needed.
+    /// Checks that there is what is required.
     fn check_needed(&self, document: &Document, sequences: &[Sequence]) -> Option<Code>
         ensures { verdict_view result ≡ (form self.now).check_needed document.now (pairs_of sequences.now) };
 
-    /// The command, but for the statements of a write, which are judged last; unless what is judged last fails.
+    /// Returns the command without the statements of a write, which are checked last; or the error of what is checked last.
     fn finish(
         &self,
         alloc: Global,
@@ -78,7 +78,7 @@ pub(crate) trait CommandForm {
             ((form self.now).command database (datum_of value.now) document.now (pairs_of sequences.now))) };
 }
 
-// The first sequence.
+// Checks the first sequence.
 fn check_first<F: CommandForm>(form: &F, document: &Document, first: &Sequence) -> Option<Code>
     ensures { verdict_view result ≡ model.check_sequence (F.form form.now).sequence
         (is_one_of first.now.identifier (fields.names_of document.now)) (first.now.identifier, first.now.documents) }
@@ -87,7 +87,7 @@ fn check_first<F: CommandForm>(form: &F, document: &Document, first: &Sequence) 
     form.check_sequence(given, first)
 }
 
-// The sequences; a second one has an identifier that is given, or one that the command does not have.
+// Checks the sequences. A second one has an identifier that occurred before, or one that the command does not have.
 fn check_sequences<F: CommandForm>(
     form: &F,
     document: &Document,
@@ -105,8 +105,8 @@ fn check_sequences<F: CommandForm>(
     }
 }
 
-/// The command of that form, but for the statements of a write; or the first error, in the one order. `own` is the value of
-/// the document's first field.
+/// Returns the command of that form, without the statements of a write; or the first error, in the one order. `own` is the value of the document's first
+/// field.
 pub(crate) fn read_by<F: CommandForm>(
     form: &F,
     alloc: Global,

@@ -25,7 +25,7 @@ use command_fields::{
 use opmsg_frames::Sequence;
 use std::alloc::Global;
 
-/// To read the next batch of a cursor, of so many documents at most, where a size is given.
+/// To read the next batch of a cursor, of at most this many documents, where a size is given.
 #[derive(Drop)]
 pub struct GetMore {
     pub namespace: Namespace,
@@ -33,10 +33,10 @@ pub struct GetMore {
     pub size: Option<u64>,
 }
 
-/// The namespace of the collection that a field names, if there is the field; or the error that it is told.
+/// The namespace of the collection that a field names, if there is the field; or the error that the field returns.
 type Collection = Result<Option<Namespace>, Code>;
 
-// A database that clients may use: a collection in it has a namespace.
+// Checks that clients may use a database, so that a collection in it has a namespace.
 fn read_database(alloc: Global, database: &str) -> Result<(), CheckFault>
     ensures { ReadsBy (λ read. Unit {0}) result (checks.unless_passes (cursors.is_open_database database.now) invalid_namespace) }
 {
@@ -55,7 +55,7 @@ fn named_collection(
     Ok(Some(namespace))
 }
 
-// The namespace of the collection that the document names. Fails for want of memory.
+// Returns the namespace of the collection that the document names, or `Memory` if memory runs out.
 fn collection_in(alloc: Global, database: &str, document: &Document) -> Result<Collection, Memory>
     ensures { IfOk result (λ collection. IsCollection collection database.now (get (codes "collection") document.now)) }
 {

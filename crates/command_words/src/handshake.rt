@@ -1,5 +1,5 @@
-//! What commands share that look at `$db` and `helloOk` alone: `hello`, `isMaster`, `ping` and `endSessions` (MongoDB manual,
-//! "hello", "ping", "endSessions").
+//! What the commands share that read only `$db` and `helloOk`: `hello`, `isMaster`, `ping` and `endSessions` (MongoDB manual, "hello", "ping",
+//! "endSessions").
 
 ghost use Rattle.std.specs.Prelude.{◌≡◌, None};
 ghost use Rattle.bson_model.specs.Tree.{Fields};
@@ -16,12 +16,12 @@ use command_fields::{CheckFault, Rules, boolean_needed, check_behind_own, passed
 use opmsg_frames::Sequence;
 use std::alloc::Global;
 
-/// A command that looks at two fields alone.
+/// A command that reads only two fields.
 pub(crate) trait Handshake {
-    // The command that a document asks for.
+    // The command of a document.
     ghost asked: { Self → Fields → model.Command };
 
-    /// The command that a document asks for.
+    /// Returns the command of a document.
     fn command(&self, document: &Document) -> Command
         ensures { command_view result ≡ asked self.now document.now };
 }

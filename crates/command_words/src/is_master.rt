@@ -8,7 +8,7 @@ use crate::handshake::Handshake;
 use bson_values::Document;
 use command_fields::boolean_or;
 
-/// Whether `helloOk` is to be shown.
+/// Whether `helloOk` is shown.
 #[derive(Clone, Copy, Debug, PartialEq, Eq)]
 pub struct Legacy {
     pub shows_hello_ok: bool,

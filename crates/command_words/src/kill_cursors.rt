@@ -50,7 +50,7 @@ fn cursors_needed(value: &Value) -> Option<Code>
     }
 }
 
-// The numbers that these values are; 0 for another value. Fails for want of memory.
+// Returns the numbers that these values are, 0 for another value. Returns `Memory` if memory runs out.
 fn numbers_in(alloc: Global, values: &[Value]) -> Result<Vec<i64>, Memory>
     ensures { IfOk result (λ numbers. numbers.items ≡ model.numbers_in (items_of values.now)) }
 {
@@ -61,7 +61,7 @@ fn numbers_in(alloc: Global, values: &[Value]) -> Result<Vec<i64>, Memory>
     Ok(numbers)
 }
 
-// The cursors that a document names. Fails for want of memory.
+// Returns the cursors that a document names, or `Memory` if memory runs out.
 fn cursors_named(alloc: Global, document: &Document) -> Result<Vec<i64>, Memory>
     ensures { IfOk result (λ numbers. numbers.items ≡ model.cursors_named (get (codes "cursors") document.now)) }
 {

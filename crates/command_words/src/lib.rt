@@ -1,4 +1,4 @@
-//! Commands as values: what a request asks for.
+//! Commands as values: the commands of requests.
 #![tactic(auto)]
 
 mod aggregate;

@@ -1,4 +1,4 @@
-//! What is read of a collection: the stages of a pipeline, at which time, and in which batches.
+//! What is read from a collection: the stages of a pipeline, at which time, and in which batches.
 
 ghost use Rattle.std.specs.Prelude.{◌≡◌, codes};
 ghost use Rattle.bson_model.specs.Tree.{get};
@@ -10,7 +10,7 @@ use cluster_base::{Namespace, Time};
 use command_fields::time_given;
 use pipeline_lang::Pipeline;
 
-/// To read what a pipeline makes of a collection: at the time `at`, where it is named, else at one that is not before `after`.
+/// To read the result of a pipeline on a collection: at the time `at`, where it is named, else at one that is not before `after`.
 #[derive(Drop)]
 pub struct Reading {
     pub namespace: Namespace,
@@ -19,14 +19,14 @@ pub struct Reading {
     pub after: Option<Time>,
 }
 
-/// How many documents the first batch has at most, where a size is given; `single`: no other batch is asked for.
+/// The greatest size of the first batch, where one is given; `single`: no other batch is requested.
 #[derive(Clone, Copy, Debug, PartialEq, Eq)]
 pub struct Batches {
     pub size: Option<u64>,
     pub single: bool,
 }
 
-/// The reading of a command with that document.
+/// Returns the reading of a command with that document.
 pub(crate) fn reading_of(namespace: Namespace, pipeline: Pipeline, document: &Document) -> Reading
     ensures { reading_view result ≡ record {
       namespace = namespace;

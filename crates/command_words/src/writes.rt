@@ -24,7 +24,7 @@ use opmsg_frames::Sequence;
 use std::alloc::Global;
 use value_compare::OpWords;
 
-/// To do these in a collection, in order; `ordered`: the first error ends it.
+/// To apply these operations to a collection, in order; `ordered`: the first error ends it.
 #[derive(Drop)]
 pub struct WriteCommand {
     pub kind: WriteKind,

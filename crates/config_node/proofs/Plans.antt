@@ -1,4 +1,4 @@
--- A row of the catalogue is a step that is planned.
+-- A transition of the catalogue is a step that is planned.
 use Rattle.std.proofs.Common.{◌≡◌, ◌⊎◌, inl, inr, ℕ, ◌+◌, ◌<◌, List, [], ◌∷◌, ◌++◌, refl, sym, ap, subst, Bool, true, false, ◌∙◌, map}
 use Rattle.std.specs.Prelude.{Option, Some, None, IsSome, max, Result, Ok, Err, IfOk}
 use Rattle.chunk_model.specs.Tables.{Table, first_table, table_of, with_table}
@@ -21,7 +21,7 @@ use Rattle.config_node.specs.declared.plan.Asked.{Asked}
 use Rattle.config_node.specs.declared.plan.StepPlan.{StepPlan}
 use Rattle.config_node.specs.Plans.{at_then}
 
--- a step that leaves nothing
+-- a step that writes no record
 pub quiet : (c : Catalogue) (i j : Input) (time : ℕ) (table : Option Table) (mail : List Letter) (records : List (List ℕ)) → j ≡ i → IsFor c.me i
     → CatalogueRow c i nothing (record { me = c.me; time = time; tables = c.tables }) → table ≡ None → mail ≡ [] → records ≡ []
     → StepPlanned (catalogue_state c) j mail [] records (at_then c.me time table c.tables)
@@ -37,7 +37,7 @@ to_other c m table mail records other none silent unwritten =
     subst (λ t. StepPlanned (catalogue_state c) (letter_input m) mail [] records (at_then c.me c.time t c.tables)) (sym none)
     (record { effect = nothing; step = other_step (catalogue_state c) m other; sent = sym silent; told = refl; sound = tt; spelled = unwritten })
 
--- a table is told
+-- a table is returned
 pub tells : (c : Catalogue) (m : Letter) (namespace : List ℕ) (create : Bool) (at : At) (time : ℕ) (table found : Option Table) (mail : List Letter)
     (records : List (List ℕ)) → m.receiver ≡ c.me → m.body ≡ table_ask namespace create at → (create ≡ false) ⊎ IsSome found → table_of namespace c.tables ≡ found
     → time ≡ heard c m → table ≡ None → mail ≡ told c m time namespace create at found ∷ [] → records ≡ []
@@ -55,7 +55,7 @@ tells c m namespace create at time table found mail records here is may known la
       spelled = unwritten;
     }))
 
--- a collection begins
+-- a collection is created
 pub begins : (c : Catalogue) (m : Letter) (namespace : List ℕ) (at : At) (time : ℕ) (table : Option Table) (mail : List Letter) (records : List (List ℕ))
     → m.receiver ≡ c.me → m.body ≡ table_ask namespace true at → table_of namespace c.tables ≡ None → time ≡ heard c m + 1
     → table ≡ Some (first_table (begun_at namespace time)) → mail ≡ told c m time namespace true at (Some (first_table (begun_at namespace time))) ∷ []
@@ -101,7 +101,7 @@ module _ (c : Catalogue) (time : ℕ) (table : Option Table) (mail : List Letter
       subst (λ n. StepPlanned (catalogue_state c) (letter_input m) mail [] records (at_then c.me n table c.tables)) (sym late)
       (to_other c m table mail records other none silent unwritten)
 
--- an answer to who asked
+-- an answer to the sender of a request
 answer : (c : Catalogue) (m : Letter) (sender time : ℕ) (namespace : List ℕ) (create : Bool) (at : At) (found : Option Table) → sender ≡ m.sender
     → record { sender = c.me; receiver = sender; time = time; body = table_told namespace create at found } ≡ told c m time namespace create at found
 answer c m sender time namespace create at found from =

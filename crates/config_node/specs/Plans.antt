@@ -1,4 +1,4 @@
--- What a catalogue will be after a step.
+-- The catalogue after a step.
 use Rattle.std.specs.Prelude.{ℕ, List, Option, Some, None}
 use Rattle.chunk_model.specs.Tables.{Table, with_table}
 use Rattle.node_model.specs.States.{Catalogue, NodeState, catalogue_state}

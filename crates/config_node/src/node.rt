@@ -39,7 +39,7 @@ pub struct ConfigNode {
     tables: TableList,
 }
 
-// The ask of a table, if a message is one.
+// Returns the request of a table, if a message is one.
 fn ask_in(body: Body) -> Option<TableAsk>
     ensures some { IfSome result (λ ask. body_view body ≡ table_ask_view ask) }
     ensures none { (result ≡ None) → AsksNothing (body_view body) }
@@ -61,7 +61,7 @@ fn ask_in(body: Body) -> Option<TableAsk>
 impl ConfigNode {
     ghost use Rattle.config_node.specs.State.{state_of};
 
-    /// The catalogue with this number, with no record.
+    /// Returns the catalogue with this number, without records.
     pub fn open(alloc: Global, me: NodeId) -> ConfigNode
         ensures state { state_of result ≡ catalogue_state (new_catalogue me.0) }
         ensures steps { result.steps ≡ 0 }
@@ -75,7 +75,7 @@ impl ConfigNode {
         }
     }
 
-    // What an input comes to. Makes room for a new table; else nothing changes.
+    // Returns the plan for an input. Reserves room for a new table; nothing else changes.
     fn plan(&mut self, input: Input) -> Result<StepPlan, Memory>
         requires early { self.old.time.0 < last_time }
         requires brought { time_in (input_of input) < last_time }
@@ -96,7 +96,7 @@ impl ConfigNode {
         }
     }
 
-    // What a message comes to.
+    // Returns the plan for a message.
     fn plan_message(&mut self, message: Message) -> Result<StepPlan, Memory>
         requires early { self.old.time.0 < last_time }
         requires brought { message.time.0 < last_time }
@@ -121,8 +121,8 @@ impl ConfigNode {
         }
     }
 
-    // What an ask of a table comes to, at the time that the message brings: a collection begins where it is to and there is none of its
-    // name, else what there is is told.
+    // Returns the plan for a request of a table, at the time that the message carries: the collection is created where that is requested and there is none of
+    // its name; else the present table, or none, is returned.
     fn plan_ask(&mut self, heard: Time, asked: Asked) -> Result<StepPlan, Memory>
         requires early { heard.0 < last_time }
         ensures planned { (m : Letter) → heard.0 ≡ max self.old.time.0 m.time → asked.sender.0 ≡ m.sender → m.body ≡ table_ask_view asked.ask → m.receiver ≡ self.old.me.0 →
@@ -140,7 +140,7 @@ impl ConfigNode {
         Ok(asked.tell(self.alloc, self.me, heard, known))
     }
 
-    // The table of a collection, shared, if there is one. Fails for want of memory.
+    // Returns the table of a collection, shared, if there is one, or `Memory` if memory runs out.
     fn known(&self, namespace: &Namespace) -> Result<Option<Arc<Table, Global>>, Memory>
         ensures { IfOk result (λ t. option_map (λ x. arc_value x) t ≡ table_of namespace.now self.now.tables.tables) }
     {
@@ -150,7 +150,7 @@ impl ConfigNode {
         }
     }
 
-    // Becomes what was planned, and gives out its messages.
+    // Changes the catalogue as planned, and returns its messages.
     fn take(&mut self, plan: StepPlan) -> Outputs<Message>
         requires room { IfSome plan.table (λ _. 1 ≤ self.old.tables.room) }
         ensures state { state_of self.new ≡ at_then self.old.me.0 plan.time.0 (option_map (λ t. arc_value t) plan.table) self.old.tables.tables }

@@ -1,4 +1,4 @@
-//! What a step of the catalogue comes to, before it is taken.
+//! The plan of a step of the catalogue, before it is taken.
 
 ghost use Rattle.std.specs.Prelude.{◌≡◌, ◌+◌, ◌<◌, ◌^◌, ◌-◌, ◌∷◌, [], IfOk, Some, None, map};
 ghost use Rattle.std.specs.Arc.{arc_value};
@@ -20,7 +20,7 @@ use shard_records::{Record, write_record};
 use std::alloc::Global;
 use std::sync::Arc;
 
-/// What a step will write and send, and what the catalogue will then be: at which time, and with which new table.
+/// What a step will write and send, and the catalogue after it: at which time, and with which new table.
 #[derive(Drop)]
 pub(crate) struct StepPlan {
     pub(crate) time: Time,
@@ -30,7 +30,7 @@ pub(crate) struct StepPlan {
 }
 
 impl StepPlan {
-    /// Nothing but the time.
+    /// Returns a plan that changes only the time.
     pub(crate) fn of_time(alloc: Global, time: Time) -> StepPlan
         ensures time { result.time ≡ time }
         ensures table { result.table ≡ None }
@@ -46,7 +46,7 @@ impl StepPlan {
     }
 }
 
-/// Who asked for a table, and what is asked.
+/// The sender of a request of a table, and the request.
 #[derive(Drop)]
 pub(crate) struct Asked {
     pub(crate) sender: NodeId,
@@ -54,7 +54,7 @@ pub(crate) struct Asked {
 }
 
 impl Asked {
-    /// The answer, from a node at a time.
+    /// Returns the answer, from a node at a time.
     pub(crate) fn told(self, me: NodeId, time: Time, table: Option<Arc<Table, Global>>) -> Message
         ensures { letter_of result ≡ record {
           sender = me.0;
@@ -82,7 +82,7 @@ impl Asked {
         }
     }
 
-    /// The table there is, or none, is told at a time. Takes no memory.
+    /// Returns the plan to answer with the present table, or with none, at a time. Takes no memory.
     pub(crate) fn tell(
         self,
         alloc: Global,
@@ -109,7 +109,7 @@ impl Asked {
         }
     }
 
-    /// A collection begins at a time, and its first table is told. Fails for want of memory.
+    /// Returns the plan to create a collection at a time, and to answer with its first table. Returns `Memory` if memory runs out.
     pub(crate) fn begin(self, alloc: Global, me: NodeId, time: Time) -> Result<StepPlan, Memory>
         ensures time { IfOk result (λ p. p.time ≡ time) }
         ensures table { IfOk result (λ p. option_map (λ t. arc_value t) p.table ≡ Some (first_table (begun_at self.ask.namespace time.0))) }
@@ -137,7 +137,7 @@ impl Asked {
     }
 }
 
-// The record of a collection that begins, the first of its name.
+// Returns the record of a collection that is created, the first of its name.
 fn creation_bytes(alloc: Global, namespace: &Namespace, at: Time) -> Result<Blob, Memory>
     ensures { IfOk result (λ b. (b ≡ spelled 1 (create_record (begun_at namespace.now at.0)))
         × IsSound (create_record (begun_at namespace.now at.0))) }
@@ -152,7 +152,7 @@ fn creation_bytes(alloc: Global, namespace: &Namespace, at: Time) -> Result<Blob
     Blob::of(alloc, &bytes)
 }
 
-// The first table of a collection, the first of its name.
+// Returns the first table of a collection, the first of its name.
 fn first_table(alloc: Global, namespace: &Namespace, at: Time) -> Result<Arc<Table, Global>, Memory>
     ensures { IfOk result (λ t. arc_value t ≡ first_table (begun_at namespace.now at.0)) }
 {

@@ -1,4 +1,4 @@
--- How far a batch goes, document by document.
+-- How long a batch is, document by document.
 use Rattle.std.proofs.Common.{◌≡◌, ℕ, suc, ◌+◌, [], ◌∷◌, ◌<◌, ◌≤◌, ◌-◌, ◌^◌, ◌⊎◌, inl, inr, ⊎_elim, List, ◌++◌, length, map, take, drop, get_or, Result, Ok, Err, refl, sym, ap, ◌∙◌, subst, add-one, arith}
 use Rattle.std.specs.Prelude.{Bool, true, false, ◌&&◌, min, Option, Some, None, IfOk, OnOk, nat_lt}
 use Rattle.std.proofs.lemmas.Bool.{cases_lt, leb-true, ltb-true, lt-ltb}
@@ -30,7 +30,7 @@ few_all None n m e h = absurd cc
 few_all (Some most) n m e h = omega (arith, leb-true most n e)
 
 module _ (size : Option ℕ) (docs : List Fields) (n : ℕ) where
-  -- one document more
+  -- one more document
   pub goes_on : n < length docs → is_reached size n ≡ false → (n ≡ 0) ⊎ (documents_length (take (n + 1) docs) ≤ most_bytes_kept) →
       MayBeBatch size docs (n + 1)
   goes_on less unreached short = record {
@@ -42,7 +42,7 @@ module _ (size : Option ℕ) (docs : List Fields) (n : ℕ) where
   pub stops_by_size : is_reached size n ≡ true → MayBeBatch size docs n → IsLongest size docs n
   stops_by_size reached may = record { may = may; longest = λ m h. few_all size n m reached h.few }
 
-  -- the bytes of more documents are no fewer
+  -- more documents have no fewer bytes
   no_fewer : (m : ℕ) → n + 1 ≤ m → documents_length (take (n + 1) docs) ≤ documents_length (take m docs)
   no_fewer m le = rw (sym (take-take (n + 1) m docs le)) (sum_by-take-le document_length (take m docs) (n + 1))
 
@@ -59,7 +59,7 @@ module _ (size : Option ℕ) (docs : List Fields) (n : ℕ) where
 pub at_end : (size : Option ℕ) (docs : List Fields) (n : ℕ) → n ≡ length docs → MayBeBatch size docs n → IsLongest size docs n
 at_end size docs n all may = record { may = may; longest = λ m h. omega (arith, all, h.there) }
 
--- so many documents are the batch
+-- this number of documents is the batch
 pub is_batch : (size : Option ℕ) (docs : List Fields) (n : ℕ) → IsLongest size docs n → IsBatch size docs (take n docs)
 is_batch size docs n h =
     let long : length (take n docs) ≡ n = length-take-le n docs h.may.there in
@@ -69,7 +69,7 @@ is_batch size docs n h =
       longest = λ m k. omega (arith, long, h.longest m k);
     }
 
--- the bytes so far, each number at most the greatest of 64 bits
+-- the bytes of the documents that were counted; each sum is at most the greatest number of 64 bits
 pub more_bytes : (docs : List Fields) (n : ℕ) (d : Fields) (bytes size sum : ℕ) → n < length docs → d ≡ get_or docs n d →
     bytes ≡ min (documents_length (take n docs)) (2 ^ 64 - 1) → size ≡ min (document_length d) (2 ^ 64 - 1) → sum ≡ min (bytes + size) (2 ^ 64 - 1) →
     sum ≡ min (documents_length (take (n + 1) docs)) (2 ^ 64 - 1)
@@ -102,7 +102,7 @@ front_is {A = A} xs ys zs n e l = sym (take-append_seam xs ys) ∙ ap (λ (z : L
 pub rest_is : {A : Type 0} (xs ys zs : List A) (n : ℕ) → xs ++ ys ≡ zs → length xs ≡ n → ys ≡ drop n zs
 rest_is {A = A} xs ys zs n e l = sym (drop-append_seam xs ys) ∙ ap (λ (z : List A). drop (length xs) z) e ∙ ap (λ k. drop k zs) l
 
--- what is taken in front, as it is seen
+-- the first documents, as they are seen
 module _ {X : Type 0} (see : X → Fields) where
   pub taken_batch : (size : Option ℕ) (items docs front : List X) (n : ℕ) → items ≡ docs → IsLongest size (map see items) n → front ≡ take n items →
       IsBatch size (map see docs) (map see front)
@@ -119,7 +119,7 @@ module _ {X : Type 0} (see : X → Fields) where
       ap (λ (l : List X). map see l) k ∙ sym (drop-map see n items) ∙ ap (λ m. drop m (map see items)) (sym long)
       ∙ ap (λ (l : List X). drop (length (map see front)) (map see l)) same
 
-  -- one more that is shared
+  -- one more is shared
   pub one_more : (items front new : List X) (place : ℕ) (there shared : X) → place < length items → there ≡ get_or items place there → see shared ≡ see there →
       new ≡ front ++ shared ∷ [] → map see front ≡ take place (map see items) → map see new ≡ take (place + 1) (map see items)
   one_more items front new place there shared inside is same grown so_far =
@@ -128,7 +128,7 @@ module _ {X : Type 0} (see : X → Fields) where
       ap (λ (l : List X). map see l) grown ∙ map-append see front (shared ∷ []) ∙ ap (λ (l : List Fields). l ++ see shared ∷ []) so_far
       ∙ ap (λ (d : Fields). take place (map see items) ++ d ∷ []) seen ∙ sym (rw add-one (take-suc (map see items) place (see there) within))
 
--- the batch that is shared, where there was memory
+-- the batch that is shared, unless memory ran out
 pub shared_batch : {V E : Type 0} (seen : V → List Fields) (r : Result V E) (size : Option ℕ) (docs : List Fields) (n : ℕ) → IsLongest size docs n →
     IfOk r (λ b. seen b ≡ take n docs) → IfOk r (λ b. IsBatch size docs (seen b))
 shared_batch seen (Ok b) size docs n h e = subst (λ (l : List Fields). IsBatch size docs l) (sym e) (is_batch size docs n h)

@@ -1,4 +1,4 @@
--- What the shelf has under an id, and what a change leaves of it.
+-- The cursor that the shelf has under an id, and the result of a change.
 use Rattle.std.proofs.Common.{◌≡◌, ◌≢◌, ℕ, ℤ, List, [], ◌∷◌, length, Result, Err, refl, sym, ap, ◌∙◌, subst, arith, Ordering, Less, Equal, Greater}
 use Rattle.std.specs.Prelude.{Bool, true, false, Option, Some, None, is_some, option_map, ◌==◌, if◌then◌else◌}
 use Rattle.std.specs.BTreeMap.{BTreeMap, get_by, is_at}
@@ -39,7 +39,7 @@ at_id m k id o same is = sym (subst (λ (i : ℤ). o ≡ get_by (int_cmp i) m) s
 pub apart_from : (k i id : ℤ) → k ≡ id → i ≢ id → is_at (int_cmp k) i ≡ false
 apart_from k i id same other = subst (λ (j : ℤ). is_at (int_cmp j) i ≡ false) (sym same) (apart i id other)
 
--- the cursor that is under an id, where it is of the namespace or not
+-- the cursor under an id, whether it belongs to the namespace or not
 pub found_under : (namespace : List ℕ) (o : Option OpenCursor) (cursor : OpenCursor) (b : Bool) → o ≡ Some cursor → b ≡ bytes_eq cursor.namespace namespace → b ≡ true →
     Some cursor ≡ under namespace o
 found_under namespace o cursor b is e own = rw (is, sym e ∙ own) refl

@@ -9,6 +9,6 @@ use Rattle.cursor_shelf.specs.declared.shelf.Shelf.{Shelf}
 unfoldable pub cursor_in : Shelf → ℤ → Option OpenCursor
 cursor_in shelf id = get_by (int_cmp id) shelf.cursors
 
--- the cursor of that id, where it is one of that namespace
+-- the cursor of that id, where it belongs to that namespace
 abbrev pub cursor_under : Shelf → ℤ → List ℕ → Option OpenCursor
 cursor_under shelf id namespace = under namespace (cursor_in shelf id)

@@ -1,4 +1,4 @@
-//! One cursor: the documents that are not given yet.
+//! One cursor: the documents that are not returned yet.
 
 ghost use Rattle.std.specs.Prelude.{◌≡◌, ◌≤◌, ◌<◌, ◌+◌, ◌&&◌, ◌++◌, ◌∷◌, [], IfOk, OnErr, OnOk, drop, length, map, nat_lt, take, ◌==◌};
 ghost use Rattle.std.specs.Arc.{arc_value};
@@ -45,7 +45,7 @@ impl Model for Cursor {
 }
 
 impl Cursor {
-    /// A cursor on the documents that remain of those that were read in the namespace at the time.
+    /// Returns a cursor on the documents that remain of those that were read in the namespace at the time.
     pub(crate) fn new(
         namespace: Namespace,
         time: Time,
@@ -60,35 +60,35 @@ impl Cursor {
         }
     }
 
-    /// From now on it is on these documents. Takes no memory.
+    /// Replaces the documents that remain. Takes no memory.
     pub(crate) fn fill(&mut self, remaining: VecDeque<Arc<Document, Global>>)
         ensures { self.new ≡ record { namespace = self.old.namespace; time = self.old.time; remaining = map arc_value remaining.items } }
     {
         self.remaining = remaining;
     }
 
-    /// Whether its documents are of that namespace.
+    /// Returns whether its documents belong to that namespace.
     pub(crate) fn is_of(&self, namespace: &Namespace) -> bool
         ensures { result ≡ bytes_eq self.now.namespace namespace.now }
     {
         self.namespace.as_str() == namespace.as_str()
     }
 
-    /// The time at which its documents were read.
+    /// Returns the time at which its documents were read.
     pub(crate) fn time(&self) -> Time
         ensures { result.0 ≡ self.now.time }
     {
         self.time
     }
 
-    /// How many documents remain.
+    /// Returns how many documents remain.
     pub(crate) fn count(&self) -> usize
         ensures { result ≡ length self.now.remaining }
     {
         self.remaining.len()
     }
 
-    /// The documents of the next batch, shared. Fails for want of memory.
+    /// Returns the documents of the next batch, shared, or `Memory` if memory runs out.
     pub(crate) fn next(
         &self,
         alloc: Global,
@@ -100,7 +100,7 @@ impl Cursor {
         share_front(alloc, &self.remaining, count)
     }
 
-    /// Takes out the first documents, so many, or all. Takes no memory.
+    /// Removes the first `count` documents, or all. Takes no memory.
     pub(crate) fn advance(&mut self, count: usize)
         ensures { self.new ≡ record { namespace = self.old.namespace; time = self.old.time; remaining = drop count self.old.remaining } }
     {
@@ -108,7 +108,7 @@ impl Cursor {
     }
 }
 
-// Whether so many documents are as many as are asked for.
+// Returns whether there are as many documents as the size requests.
 fn is_reached(size: Option<u64>, count: usize) -> bool
     ensures { result ≡ is_reached size count }
 {
@@ -118,14 +118,14 @@ fn is_reached(size: Option<u64>, count: usize) -> bool
     }
 }
 
-// Whether documents of so many bytes are too long for one batch: more than one document, and more bytes than it may have.
+// Returns whether documents with this number of bytes are too long for one batch: more than one document, and more bytes than a batch may have.
 fn is_too_long(before: usize, bytes: usize) -> bool
     ensures { result ≡ (nat_lt 0 before && nat_lt most_bytes_kept bytes) }
 {
     before > 0 && bytes > MOST_BYTES_KEPT
 }
 
-// How many of the documents that remain are the next batch.
+// Returns how many of the documents that remain are the next batch.
 #[tactic(auto, using(crate::proofs::Longest::at_end))]
 fn batch_length(remaining: &VecDeque<Arc<Document, Global>>, size: Option<u64>) -> usize
     ensures { IsLongest size (map arc_value remaining.now.items) result }
@@ -143,7 +143,7 @@ fn batch_length(remaining: &VecDeque<Arc<Document, Global>>, size: Option<u64>) 
     remaining.len()
 }
 
-// Puts a document behind the others, where there is room.
+// Appends a document, where there is room.
 fn put(front: &mut Vec<Arc<Document, Global>>, document: Arc<Document, Global>)
     requires { vec_len front.old < vec_capacity front.old }
     ensures items { front.new.items ≡ front.old.items ++ document ∷ [] }
@@ -153,7 +153,7 @@ fn put(front: &mut Vec<Arc<Document, Global>>, document: Arc<Document, Global>)
     let _ = front.push(document);
 }
 
-// Takes out the first documents, so many. Fails for want of memory.
+// Removes the first `count` documents, and returns them, or `Memory` if memory runs out.
 #[tactic(auto, using(crate::proofs::Longest::front_is, crate::proofs::Longest::rest_is))]
 fn take_front(
     alloc: Global,
@@ -173,7 +173,7 @@ fn take_front(
     Ok(front)
 }
 
-// The first documents, so many, each shared once more. Fails for want of memory.
+// Returns the first `count` documents, each shared, or `Memory` if memory runs out.
 fn share_front(
     alloc: Global,
     remaining: &VecDeque<Arc<Document, Global>>,
@@ -190,7 +190,7 @@ fn share_front(
     Ok(front)
 }
 
-// Takes out the first documents, so many, or all.
+// Removes the first `count` documents, or all.
 fn drop_front(remaining: &mut VecDeque<Arc<Document, Global>>, count: usize)
     ensures { remaining.new.items ≡ drop count remaining.old.items }
 {
@@ -201,8 +201,8 @@ fn drop_front(remaining: &mut VecDeque<Arc<Document, Global>>, count: usize)
     }
 }
 
-/// The first batch of documents, and those that remain: as many in front as the size, if one is given, and 16,777,216 bytes allow, or
-/// one (MongoDB manual, "Cursor Batches"). Fails for want of memory.
+/// Returns the first batch of documents, and those that remain: as many as the size, if one is given, and 16,777,216 bytes allow, or one (MongoDB manual,
+/// "Cursor Batches"). Returns `Memory` if memory runs out.
 pub fn first_batch(
     alloc: Global,
     size: Option<u64>,

@@ -1,4 +1,4 @@
-//! Cursors that wait for the next request (MongoDB manual, "Cursors", "getMore", "killCursors").
+//! Open cursors (MongoDB manual, "Cursors", "getMore", "killCursors").
 #![tactic(auto)]
 
 mod cursor;

@@ -17,9 +17,9 @@ use std::sync::Arc;
 /// The next documents of a cursor.
 #[derive(Drop)]
 pub struct Batch {
-    /// The documents, in order, shared with whoever else has them.
+    /// The documents, in order, shared with their other owners.
     pub documents: Vec<Arc<Document, Global>>,
-    /// Whether none remain behind them.
+    /// Whether no document remains after them.
     pub is_last: bool,
     /// The time at which the documents were read.
     pub time: Time,
@@ -30,7 +30,7 @@ pub struct Batch {
 pub enum ShelfFault {
     /// No cursor of that id is open on that namespace.
     NotFound,
-    /// Want of memory.
+    /// Out of memory.
     Memory,
 }
 
@@ -54,7 +54,7 @@ pub struct Shelf {
 impl Shelf {
     ghost use Rattle.cursor_shelf.specs.Shelves.{cursor_in, cursor_under};
 
-    /// No cursor.
+    /// Returns a shelf without cursors.
     pub fn new(alloc: Global) -> Shelf
         ensures { (i : ℤ) → cursor_in result i ≡ None }
     {
@@ -64,8 +64,8 @@ impl Shelf {
         }
     }
 
-    /// Opens a cursor under the id, in place of one that has it, on the documents that were read in the namespace at the time.
-    /// Fails for want of memory, and then changes nothing.
+    /// Opens a cursor under the id, in place of one that has it, on the documents that were read in the namespace at the time. Returns `Memory` if memory
+    /// runs out, and then changes nothing.
     pub fn put(
         &mut self,
         id: i64,
@@ -82,7 +82,7 @@ impl Shelf {
         Ok(())
     }
 
-    /// From now on the cursor of that id is on these documents, if there is one. Takes no memory.
+    /// Replaces the documents that remain of the cursor of that id, if there is one. Takes no memory.
     pub fn fill(&mut self, id: i64, rest: VecDeque<Arc<Document, Global>>)
         ensures filled { (c : OpenCursor) → cursor_in self.old id ≡ Some c →
             cursor_in self.new id ≡ Some (record { namespace = c.namespace; time = c.time; remaining = map arc_value rest.items }) }
@@ -93,9 +93,9 @@ impl Shelf {
         }
     }
 
-    /// The next batch of the cursor of that id, if it is open on the namespace: as many of its documents as the size, if one is
-    /// given, and 16,777,216 bytes allow, or one (MongoDB manual, "Cursor Batches"). The documents are shared, and stay on the cursor
-    /// until it is advanced. Fails with `NotFound` where there is no such cursor, and for want of memory.
+    /// Returns the next batch of the cursor of that id, if it is open on the namespace: as many of its documents as the size, if one is given, and 16,777,216
+    /// bytes allow, or one (MongoDB manual, "Cursor Batches"). The documents are shared, and remain on the cursor until it is advanced. Returns `NotFound`
+    /// where there is no such cursor, and `Memory` if memory runs out.
     pub fn next(
         &self,
         id: i64,
@@ -120,8 +120,7 @@ impl Shelf {
         })
     }
 
-    /// Takes out the first documents, so many, of the cursor of that id, if there is one. A cursor without documents is closed. Takes no
-    /// memory.
+    /// Removes the first `count` documents of the cursor of that id, if there is one. A cursor without documents is closed. Takes no memory.
     pub fn advance(&mut self, id: i64, count: usize)
         ensures rest { (c : OpenCursor) → cursor_in self.old id ≡ Some c → cursor_in self.new id ≡ left_with c (drop count c.remaining) }
         ensures none { cursor_in self.old id ≡ None → cursor_in self.new id ≡ None }
@@ -144,7 +143,7 @@ impl Shelf {
         self.cursors.remove(&id);
     }
 
-    // The cursor of that id, if it is open on the namespace.
+    // Returns the cursor of that id, if it is open on the namespace.
     fn find(&self, id: i64, namespace: &Namespace) -> Option<&Cursor>
         ensures { option_map (λ c. c.now) result ≡ cursor_under self.now id namespace.now }
     {
@@ -160,7 +159,7 @@ impl Shelf {
         }
     }
 
-    /// Whether the cursor of that id is open on the namespace.
+    /// Returns whether the cursor of that id is open on the namespace.
     pub fn has(&self, id: i64, namespace: &Namespace) -> bool
         ensures { result ≡ is_some (cursor_under self.now id namespace.now) }
     {

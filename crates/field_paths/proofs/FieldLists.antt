@@ -12,7 +12,7 @@ use Rattle.field_paths.specs.declared.path.ParseFault.TheVariants as faults
 use Rattle.field_paths.specs.declared.path.PathFault.TheVariants as path_faults
 use Rattle.field_paths.specs.ReadFaults.{Fails}
 
--- a reader that goes on after one that failed fails in the same way
+-- a reader that runs after one that failed fails in the same way
 pub passes_on : {A B : Type 0} (e : ParseFault) (r : Result A QueryFault) (s : Result B QueryFault) →
     ((f : QueryFault) → r ≡ Err f → s ≡ Err f) → Fails e r → Fails e s
 passes_on faults.UnknownOperator r s on h = on _ h
@@ -31,7 +31,7 @@ next_one {A = A} xs i x less is = rw add-one (drop-cons xs i x less ∙ ap (λ (
 pub next_field : (ms : List Field) (i : ℕ) (m : Field) → i < length ms → m ≡ get_or ms i m → drop i ms ≡ m ∷ drop (i + 1) ms
 next_field = next_one
 
--- a list that was read before, and what is still read
+-- the list already read, and the result of reading the rest
 abbrev pub with_front : {X : Type 0} → List X → Result (List X) QueryFault → Result (List X) QueryFault
 with_front front read = read >>= λ others. Ok (front ++ others)
 
@@ -67,7 +67,7 @@ module _ {R X : Type 0} (view : R → X) where
   one_fails rs read others f h = rw h refl
 
   module _ (read_one : List ℕ → Datum → Result X QueryFault) where
-    -- the next field is read
+    -- the next field is valid
     pub goes_on : (rs now : List R) (r : R) (ms : List Field) (i : ℕ) (m : Field) (whole : Result (List X) QueryFault) →
         i < length ms → m ≡ get_or ms i m → now ≡ rs ++ r ∷ [] → read_one m.name (datum_of m.value) ≡ Ok (view r) →
         with_front (map view rs) (read_each read_one (fields_of (drop i ms))) ≡ whole →
@@ -78,7 +78,7 @@ module _ {R X : Type 0} (view : R → X) where
         ∙ ap (λ (x : List Field). with_front (map view rs) (read_each read_one (fields_of x))) (sym (next_field ms i m less is))
         ∙ so_far
 
-    -- the next field is at fault
+    -- the next field has a fault
     pub fails_there : (rs : List R) (ms : List Field) (i : ℕ) (m : Field) (whole : Result (List X) QueryFault) (f : QueryFault) →
         i < length ms → m ≡ get_or ms i m → with_front (map view rs) (read_each read_one (fields_of (drop i ms))) ≡ whole →
         read_one m.name (datum_of m.value) ≡ Err f → whole ≡ Err f

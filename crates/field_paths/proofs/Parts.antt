@@ -44,7 +44,7 @@ told_none : (fault : Option paths.PathFault) (dots n : ℕ) (parts : Path) → f
 told_none None dots n parts e count = by_length dots n parts count
 told_none (Some g) dots n parts e count = absurd cc
 
--- the first part is at fault
+-- the first part has a fault
 pub told_here : (name rest part : List ℕ) (later : Path) (e : PathFault) → Some e ≡ option_map shown_as (part_fault part) → parts_of rest ≡ part ∷ later →
     first_fault (parts_of rest) ≡ first_fault (parts_of name) → Some e ≡ option_map shown_as (result_err (read_path name))
 told_here name rest part later e h split same =
@@ -53,12 +53,12 @@ told_here name rest part later e h split same =
     ap (λ (x : PathFault). Some x) f.2
     ∙ sym (ap (λ (o : Option paths.PathFault). option_map shown_as o) (told_some (first_fault (parts_of name)) (nat_lt 100 (length (parts_of name))) (parts_of name) f.0 first))
 
--- the first part is not at fault
+-- the first part has no fault
 pub told_later : (rest part : List ℕ) (later : Path) → None ≡ option_map shown_as (part_fault part) → parts_of rest ≡ part ∷ later →
     first_fault (parts_of rest) ≡ first_fault later
 told_later rest part later h split = ap first_fault split ∙ first_none (part_fault part) later (not_shown (part_fault part) h)
 
--- no part is at fault
+-- no part has a fault
 pub told_length : (name rest : List ℕ) (dots : ℕ) → None ≡ option_map shown_as (part_fault rest) → parts_of rest ≡ rest ∷ [] →
     first_fault (parts_of rest) ≡ first_fault (parts_of name) → dots + length (parts_of rest) ≡ length (parts_of name) →
     (if nat_lt dots 100 then None else Some Long) ≡ option_map shown_as (result_err (read_path name))
@@ -67,7 +67,7 @@ told_length name rest dots h split same count =
     let n : length (parts_of name) ≡ dots + 1 = omega (arith, ap (λ (p : Path). length p) split) in
     told_none (first_fault (parts_of name)) dots (length (parts_of name)) (parts_of name) none n
 
--- one more part is put behind the others
+-- one more part is appended
 pub grown : (parts now later whole : Path) (part rest : List ℕ) → now ≡ parts ++ part ∷ [] → parts_of rest ≡ part ∷ later →
     parts ++ parts_of rest ≡ whole → now ++ later ≡ whole
 grown parts now later whole part rest put split so_far =

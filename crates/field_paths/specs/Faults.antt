@@ -1,4 +1,4 @@
--- What a fault of the program tells of a path.
+-- What a fault of the program says about a path.
 use Rattle.field_paths.specs.declared.path.PathFault.{PathFault}
 use Rattle.field_paths.specs.declared.path.PathFault.TheVariants.{Empty, Digits, Dollar, Long}
 use Rattle.query_model.specs.Paths as paths

@@ -1,4 +1,4 @@
--- References to values, as the values that they show.
+-- References to values as the values that they point to.
 use Rattle.std.specs.Prelude.{List, map}
 use denote.Ref.{Bor}
 use Rattle.bson_values.specs.declared.value.Value.{Value}

@@ -1,4 +1,4 @@
-//! Paths into documents, and what stands at them (MongoDB manual, "Dot Notation", "Query an Array of Embedded Documents").
+//! Paths into documents, and what is at them (MongoDB manual, "Dot Notation", "Query an Array of Embedded Documents").
 #![tactic(auto)]
 
 mod path;

@@ -15,10 +15,10 @@ use std::alloc::{AllocFailed, Global};
 use std::marker::Model;
 use std::slice;
 
-/// The most parts that a path has.
+/// The greatest number of parts of a path.
 pub const MOST_PARTS: usize = 100;
 
-/// Why a name is no path.
+/// Why a name is not a path.
 #[derive(Clone, Copy, Debug, PartialEq, Eq)]
 pub enum PathFault {
     /// The name or a part is empty.
@@ -27,9 +27,9 @@ pub enum PathFault {
     Digits,
     /// A part begins with `$`.
     Dollar,
-    /// It has more than 100 parts, none of which is at fault.
+    /// It has more than 100 parts, none of which has a fault.
     Long,
-    /// Want of memory.
+    /// Out of memory.
     Memory,
 }
 
@@ -41,18 +41,18 @@ impl From<Memory> for PathFault {
     }
 }
 
-/// Why a document is no filter, no change and no other expression.
+/// Why a document is not a filter, not an update and no other expression.
 #[derive(Clone, Copy, Debug, PartialEq, Eq)]
 pub enum ParseFault {
-    /// A name that begins with `$` is no operator where it stands.
+    /// A name that begins with `$` is not an operator in its position.
     UnknownOperator,
-    /// An operand is not of the form that its operator takes.
+    /// An operand does not have the form that its operator takes.
     BadOperand,
-    /// A name is no path.
+    /// A name is not a path.
     Path(PathFault),
     /// Expressions are nested in more than 100 levels.
     Deep,
-    /// Want of memory.
+    /// Out of memory.
     Memory,
 }
 
@@ -76,14 +76,14 @@ impl<T: Drop> From<AllocFailed<T>> for ParseFault {
     }
 }
 
-/// The parts of a path. Most paths have one, which takes no memory beside the path.
+/// The parts of a path. Most paths have one, which takes no memory in addition to the path.
 #[derive(Drop)]
 enum Parts {
     One(Text),
     Several(Vec<Text>),
 }
 
-/// A path: the names of the fields to go through, outermost first.
+/// A path: the names of the fields from the outermost inwards.
 #[derive(Drop)]
 pub struct Path {
     parts: Parts,
@@ -104,8 +104,8 @@ impl Model for Path {
 }
 
 impl Path {
-    /// The path that a name is. Fails with `Empty`, `Digits` and `Dollar` for the first part that is at fault so, with `Long` where
-    /// none is and there are more than 100, and for want of memory.
+    /// Returns the path that a name is. Returns `Empty`, `Digits` or `Dollar` for the first part that has such a fault, `Long` where none has and there are
+    /// more than 100 parts, and `Memory` if memory runs out.
     pub fn parse(alloc: Global, name: &str) -> Result<Path, PathFault>
         ensures path { IfOk result (λ p. read_path name.now ≡ Ok p) }
         ensures empty { (result ≡ Err Empty) ↔ (read_path name.now ≡ Err empty_part) }
@@ -120,7 +120,7 @@ impl Path {
         Ok(Path { parts })
     }
 
-    /// The parts, outermost first. There is one at least.
+    /// Returns the parts, outermost first. There is at least one.
     #[tactic(auto, using(query_model::proofs::Names::path_not_empty))]
     pub fn parts(&self) -> &[Text]
         ensures parts { result.now ≡ self.now }
@@ -134,7 +134,7 @@ impl Path {
     }
 }
 
-/// The path that a name is, for a parser: fails where [`Path::parse`] does, with `Path` and its fault, or with `Memory`.
+/// Returns the path that a name is, for a parser: where [`Path::parse`] returns an error, this returns `Path` with that fault, or `Memory`.
 pub fn parse_path(alloc: Global, name: &str) -> Result<Path, ParseFault>
     ensures gives { Gives (λ p. p) result (result_map_both (λ path. path) path_fault (read_path name.now)) }
 {
@@ -148,7 +148,7 @@ pub fn parse_path(alloc: Global, name: &str) -> Result<Path, ParseFault>
     }
 }
 
-// Whether each byte is a digit.
+// Returns whether each byte is a digit.
 fn has_digits_only(bytes: &[u8]) -> bool
     ensures { result ≡ all_ascii_digits bytes.now }
 {
@@ -160,7 +160,7 @@ fn has_digits_only(bytes: &[u8]) -> bool
     true
 }
 
-// The fault of one part.
+// Returns the fault of one part, if it has one.
 fn part_fault(part: &str) -> Option<PathFault>
     ensures { result ≡ option_map shown_as (part_fault part.now) }
 {
@@ -177,7 +177,7 @@ fn part_fault(part: &str) -> Option<PathFault>
     }
 }
 
-// Why a name is no path, if it is none. It takes no memory.
+// Returns why a name is not a path, or none if it is one. It takes no memory.
 fn fault_of(name: &str) -> Option<PathFault>
     ensures { result ≡ option_map shown_as (result_err (read_path name.now)) }
 {
@@ -196,7 +196,7 @@ fn fault_of(name: &str) -> Option<PathFault>
     }
 }
 
-// The fault of a path with so many dots.
+// Returns the fault of a path with this number of dots, if it has one.
 fn length_fault(dots: usize) -> Option<PathFault>
     ensures { result ≡ (if nat_lt dots most_parts then None else Some Long) }
 {
@@ -207,7 +207,7 @@ fn length_fault(dots: usize) -> Option<PathFault>
     }
 }
 
-// The parts of a name.
+// Returns the parts of a name.
 fn parts_in(alloc: Global, name: &str) -> Result<Parts, Memory>
     ensures { IfOk result (λ parts. parts_in parts ≡ parts_of name.now) }
 {
@@ -217,7 +217,7 @@ fn parts_in(alloc: Global, name: &str) -> Result<Parts, Memory>
     }
 }
 
-// The parts of a name, as a list without room for more.
+// Returns the parts of a name, as a list without room for more.
 fn split(alloc: Global, name: &str) -> Result<Vec<Text>, Memory>
     ensures { IfOk result (λ parts. parts.items ≡ parts_of name.now) }
 {

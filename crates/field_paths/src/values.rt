@@ -10,7 +10,7 @@ use crate::path::Path;
 use bson_values::{Array, Document, Memory, Text, Value};
 use std::alloc::Global;
 
-/// The values at the path, in order. Fails for want of memory.
+/// Returns the values at the path, in order, or `Memory` if memory runs out.
 pub fn values_at<'a>(
     alloc: Global,
     path: &Path,
@@ -26,7 +26,7 @@ pub fn values_at<'a>(
     Ok(values)
 }
 
-// Puts the values at the path from a value on behind the others.
+// Appends the values at the path, starting from a value.
 #[cycle(push)]
 fn push_from<'a>(
     parts: &[Text],
@@ -62,7 +62,7 @@ fn push_in_document<'a>(
     }
 }
 
-// The same of the documents in an array.
+// The same for the documents in an array.
 #[cycle(push)]
 fn push_in_array<'a>(
     part: &Text,
@@ -78,7 +78,7 @@ fn push_in_array<'a>(
     Ok(())
 }
 
-// The same of an element, if it is a document.
+// The same for an element, if it is a document.
 #[cycle(push)]
 fn push_element<'a>(
     part: &Text,

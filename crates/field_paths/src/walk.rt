@@ -1,4 +1,4 @@
-//! Whether a value at a path meets a visitor, and whether there is a gap. Nothing here takes memory.
+//! Whether a value at a path meets a visitor, and whether there is a gap. Nothing here allocates memory.
 
 ghost use Rattle.std.specs.Prelude.{◌≡◌, ◌∷◌, Bool};
 ghost use Rattle.std.specs.List.{list_any};
@@ -9,16 +9,16 @@ ghost use Rattle.bson_model.specs.Tree.{Datum, array_value, document_value};
 use crate::path::Path;
 use bson_values::{Array, Document, Text, Value};
 
-/// A question to values at a path.
+/// A condition on values at a path.
 pub trait Visitor {
     ghost accepts: { Self → Datum → Bool };
 
-    /// Whether this value meets it.
+    /// Returns whether this value meets it.
     fn meets(&self, value: &Value) -> bool
         ensures { result ≡ accepts self.now (datum_of value.now) };
 }
 
-/// Whether one of the values at the path meets the visitor.
+/// Returns whether one of the values at the path meets the visitor.
 pub fn any_at<V: Visitor>(path: &Path, document: &Document, visitor: &V) -> bool
     ensures { result ≡ list_any (V.accepts visitor.now) (values_at path.now document.now) }
 {
@@ -28,7 +28,7 @@ pub fn any_at<V: Visitor>(path: &Path, document: &Document, visitor: &V) -> bool
     }
 }
 
-// Whether one of the values at the path from a value on meets the visitor.
+// Returns whether one of the values at the path, starting from a value, meets the visitor.
 #[cycle(any)]
 fn any_from<V: Visitor>(parts: &[Text], value: &Value, visitor: &V) -> bool
     ensures { result ≡ list_any (V.accepts visitor.now) (values_from parts.now (datum_of value.now)) }
@@ -59,7 +59,7 @@ fn any_in_document<V: Visitor>(
     }
 }
 
-// The same of the documents in an array.
+// The same for the documents in an array.
 #[cycle(any)]
 fn any_in_array<V: Visitor>(part: &Text, others: &[Text], array: &Array, visitor: &V) -> bool
     ensures { result ≡ list_any (V.accepts visitor.now) (values_from (part.now ∷ others.now) (array_value array.now)) }
@@ -74,8 +74,8 @@ fn any_in_array<V: Visitor>(part: &Text, others: &[Text], array: &Array, visitor
     false
 }
 
-/// Whether there is a gap at the path: a document on the way has no field of the next name, or a value on the way is neither
-/// document nor array.
+/// Returns whether there is a gap at the path: a document on the path has no field of the next name, or a value on the path is neither a document nor an
+/// array.
 pub fn gap_at(path: &Path, document: &Document) -> bool
     ensures { result ≡ has_gap path.now document.now }
 {
@@ -85,7 +85,7 @@ pub fn gap_at(path: &Path, document: &Document) -> bool
     }
 }
 
-// Whether there is a gap from a value on.
+// Returns whether there is a gap, starting from a value.
 #[cycle(gap)]
 fn gap_from(parts: &[Text], value: &Value) -> bool
     ensures { result ≡ gap_from parts.now (datum_of value.now) }
@@ -111,7 +111,7 @@ fn gap_in_document(part: &Text, others: &[Text], document: &Document) -> bool
     }
 }
 
-// The same of the documents in an array.
+// The same for the documents in an array.
 #[cycle(gap)]
 fn gap_in_array(part: &Text, others: &[Text], array: &Array) -> bool
     ensures { result ≡ gap_from (part.now ∷ others.now) (array_value array.now) }

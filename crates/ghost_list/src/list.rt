@@ -1,10 +1,10 @@
-//! A list that only proofs read. It takes no memory, and its methods do nothing when they run.
+//! A list that only proofs read. It takes no memory, and its methods do nothing at run time.
 ghost use Rattle.std.specs.Prelude.{◌≡◌, List, [], ◌∷◌, ◌++◌};
 ghost use Rattle.std.specs.Borrow.{ftrue};
 
 use std::marker::{Model, PhantomData};
 
-/// Pairs in order, which clauses read as `items`.
+/// A list of pairs, which clauses read as `items`.
 #[derive(Drop)]
 pub struct GhostList<A, B> {
     of: PhantomData<(A, B)>,
@@ -19,14 +19,14 @@ impl<A, B> Model for GhostList<A, B> {
 unsafe impl<A: Send, B: Send> Send for GhostList<A, B> {}
 
 impl<A, B> GhostList<A, B> {
-    /// No pairs.
+    /// Returns the empty list.
     pub fn new() -> GhostList<A, B>
         ensures { result.items ≡ [] }
     {
         GhostList { of: PhantomData }
     }
 
-    /// The list with one pair more, its last.
+    /// Returns the list with one pair appended.
     pub fn with(&self, first: &A, second: &B) -> GhostList<A, B>
         ensures { result.items ≡ self.now.items ++ (first.now, second.now) ∷ [] }
     {

@@ -1,4 +1,4 @@
--- Where a key stands among entries, and where a new one goes.
+-- The position of a key among entries, and that of a new one.
 use Rattle.std.proofs.Common.{◌≡◌, List, [], ◌∷◌, ◌++◌, refl, sym, ap, ◌∙◌, Ordering, Less, Equal, Greater}
 use Rattle.std.specs.Prelude.{Bool, true, false, cond, ◌||◌, Some, None}
 use Rattle.std.specs.BTreeMap.{insert_entry, is_at}
@@ -19,7 +19,7 @@ some_none : {X : Type 0} (a : X) → Some a ≡ None → ⊥
 some_none a e = cc
 
 module _ {X : Type 0} (key : Datum) where
-  -- the value stands under a key that is one with it
+  -- the value is stored under a key that is equal to this one
   pub record Found (entries : List (Datum × X)) (value : X) : Type 0 where
     pub front : List (Datum × X)
     pub back : List (Datum × X)
@@ -58,7 +58,7 @@ module _ {X : Type 0} (key : Datum) where
   found_in [] value is = absurd (some_none value (sym is))
   found_in (e ∷ entries) value is = found_by e entries value (is_eq (order key e.0)) refl (found_in entries value) is
 
-  -- the value goes between entries of other keys
+  -- the value is to be inserted between entries of other keys
   pub record Gap (entries : List (Datum × X)) (value : X) : Type 0 where
     pub front : List (Datum × X)
     pub back : List (Datum × X)

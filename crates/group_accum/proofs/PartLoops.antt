@@ -17,7 +17,7 @@ use Rattle.group_accum.specs.declared.spec.Operand as spec_operands
 use Rattle.group_accum.specs.PartReading.{parts_of, then_field, with_parts}
 use Rattle.group_accum.specs.View.{accumulator_of, group_field_of, operand_of}
 
--- no part before
+-- with no part before
 pub nothing_before : (read : Result GroupParts QueryFault) → with_parts (record { keys = []; fields = [] }) read ≡ read
 nothing_before (Ok parts) = refl
 nothing_before (Err e) = refl
@@ -76,7 +76,7 @@ module _ (name : List ℕ) (d : Datum) where
   field_fails f is read =
       field_read false is refl ∙ ap (λ (r : Result Accumulator QueryFault). r >>= λ y. Ok (with_field (record { name = name; accumulator = y }))) read
 
--- the next field is read
+-- the next field is valid
 pub goes_on : (before now : GroupParts) (ms : List Field) (i : ℕ) (m : Field) (whole : Result GroupParts QueryFault) → i < length ms → m ≡ get_or ms i m →
     ((others : Result GroupParts QueryFault) → with_parts now others ≡ with_parts before (then_field (read_group_field m.name (datum_of m.value)) others)) →
     with_parts before (read_group_fields (fields_of (drop i ms))) ≡ whole → with_parts now (read_group_fields (fields_of (drop (i + 1) ms))) ≡ whole
@@ -84,7 +84,7 @@ goes_on before now ms i m whole less is step so_far =
     step (read_group_fields (fields_of (drop (i + 1) ms)))
     ∙ ap (λ (l : List Field). with_parts before (read_group_fields (fields_of l))) (sym (next_field ms i m less is)) ∙ so_far
 
--- the next field is at fault
+-- the next field has a fault
 pub fails_there : (before : GroupParts) (ms : List Field) (i : ℕ) (m : Field) (whole : Result GroupParts QueryFault) (f : QueryFault) → i < length ms → m ≡ get_or ms i m →
     with_parts before (read_group_fields (fields_of (drop i ms))) ≡ whole → read_group_field m.name (datum_of m.value) ≡ Err f → whole ≡ Err f
 fails_there before ms i m whole f less is so_far e =
@@ -102,7 +102,7 @@ pub ends : (parts : GroupParts) (ms : List Field) (i : ℕ) (whole : Result Grou
 ends parts ms i whole all so_far =
     sym so_far ∙ ap (λ (l : List Field). with_parts parts (read_group_fields (fields_of l))) (drop_all i ms all) ∙ nothing_left parts
 
--- what the program has read of one field
+-- what the program has read from one field
 module _ (name : List ℕ) (d : Datum) (keys : List spec_operands.Operand) (fields : List spec.GroupField) where
   pub key_put : (now : List spec_operands.Operand) (x : spec_operands.Operand) → now ≡ keys ++ x ∷ [] → bytes_eq name (codes "_id") ≡ true → read_operand d ≡ Ok (operand_of x) →
       (others : Result GroupParts QueryFault) →

@@ -8,7 +8,7 @@ use Rattle.pipeline_model.specs.Operands.{constant_operand, read_operand}
 use Rattle.pipeline_model.specs.GroupSpecs.{accumulate, count_name, read_accumulator}
 use Rattle.projection.proofs.RulesRead.{no_dollar}
 
--- a text without $ in front is a constant
+-- a text without a leading $ is a constant
 pub plain_text : (bs : List ℕ) → ((rest : List ℕ) → bs ≢ 36 ∷ rest) → read_operand (string_value bs) ≡ Ok (constant_operand (string_value bs))
 plain_text bs h = rw (no_dollar bs h, read_operand) refl
 

@@ -12,7 +12,7 @@ use Rattle.group_accum.specs.declared.absorb.Cell.{Cell}
 use Rattle.group_accum.specs.Rows.{row_of, rows_of}
 use Rattle.group_accum.specs.Sizes.{capped}
 
--- the next one is summed
+-- the next number is added
 pub sum_next : {A B : Type 0} (f : B → ℕ) (see : A → B) (xs : List A) (i : ℕ) (x : A) (total now size whole : ℕ) → i < length xs → x ≡ get_or xs i x →
     size ≡ capped (f (see x)) → now ≡ min (total + size) (2 ^ 64 - 1) → capped (total + sum_by f (map see (drop i xs))) ≡ whole →
     capped (now + sum_by f (map see (drop (i + 1) xs))) ≡ whole
@@ -21,7 +21,7 @@ sum_next {A = A} f see xs i x total now size whole less is one add so_far =
     ap (λ (l : List A). sum_by f (map see l)) (next_one xs i x less is) ∙ sum_by-cons f (see x) (map see (drop (i + 1) xs)) in
     omega (arith, e, one, add, so_far)
 
--- the next row is summed
+-- the next row is added
 pub row_next : {Z : Type 0} (entries rest : List (Datum × Vec Cell Z)) (e : Datum × Vec Cell Z) (total now size whole : ℕ) → entries ≡ e ∷ rest →
     size ≡ capped (row_length (row_of e)) → now ≡ min (total + size) (2 ^ 64 - 1) → capped (total + sum_by row_length (rows_of entries)) ≡ whole →
     capped (now + sum_by row_length (rows_of rest)) ≡ whole

@@ -1,4 +1,4 @@
--- Rows that are copied are the same.
+-- Copies of rows are equal to the rows.
 use Rattle.std.proofs.Common.{◌≡◌, List, [], ◌∷◌, map, refl}
 use Rattle.std.specs.List.{AllZip}
 use Rattle.std.specs.Vec.{vec_len}
@@ -8,7 +8,7 @@ use Rattle.group_accum.specs.declared.absorb.Cell.{Cell}
 use Rattle.group_accum.specs.Rows.{rows_of}
 use Rattle.group_accum.specs.View.{cell_of}
 
--- by what is true of copies of keys and of cells
+-- from what holds of copies of keys and of cells
 module _ (Keys : Datum → Datum → Type 0) (Cells : Cell → Cell → Type 0) (same_key : (key copy : Datum) → Keys key copy → copy ≡ key) (same_cell : (cell copy : Cell) → Cells cell copy → cell_of copy ≡ cell_of cell) where
   copied_cells : (cells copies : List Cell) → AllZip Cells cells copies → map cell_of copies ≡ map cell_of cells
   copied_cells [] [] h = refl

@@ -1,4 +1,4 @@
--- One element of a loop, and those behind it.
+-- One element of a loop, and those after it.
 use Rattle.std.proofs.Common.{◌≡◌, ◌⊎◌, inl, inr, ℕ, ◌<◌, ◌+◌, List, [], ◌∷◌, ◌++◌, length, get_or, drop, map, refl, sym, ap, ◌∙◌, append_assoc, arith}
 use Rattle.std.specs.Prelude.{Option, Some, None, option_map, option_and_then}
 use Rattle.std.proofs.lemmas.List.{map-append}
@@ -17,7 +17,7 @@ use Rattle.group_accum.specs.View.{cell_of, group_field_of}
 one_more : {A C : Type 0} (f : A → C) (done : List A) (a : A) (rest : List C) → map f (done ++ a ∷ []) ++ rest ≡ map f done ++ f a ∷ rest
 one_more {C = C} f done a rest = ap (λ (l : List C). l ++ rest) (map-append f done (a ∷ [])) ∙ append_assoc (map f done) (f a ∷ []) rest
 
--- the next one is put behind the others
+-- the next one is appended
 pub mapped_next : {A B C D : Type 0} (f : A → C) (see : B → D) (h : D → C) (done now : List A) (a : A) (xs : List B) (i : ℕ) (x : B) (whole : List C) →
     i < length xs → x ≡ get_or xs i x → now ≡ done ++ a ∷ [] → f a ≡ h (see x) → map f done ++ map h (map see (drop i xs)) ≡ whole →
     map f now ++ map h (map see (drop (i + 1) xs)) ≡ whole
@@ -26,7 +26,7 @@ mapped_next {A = A} {B = B} {C = C} f see h done now a xs i x whole less is put 
     ∙ ap (λ (c : C). map f done ++ c ∷ map h (map see (drop (i + 1) xs))) same
     ∙ ap (λ (l : List B). map f done ++ map h (map see l)) (sym (next_one xs i x less is)) ∙ so_far
 
--- the next cell takes in that of another row
+-- the next cell absorbs that of another row
 pub absorbed_next : (done now : List Cell) (cell : Cell) (before : groups.Cell) (own more after : List groups.Cell) (xs : List GroupField)
     (i : ℕ) (x : GroupField) (whole : List groups.Cell) → i < length xs → x ≡ get_or xs i x → now ≡ done ++ cell ∷ [] →
     absorb_row (group_field_of x ∷ map group_field_of (drop (i + 1) xs)) (before ∷ own) more ≡ cell_of cell ∷ absorb_row (map group_field_of (drop (i + 1) xs)) own after →
@@ -74,7 +74,7 @@ shown_all document fields cells whole end so_far =
     sym so_far ∙ ap (λ (o : Option Fields). option_map (joined document) o) (shown_nothing fields cells end)
     ∙ ap (λ (ms : Fields). Some ms) (joined_none document)
 
--- the cells are taken one by one
+-- the cells are shown one by one
 pub shown_first : (document : Fields) (fields : List model.GroupField) (taken cells : List Cell) → taken ≡ cells →
     option_map (joined document) (shown_fields fields (map cell_of cells)) ≡ option_map (joined document) (shown_fields fields (map cell_of taken))
 shown_first document fields taken cells is = ap (λ (l : List Cell). option_map (joined document) (shown_fields fields (map cell_of l))) (sym is)

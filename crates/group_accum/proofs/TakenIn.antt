@@ -1,4 +1,4 @@
--- A row is taken in among the entries of groups.
+-- A row is absorbed into the entries of groups.
 use Rattle.std.proofs.Common.{◌≡◌, List, [], ◌∷◌, ◌++◌, map, Result, Ok, Err, refl, sym, ap, ◌∙◌, subst, append_assoc, append-nil}
 use Rattle.std.specs.Prelude.{false, Some, None, OnOk}
 use Rattle.std.specs.BTreeMap.{insert_entry, is_at}
@@ -19,7 +19,7 @@ use Rattle.group_accum.specs.Rows.{row_of, rows_of}
 use Rattle.group_accum.specs.View.{cell_of}
 use Rattle.group_accum.proofs.Entries.{found_in, gap_in, none_with}
 
--- where memory was found, what follows from what a call promises
+-- a fact that follows from what a call that succeeds promises
 pub on_ok : {V E : Type 0} (r : Result V E) (P Q : Type 0) → (P → Q) → OnOk r P → OnOk r Q
 on_ok (Ok x) P Q f h = f h
 on_ok (Err e) P Q f h = tt
@@ -66,7 +66,7 @@ next_taken spec before whole now left kept after row is takes h = (
   subst (λ (l : List PartialRow). IsJoined spec l after) (append_assoc before h.0 (row ∷ [])) (takes (before ++ h.0) h.2),
 )
 
--- none has been taken in
+-- none is absorbed yet
 pub none_taken : (spec : GroupSpec) (before whole kept : List PartialRow) → IsJoined spec before kept →
     (taken : List PartialRow) × (taken ++ whole ≡ whole) × IsJoined spec (before ++ taken) kept
 none_taken spec before whole kept joined = ([], refl, subst (λ (l : List PartialRow). IsJoined spec l kept) (sym (append-nil before)) joined)

@@ -1,4 +1,4 @@
--- How specifications and rows are told from others: by the numbers, paths and values in them.
+-- A code that determines a specification or a row, of the numbers, paths and values in it.
 use Rattle.std.specs.Prelude.{◌≡◌, ◌⊎◌, ℕ, ℤ, List, Bool, refl}
 use Rattle.std.proofs.Common.{inl, inr}
 use Rattle.std.specs.Coded.{Coded, code_by, coded×, coded⊎, coded_list, coded_ℕ, coded_ℤ, coded_bool}

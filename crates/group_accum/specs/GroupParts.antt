@@ -1,4 +1,4 @@
--- What contracts see of groups: the specification, the rows, and the number of documents behind them.
+-- What contracts see of groups: the specification, the rows, and the number of documents that the rows summarize.
 use Rattle.std.specs.Prelude.{ℕ, List}
 use Rattle.std.specs.Arc.{arc_value}
 use Rattle.pipeline_model.specs.GroupSpecs.{GroupSpec}

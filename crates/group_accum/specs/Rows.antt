@@ -1,4 +1,4 @@
--- The rows of groups, and the number of documents behind them.
+-- The rows of groups, and the number of documents that they summarize.
 use Rattle.std.specs.Prelude.{ℕ, List, map}
 use Rattle.std.specs.declared.vec.Vec.{Vec}
 use Rattle.bson_model.specs.Tree.{Datum}
@@ -6,12 +6,12 @@ use Rattle.pipeline_model.specs.Groups.{PartialRow}
 use Rattle.group_accum.specs.View.{cell_of}
 use Rattle.group_accum.specs.declared.absorb.Cell.{Cell}
 
--- what a part has of its documents: a row of each key, and how many documents are behind them
+-- what a part has of its documents: a row for each key, and the number of documents that the rows summarize
 pub record Partials : Type 0 where
   pub rows : List PartialRow
   pub documents : ℕ
 
--- what is kept under a key, as a row
+-- an entry of the map, as a row
 abbrev pub row_of : {Z : Type 0} → Datum × Vec Cell Z → PartialRow
 row_of entry = record { key = entry.0; cells = map cell_of entry.1.items }
 

@@ -1,4 +1,4 @@
--- How many bytes are told.
+-- Numbers of bytes as the program returns them.
 use Rattle.std.specs.Prelude.{ℕ, ◌-◌, ◌^◌, min}
 
 -- the number, or the greatest usize where that is less

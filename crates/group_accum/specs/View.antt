@@ -1,4 +1,4 @@
--- What the parts of a specification and of groups are as plain data.
+-- The parts of a specification and of groups as plain data.
 use Rattle.bson_values.specs.View.{datum_of}
 use Rattle.pipeline_model.specs.GroupSpecs as model
 use Rattle.pipeline_model.specs.GroupSpecs.{sum_accumulator, count_accumulator, extreme_accumulator, sum_name, min_name, max_name, count_name}

@@ -1,4 +1,4 @@
-//! What is accumulated so far, and how it takes in more.
+//! Accumulated values, and how they absorb more values.
 
 ghost use Rattle.std.specs.Prelude.{◌≡◌, ◌∷◌, IfOk, List, OnOk, map};
 ghost use Rattle.std.specs.Ordering.{is_lt};
@@ -20,13 +20,13 @@ use std::collections::VecDeque;
 use std::mem;
 use value_compare::compare;
 
-/// What an accumulator has so far.
+/// The state of an accumulator.
 #[derive(Drop)]
 pub(crate) enum Cell {
     /// The exact sum, and whether each number in it is an int32.
     Sum { total: i128, narrow: bool },
     Count(u64),
-    /// Null over nothing.
+    /// Null where there is no value.
     Extreme(Value),
 }
 
@@ -36,7 +36,7 @@ fn is_null(value: &Value) -> bool
     matches!(value, Value::Null)
 }
 
-// Whether a value takes the place of the one that is kept.
+// Returns whether a value replaces the one that is kept.
 fn is_better(extreme: Extreme, value: &Value, kept: &Value) -> bool
     ensures { result ≡ is_lt (directed (direction_of extreme) order (datum_of value.now) (datum_of kept.now)) }
 {
@@ -46,7 +46,7 @@ fn is_better(extreme: Extreme, value: &Value, kept: &Value) -> bool
     }
 }
 
-// Of the value that is kept and one that comes. Null is none.
+// Returns the better of the value that is kept and another one. Null counts as no value.
 fn better(extreme: Extreme, kept: Value, value: Value) -> Value
     ensures { datum_of result ≡ better (direction_of extreme) (datum_of kept) (datum_of value) }
 {
@@ -59,8 +59,8 @@ fn better(extreme: Extreme, kept: Value, value: Value) -> Value
     kept
 }
 
-// A cell of a sum takes in another; one of another form adds nothing. A sum outside 128 bits, of which no number of documents that
-// are counted is capable, is want of memory.
+// The cell of a sum absorbs another; one of another form adds nothing. A sum outside 128 bits, which no number of documents that can be counted reaches, is
+// returned as `Memory`.
 fn absorb_sum(kept: Cell, cell: Cell) -> Result<Cell, Memory>
     ensures { IfOk result (λ c. (x : operands.Operand) → cell_of c ≡ absorb (sum_accumulator x) (cell_of kept) (cell_of cell)) }
 {
@@ -84,7 +84,7 @@ fn absorb_sum(kept: Cell, cell: Cell) -> Result<Cell, Memory>
     }
 }
 
-// A cell of a count takes in another; one of another form adds nothing.
+// The cell of a count absorbs another; one of another form adds nothing.
 fn absorb_count(kept: Cell, cell: Cell) -> Result<Cell, Memory>
     ensures { IfOk result (λ c. cell_of c ≡ absorb count_accumulator (cell_of kept) (cell_of cell)) }
 {
@@ -102,7 +102,7 @@ fn absorb_count(kept: Cell, cell: Cell) -> Result<Cell, Memory>
     }
 }
 
-// A cell of an extreme value takes in another; one of another form adds nothing.
+// The cell of a minimum or maximum absorbs another; one of another form adds nothing.
 fn absorb_extreme(extreme: Extreme, kept: Cell, cell: Cell) -> Cell
     ensures { (x : operands.Operand) → cell_of result ≡ absorb (extreme_accumulator (direction_of extreme) x) (cell_of kept) (cell_of cell) }
 {
@@ -117,7 +117,7 @@ fn absorb_extreme(extreme: Extreme, kept: Cell, cell: Cell) -> Cell
     }
 }
 
-// A cell of a field takes in another. Fails for want of memory.
+// The cell of a field absorbs another. Returns `Memory` if memory runs out.
 fn absorb(accumulator: &Accumulator, kept: Cell, cell: Cell) -> Result<Cell, Memory>
     ensures { IfOk result (λ c. cell_of c ≡ absorb (accumulator_of accumulator.now) (cell_of kept) (cell_of cell)) }
 {
@@ -131,7 +131,7 @@ fn absorb(accumulator: &Accumulator, kept: Cell, cell: Cell) -> Result<Cell, Mem
     }
 }
 
-// A cell of a field takes in the next of another row, if there is one. Fails for want of memory.
+// The cell of a field absorbs the next one of another row, if there is one. Returns `Memory` if memory runs out.
 fn absorb_next(field: &GroupField, kept: Cell, cells: &mut VecDeque<Cell>) -> Result<Cell, Memory>
     ensures { IfOk result (λ c. (fields : List model.GroupField) (others : List groups.Cell) →
         absorb_row (group_field_of field.now ∷ fields) (cell_of kept ∷ others) (map cell_of cells.old.items)
@@ -143,7 +143,7 @@ fn absorb_next(field: &GroupField, kept: Cell, cells: &mut VecDeque<Cell>) -> Re
     }
 }
 
-// The cells of a row once they took in those of another. Fails for want of memory.
+// Returns the cells of a row after they absorbed those of another, or `Memory` if memory runs out.
 fn absorb_all(
     alloc: Global,
     fields: &[GroupField],
@@ -165,7 +165,7 @@ fn absorb_all(
     Ok(absorbed)
 }
 
-/// The cells of a row take in those of another. Fails for want of memory; then cells are lost.
+/// The cells of a row absorb those of another. Returns `Memory` if memory runs out; then cells are lost.
 pub(crate) fn absorb_row(
     alloc: Global,
     spec: &GroupSpec,
@@ -179,7 +179,7 @@ pub(crate) fn absorb_row(
     Ok(())
 }
 
-// A cell of nothing.
+// Returns the cell of an accumulator that has no value yet.
 fn empty_cell(accumulator: &Accumulator) -> Cell
     ensures { cell_of result ≡ empty_cell (accumulator_of accumulator.now) }
 {
@@ -193,7 +193,7 @@ fn empty_cell(accumulator: &Accumulator) -> Cell
     }
 }
 
-/// The cells of no row. Fails for want of memory.
+/// Returns the cells of a row without documents, or `Memory` if memory runs out.
 pub(crate) fn empty_row(alloc: Global, fields: &[GroupField]) -> Result<Vec<Cell>, Memory>
     ensures { IfOk result (λ cs. map cell_of cs.items ≡ empty_row (map group_field_of fields.now)) }
 {

@@ -1,4 +1,4 @@
-//! Keys and cells once more.
+//! Copies of keys and cells.
 
 ghost use Rattle.std.specs.Prelude.{◌≡◌, IfOk};
 ghost use Rattle.bson_values.specs.View.{datum_of};
@@ -9,7 +9,7 @@ use bson_values::{Memory, Value};
 use std::alloc::AllocError;
 use std::clone::Clone;
 
-// The same value once more.
+// A copy of the value.
 fn copy_value(value: &Value) -> Result<Value, AllocError>
     ensures { IfOk result (λ copy. datum_of copy ≡ datum_of value.now) }
 {

@@ -1,4 +1,4 @@
-//! What rows show: a document of each, or that a sum overflows.
+//! The document of each row, or that a sum overflows.
 
 ghost use Rattle.std.specs.Prelude.{◌≡◌, ◌∷◌, map, option_map};
 ghost use Rattle.bson_model.specs.Tree.{joined};
@@ -27,7 +27,7 @@ fn fits_int64(total: i128) -> bool
     -0x8000_0000_0000_0000 <= total && total < 0x8000_0000_0000_0000
 }
 
-// What a sum shows: an int32 where each number was and it fits, else an int64. Fails with `Overflow` where it fits neither.
+// Returns the value of a sum: an int32 where each number was and it fits, else an int64. Returns `Overflow` where it fits neither.
 fn shown_sum(total: i128, narrow: bool) -> Result<Value, GroupFault>
     ensures shows { Shows datum_of result (shown (sum_cell total narrow)) }
 {
@@ -40,7 +40,7 @@ fn shown_sum(total: i128, narrow: bool) -> Result<Value, GroupFault>
     Err(GroupFault::Overflow)
 }
 
-// What a count shows: an int32 where it fits, else an int64; a number of documents outside int64 is want of memory.
+// Returns the value of a count: an int32 where it fits, else an int64; `Memory` for a number of documents outside int64.
 fn shown_count(count: u64) -> Result<Value, GroupFault>
     ensures shows { Shows datum_of result (shown (count_cell count)) }
 {
@@ -53,7 +53,7 @@ fn shown_count(count: u64) -> Result<Value, GroupFault>
     Err(GroupFault::Memory)
 }
 
-// What a cell shows.
+// Returns the value of a cell.
 fn shown_cell(cell: Cell) -> Result<Value, GroupFault>
     ensures shows { Shows datum_of result (shown (cell_of cell)) }
 {
@@ -64,7 +64,7 @@ fn shown_cell(cell: Cell) -> Result<Value, GroupFault>
     }
 }
 
-// Puts the fields of a row behind those of a document.
+// Appends the fields of a row to a document.
 fn shown_fields(
     fields: &[GroupField],
     cells: Vec<Cell>,
@@ -87,7 +87,7 @@ fn shown_fields(
     Ok(shown)
 }
 
-/// The document of a row, `_id` first.
+/// Returns the document of a row, `_id` first.
 pub(crate) fn shown_row(
     alloc: Global,
     spec: &GroupSpec,

@@ -1,16 +1,16 @@
-//! Why groups are not shown.
+//! Why groups are not returned.
 
 ghost use Rattle.std.specs.Prelude.{◌≡◌};
 
 use bson_values::Memory;
 use std::alloc::{AllocError, AllocFailed};
 
-/// Why groups are not shown as documents.
+/// Why groups are not returned as documents.
 #[derive(Clone, Copy, Debug, PartialEq, Eq)]
 pub enum GroupFault {
     /// A sum is outside int64.
     Overflow,
-    /// Want of memory.
+    /// Out of memory.
     Memory,
 }
 

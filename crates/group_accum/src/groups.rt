@@ -1,4 +1,4 @@
-//! Groups: a row of each key, while documents and rows of parts come.
+//! Groups: a row for each key, while documents and rows of parts arrive.
 #![tactic(auto, unfolding(crate::specs::GroupParts::spec_in, crate::specs::GroupParts::rows_in, crate::specs::GroupParts::documents_in))]
 
 ghost use Rattle.std.specs.Prelude.{◌≡◌, ◌+◌, ◌++◌, ◌∷◌, [], IfOk, List, OnOk, map};
@@ -19,11 +19,11 @@ use std::alloc::Global;
 use std::collections::BTreeMap;
 use std::sync::Arc;
 
-/// Below this is the number of documents behind all rows.
+/// The number of documents that all rows summarize is less than this.
 const DOCUMENTS_OF_ALL: u64 = 1 << 62;
 
-/// The groups of the documents that were added, and of those behind the rows that were joined: one row of each key, and no document
-/// (MongoDB manual, "$group").
+/// The groups of the documents that were added, and of those that the joined rows summarize: one row for each key, and no document (MongoDB manual,
+/// "$group").
 #[derive(Drop)]
 pub struct Groups {
     alloc: Global,
@@ -35,7 +35,7 @@ pub struct Groups {
 impl Groups {
     ghost use Rattle.group_accum.specs.GroupParts.{documents_in, rows_in, spec_in};
 
-    /// No group yet.
+    /// Returns groups without rows.
     pub fn new(alloc: Global, spec: Arc<GroupSpec, Global>) -> Groups
         ensures spec { spec_in result ≡ arc_value spec }
         ensures rows { rows_in result ≡ [] }
@@ -49,8 +49,8 @@ impl Groups {
         }
     }
 
-    /// Adds a document: the rows are those of what came before, and of it. Fails for want of memory; then the groups have some of the
-    /// rows, and are to be given up.
+    /// Adds a document: the rows are those of what arrived before, and of it. Returns `Memory` if memory runs out; then the groups have some of the rows, and
+    /// must be dropped.
     pub fn add(&mut self, document: &Document) -> Result<(), Memory>
         ensures spec { spec_in self.new ≡ spec_in self.old }
         ensures rows { OnOk result ((rows : List PartialRow) → IsJoined (spec_in self.old) rows (rows_in self.old)
@@ -64,8 +64,8 @@ impl Groups {
         Ok(())
     }
 
-    /// Joins the rows of a part: the rows are those of what came before, and of them. Fails for want of memory; then the groups have
-    /// some of the rows, and are to be given up.
+    /// Joins the rows of a part: the rows are those of what arrived before, and of them. Returns `Memory` if memory runs out; then the groups have some of
+    /// the rows, and must be dropped.
     pub fn join(&mut self, rows: PartialList) -> Result<(), Memory>
         ensures spec { spec_in self.new ≡ spec_in self.old }
         ensures rows { OnOk result ((before : List PartialRow) → IsJoined (spec_in self.old) before (rows_in self.old)
@@ -84,7 +84,7 @@ impl Groups {
         Ok(())
     }
 
-    /// The rows, to be joined with those of other parts; nothing is shown yet, so no sum overflows. Fails for want of memory, and
+    /// Returns the rows, to be joined with those of other parts; no value is computed yet, so no sum overflows. Returns `Memory` if memory runs out, and
     /// where there are 2^58 documents or more.
     pub fn partial(self) -> Result<PartialList, Memory>
         ensures rows { IfOk result (λ p. p.rows ≡ rows_in self) }
@@ -102,7 +102,7 @@ impl Groups {
         Ok(PartialList { rows, documents })
     }
 
-    /// The document of each row, in the order of keys. Fails with `Overflow` where a sum is outside int64, and for want of memory.
+    /// Returns the document of each row, in the order of keys. Returns `Overflow` where a sum is outside int64, and `Memory` if memory runs out.
     pub fn finish(self) -> Result<Vec<Arc<Document, Global>>, GroupFault>
         ensures shows { Shows (λ ds. map arc_value ds.items) result (documents_of (spec_in self) (rows_in self)) }
     {
@@ -120,7 +120,7 @@ impl Groups {
         Ok(shown)
     }
 
-    // How many documents there are with so many more. Where they are 2^62 or more, this is want of memory.
+    // Returns the number of documents with `more` added, or `Memory` where it is 2^62 or more.
     fn with_more(&self, more: u64) -> Result<u64, Memory>
         ensures { IfOk result (λ n. n ≡ documents_in self.now + more) }
     {
@@ -130,7 +130,7 @@ impl Groups {
         }
     }
 
-    // Takes in a row: into the row of its key, or as a row of its own. Fails for want of memory; then cells may be lost.
+    // Absorbs a row: into the row of its key, or as a new row. Returns `Memory` if memory runs out; then cells may be lost.
     fn take_in(&mut self, key: GroupKey, cells: Vec<Cell>) -> Result<(), Memory>
         ensures spec { spec_in self.new ≡ spec_in self.old }
         ensures rows { OnOk result ((rows : List PartialRow) → IsJoined (spec_in self.old) rows (rows_in self.old)
@@ -147,7 +147,7 @@ impl Groups {
     }
 }
 
-// A number of documents that are not too many.
+// Returns the number of documents, or `Memory` where there are too many.
 fn within(documents: u64) -> Result<u64, Memory>
     ensures { IfOk result (λ n. n ≡ documents) }
 {

@@ -1,4 +1,4 @@
-//! What groups are told apart by: any value, in the order of values.
+//! What distinguishes groups: any value, in the order of values.
 
 ghost use Rattle.std.specs.Prelude.{◌≡◌};
 ghost use Rattle.std.proofs.Common.{refl};
@@ -14,7 +14,7 @@ use std::cmp::Ordering;
 use std::marker::Model;
 use value_compare::compare;
 
-/// The key of a group. Two keys are one where they compare equal.
+/// The key of a group. Two keys are the same where they compare equal.
 #[derive(Drop)]
 pub(crate) struct GroupKey {
     value: Value,
@@ -72,21 +72,21 @@ impl Ord for GroupKey {
 }
 
 impl GroupKey {
-    /// Takes the value as a key.
+    /// Returns the value as a key.
     pub(crate) fn of(value: Value) -> GroupKey
         ensures { result ≡ datum_of value }
     {
         GroupKey { value }
     }
 
-    /// The value, not taken.
+    /// Returns the value, borrowed.
     pub(crate) fn value(&self) -> &Value
         ensures { datum_of result.now ≡ self.now }
     {
         &self.value
     }
 
-    /// The value.
+    /// Returns the value.
     pub(crate) fn into_value(self) -> Value
         ensures { datum_of result ≡ self }
     {

@@ -1,4 +1,4 @@
-//! The row that a document is by itself.
+//! The row of one document.
 
 ghost use Rattle.std.specs.Prelude.{◌≡◌, IfOk, Some, map, option_map, unwrap_or};
 ghost use Rattle.bson_model.specs.Tree.{null_value};
@@ -14,7 +14,7 @@ use bson_values::{Document, Memory, Value};
 use projection::value_at;
 use std::alloc::Global;
 
-// What an operand is in a document. Fails for want of memory.
+// Returns the value of an operand in a document. Returns `Memory` if memory runs out.
 fn value_of(alloc: Global, operand: &Operand, document: &Document) -> Result<Option<Value>, Memory>
     ensures { IfOk result (λ v. option_map datum_of v ≡ value_of (operand_of operand.now) document.now) }
 {
@@ -24,7 +24,7 @@ fn value_of(alloc: Global, operand: &Operand, document: &Document) -> Result<Opt
     }
 }
 
-// The same, and null where there is none.
+// The same, or null where there is none.
 fn value_or_null(alloc: Global, operand: &Operand, document: &Document) -> Result<Value, Memory>
     ensures { IfOk result (λ v. datum_of v ≡ unwrap_or (value_of (operand_of operand.now) document.now) null_value) }
 {
@@ -34,7 +34,7 @@ fn value_or_null(alloc: Global, operand: &Operand, document: &Document) -> Resul
     }
 }
 
-// The summand that a value is; what is no number adds nothing.
+// Returns the summand that a value is; a value that is not a number adds nothing.
 fn summand_of(value: &Value) -> Cell
     ensures { cell_of result ≡ summand (Some (datum_of value.now)) }
 {
@@ -67,7 +67,7 @@ fn summand(value: &Option<Value>) -> Cell
     }
 }
 
-// What an accumulator has of one document. Fails for want of memory.
+// Returns the cell of an accumulator for one document, or `Memory` if memory runs out.
 fn own_cell(alloc: Global, accumulator: &Accumulator, document: &Document) -> Result<Cell, Memory>
     ensures { IfOk result (λ c. cell_of c ≡ own_cell (accumulator_of accumulator.now) document.now) }
 {
@@ -87,7 +87,7 @@ fn own_cell(alloc: Global, accumulator: &Accumulator, document: &Document) -> Re
     }
 }
 
-// What each accumulator has of one document. Fails for want of memory.
+// Returns the cell of each accumulator for one document, or `Memory` if memory runs out.
 fn own_cells(alloc: Global, fields: &[GroupField], document: &Document) -> Result<Vec<Cell>, Memory>
     ensures { IfOk result (λ cs. map cell_of cs.items ≡ map (λ f. own_cell f.accumulator document.now) (map group_field_of fields.now)) }
 {
@@ -99,7 +99,7 @@ fn own_cells(alloc: Global, fields: &[GroupField], document: &Document) -> Resul
     Ok(cells)
 }
 
-/// The row that one document is: its key and its cells. Fails for want of memory.
+/// Returns the row of one document: its key and its cells. Returns `Memory` if memory runs out.
 pub(crate) fn own_row(
     alloc: Global,
     spec: &GroupSpec,

@@ -25,14 +25,14 @@ pub(crate) enum AccumulatorName {
     Count,
 }
 
-// The keys and the other fields that are read so far.
+// The keys and the other fields that were read.
 #[derive(Drop)]
 pub(crate) struct Parts {
     pub(crate) keys: Vec<Operand>,
     pub(crate) fields: Vec<GroupField>,
 }
 
-// The operand that a text is: a path behind a `$`, or the text itself.
+// Returns the operand that a text is: a path after a `$`, or the text itself.
 fn parse_text(alloc: Global, text: &str) -> Result<Operand, ParseFault>
     ensures gives { Gives operand_of result (read_operand (string_value text.now)) }
 {
@@ -48,7 +48,7 @@ fn parse_text(alloc: Global, text: &str) -> Result<Operand, ParseFault>
     }
 }
 
-// The operand that a value is.
+// Returns the operand that a value is.
 fn parse_operand(alloc: Global, value: &Value) -> Result<Operand, ParseFault>
     ensures gives { Gives operand_of result (read_operand (datum_of value.now)) }
 {
@@ -59,7 +59,7 @@ fn parse_operand(alloc: Global, value: &Value) -> Result<Operand, ParseFault>
     }
 }
 
-// The accumulator of that name.
+// Returns the accumulator of that name.
 fn accumulator_named(name: &str) -> Option<AccumulatorName>
     ensures { option_map name_of result ≡ named accumulators name.now }
 {
@@ -76,7 +76,7 @@ fn accumulator_named(name: &str) -> Option<AccumulatorName>
     }
 }
 
-// `$count` of the document without fields.
+// Reads `$count`, whose operand is the document without fields.
 fn parse_count(value: &Value) -> Result<Accumulator, ParseFault>
     ensures gives { Gives accumulator_of result (accumulate count_name (datum_of value.now)) }
 {
@@ -89,7 +89,7 @@ fn parse_count(value: &Value) -> Result<Accumulator, ParseFault>
     }
 }
 
-// `$sum` of an operand.
+// Reads `$sum` with its operand.
 fn parse_sum(alloc: Global, value: &Value) -> Result<Accumulator, ParseFault>
     ensures gives { Gives accumulator_of result (accumulate sum_name (datum_of value.now)) }
 {
@@ -97,7 +97,7 @@ fn parse_sum(alloc: Global, value: &Value) -> Result<Accumulator, ParseFault>
     Ok(Accumulator::Sum(operand))
 }
 
-// `$min` or `$max` of an operand.
+// Reads `$min` or `$max` with its operand.
 fn parse_extreme(alloc: Global, extreme: Extreme, value: &Value) -> Result<Accumulator, ParseFault>
     ensures gives { Gives accumulator_of result (read_extreme (direction_of extreme) (datum_of value.now)) }
 {
@@ -105,7 +105,7 @@ fn parse_extreme(alloc: Global, extreme: Extreme, value: &Value) -> Result<Accum
     Ok(Accumulator::Extreme { extreme, operand })
 }
 
-// The accumulator of that name, of an operand.
+// Returns the accumulator of that name with an operand.
 fn accumulate(
     alloc: Global,
     name: AccumulatorName,
@@ -121,7 +121,7 @@ fn accumulate(
     }
 }
 
-// The accumulator that a document of one field is.
+// Returns the accumulator that a document of one field is.
 fn parse_named(alloc: Global, field: &Field) -> Result<Accumulator, ParseFault>
     ensures gives { Gives accumulator_of result (read_named field.now.name (datum_of field.now.value)) }
 {
@@ -131,7 +131,7 @@ fn parse_named(alloc: Global, field: &Field) -> Result<Accumulator, ParseFault>
     }
 }
 
-// The accumulator that a value is: a document of one field.
+// Returns the accumulator that a value is: a document of one field.
 fn parse_accumulator(alloc: Global, value: &Value) -> Result<Accumulator, ParseFault>
     ensures gives { Gives accumulator_of result (read_accumulator (datum_of value.now)) }
 {
@@ -145,14 +145,14 @@ fn parse_accumulator(alloc: Global, value: &Value) -> Result<Accumulator, ParseF
     }
 }
 
-// Whether a field is what documents are grouped by.
+// Returns whether a field is what documents are grouped by.
 fn is_key(name: &str) -> bool
     ensures { result ≡ bytes_eq name.now (codes "_id") }
 {
     name == "_id"
 }
 
-// Puts what a field is behind the parts so far.
+// Appends a field to the parts already read.
 fn push_part(alloc: Global, field: &Field, parts: &mut Parts) -> Result<(), ParseFault>
     ensures pushed { OnOk result ((others : Result GroupParts QueryFault) → with_parts (parts_of parts.new) others
         ≡ with_parts (parts_of parts.old) (then_field (read_group_field field.now.name (datum_of field.now.value)) others)) }
@@ -169,7 +169,7 @@ fn push_part(alloc: Global, field: &Field, parts: &mut Parts) -> Result<(), Pars
     Ok(())
 }
 
-// The parts that the fields of a document are.
+// Returns the parts that the fields of a document are.
 fn parse_parts(alloc: Global, document: &Document) -> Result<Parts, ParseFault>
     ensures gives { Gives parts_of result (read_group_fields document.now) }
 {
@@ -183,7 +183,7 @@ fn parse_parts(alloc: Global, document: &Document) -> Result<Parts, ParseFault>
     Ok(parts)
 }
 
-// The specification of parts with one key.
+// Returns the specification of parts with one key.
 fn with_one_key(parts: Parts) -> Result<GroupSpec, ParseFault>
     ensures gives { Gives (λ s. s) result (with_one_key (parts_of parts)) }
 {
@@ -197,7 +197,7 @@ fn with_one_key(parts: Parts) -> Result<GroupSpec, ParseFault>
     Ok(GroupSpec { key, fields })
 }
 
-/// The specification that a document is.
+/// Returns the specification that a document is.
 pub(crate) fn parse_group(alloc: Global, document: &Document) -> Result<GroupSpec, ParseFault>
     ensures gives { Gives (λ s. s) result (read_group document.now) }
 {

@@ -1,4 +1,4 @@
-//! The rows of one part of the documents, on their way to where the parts are joined.
+//! The rows of one part of the documents, which are sent to where the parts are joined.
 
 ghost use Rattle.std.specs.Prelude.{◌≡◌, IfOk, sum_by};
 ghost use Rattle.pipeline_model.specs.Lengths.{row_length};
@@ -12,11 +12,11 @@ use std::clone::Clone;
 use std::collections::BTreeMap;
 use std::marker::Model;
 
-/// Below this is the number of documents behind the rows of a part.
+/// The number of documents that the rows of a part summarize is less than this.
 pub(crate) const DOCUMENTS_OF_PART: u64 = 1 << 58;
 
-/// Rows, one of each key, in the order of keys, and how many documents are behind them (MongoDB manual, "Aggregation Pipeline and
-/// Sharded Collections").
+/// Rows, one for each key, in the order of keys, and the number of documents that they summarize (MongoDB manual, "Aggregation Pipeline and Sharded
+/// Collections").
 #[derive(Drop)]
 pub struct PartialList {
     pub(crate) rows: BTreeMap<GroupKey, Vec<Cell>>,
@@ -38,14 +38,14 @@ impl Model for PartialList {
 }
 
 impl PartialList {
-    /// The bytes of the rows on their way, or the greatest `usize` where that is less.
+    /// Returns the number of bytes of the rows when they are sent, or the greatest `usize` where that is less.
     pub fn size(&self) -> usize
         ensures { result ≡ capped (sum_by row_length self.now.rows) }
     {
         rows_size(&self.rows)
     }
 
-    /// The same rows once more. Fails for want of memory.
+    /// Returns a copy of the rows, or `Memory` if memory runs out.
     pub fn copy(&self) -> Result<PartialList, Memory>
         ensures { IfOk result (λ copy. copy ≡ self.now) }
     {

@@ -1,4 +1,4 @@
-//! How many bytes the rows of a part have.
+//! The number of bytes of the rows of a part.
 
 ghost use Rattle.std.specs.Prelude.{◌≡◌, length, map, sum_by};
 ghost use Rattle.bson_model.specs.Spelling.{written_value};
@@ -12,10 +12,10 @@ use crate::absorb::Cell;
 use crate::key::GroupKey;
 use std::collections::BTreeMap;
 
-/// What a document of one field has beside the field's name and value.
+/// The bytes of a document of one field in addition to the field's name and value.
 const FRAME: usize = 7;
 
-// The bytes of a cell on its way, or the greatest `usize` where that is less.
+// Returns the number of bytes of a cell when it is sent, or the greatest `usize` where that is less.
 #[tactic(auto, using(crate::proofs::RowBytes::extreme_bytes))]
 fn cell_size(cell: &Cell) -> usize
     ensures { result ≡ capped (cell_length (cell_of cell.now)) }
@@ -27,7 +27,7 @@ fn cell_size(cell: &Cell) -> usize
     }
 }
 
-// The bytes of the cells of a row, or the greatest `usize` where that is less.
+// Returns the number of bytes of the cells of a row, or the greatest `usize` where that is less.
 fn cells_size(cells: &[Cell]) -> usize
     ensures { result ≡ capped (sum_by cell_length (map cell_of cells.now)) }
 {
@@ -38,7 +38,7 @@ fn cells_size(cells: &[Cell]) -> usize
     size
 }
 
-// The bytes of a row on its way, or the greatest `usize` where that is less.
+// Returns the number of bytes of a row when it is sent, or the greatest `usize` where that is less.
 #[tactic(auto, using(crate::proofs::RowBytes::key_bytes))]
 fn row_size(key: &GroupKey, cells: &[Cell]) -> usize
     ensures { result ≡ capped (row_length (record { key = key.now; cells = map cell_of cells.now })) }
@@ -47,7 +47,7 @@ fn row_size(key: &GroupKey, cells: &[Cell]) -> usize
     key.saturating_add(cells_size(cells))
 }
 
-/// The bytes of rows on their way, or the greatest `usize` where that is less.
+/// Returns the number of bytes of rows when they are sent, or the greatest `usize` where that is less.
 pub(crate) fn rows_size(rows: &BTreeMap<GroupKey, Vec<Cell>>) -> usize
     ensures { result ≡ capped (sum_by row_length (rows_of rows.now.entries)) }
 {

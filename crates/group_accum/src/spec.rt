@@ -1,4 +1,4 @@
-//! What documents are grouped by, and what is accumulated of each group.
+//! What documents are grouped by, and what is accumulated for each group.
 
 ghost use Rattle.std.specs.Prelude.{◌≡◌, IfErr, IfOk, Ok, map};
 ghost use Rattle.field_paths.specs.ReadFaults.{Fails};
@@ -11,16 +11,16 @@ use field_paths::{ParseFault, Path};
 use std::alloc::Global;
 use std::marker::Model;
 
-/// What a value is taken from (MongoDB manual, "Aggregation Expressions").
+/// Where a value comes from (MongoDB manual, "Aggregation Expressions").
 #[derive(Drop)]
 pub(crate) enum Operand {
-    /// What stands at a path.
+    /// The value at a path.
     Path(Path),
     /// This value.
     Constant(Value),
 }
 
-/// Which of values is accumulated.
+/// Which of the values is accumulated.
 #[derive(Clone, Copy)]
 pub(crate) enum Extreme {
     Least,
@@ -42,7 +42,7 @@ pub(crate) struct GroupField {
     pub(crate) accumulator: Accumulator,
 }
 
-/// What documents are grouped by, and what is accumulated of each group, seen as `pipeline_model` has it.
+/// What documents are grouped by, and what is accumulated for each group, seen as `pipeline_model` defines it.
 #[derive(Drop)]
 pub struct GroupSpec {
     pub(crate) key: Operand,
@@ -63,26 +63,26 @@ impl Model for GroupSpec {
 }
 
 impl GroupSpec {
-    /// The specification that a document is. Fails where it is none, with its first fault: of the fields in order, an operand's or
-    /// an accumulator's (`UnknownOperator`, `BadOperand`, or `Path` for the path behind a `$`); behind them with `BadOperand` where
-    /// there is not exactly one `_id`. Fails with `Memory` for want of memory.
+    /// Returns the specification that a document is. Returns its first fault where it is none: of the fields in order, an operand's or an accumulator's
+    /// (`UnknownOperator`, `BadOperand`, or `Path` for the path after a `$`); after them `BadOperand` where there is not exactly one `_id`. Returns `Memory`
+    /// if memory runs out.
     pub fn parse(alloc: Global, document: &Document) -> Result<GroupSpec, ParseFault>
-        // A specification is what the document reads as.
+        // A specification is what the definitions read from the document.
         ensures spec { IfOk result (λ s. read_group document.now ≡ Ok s) }
-        // A fault is the first, unless memory ran out.
+        // A fault is the first, unless memory runs out.
         ensures fault { IfErr result (λ e. Fails e (read_group document.now)) }
     {
         parse_group(alloc, document)
     }
 
-    // What documents are grouped by.
+    // Returns what documents are grouped by.
     pub(crate) fn key(&self) -> &Operand
         ensures { operand_of result.now ≡ self.now.key }
     {
         &self.key
     }
 
-    // The fields of a group's document behind its `_id`.
+    // Returns the fields of a group's document after its `_id`.
     pub(crate) fn fields(&self) -> &[GroupField]
         ensures { map group_field_of result.now ≡ self.now.fields }
     {

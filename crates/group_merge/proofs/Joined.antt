@@ -1,4 +1,4 @@
--- From what the parts were put together to, to what is answered.
+-- From the joined parts to what is returned.
 use Rattle.std.proofs.Common.{◌≡◌, ℕ, List, Result, Ok, Err, sym, ap, ◌∙◌, subst}
 use Rattle.std.specs.Prelude.{IsPermutation, IsSortedBy, Some, None, flat_map, sum_by}
 use Rattle.std.specs.List.Sorted.{IsStableBy}
@@ -14,7 +14,7 @@ use Rattle.pipeline_eval.specs.declared.fault.EvalFault.TheVariants.{Overflow, T
 use Rattle.group_merge.specs.Merged.{MergeAnswers}
 
 module _ {Y : Type 0} (look : Y → List Fields) (merge : Merge) (parts : List Rows) where
-  -- the stages go on from what the parts are put together to
+  -- the stages run on the joined parts
   pub goes_on : (docs : List Fields) (result : Result Y EvalFault) → Joins merge.joining parts (listed docs) × IsInTurn merge.joining parts (listed docs) →
       Answers look merge.stages docs result → MergeAnswers look merge parts result
   goes_on docs (Ok y) h a = (record { merges = record { start = listed docs; joins = h.0; goes_on = a.0 }; in_turn = h.1 }, a.1)
@@ -22,7 +22,7 @@ module _ {Y : Type 0} (look : Y → List Fields) (merge : Merge) (parts : List R
   goes_on docs (Err (TooMuch n)) h a = (a.0, record { merges = record { start = listed docs; joins = h.0; goes_on = a.1 }; in_turn = h.1 }, a.2)
   goes_on docs (Err Memory) h a = tt
 
--- What the parts are put together to, by how they are.
+-- What the parts are joined to, by the way of joining.
 pub in_order_joined : (spec : SortSpec) (parts : List Rows) (all docs : List Fields) → all ≡ flat_map documents_in_part parts → IsPermutation all docs →
     IsSortedBy (comes_before spec) docs → IsStableBy (comes_before spec) all docs →
     Joins (joined_in_order spec) parts (listed docs) × IsInTurn (joined_in_order spec) parts (listed docs)

@@ -1,11 +1,11 @@
--- Parts, one behind the other.
+-- Parts, one after the other.
 use Rattle.std.proofs.Common.{◌≡◌, List, [], ◌∷◌, ◌++◌, map, refl, sym, ap, ◌∙◌, subst, append_assoc, append-nil}
 use Rattle.std.specs.Prelude.{flat_map}
 use Rattle.pipeline_model.specs.GroupSpecs.{GroupSpec}
 use Rattle.pipeline_model.specs.Groups.{IsJoined, PartialRow}
 
 module _ {P Y X : Type 0} (see : P → Y) (f : Y → List X) where
-  -- the next part is put behind the others
+  -- the next part is appended
   pub next_part : (done now : List X) (left rest : List P) (part : P) (whole : List X) → now ≡ done ++ f (see part) → left ≡ part ∷ rest →
       done ++ flat_map f (map see left) ≡ whole → now ++ flat_map f (map see rest) ≡ whole
   next_part done now left rest part whole put is so_far =
@@ -15,7 +15,7 @@ module _ {P Y X : Type 0} (see : P → Y) (f : Y → List X) where
   pub no_part_left : (done : List X) (left : List P) (whole : List X) → left ≡ [] → done ++ flat_map f (map see left) ≡ whole → done ≡ whole
   no_part_left done left whole none so_far = sym (ap (λ (l : List P). done ++ flat_map f (map see l)) none ∙ append-nil done) ∙ so_far
 
--- the rows that were joined are those of the parts so far
+-- the rows that were joined are those of the parts that were visited
 abbrev pub AreSoFar : {P Y : Type 0} → (P → Y) → (Y → List PartialRow) → GroupSpec → List P → List PartialRow → List PartialRow → Type 0
 AreSoFar see f spec left joined whole = (front : List PartialRow) × (front ++ flat_map f (map see left) ≡ whole) × IsJoined spec front joined
 

@@ -1,4 +1,4 @@
-//! Rows of parts put together.
+//! Joining the rows of parts.
 
 ghost use Rattle.std.specs.Prelude.{◌≡◌, ◌<◌, ◌^◌, ◌++◌, IfOk, List, OnOk, flat_map, map, sum_by};
 ghost use Rattle.std.specs.Arc.{arc_value};
@@ -14,10 +14,10 @@ use std::alloc::Global;
 use std::collections::VecDeque;
 use std::sync::Arc;
 
-/// Below this is the sum of numbers of documents.
+/// The sum of the numbers of documents is less than this.
 const DOCUMENTS_OF_ALL: u64 = 1 << 62;
 
-// Puts the documents of a part behind the others. Fails for want of memory.
+// Appends the documents of a part. Returns `Memory` if memory runs out.
 fn put_documents(part: Rows, all: &mut Vec<Arc<Document, Global>>) -> Result<(), Memory>
     ensures { OnOk result (map arc_value all.new.items ≡ map arc_value all.old.items ++ documents_in_part (rows_of part)) }
 {
@@ -31,7 +31,7 @@ fn put_documents(part: Rows, all: &mut Vec<Arc<Document, Global>>) -> Result<(),
     }
 }
 
-/// The documents of the parts, one part behind the other. Fails for want of memory.
+/// Returns the documents of the parts, one part after the other, or `Memory` if memory runs out.
 pub(crate) fn all_documents(
     alloc: Global,
     parts: Vec<Rows>,
@@ -46,7 +46,7 @@ pub(crate) fn all_documents(
     Ok(all)
 }
 
-// Joins the rows of a part. Fails for want of memory.
+// Joins the rows of a part. Returns `Memory` if memory runs out.
 fn join_rows(part: Rows, groups: &mut Groups) -> Result<(), Memory>
     ensures spec { spec_in groups.new ≡ spec_in groups.old }
     ensures rows { OnOk result ((before : List PartialRow) → IsJoined (spec_in groups.old) before (rows_in groups.old)
@@ -59,7 +59,7 @@ fn join_rows(part: Rows, groups: &mut Groups) -> Result<(), Memory>
     }
 }
 
-/// The rows of the parts, joined. Fails for want of memory.
+/// Returns the rows of the parts, joined, or `Memory` if memory runs out.
 pub(crate) fn all_groups(
     alloc: Global,
     spec: Arc<GroupSpec, Global>,
@@ -76,7 +76,7 @@ pub(crate) fn all_groups(
     Ok(groups)
 }
 
-// The number of documents that a part tells.
+// Returns the number of documents that a part counted.
 fn count_in(part: &Rows) -> u64
     ensures count { result ≡ count_in_part (rows_of part.now) }
     ensures bound { result < 2 ^ 58 }
@@ -88,7 +88,7 @@ fn count_in(part: &Rows) -> u64
     }
 }
 
-/// The sum of the numbers of documents that the parts tell. Where it is 2^62 or more, this is want of memory.
+/// Returns the sum of the numbers of documents that the parts counted, or `Memory` where it is 2^62 or more.
 pub(crate) fn count_of_all(parts: &[Rows]) -> Result<u64, Memory>
     ensures { IfOk result (λ n. n ≡ sum_by count_in_part (map rows_of parts.now)) }
 {

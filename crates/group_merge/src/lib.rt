@@ -1,4 +1,4 @@
-//! Rows that the parts of the documents gave, put together (MongoDB manual, "Aggregation Pipeline and Sharded Collections").
+//! Joins the rows that the parts of the documents returned (MongoDB manual, "Aggregation Pipeline and Sharded Collections").
 #![tactic(auto)]
 
 mod joins;

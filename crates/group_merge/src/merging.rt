@@ -16,7 +16,7 @@ use sort_keys::SortSpec;
 use std::alloc::Global;
 use std::sync::Arc;
 
-// The documents of the parts in order; those that compare equal stand in the order of their parts, and then of their places.
+// Returns the documents of the parts in order; those that compare equal are in the order of their parts, and then of their positions.
 fn join_in_order(
     alloc: Global,
     spec: &SortSpec,
@@ -29,7 +29,7 @@ fn join_in_order(
     Ok(in_order)
 }
 
-// The document of each group.
+// Returns the document of each group.
 fn join_groups(
     alloc: Global,
     spec: &Arc<GroupSpec, Global>,
@@ -46,7 +46,7 @@ fn join_groups(
     }
 }
 
-// One document with the sum of the numbers.
+// Returns one document with the sum of the numbers.
 fn join_counts(
     alloc: Global,
     name: &Name,
@@ -59,7 +59,7 @@ fn join_counts(
     Ok(one)
 }
 
-// The documents of the parts, one part behind the other.
+// Returns the documents of the parts, one part after the other.
 fn join_as_they_come(
     alloc: Global,
     parts: Vec<Rows>,
@@ -70,7 +70,7 @@ fn join_as_they_come(
     Ok(all)
 }
 
-// What the rows of the parts are put together to.
+// Returns what the rows of the parts are joined to.
 fn join_rows(
     alloc: Global,
     joining: &Joining,
@@ -86,10 +86,10 @@ fn join_rows(
     }
 }
 
-/// The answer that the rows of the parts are merged to: an outcome of the merge on them, in which documents that compare equal in a sort
-/// of the merge's stand in the order of their parts, and then of their places. Fails with `Overflow` only where the merge has it on
-/// these rows; with `TooMuch` where the outcome has more than 104,857,600 bytes, or a document of it more than 16,777,216; and for want
-/// of memory, also where the numbers of documents are 2^62 or more in all. A part of another form than the merge's adds nothing.
+/// Returns the result that the rows of the parts are merged to: an outcome of the merge for them, in which documents that compare equal in a sort of the
+/// merge are in the order of their parts, and then of their positions. Returns `Overflow` only where the merge has it for these rows; `TooMuch` where the
+/// outcome has more than 104,857,600 bytes, or a document of it more than 16,777,216; and `Memory` if memory runs out, also where the numbers of documents
+/// are 2^62 or more in all. A part of another form than the merge's adds nothing.
 pub fn merge(
     alloc: Global,
     by: &Merge,

@@ -1,4 +1,4 @@
--- The documents of a collection in the order of keys are what stands under each key, and there is one such list.
+-- The documents of a collection in the order of keys are the document under each key, and there is one such list.
 use Rattle.std.proofs.Common.{◌≡◌, ℕ, List, [], ◌∷◌, refl, sym, ap, ◌∙◌, Ordering, Less, Equal, Greater}
 use Rattle.std.specs.Prelude.{Bool, true, false, cond, ◌&&◌, Option, Some, None, filter, nat_le, if◌then◌else◌}
 use Rattle.std.specs.List.Sorted.{IsStrictlySortedBy}
@@ -22,7 +22,7 @@ put_found : (key q : Datum) (document : Option Fields) (rows : Rows) → AreInOr
 put_found key q (Some document) rows ordered = find_insert order_total q key document rows ∙ ap (λ (b : Bool). cond b (Some document) (document_under q rows)) (equal_turned order_total q key)
 put_found key q None rows ordered = find_remove order_total q key rows ordered
 
--- what one entry does under a key
+-- the effect of one entry on the document under a key
 by_same : (same : Bool) (key q : Datum) (e : Entry) (rows : Rows) → same_value key q ≡ same →
     cond same (effect e.operation (document_under key rows)).0 (document_under q rows) ≡ (if same then (effect e.operation (document_under q rows)).0 else document_under q rows)
 by_same true key q e rows is = ap (λ (before : Option Fields). (effect e.operation before).0) (same_find order_total key q rows (equal_is (order key q) is))
@@ -60,7 +60,7 @@ pub none_in_order : AreInOrder []
 unfolding IsStrictlySortedBy
 none_in_order = tt
 
--- the list shows what stands under each key at the time
+-- the list has the document under each key at the time
 pub lists_collection : (history : List Entry) (namespace : List ℕ) (time : ℕ) →
     ListsDocuments (λ key. document_at history namespace (Some key) time) (documents_at history namespace time)
 lists_collection history namespace time = record {
@@ -70,7 +70,7 @@ lists_collection history namespace time = record {
   shown = refl;
 }
 
--- Two lists of rows in order that find the same under each key show the same.
+-- Two ordered lists of rows that find the same document under each key are the same.
 
 first_found : (q : Datum) (row : Datum × Fields) (rows : Rows) → order q row.0 ≡ Equal → document_under q (row ∷ rows) ≡ Some row.1
 first_found q row rows same = ap (λ (r : Ordering). cond (is_eq r) (Some row.1) (document_under q rows)) same
@@ -90,12 +90,12 @@ pub later_rows : (row : Datum × Fields) (rows : Rows) → AreInOrder (row ∷ r
 unfolding IsStrictlySortedBy
 later_rows row rows ordered = ordered.1
 
--- what a lesser key finds
+-- what is found under a lesser key
 below_finds : (q : Datum) (row : Datum × Fields) (rows : Rows) → AreInOrder (row ∷ rows) → order q row.0 ≡ Less → document_under q (row ∷ rows) ≡ None
 below_finds q row rows ordered less =
     first_passed q row rows (ap is_eq less) ∙ above_never order_total q rows (above_more order_total q row.0 rows less (above_row row rows ordered))
 
--- what the first key finds behind it
+-- what is found under the first key among the later ones
 behind_finds : (q : Datum) (row : Datum × Fields) (rows : Rows) → AreInOrder (row ∷ rows) → order q row.0 ≡ Equal → document_under q rows ≡ None
 behind_finds q row rows ordered same = same_find order_total q row.0 rows same ∙ above_never order_total row.0 rows (above_row row rows ordered)
 

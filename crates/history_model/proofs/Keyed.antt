@@ -1,4 +1,4 @@
--- Operations leave nothing, or a document with the key under which they act; so the documents of a collection stand under their keys.
+-- Operations result in no document, or in one with the key that they write; so the documents of a collection are stored under their keys.
 use Rattle.std.proofs.Common.{◌≡◌, inl, inr, ℕ, List, [], ◌∷◌, ◌++◌, refl, sym, ap, subst, ◌∙◌}
 use Rattle.std.specs.Prelude.{Bool, true, false, ◌&&◌, Option, Some, None, Result, Ok, Err, if◌then◌else◌}
 use Rattle.std.specs.Str.{bytes_eq}
@@ -29,7 +29,7 @@ read_is_key : (read : Result Write QueryFault) (key : Datum) → key_read read �
 read_is_key (Ok write) key e = write_is_key write key e
 read_is_key (Err fault) key e = absurd (cc)
 
--- an operation writes under what may be a key
+-- an operation writes under a valid key
 pub written_is_key : (operation : Operation) (key : Datum) → key_written operation ≡ Some key → is_key key ≡ true
 written_is_key operation key e = read_is_key (read_operation operation) key e
 
@@ -48,7 +48,7 @@ pub operation_keeps : (operation : Operation) (before : Option Fields) (key : Da
     IsUnder key before → IsUnder key (effect operation before).0
 operation_keeps operation before key there k under = read_keeps (read_operation operation) before key (read_begins operation) there k under
 
--- keys that compare equal are one
+-- keys that compare equal are the same
 under_same : (a b : Datum) (document : Option Fields) → same_value a b ≡ true → IsUnder a document → IsUnder b document
 under_same a b None same under = tt
 under_same a b (Some document) same under = (under.0, under.1, same_value_equivalence.congr under.0 a b under.2 ∙ same)
@@ -78,7 +78,7 @@ after_under namespace key before (e ∷ es) k under =
     after_under namespace key (if writes_to namespace (Some key) e then (effect e.operation before).0 else before) es k
     (entry_under e namespace key before (writes_to namespace (Some key) e) refl k under)
 
--- an operation under no key meets nothing, or is told that its words are no write
+-- an operation without a key finds no document, or returns that it reads as no write
 
 read_meets_nothing : (read : Result Write QueryFault) → ((write : Write) → read ≡ Ok write → BeginsAsRead write) → key_read read ≡ None →
     MeetsNothing (effect_read read None)

@@ -1,4 +1,4 @@
--- What stands in a legal history: entries rise, each statement is there once, and documents stand until their keys are written.
+-- Properties of a legal history: entries rise, each statement occurs once, and a document exists until its key is written.
 use Rattle.std.proofs.Common.{◌≡◌, ◌≢◌, inl, inr, ℕ, List, [], ◌∷◌, ◌++◌, length, ◌<◌, ◌≤◌, refl, sym, ap, subst, ◌∙◌, arith, append_assoc, append-nil}
 use Rattle.std.specs.Prelude.{Bool, true, false, ◌&&◌, Option, Some, None, Result, Ok, Err, if◌then◌else◌}
 use Rattle.std.specs.List.{AllByRecursion}
@@ -22,7 +22,7 @@ use Rattle.history_model.proofs.Lists.{all_at}
 use Rattle.history_model.proofs.Stores.{document_after_push}
 use Rattle.bson_model.proofs.Booleans.{both}
 
--- what each entry owes those before it
+-- each entry follows those before it
 legal_at : (earlier prefix back : List Entry) (e : Entry) → LegalAfter earlier (prefix ++ e ∷ back) → Follows (earlier ++ prefix) e
 legal_at earlier [] back e legal = rw append-nil legal.0
 legal_at earlier (d ∷ prefix) back e legal =
@@ -48,7 +48,7 @@ pub not_before_itself : (d e : Entry) → IsBefore d e → d.time ≡ e.time →
 not_before_itself d e (inl less) time shard = omega arith
 not_before_itself d e (inr equal) time shard = omega arith
 
--- an entry that writes another key or another namespace leaves this one
+-- an entry that writes another key or another namespace does not change this document
 pub others_untouched : (namespace : List ℕ) (key : Option Datum) (before : Option Fields) (es : List Entry) (e : Entry) → writes_to namespace key e ≡ false → document_after namespace key before (es ++ e ∷ []) ≡ document_after namespace key before es
 others_untouched namespace key before es e other = document_after_push namespace key before es e ∙ rw other
 
@@ -74,7 +74,7 @@ pub same_after : (namespace : List ℕ) (a b : Option Datum) → same_key a b �
 same_after namespace a b same before [] = refl
 same_after namespace a b same before (e ∷ es) = rw (same_writes namespace a b same e) (same_after namespace a b same (if writes_to namespace b e then (effect e.operation before).0 else before) es)
 
--- an entry is told what its operation tells on the document under each key that it writes
+-- the outcome of an entry is that of its operation on the document under each key that it writes
 pub told_under : (prefix : List Entry) (e : Entry) (namespace : List ℕ) (key : Option Datum) → Follows prefix e → writes_to namespace key e ≡ true → e.outcome ≡ (effect e.operation (document_left namespace key prefix)).1
 told_under prefix e namespace key follows hits =
     let p = both (bytes_eq e.namespace namespace) (same_key (key_written e.operation) key) hits in
@@ -83,7 +83,7 @@ told_under prefix e namespace key follows hits =
     ∙ ap (λ (n : List ℕ). (effect e.operation (document_left n (key_written e.operation) prefix)).1) name
     ∙ ap (λ (before : Option Fields). (effect e.operation before).1) (same_after namespace (key_written e.operation) key p.1 None prefix)
 
--- an insert where nothing stands, by whether its document is too large
+-- an insert where there is no document, by whether its document is too large
 abbrev pub put_in_or : Fields → Bool → Result Effect WriteFault
 put_in_or document large = if large then Err too_large_fault else Ok (inserted document)
 
@@ -98,11 +98,11 @@ read_error : (read : Result Write QueryFault) (before : Option Fields) (error : 
 read_error (Ok write) before error e = told_error before (effect_of write before) error e
 read_error (Err fault) before error e = refl
 
--- a statement that is refused leaves the document as it was
+-- a statement that returns an error does not change the document
 pub refused_leaves : (operation : Operation) (before : Option Fields) (error : ErrorCode) → (effect operation before).1.error ≡ Some error → (effect operation before).0 ≡ before
 refused_leaves operation before error e = read_error (read_operation operation) before error e
 
--- what an insert of a document with a key does, and the key that it writes
+-- the effect of an insert of a document with a key, and the key that it writes
 insert_effect : (document : Fields) (key : Datum) (before : Option Fields) → valid_key document ≡ Ok key →
     effect (insert_operation document) before ≡ effect_read (Ok (insert_write document)) before
 insert_effect document key before valid = ap (λ (read : Result Write QueryFault). effect_read read before) (insert_read document key valid)
@@ -118,7 +118,7 @@ pub insert_key : (document : Fields) (key : Datum) → valid_key document ≡ Ok
 insert_key document key valid =
     ap (λ (read : Result Write QueryFault). key_read read) (insert_read document key valid) ∙ ap (λ (found : Result Datum KeyFault). result_ok found) valid
 
--- a document whose first `_id` is a key is one to be kept under it, and is written under it
+-- a document whose first `_id` is a valid key is stored under it
 pub valid_of : (document : Fields) (key : Datum) → key_of document ≡ Some key → is_key key ≡ true → valid_key document ≡ Ok key
 valid_of document key found is = ap (λ (o : Option Datum). valid o) found ∙ ap (λ (b : Bool). kept key b) is
 
@@ -145,7 +145,7 @@ written_leaves document None small e = by_size (is_too_large document) small e
     by_size false small e = cc
 written_leaves document (Some before) small e = cc
 
--- an insert of a document with a key that is not told that its document is too large leaves a document
+-- an insert of a document with a key that does not return that its document is too large results in a document
 pub effect_leaves : (document : Fields) (key : Datum) (before : Option Fields) → valid_key document ≡ Ok key →
     (effect (insert_operation document) before).1.error ≢ Some object_too_large → (effect (insert_operation document) before).0 ≢ None
 effect_leaves document key before valid =
@@ -155,7 +155,7 @@ found_stays : (document : Fields) (found : Result Datum KeyFault) (before : Fiel
 found_stays document (Ok key) before = refl
 found_stays document (Err fault) before = refl
 
--- and one that finds a document leaves it as it was
+-- and one that finds a document does not change it
 pub effect_stays : (document before : Fields) → (effect (insert_operation document) (Some before)).0 ≡ Some before
 effect_stays document before = found_stays document (valid_key document) before
 
@@ -167,7 +167,7 @@ insert_refused : (document : Fields) (key : Datum) (before : Option Fields) → 
     (effect (insert_operation document) before).1 ≡ fails_with duplicate_key
 insert_refused document key before valid some = ap (λ (w : Option Fields × Outcome). w.1) (insert_effect document key before valid) ∙ written_refused document before some
 
--- a document whose key compares equal to one that may be a key has a key
+-- a document whose key compares equal to a valid key has a key
 same_valid : (document : Fields) (own : Datum) → is_key own ≡ true → same_key (Some own) (key_of document) ≡ true →
     (key : Datum) × (key_of document ≡ Some key) × (valid_key document ≡ Ok key)
 same_valid document own k same = by_found (key_of document) refl same
@@ -198,7 +198,7 @@ second_insert_is_refused prefix middle back d e first second legal inserts small
     ∙ ap (λ (k : Option Datum). (effect (insert_operation second) (document_left e.namespace k (prefix ++ d ∷ middle))).1) (insert_key second again_valid.0 again_valid.2 ∙ sym again_valid.1)
     ∙ insert_refused second again_valid.0 (document_left e.namespace (key_of second) (prefix ++ d ∷ middle)) again_valid.2 (λ none. stands (sym left ∙ none))
 
--- no entry writes under no key
+-- no entry writes where there is no key
 never_written : (own : Bool) (written : Option Datum) → (own && same_key written None) ≡ false
 never_written true None = refl
 never_written true (Some key) = refl

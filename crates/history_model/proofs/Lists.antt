@@ -1,4 +1,4 @@
--- What holds of each item of a list, and what stands in one.
+-- Properties of each item of a list, and membership.
 use Rattle.std.proofs.Common.{◌≡◌, ◌⊎◌, inl, inr, List, [], ◌∷◌, ◌++◌, refl, sym, ap, subst, ◌∙◌, append_assoc}
 use Rattle.std.specs.Prelude.{Bool, true, false, filter, if◌then◌else◌}
 use Rattle.std.specs.List.{AllByRecursion}
@@ -36,7 +36,7 @@ in_none {X = X} x i = by_prefix i.0 i.1 i.2
     by_prefix [] back e = cc
     by_prefix (f ∷ prefix) back e = cc
 
--- what holds of each item holds of one that stands there
+-- what holds of each item holds of a member
 pub all_at : {X : Type 0} (P : X → Type 0) (x : X) (xs : List X) → AllByRecursion P xs → IsIn x xs → P x
 all_at P x [] all i = absurd (in_none x i)
 all_at P x (y ∷ xs) all i = by_cases (in_cons x y xs i) (λ j. all_at P x xs all.1 j)
@@ -49,14 +49,14 @@ pub all_append : {X : Type 0} (P : X → Type 0) (xs ys : List X) → AllByRecur
 all_append P [] ys all more = more
 all_append P (x ∷ xs) ys all more = (all.0, all_append P xs ys all.1 more)
 
--- what stands in a list stands in a longer one
+-- a member of a list is a member of a longer one
 pub in_prefix : {X : Type 0} (x : X) (xs ys : List X) → IsIn x xs → IsIn x (xs ++ ys)
 in_prefix x xs ys (prefix, back, e) = (prefix, back ++ ys, ap (λ l. l ++ ys) e ∙ append_assoc prefix (x ∷ back) ys)
 
 pub in_back : {X : Type 0} (x : X) (xs ys : List X) → IsIn x ys → IsIn x (xs ++ ys)
 in_back x xs ys (prefix, back, e) = (xs ++ prefix, back, ap (λ l. xs ++ l) e ∙ sym (append_assoc xs prefix (x ∷ back)))
 
--- what stands in two lists joined stands in one of them
+-- a member of two joined lists is a member of one of them
 pub in_append : {X : Type 0} (x : X) (xs ys : List X) → IsIn x (xs ++ ys) → IsIn x xs ⊎ IsIn x ys
 in_append x [] ys i = inr i
 in_append {X = X} x (y ∷ xs) ys i = by_cases (in_cons x y (xs ++ ys) i) (λ j. in_append x xs ys j)
@@ -69,7 +69,7 @@ in_append {X = X} x (y ∷ xs) ys i = by_cases (in_cons x y (xs ++ ys) i) (λ j.
         by_part (inl k) = inl (in_later x y xs k)
         by_part (inr k) = inr k
 
--- what stands in a list with one more stands in the list, or is that one
+-- a member of a list with one more item is a member of the list, or that item
 pub in_push : {X : Type 0} (x : X) (xs : List X) (y : X) → IsIn x (xs ++ y ∷ []) → IsIn x xs ⊎ (x ≡ y)
 in_push {X = X} x xs y i = by_part (in_append x xs (y ∷ []) i)
   where
@@ -81,7 +81,7 @@ in_push {X = X} x xs y i = by_part (in_append x xs (y ∷ []) i)
     by_part (inl j) = inl j
     by_part (inr j) = by_one (in_cons x y [] j)
 
--- what holds of all that stand in a list holds of each item
+-- what holds of all members holds of each item
 pub all_from : {X : Type 0} (P : X → Type 0) (xs : List X) → ((x : X) → IsIn x xs → P x) → AllByRecursion P xs
 all_from P [] f = tt
 all_from P (x ∷ xs) f = (f x (in_first x xs), all_from P xs (λ y i. f y (in_later y x xs i)))

@@ -1,4 +1,4 @@
--- What a number is against notes, once one more stands there.
+-- The state of a number with respect to notes, after one more note.
 use Rattle.std.proofs.Common.{◌≡◌, ◌≢◌, ℕ, ℤ, List, [], ◌∷◌, ◌++◌, refl, sym, ap, subst, ◌∙◌, arith, inl, inr, ◌⊎◌}
 use Rattle.std.specs.Prelude.{Bool, true, false, ◌&&◌, Option, Some, None, ◌==◌, int_lt, if◌then◌else◌, map}
 use Rattle.std.specs.Int.{int_max}
@@ -63,7 +63,7 @@ equal_itself a = int_eq_equiv.refl a
 same_number_itself : (n : StatementNumber) → same_number n n ≡ true
 same_number_itself n = rw (same_session_itself n.session, equal_itself n.transaction, eq-eqb n.index n.index refl) refl
 
--- the greater of a transaction and the greatest so far
+-- the greater of a transaction and the greatest one before
 abbrev risen : Bool → ℤ → Option ℤ → Option ℤ
 risen false t was = was
 risen true t None = Some t
@@ -84,7 +84,7 @@ risen_under b t u (Some g) = risen_some b t u g
 as_max : (t g : ℤ) → Some (int_max g t) ≡ Some t → int_max g t ≡ t
 as_max t g e = cc
 
--- what is below no t is below no lesser one
+-- what is not less than t is not less than a lesser number
 below : (a t g : ℤ) → int_lt a t ≡ false → int_max g t ≡ t → int_lt a g ≡ false
 below a t g less e = by_test (int_lt a g) refl
   where
@@ -96,7 +96,7 @@ first_greatest : (b : Bool) (t : ℤ) → (if b then Some (int_max t t) else Non
 first_greatest false t = refl
 first_greatest true t = ap (λ (x : ℤ). Some x) (max_self t)
 
--- the greatest of what stands behind one note more
+-- the greatest after one more note
 abbrev beside : Bool → ℤ → Option ℤ → Option ℤ
 beside b u rest = if b then Some (int_max u (unwrap_or rest u)) else rest
 
@@ -135,7 +135,7 @@ module _ {A : Type 0} where
       none_beside (same_session m.number.session number.session) (int_eq m.number.transaction number.transaction && m.number.index == number.index) m.number.transaction
       (greatest_of number.session notes) m (noted number notes) (none_noted number notes) e
 
-  -- what is new has no note, and its session no greater transaction
+  -- a new number has no note, and its session no greater transaction
   pub record IsNew (number : StatementNumber) (greatest : Option ℤ) (found : Option (Note A)) : Type 0 where
     pub none : found ≡ None
     pub greatest_is : risen true number.transaction greatest ≡ Some number.transaction
@@ -167,7 +167,7 @@ module _ {A : Type 0} where
   older_whatever number t None e = rw e refl
   older_whatever number t (Some m) e = rw e refl
 
-  -- a greater transaction of a session makes no difference to what is no less
+  -- a greater transaction of a session changes nothing for a transaction that is no less
   same_beside : (number : StatementNumber) (t : ℤ) (greatest : Option ℤ) (found : Option (Note A)) → (greatest ≡ None → found ≡ None) →
       risen true t greatest ≡ Some t → int_lt number.transaction t ≡ false → seen_beside number (Some t) found ≡ seen_beside number greatest found
   same_beside number t None found none e less = rw (none refl, less) refl
@@ -208,7 +208,7 @@ module _ {A : Type 0} where
       (λ e. subst (λ (x : StatementNumber). noted x notes ≡ None) (same_number_is note.number number (tested ∙ e)) was.none) rises
       ∙ ap (λ (x : Bool). if int_lt number.transaction note.number.transaction then older_than note.number.transaction else if x then done_before note.time note.told else seen notes number) (sym tested)
 
-  -- one note more, of a number that was new
+  -- one more note, of a number that was new
   pub one_more_note : (notes : List (Note A)) (note : Note A) (number : StatementNumber) → seen notes note.number ≡ new_statement →
       seen (notes ++ note ∷ []) number ≡ seen_with note number (seen notes number)
   one_more_note notes note number new =
@@ -216,7 +216,7 @@ module _ {A : Type 0} where
       ∙ ap (λ (found : Option (Note A)). seen_beside number (risen (same_session note.number.session number.session) note.number.transaction (greatest_of number.session notes)) found) (noted_push number notes note)
       ∙ by_session notes note number (same_session note.number.session number.session) refl new
 
-  -- what was noted is told again
+  -- what was noted is returned again
   pub noted_again : (notes : List (Note A)) (note : Note A) → seen notes note.number ≡ new_statement →
       seen (notes ++ note ∷ []) note.number ≡ done_before note.time note.told
   noted_again notes note new =

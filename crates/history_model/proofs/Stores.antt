@@ -1,4 +1,4 @@
--- What entries leave after one more, and at a time before others.
+-- The document after one more entry, and at a time before later entries.
 use Rattle.std.proofs.Common.{◌≡◌, ℕ, ◌<◌, List, [], ◌∷◌, ◌++◌, refl, ap}
 use Rattle.std.specs.Prelude.{Bool, true, false, Option, if◌then◌else◌, filter, nat_le}
 use Rattle.std.specs.List.{AllByRecursion}
@@ -11,7 +11,7 @@ pub document_after_push : (namespace : List ℕ) (key : Option Datum) (before : 
 document_after_push namespace key before [] e = refl
 document_after_push namespace key before (d ∷ es) e = document_after_push namespace key (if writes_to namespace key d then (effect d.operation before).0 else before) es e
 
--- no entry is kept that is later
+-- no later entry is kept
 filter_none : (time : ℕ) (later : List Entry) → AllByRecursion (λ e. time < e.time) later → filter (λ (e : Entry). nat_le e.time time) later ≡ []
 filter_none time [] all = refl
 filter_none time (e ∷ later) all = rw (lt-leb e.time time all.0) (filter_none time later all.1)
@@ -24,6 +24,6 @@ filter_later time (e ∷ entries) later all = by_test (nat_le e.time time) (filt
     by_test true same = ap (λ l. e ∷ l) same
     by_test false same = same
 
--- later entries leave the collection at a time as it was
+-- later entries do not change the collection at a time before them
 pub document_at_later : (entries later : List Entry) (namespace : List ℕ) (key : Option Datum) (time : ℕ) → AllByRecursion (λ e. time < e.time) later → document_at (entries ++ later) namespace key time ≡ document_at entries namespace key time
 document_at_later entries later namespace key time all = ap (λ (l : List Entry). document_left namespace key l) (filter_later time entries later all)

@@ -1,4 +1,4 @@
--- One put behind others.
+-- One more version after others.
 use Rattle.std.proofs.Common.{◌≡◌, ℕ, List, [], ◌∷◌, ◌++◌, refl}
 use Rattle.std.specs.Prelude.{Option, None}
 use Rattle.bson_model.specs.Tree.{Datum, Fields}

@@ -1,5 +1,5 @@
--- The history of the clients' writes, and the unsharded collection that it stands for: one map a namespace from
--- keys to documents (MongoDB manual, "insert", "update", "delete", "Retryable Writes").
+-- The history of the clients' writes, and the unsharded collection that it represents: for each namespace one map from keys to documents (MongoDB manual,
+-- "insert", "update", "delete", "Retryable Writes").
 use Rattle.std.specs.Prelude.{◌≡◌, ◌<◌, ◌⊎◌, ℕ, ℤ, List, [], ◌∷◌, ◌++◌, Option, Some, None, Result, Ok, Err, Bool, IsTrue, ◌&&◌, if◌then◌else◌, filter, nat_le}
 use Rattle.std.specs.List.{AllByRecursion}
 use Rattle.std.specs.Str.{bytes_eq}
@@ -11,7 +11,7 @@ use Rattle.query_model.specs.Edits.{WriteFault, duplicate_fault, immutable_fault
 use Rattle.query_model.specs.Writes.{Write, read_insert, read_update, read_delete}
 use Rattle.query_model.specs.Effects.{Effect, unmet, effect_of, left_by, write_key}
 
--- who numbers statements: a client by 16 bytes, or a router for one request of one of its lives
+-- who numbers statements: a client, by 16 bytes, or a router, for one request of one of its lives
 pub data Session : Type 0 where
   client_session : List ℕ → Session
   router_session : (node life request : ℕ) → Session
@@ -22,15 +22,15 @@ pub record StatementNumber : Type 0 where
   pub transaction : ℤ
   pub index : ℕ
 
--- what a statement does, in the words of the client: documents as they were read
+-- what a statement does, as the client sent it: documents as they were read
 pub data Operation : Type 0 where
   insert_operation : Fields → Operation
-  -- the filter, the change, and whether a document is put in where none is there
+  -- the filter, the change, and whether it is an upsert
   update_operation : Fields → Fields → Bool → Operation
   -- the filter
   delete_operation : Fields → Operation
 
--- what a statement is told
+-- the outcome of a statement
 pub record Outcome : Type 0 where
   pub count : ℕ
   pub modified : ℕ
@@ -46,13 +46,13 @@ pub record Entry : Type 0 where
   pub operation : Operation
   pub outcome : Outcome
 
--- the write that a statement's words are, or the first fault
+-- the write that an operation reads as, or the first fault
 abbrev pub read_operation : Operation → Result Write QueryFault
 read_operation (insert_operation document) = read_insert document
 read_operation (update_operation filter words upsert) = read_update filter words upsert
 read_operation (delete_operation filter) = read_delete filter
 
--- the key under which words act that are a write
+-- the key of an operation that reads as a write, if it has one
 abbrev pub key_read : Result Write QueryFault → Option Datum
 key_read (Ok write) = write_key write
 key_read (Err fault) = None
@@ -67,7 +67,7 @@ done = record { count = 1; modified = 0; upserted = None; error = None }
 abbrev pub fails_with : ErrorCode → Outcome
 fails_with error = record { count = 0; modified = 0; upserted = None; error = Some error }
 
--- the error that a fault is told as
+-- the error code of a fault
 abbrev pub error_of : WriteFault → ErrorCode
 error_of duplicate_fault = duplicate_key
 error_of immutable_fault = immutable_field
@@ -80,16 +80,16 @@ abbrev pub outcome_of : Result Effect WriteFault → Outcome
 outcome_of (Ok e) = record { count = e.count; modified = e.modified; upserted = e.upserted; error = None }
 outcome_of (Err fault) = fails_with (error_of fault)
 
--- words that are no write change nothing, and are told so
+-- an operation that reads as no write changes nothing, and returns error 2
 abbrev pub effect_read : Result Write QueryFault → Option Fields → Option Fields × Outcome
 effect_read (Ok write) before = (left_by before (effect_of write before), outcome_of (effect_of write before))
 effect_read (Err fault) before = (before, fails_with bad_value)
 
--- what an operation leaves of the document under its key, and what it is told
+-- the document that an operation results in under its key, and its outcome
 abbrev pub effect : Operation → Option Fields → Option Fields × Outcome
 effect operation before = effect_read (read_operation operation) before
 
--- it met no document, or is told that its words are no write
+-- it found no document, or returns that it reads as no write
 abbrev pub MeetsNothing : Option Fields × Outcome → Type 0
 MeetsNothing told = (told ≡ (None, outcome_of (Ok (unmet None)))) ⊎ (told ≡ (None, fails_with bad_value))
 
@@ -97,13 +97,13 @@ MeetsNothing told = (told ≡ (None, outcome_of (Ok (unmet None)))) ⊎ (told �
 abbrev pub writes_to : List ℕ → Option Datum → Entry → Bool
 writes_to namespace key e = bytes_eq e.namespace namespace && same_key (key_written e.operation) key
 
--- the document that entries leave under a key, in order, from the one before
+-- the document under a key after entries, in order, from the one before
 abbrev pub document_after : List ℕ → Option Datum → Option Fields → List Entry → Option Fields
 document_after namespace key before [] = before
 document_after namespace key before (e ∷ es) =
     document_after namespace key (if writes_to namespace key e then (effect e.operation before).0 else before) es
 
--- the document that these entries leave, from nothing
+-- the document after these entries, from none
 abbrev pub document_left : List ℕ → Option Datum → List Entry → Option Fields
 document_left namespace key entries = document_after namespace key None entries
 
@@ -115,14 +115,14 @@ document_at history namespace key time = document_left namespace key (filter (λ
 abbrev pub IsBefore : Entry → Entry → Type 0
 IsBefore d e = (d.time < e.time) ⊎ ((d.time ≡ e.time) × (d.shard < e.shard))
 
--- one statement: its number with its namespace and key
+-- they are the same statement: its number with its namespace and key
 pub record IsSameStatement (d e : Entry) : Type 0 where
   pub number : d.number ≡ e.number
   pub namespace : d.namespace ≡ e.namespace
   pub key : IsTrue (same_key (key_written d.operation) (key_written e.operation))
 
--- An entry may follow these: it comes after each of them, it is told what its operation tells on the document that
--- they leave, and it is none of their statements.
+-- An entry may follow these: it comes after each of them, its outcome is that of its operation on the document that results from them, and it is none of
+-- their statements.
 pub record Follows (earlier : List Entry) (e : Entry) : Type 0 where
   pub rises : AllByRecursion (λ d. IsBefore d e) earlier
   pub told : e.outcome ≡ (effect e.operation (document_left e.namespace (key_written e.operation) earlier)).1
@@ -136,6 +136,6 @@ LegalAfter earlier (e ∷ later) = Follows earlier e × LegalAfter (earlier ++ e
 abbrev pub Legal : List Entry → Type 0
 Legal history = LegalAfter [] history
 
--- x stands in the list
+-- x is a member of the list
 abbrev pub IsIn : {X : Type 0} → X → List X → Type 0
 IsIn {X} x xs = (prefix : List X) × (back : List X) × (xs ≡ prefix ++ x ∷ back)

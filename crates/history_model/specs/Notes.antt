@@ -1,6 +1,5 @@
--- Numbered statements (MongoDB manual, "Retryable Writes", "Server Sessions"): what was noted of those that were done, and what
--- a number is against these notes. What a statement was told may be of any type. Own: notes are by number alone, over all
--- namespaces, and they are kept for good.
+-- Numbered statements (MongoDB manual, "Retryable Writes", "Server Sessions"): what was noted of those that were done, and the state of a number with respect
+-- to these notes. The reply to a statement may be of any type. Own: notes are by number alone, over all namespaces, and they are kept for good.
 use Rattle.std.specs.Prelude.{ℕ, ℤ, List, [], ◌∷◌, map, Bool, true, false, ◌&&◌, Option, Some, None, ◌==◌, int_lt, if◌then◌else◌}
 use Rattle.std.specs.Int.{int_max}
 use Rattle.std.specs.Option.{unwrap_or}
@@ -8,17 +7,17 @@ use Rattle.std.specs.Ordering.{int_eq}
 use Rattle.std.specs.Str.{bytes_eq}
 use Rattle.history_model.specs.History.{Session, client_session, router_session, StatementNumber, Outcome, Entry}
 
--- a statement that was done: its number, the time of its entry, and what it was told
+-- a statement that was done: its number, the time of its entry, and its reply
 pub record Note (A : Type 0) : Type 0 where
   pub number : StatementNumber
   pub time : ℕ
   pub told : A
 
--- what a number is against notes
+-- the state of a number
 pub data Seen (A : Type 0) : Type 0 where
-  -- nothing was done under it, and nothing under a greater transaction of its session
+  -- no statement was done under it, nor under a greater transaction of its session
   new_statement : Seen A
-  -- it was done at that time, and was told that
+  -- a retry: it was done at that time, with that reply
   done_before : ℕ → A → Seen A
   -- its session has that greater transaction
   older_than : ℤ → Seen A
@@ -45,17 +44,17 @@ module _ {A : Type 0} where
   noted number [] = None
   noted number (note ∷ notes) = if same_number note.number number then Some note else noted number notes
 
-  -- what was done is told again, unless its session has a greater transaction
+  -- a retry gets the same reply, unless its session has a greater transaction
   abbrev pub seen_beside : StatementNumber → Option ℤ → Option (Note A) → Seen A
   seen_beside number None found = new_statement
   seen_beside number (Some greatest) None = if int_lt number.transaction greatest then older_than greatest else new_statement
   seen_beside number (Some greatest) (Some note) = if int_lt number.transaction greatest then older_than greatest else done_before note.time note.told
 
-  -- what a number is against the notes
+  -- the state of a number with respect to the notes
   abbrev pub seen : List (Note A) → StatementNumber → Seen A
   seen notes number = seen_beside number (greatest_of number.session notes) (noted number notes)
 
-  -- what a number is once this note, which was new, stands behind those against which it was that
+  -- the state of a number after one more note, of a number that was new, given its state before
   abbrev pub seen_with : Note A → StatementNumber → Seen A → Seen A
   seen_with note number was =
       if same_session note.number.session number.session then
@@ -64,6 +63,6 @@ module _ {A : Type 0} where
       else was)
       else was
 
--- the notes of entries: what each was told, at its time
+-- the notes of entries: the outcome of each, and its time
 abbrev pub notes_of : List Entry → List (Note Outcome)
 notes_of entries = map (λ e. record { number = e.number; time = e.time; told = e.outcome }) entries

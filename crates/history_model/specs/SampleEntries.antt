@@ -29,7 +29,7 @@ second_entry = entry_at (timestamp 1000 3) 2 (fails_with duplicate_key)
 abbrev pub with_x : ℤ → ℤ → Fields
 with_x n m = field (codes "_id") (int32_value n) (field (codes "x") (int32_value m) no_fields)
 
--- {_id: 1, a: ..}, with so many documents inside one another behind a
+-- {_id: 1, a: ..}, with this number of documents nested in a
 abbrev pub deep : ℕ → Fields
 deep n = field (codes "_id") (int32_value (pos 1)) (field (codes "a") (document_value (nested n)) no_fields)
 
@@ -51,8 +51,8 @@ of_time time = entry_at time time done
 abbrev pub changed_one : Outcome
 changed_one = record { count = 1; modified = 1; upserted = None; error = None }
 
--- {_id: 2, x: 5} and {_id: 1, x: 5} are put into d.c at the times 1 and 3, {_id: 1, x: 5} into d.b at 2; x of the second becomes 7 at 4;
--- 5 meets nothing; at 6 the second is taken out
+-- {_id: 2, x: 5} and {_id: 1, x: 5} are inserted into d.c at the times 1 and 3, {_id: 1, x: 5} into d.b at 2; x of the second becomes 7 at 4; the write at 5
+-- finds no document; at 6 the second is deleted
 abbrev pub life : List Entry
 life =
     record (of_time 1) { operation = insert_operation (with_x (pos 2) (pos 5)) }

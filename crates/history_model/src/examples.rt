@@ -11,8 +11,8 @@ ghost use Rattle.history_model.specs.Documents.{documents_at};
 ghost use Rattle.history_model.specs.Notes.{done_before, new_statement, older_than, seen};
 ghost use Rattle.history_model.specs.History.{Follows, IsBefore, IsIn, IsSameStatement, Legal, client_session, delete_operation, document_at, done, effect, error_of, fails_with, insert_operation, key_written, router_session, update_operation};
 
-/// Entries in order, and the history of two inserts under one key: the first is done at Timestamp(1000, 2), and the second is a
-/// duplicate at Timestamp(1000, 3).
+/// Entries in order, and the history of two inserts under one key: the first is done at Timestamp(1000, 2), and the second is a duplicate at Timestamp(1000,
+/// 3).
 pub fn ordered()
     ensures before { IsBefore first_entry second_entry × (IsBefore second_entry first_entry → ⊥) }
     ensures same { IsSameStatement first_entry first_entry × (IsSameStatement first_entry second_entry → ⊥) }
@@ -21,7 +21,7 @@ pub fn ordered()
     ensures untold { Legal (first_entry ∷ entry_at (timestamp 1000 3) 2 done ∷ []) → ⊥ }
 {}
 
-/// The document of the first insert is there from its time on, under its key and in its namespace.
+/// The document of the first insert exists from its time on, under its key and in its namespace.
 pub fn found()
     ensures now { document_at (first_entry ∷ second_entry ∷ []) (codes "d.c") (Some (int32_value (pos 1))) (timestamp 1000 2) ≡ Some (id_document (pos 1)) }
     ensures later { document_at (first_entry ∷ second_entry ∷ []) (codes "d.c") (Some (int32_value (pos 1))) (timestamp 1000 3) ≡ Some (id_document (pos 1)) }
@@ -30,14 +30,14 @@ pub fn found()
     ensures elsewhere { document_at (first_entry ∷ second_entry ∷ []) (codes "d.b") (Some (int32_value (pos 1))) (timestamp 1000 3) ≡ None }
 {}
 
-/// An insert of a document that is too large leaves none; where its key is there, it is a duplicate.
+/// An insert of a document that is too large results in none; where its key exists, it is a duplicate.
 pub fn too_large()
     ensures kept { effect (insert_operation (deep 98)) None ≡ (Some (deep 98), done) }
     ensures refused { effect (insert_operation (deep 99)) None ≡ (None, fails_with object_too_large) }
     ensures duplicate { effect (insert_operation (deep 99)) (Some (id_document (pos 1))) ≡ (Some (id_document (pos 1)), fails_with duplicate_key) }
 {}
 
-/// An update, an upsert and a delete of the document under their key, and words that are no write.
+/// An update, an upsert and a delete of the document under their key, and an operation that reads as no write.
 pub fn operations()
     ensures updated { effect (setting (pos 1) (pos 7) false) (Some (with_x (pos 1) (pos 5)))
         ≡ (Some (with_x (pos 1) (pos 7)), record { count = 1; modified = 1; upserted = None; error = None }) }
@@ -54,7 +54,7 @@ pub fn operations()
     ensures told { (error_of overflow_fault ≡ bad_value) × (error_of not_number_fault ≡ type_mismatch) × (error_of not_document_fault ≡ path_not_viable) }
 {}
 
-/// An insert of a document without a key, and one of an array, are told 2 and leave nothing; no legal history says that they were done.
+/// An insert of a document without a key, or with an array as its key, returns error 2 and results in no document; no legal history says that it was done.
 pub fn without_keys()
     ensures none { effect (insert_operation (by_operator "a" "b" (pos 1))) None ≡ (None, fails_with bad_value) }
     ensures array { effect (insert_operation array_key) None ≡ (None, fails_with bad_value) }
@@ -63,7 +63,7 @@ pub fn without_keys()
     ensures upsert { effect (update_operation array_key (by_operator "$set" "x" (pos 1)) true) None ≡ (None, fails_with bad_value) }
 {}
 
-/// A document is inserted, changed and taken out: what stands under its key at each time, and all documents in the order of keys.
+/// A document is inserted, changed and deleted: the document under its key at each time, and all documents in the order of keys.
 pub fn at_times()
     ensures legal { Legal life }
     ensures under { (document_at life (codes "d.c") (Some (int32_value (pos 1))) 3 ≡ Some (with_x (pos 1) (pos 5)))
@@ -76,7 +76,7 @@ pub fn at_times()
         × (documents_at life (codes "d.b") 6 ≡ with_x (pos 1) (pos 5) ∷ []) }
 {}
 
-/// A statement is done again with what it was told; another of its session is new unless the session has a greater transaction.
+/// A retry of a statement returns its reply again; another statement of its session is new unless the session has a greater transaction.
 pub fn seen_before()
     ensures repeated { seen sample_notes (statement client_seven (pos 4) 1) ≡ done_before 12 2 }
     ensures first { seen (note_of client_seven (pos 4) 1 20 9 ∷ sample_notes) (statement client_seven (pos 4) 1) ≡ done_before 20 9 }
@@ -91,7 +91,7 @@ pub fn seen_before()
     ensures nothing { seen {A = ℕ} [] (statement client_seven (pos 4) 1) ≡ new_statement }
 {}
 
-/// How an entry stands to the entries before it.
+/// Membership of an entry, and whether it follows others.
 pub fn related()
     ensures kept { IsIn second_entry (first_entry ∷ second_entry ∷ []) × (IsIn second_entry [] → ⊥) }
     ensures follows { Follows (first_entry ∷ []) second_entry × (Follows (second_entry ∷ []) first_entry → ⊥) }

@@ -1,5 +1,5 @@
-//! What the cluster does with documents: entries, and the history that they make.
-//! Definitions, and the laws between them: a law is a function that does nothing, whose contract is the law.
+//! What the cluster does to documents: entries, and the history that they are. Definitions, and the laws between them: a law is a function that does nothing,
+//! whose contract is the law.
 #![tactic(auto)]
 
 pub mod examples;

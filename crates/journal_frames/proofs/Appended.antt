@@ -1,4 +1,4 @@
--- What is ready to be appended, and what stands behind it.
+-- What is ready to be appended, and what follows it.
 use Rattle.std.proofs.Common.{◌≡◌, ℕ, ◌-◌, ◌<◌, ◌^◌, List, [], ◌∷◌, ◌++◌, length, take, drop, Bool, true, false, ◌==◌, IsTrue, sym, ◌∙◌, ap, subst, arith, length-append}
 use Rattle.std.proofs.lemmas.List.{take_all}
 use Rattle.outside.specs.Disks.{Outcomes}
@@ -6,12 +6,12 @@ use Rattle.journal_frames.specs.Files.{blocks, body, records_in}
 use Rattle.journal_frames.specs.Views.{IsAtRest, IsReady, at_rest}
 use Rattle.journal_frames.proofs.Listed.{fit_within, listed_rest}
 
--- a list that a test found not empty
+-- a list that was tested not to be empty
 pub not_empty : (bodies : List (List ℕ)) (empty : Bool) → empty ≡ (length bodies == 0) → empty ≡ false → 0 < length bodies
 not_empty [] empty is not = let both : true ≡ false = sym is ∙ not in absurd cc
 not_empty (r ∷ bodies) empty is not = omega arith
 
--- what stands behind the first gate of records
+-- what follows the first gate of records
 pub behind_gate : (bodies : List (List ℕ)) (bytes : List ℕ) → 0 < length bodies → bytes ≡ at_rest bodies
     → 1 ∷ take (length bytes - 1) (drop 1 bytes) ≡ at_rest bodies
 behind_gate [] bytes some is = absurd (omega (arith, some))

@@ -11,7 +11,7 @@ length_bytes n = refl
 pub length-body : (bytes : List ℕ) → length (body bytes) ≡ 8 + length bytes
 length-body bytes = length-append (to_le_bytes w64 (length bytes)) bytes
 
--- the length that bytes behind an open gate state, and how many follow
+-- the length that bytes after an open gate state, and how many follow
 stated : (rest : List ℕ) → (b : BeginsRecord rest) → (from_le_bytes w64 (take 8 rest) ≡ length b.bytes) × (length rest ≡ 9 + length b.bytes + length b.behind)
 stated rest b =
     let whole : rest ≡ to_le_bytes w64 (length b.bytes) ++ (b.bytes ++ b.gate ∷ b.behind) = b.split ∙ append_assoc (to_le_bytes w64 (length b.bytes)) b.bytes (b.gate ∷ b.behind) in

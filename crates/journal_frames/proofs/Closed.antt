@@ -6,7 +6,7 @@ use Rattle.journal_frames.specs.Views.{at_rest}
 use Rattle.journal_frames.proofs.Moments.{then_run, widened}
 use Rattle.journal_frames.proofs.Staged.{held_at, holds_is, stands_last, torn_at}
 
--- the gate that ends the records, and what stands behind it
+-- the gate after the records, and what follows it
 split_gate : (records : List (List ℕ)) (rest old : List ℕ) → old ≡ blocks records ++ rest → IsShut rest ⊎ (old ≡ []) → 0 < length old → (gate : ℕ) × (more : List ℕ) × (old ≡ blocks records ++ gate ∷ more) × IsShut (gate ∷ more)
 split_gate records [] old is (inl shut) some = absurd shut
 split_gate records (gate ∷ more) old is (inl shut) some = (gate, more, is, shut)
@@ -28,7 +28,7 @@ module _ (records : List (List ℕ)) (fits : Fit records) (end : ℕ) (size : en
       let at : end + 1 + n ≡ length (blocks records) + 1 + n = omega (arith, size) in
       (g.0, g.1, ap (λ (m : ℕ). take m old) at ∙ ap (λ (f : List ℕ). take (length (blocks records) + 1 + n) f) g.2 ∙ take_behind (blocks records) n g.0 g.1, shut_prefix n g.0 g.1 g.3, omega (arith, size, ap length g.2, length-append (blocks records) (g.0 ∷ g.1)))
 
-  -- what a cut behind the gate leaves
+  -- the file after a crash in a cut after the gate
   pub cut_held : (old c : List ℕ) → Stands old records → 0 < length old → Cut (end + 1) old c → Stands c records
   cut_held old c stands some cut =
       let whole = cut_at old stands some 0 in
@@ -40,14 +40,14 @@ module _ (records : List (List ℕ)) (fits : Fit records) (end : ℕ) (size : en
   pub cut_crash : (file : List ℕ) (old : Outcomes) → Only file old → Stands file records → 0 < length file → (c : List ℕ) → After (Cut (end + 1)) old c → Stands c records
   cut_crash file old only stands some c after = cut_held file c stands some (subst (λ f. Cut (end + 1) f c) (only after.0 after.1) after.2)
 
-  -- the file behind such a cut ends with the gate
+  -- the file after such a cut ends with the gate
   pub cut_done : (old : List ℕ) → Stands old records → 0 < length old → (gate : ℕ) × (take (end + 1) old ≡ blocks records ++ gate ∷ [])
   cut_done old stands some =
       let g = cut_at old stands some 0 in
       let at : end + 1 ≡ end + 1 + 0 = omega arith in
       (g.0, ap (λ (n : ℕ). take n old) at ∙ g.2)
 
-  -- what closing the gate leaves
+  -- the file after a crash while the gate is closed
   pub close_held : (gate : ℕ) (old c : List ℕ) → old ≡ blocks records ++ gate ∷ [] → Torn end 1 old c → Stands c records
   close_held gate old c is torn =
       let at = torn_at records fits end size gate [] c (subst (λ f. Torn end 1 f c) is torn) in

@@ -1,4 +1,4 @@
--- Crashes of a journal are those of its disk.
+-- A crash of a journal is a crash of its disk.
 use Rattle.std.proofs.Common.{ℕ}
 use Rattle.outside.specs.Disks.{LeavesOnly, Outcomes}
 use Rattle.journal_frames.specs.Views.{JournalView}

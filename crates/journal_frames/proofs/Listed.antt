@@ -1,4 +1,4 @@
--- The list of records that stands in a file.
+-- The list of records in a file.
 use Rattle.std.proofs.Common.{◌≡◌, ◌⊎◌, inl, inr, ℕ, zero, suc, ◌+◌, ◌<◌, ◌≤◌, ◌^◌, List, [], ◌∷◌, ◌++◌, length, take, drop, refl, sym, ◌∙◌, ap, arith, append_assoc, length-append}
 use Rattle.std.proofs.lemmas.List.{take_at, drop_at}
 use Rattle.std.proofs.lemmas.Nat.{from_le_bytes-to_le_bytes_8}
@@ -9,7 +9,7 @@ use Rattle.journal_frames.proofs.Bodies.{length-body}
 use Rattle.journal_frames.proofs.Closed.{none_in_empty}
 use Rattle.journal_frames.proofs.Staged.{stands_last}
 
--- lengths that a whole number of bytes leaves room for
+-- lengths that 8 bytes can encode, since the whole has fewer than 2^64 bytes
 pub fit_within : (records : List (List ℕ)) → length (blocks records) < 2 ^ 64 → Fit records
 fit_within [] short = tt
 fit_within (r ∷ records) short =
@@ -28,14 +28,14 @@ none_shut (suc n) (zero ∷ b ∷ rest) shut = refl
 none_shut (suc n) (suc zero ∷ b ∷ rest) shut = absurd (shut refl)
 none_shut (suc n) (suc (suc gate) ∷ b ∷ rest) shut = refl
 
--- an open gate with a length behind it
+-- an open gate with a length after it
 opened : (n : ℕ) (behind : List ℕ) (length_is : ℕ) → 0 < length behind → stated behind ≡ length_is
     → records_from (suc n) (1 ∷ behind) ≡ take length_is (drop 8 behind) ∷ records_from n (drop (8 + length_is) behind)
 unfolding records_from
 opened n [] length_is some is = absurd (omega (arith, some))
 opened n (b ∷ rest) length_is some is = ap (λ (k : ℕ). take k (drop 8 (b ∷ rest)) ∷ records_from n (drop (8 + k) (b ∷ rest))) is
 
--- a record with its gate stands first in the list
+-- a record with its gate comes first in the list
 first : (n : ℕ) (r rest : List ℕ) → length r < 2 ^ 64 → records_from (suc n) (1 ∷ (body r ++ rest)) ≡ r ∷ records_from n rest
 first n r rest fit =
     let whole : body r ++ rest ≡ to_le_bytes w64 (length r) ++ (r ++ rest) = append_assoc (to_le_bytes w64 (length r)) r rest in
@@ -75,7 +75,7 @@ unfolding records_in
 empty_or_shut file rest records fits split (inl shut) = ap records_in split ∙ listed_from (length (blocks records ++ rest)) records rest fits shut (omega arith)
 empty_or_shut file rest records fits split (inr empty) = ap records_in empty ∙ none_in_nothing ∙ sym (none_in_empty records rest (sym empty ∙ split))
 
--- it is the list of the definition
+-- this list is the one of the definition
 pub listed : (file : List ℕ) (records : List (List ℕ)) → Stands file records → records_in file ≡ records
 listed file records stands = empty_or_shut file stands.rest records stands.fits stands.split stands.shut
 

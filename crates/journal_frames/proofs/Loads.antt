@@ -1,4 +1,4 @@
--- A file that is read piece by piece.
+-- A file that is read in several reads.
 use Rattle.std.proofs.Common.{◌≡◌, ℕ, ◌+◌, ◌-◌, ◌≤◌, List, ◌++◌, length, take, drop, refl, sym, ◌∙◌, ap, arith, Bool, IsTrue, length-append}
 use Rattle.std.proofs.Math.Seq.{take-add, take-append-add}
 use Rattle.std.proofs.lemmas.List.{length-take, length-drop, length-take-le}
@@ -17,12 +17,12 @@ module _ {D : Type 0} (content : D → List ℕ) (may_leave : D → Outcomes) (m
     any_moment = goes_on moment left_since old mid new (may_leave old) (may_leave new) so_far.any_moment call (λ c left. so_far.crash c (within c left));
   }
 
--- a window of the buffer that was written keeps the buffer's length
+-- writing to a window of the buffer does not change the buffer's length
 pub window_len : (buf window : List ℕ) (at : ℕ) → at ≤ length buf → length window ≡ length (take (length buf - at) (drop at buf)) → length (take at buf ++ (window ++ drop (length buf - at) (drop at buf))) ≡ length buf
 window_len buf window at within len =
     omega (arith, within, len, length-append (take at buf) (window ++ drop (length buf - at) (drop at buf)), length-append window (drop (length buf - at) (drop at buf)), length-take at buf, length-take (length buf - at) (drop at buf), length-drop at buf, length-drop (length buf - at) (drop at buf))
 
--- n bytes more were read behind those that were
+-- n more bytes were read after those already read
 pub read_on : (file buf window buf' : List ℕ) (at n : ℕ) → take at buf ≡ take at file → at ≤ length buf → buf' ≡ take at buf ++ window → take n window ≡ take n (drop at file) → take (at + n) buf' ≡ take (at + n) file
 read_on file buf window buf' at n so_far within is piece =
     let long : length (take at buf) ≡ at = length-take-le at buf within in
@@ -33,7 +33,7 @@ read_on file buf window buf' at n so_far within is piece =
     ∙ ap (λ (l : List ℕ). take at file ++ l) piece
     ∙ sym (take-add at n file)
 
--- what was read so far
+-- the part of the file that is read
 pub record IsReading (tells : Bool) {D : Type 0} (content : D → List ℕ) (may_leave : D → Outcomes) (moment : D → ℕ) (left_since : D → ℕ → Outcomes) (faults : D → ℕ) (place : D → List ℕ) (old disk : D) (size : ℕ) (buf : List ℕ) (at : ℕ) : Type 0 where
   pub within : at ≤ length buf
   pub len : length buf ≡ size

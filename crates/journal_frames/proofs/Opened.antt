@@ -16,12 +16,12 @@ module _ {D : Type 0} (tells : Bool) (content : D → List ℕ) (may_leave : D �
     durable = λ t. subst (λ f. Only f (may_leave mid)) (sym (undisturbed t).same) (durable t);
   }
 
-  -- the same records stand after what keeps those that were found
+  -- the same records are in the file after a change that keeps those that were found
   pub still_stand : (new : D) (others : List (List ℕ)) → file ≡ content old → Stands file records → Stands (content new) records → Stands (content old) others → Stands (content new) others
   still_stand new others is stands after before =
       subst (λ rs. Stands (content new) rs) (one_list file records others stands (subst (λ f. Stands f others) (sym is) before)) after
 
-  -- a crash at any moment of the loading and of what keeps the records
+  -- a crash at any moment of the loading and of the change that keeps the records
   pub opened_run : (new : D) → file ≡ content old → Stands file records → IsUndisturbed content may_leave moment left_since old mid → LeavesOnly moment left_since mid new (λ c. Stands c records) → LeavesOnly moment left_since old new (λ c. may_leave old c ⊎ HaveSameRecords (content old) c)
   opened_run new is stands undisturbed run =
       then_run moment left_since old mid new (λ c. may_leave old c ⊎ HaveSameRecords (content old) c) (λ c. Stands c records)
@@ -31,14 +31,14 @@ module _ {D : Type 0} (tells : Bool) (content : D → List ℕ) (may_leave : D �
   pub loaded_run : IsUndisturbed content may_leave moment left_since old mid → LeavesOnly moment left_since old mid (λ c. may_leave old c ⊎ HaveSameRecords (content old) c)
   loaded_run undisturbed = widened moment left_since old mid (may_leave old) (λ c. may_leave old c ⊎ HaveSameRecords (content old) c) undisturbed.any_moment (λ c left. inl left)
 
--- what a journal at rest says of its file and of a crash
+-- the file of a journal at rest, and the file after a crash
 pub rest_stands : (tells : Bool) (content : List ℕ) (may_leave : Outcomes) (records : List (List ℕ)) (end : ℕ) → IsAtRest tells content may_leave records end → IsTrue tells → Stands content records
 rest_stands tells content may_leave records end rest t = subst (λ f. Stands f records) (sym (rest.file t)) (stands_last records 0 rest.fits)
 
 pub rest_durable : (tells : Bool) (content : List ℕ) (may_leave : Outcomes) (records : List (List ℕ)) (end : ℕ) → IsAtRest tells content may_leave records end → IsTrue tells → (c : List ℕ) → may_leave c → Stands c records
 rest_durable tells content may_leave records end rest t c left = subst (λ f. Stands f records) (sym (rest.durable t c left)) (stands_last records 0 rest.fits)
 
--- a fact that holds where a disk tells, of one of two kinds
+-- a fact of one of two kinds, where a disk has observable content
 pub either_where : (tells : Bool) {A B : Type 0} → (IsTrue tells → A ⊎ B) → (IsTrue tells → A) ⊎ (IsTrue tells → B)
 either_where true either = ⊎_elim (λ a. inl (λ t. a)) (λ b. inr (λ t. b)) (either refl)
 either_where false either = inl (λ t. absurd cc)

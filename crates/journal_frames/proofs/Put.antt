@@ -1,4 +1,4 @@
--- The two steps of putting records, over a disk.
+-- The two steps of writing records to a disk.
 use Rattle.std.proofs.Common.{◌≡◌, inl, ℕ, ◌+◌, List, [], ◌∷◌, ◌++◌, length, ◌∙◌, ap, subst, arith, length-append}
 use Rattle.outside.specs.Disks.{After, Holds, LeavesOnly, Only, Outcomes, Torn}
 use Rattle.journal_frames.specs.Files.{Fit, StandsWithOrWithout, blocks}
@@ -8,7 +8,7 @@ use Rattle.journal_frames.proofs.Staged.{held_behind, held_gate, staged, staged_
 
 module _ (records : List (List ℕ)) (fits : Fit records) (end : ℕ) (size : end ≡ length (blocks records)) (more : List (List ℕ)) (fit : Fit more)
     (piece : List ℕ) (piece_is : 1 ∷ piece ≡ at_rest more) where
-  -- what the first write leaves
+  -- the file after a crash in the first write
   pub first_held : (n : ℕ) (old c : List ℕ) → old ≡ at_rest records → Torn (end + 1) n old c → StandsWithOrWithout records more c
   first_held n old c is torn = inl (torn_behind records fits end size n c (subst (λ f. Torn (end + 1) n f c) is torn))
 
@@ -18,7 +18,7 @@ module _ (records : List (List ℕ)) (fits : Fit records) (end : ℕ) (size : en
   pub first_done : (old new : List ℕ) → old ≡ at_rest records → Holds (end + 1) piece old new → new ≡ staged records 0 piece
   first_done old new is holds = held_behind records fits end size piece new (subst (λ f. Holds (end + 1) piece f new) is holds)
 
-  -- what the second write leaves
+  -- the file after a crash in the second write
   pub second_held : (old c : List ℕ) → old ≡ staged records 0 piece → Torn end 1 old c → StandsWithOrWithout records more c
   second_held old c is torn = torn_gate records fits end size more piece c fit piece_is (subst (λ f. Torn end 1 f c) is torn)
 
@@ -29,7 +29,7 @@ module _ (records : List (List ℕ)) (fits : Fit records) (end : ℕ) (size : en
   pub second_done : (old new : List ℕ) → old ≡ staged records 0 piece → Holds end (1 ∷ []) old new → new ≡ at_rest (records ++ more)
   second_done old new is holds = held_gate records fits end size more piece new piece_is (subst (λ f. Holds end (1 ∷ []) f new) is holds)
 
-  -- how far the next gate is
+  -- the offset of the next gate
   pub next_end : end + length piece ≡ length (blocks (records ++ more))
   next_end =
       let grown = ap length (staged_open records more piece piece_is) in

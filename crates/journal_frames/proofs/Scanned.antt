@@ -1,4 +1,4 @@
--- The records that were found so far, and what is left of the file.
+-- The records found before an offset, and what is left of the file.
 use Rattle.std.proofs.Common.{◌≡◌, ◌⊎◌, inl, inr, ⊎_elim, ℕ, ◌-◌, ◌<◌, ◌^◌, List, [], ◌∷◌, ◌++◌, length, refl, sym, ◌∙◌, ap, arith, append_assoc, length-append}
 use Rattle.journal_frames.specs.Files.{Fit, IsDamaged, IsShut, Stands, blocks, body}
 use Rattle.journal_frames.specs.Scan.{IsBody, IsBroken}
@@ -55,7 +55,7 @@ is_damaged file rest records so_far broken = record {
   at = place_is file rest records so_far;
 }
 
--- a gate that is not open stands before the end of a file that is not empty
+-- a gate that is not open is before the end of a file that is not empty
 pub gate_within : (file rest : List ℕ) (records : List (List ℕ)) → IsScanned file records rest → IsShut rest ⊎ (rest ≡ []) → 0 < length file → length file - length rest < length file
 gate_within file [] records so_far shut some = absurd (omega (arith, some, ap length (so_far.none refl)))
 gate_within file (gate ∷ rest) records so_far shut some = omega (arith, some)

@@ -1,4 +1,4 @@
--- What a crash leaves in each of the two steps of putting records, and of closing the end.
+-- The file after a crash in each of the two steps of writing records, and of closing the end.
 use Rattle.std.proofs.Common.{◌≡◌, ◌≢◌, inl, inr, ℕ, ◌+◌, ◌<◌, ◌≤◌, ◌^◌, min, List, [], ◌∷◌, ◌++◌, length, get_or, take, drop, refl, sym, ◌∙◌, ap, subst, arith, append_assoc, length-append, take-append-drop}
 use Rattle.std.proofs.lemmas.List.{take_at, drop_at, drop_more, take_all, drop_all, append-nil, drop-drop}
 use Rattle.std.proofs.lemmas.Bool.{cases_eq}
@@ -22,7 +22,7 @@ shut : (gate : ℕ) (rest : List ℕ) → gate ≢ 1 → IsShut (gate ∷ rest)
 shut gate [] is_not = tt
 shut gate (b ∷ rest) is_not = is_not
 
--- a gate that is not open ends the records, whatever stands behind it
+-- a gate that is not open ends the records, whatever bytes follow it
 pub stands_shut : (records : List (List ℕ)) (gate : ℕ) (rest : List ℕ) → Fit records → gate ≢ 1 → Stands (blocks records ++ gate ∷ rest) records
 stands_shut records gate rest fits is_not = record { rest = gate ∷ rest; fits = fits; split = refl; shut = inl (shut gate rest is_not) }
 
@@ -30,7 +30,7 @@ stands_shut records gate rest fits is_not = record { rest = gate ∷ rest; fits 
 pub stands_last : (records : List (List ℕ)) (gate : ℕ) → Fit records → Stands (blocks records ++ gate ∷ []) records
 stands_last records gate fits = record { rest = gate ∷ []; fits = fits; split = refl; shut = inl tt }
 
--- the file with a piece behind the gate
+-- the file with a piece after the gate
 abbrev pub staged : List (List ℕ) → ℕ → List ℕ → List ℕ
 staged records gate piece = blocks records ++ gate ∷ piece
 
@@ -38,7 +38,7 @@ staged records gate piece = blocks records ++ gate ∷ piece
 pub staged_open : (records more : List (List ℕ)) (piece : List ℕ) → 1 ∷ piece ≡ at_rest more → staged records 1 piece ≡ at_rest (records ++ more)
 staged_open records more piece is = ap (λ (l : List ℕ). blocks records ++ l) is ∙ sym (blocks-append records more (0 ∷ []))
 
--- whole records behind any gate stand or they don't
+-- whole records after any gate are in the file or they aren't
 pub staged_gate : (records more : List (List ℕ)) (gate : ℕ) (piece : List ℕ) → Fit records → Fit more → 1 ∷ piece ≡ at_rest more
     → StandsWithOrWithout records more (staged records gate piece)
 staged_gate records more gate piece fits fit is = elim (cases_eq gate 1) [
@@ -51,7 +51,7 @@ module _ (records : List (List ℕ)) (fits : Fit records) (end : ℕ) (size : en
   pub length-at_rest : length (at_rest records) ≡ end + 1
   length-at_rest = omega (arith, size, length-append (blocks records) (0 ∷ []))
 
-  -- the closed gate stands in each outcome of the first write
+  -- the closed gate is in each outcome of the first write
   pub torn_behind : (n : ℕ) (c : List ℕ) → Torn (end + 1) n (at_rest records) c → Stands c records
   torn_behind n c torn =
       let long = length-at_rest in
@@ -80,7 +80,7 @@ module _ (records : List (List ℕ)) (fits : Fit records) (end : ℕ) (size : en
   to_gate : (gate : ℕ) (rest : List ℕ) → take end (blocks records ++ gate ∷ rest) ≡ blocks records
   to_gate gate rest = take_at (blocks records) (gate ∷ rest) end (sym size)
 
-  -- of a write of the gate alone each outcome has some gate there
+  -- each outcome of a write of the gate alone has some gate there
   pub torn_at : (gate : ℕ) (rest c : List ℕ) → Torn end 1 (blocks records ++ gate ∷ rest) c → (g : ℕ) × (c ≡ blocks records ++ g ∷ rest)
   torn_at gate rest c torn =
       let long : length (blocks records ++ gate ∷ rest) ≡ end + 1 + length rest = omega (arith, size, length-append (blocks records) (gate ∷ rest)) in

@@ -4,14 +4,14 @@ use Rattle.std.proofs.lemmas.List.{take_all, take_min, length-take, length-drop}
 use Rattle.outside.specs.Disks.{After, Cut, Elapses, Follows, Holds, LeavesOnly, Outcomes, Torn, Within}
 use Rattle.journal_frames.proofs.Moments.{goes_on, started}
 
--- nothing may have been done yet
+-- nothing may have been written yet
 pub torn_nothing : (at n : ℕ) (bytes : List ℕ) → Torn at n bytes bytes
 torn_nothing at n bytes = record { before = take_min at bytes; after = refl; no_shorter = omega arith; no_longer = omega arith }
 
 pub cut_nothing : (n : ℕ) (bytes : List ℕ) → Cut n bytes bytes
 cut_nothing n bytes = record { no_shorter = omega arith; prefix = sym (take_all (length bytes) bytes (omega arith)) }
 
--- all may have been done
+-- all may have been written
 pub torn_all : (at : ℕ) (piece old new : List ℕ) → Holds at piece old new → Torn at (length piece) old new
 torn_all at piece old new holds =
     let prefix = ap length holds.before in
@@ -30,7 +30,7 @@ cut_all n old new is =
     record { no_shorter = omega (arith, long); prefix = is ∙ sym (ap (λ (m : ℕ). take m old) long ∙ take_min n old) }
 
 module _ {D : Type 0} (moment : D → ℕ) (left_since : D → ℕ → Outcomes) (may_leave : D → Outcomes) (step : List ℕ → List ℕ → Type 0) where
-  -- A change and a sync: each crash since the start leaves an old outcome after a part of the change.
+  -- A change and a sync: each crash since the start results in an old outcome after a part of the change.
   pub change_run : (old new : D) → ((c : List ℕ) → left_since old (moment old) c → may_leave old c) → ((d : List ℕ) → step d d) → Follows step (may_leave old) (may_leave new) → Elapses (moment old) (moment new) (left_since old) (left_since new) (may_leave new) → LeavesOnly moment left_since old new (After step (may_leave old))
   change_run old new only nothing follows call =
       goes_on moment left_since old old new (After step (may_leave old)) (may_leave new)

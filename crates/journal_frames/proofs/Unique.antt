@@ -85,7 +85,7 @@ one_offset file offset other s t =
     let one = one_split s.records t.records (s.gate ∷ s.rest) (t.gate ∷ t.rest) s.fits t.fits (omega arith) (omega arith) (open_stops s.gate s.rest s.no_record) (open_stops t.gate t.rest t.no_record) (sym s.split ∙ t.split) in
     s.at ∙ ap (λ (l : List (List ℕ)). length (blocks l)) one.0 ∙ sym t.at
 
--- a file is not damaged where records stand in it
+-- a file is not damaged where records are in it
 pub not_both : (file : List ℕ) (records : List (List ℕ)) (offset : ℕ) → Stands file records → IsDamaged file offset → ⊥
 not_both file records offset s t =
     let shut = shut_rest file records s (omega (arith, ap length t.split, length-append (blocks t.records) (t.gate ∷ t.rest))) in

@@ -1,4 +1,4 @@
--- What an opening answers.
+-- What opening a journal returns.
 use Rattle.std.specs.Prelude.{ℕ, List, Result, Ok, Err}
 use Rattle.journal_frames.specs.Views.{JournalView}
 use Rattle.journal_frames.specs.declared.journal.OpenFault.{OpenFault}

@@ -1,4 +1,4 @@
--- What a look at the bytes from a gate on tells.
+-- What the bytes from a gate on begin with.
 use Rattle.std.specs.Prelude.{◌≡◌, ◌⊎◌, ℕ, ◌<◌, ◌^◌, List, [], ◌∷◌, ◌++◌, length}
 use Rattle.journal_frames.specs.Files.{BeginsRecord, IsDamaged, IsShut, body}
 use Rattle.journal_frames.specs.declared.records.Next.{Next}
@@ -6,7 +6,7 @@ use Rattle.journal_frames.specs.declared.records.ScanFault.{ScanFault}
 use Rattle.journal_frames.specs.declared.records.ScanFault.TheVariants as faults
 use Rattle.journal_frames.specs.declared.records.Next.TheVariants.{Shut, Whole, Damage}
 
--- an open gate with no record behind it
+-- an open gate with no record after it
 pub record IsBroken (file : List ℕ) : Type 0 where
   pub gate : ℕ
   pub rest : List ℕ

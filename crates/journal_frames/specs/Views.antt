@@ -5,7 +5,7 @@ use Rattle.outside.specs.Disks.{LeavesOnly, Only, Outcomes, Within}
 use Rattle.outside.specs.Logs.{LogFacts}
 use Rattle.journal_frames.specs.Files.{Fit, Stands, blocks}
 
--- a disk with the records that stand on it, where it tells its file, and whether more can be appended
+-- a disk, the records in its file, where its content is observable, and whether more can be appended
 pub record JournalView (D : Type 0) : Type 0 where
   pub disk : D
   pub records : List (List ℕ)
@@ -34,33 +34,31 @@ journal_facts disk_tells content moment_of left fault_count_of place_of = record
 abbrev pub at_rest : List (List ℕ) → List ℕ
 at_rest records = blocks records ++ 0 ∷ []
 
--- The file is the journal of these records, byte for byte, with a closed gate at its end and nothing after it, and a crash leaves just this file.
+-- The file is the journal of these records, byte for byte, with a closed gate at its end and nothing after it, and a crash results in just this file.
 abbrev pub IsSettled : (content : List ℕ) → (may_leave : Outcomes) → (records : List (List ℕ)) → Type 0
 IsSettled content may_leave records = (content ≡ at_rest records) × Only (at_rest records) may_leave
 
--- The journal is open: its file is at rest and all of it is on the disk, where the disk tells it, and `end` is the
--- offset of the closed gate.
+-- The journal is open: where its disk has observable content, its file is at rest and all of it is durable. `end` is the offset of the closed gate.
 pub record IsAtRest (tells : Bool) (content : List ℕ) (may_leave : Outcomes) (records : List (List ℕ)) (end : ℕ) : Type 0 where
   pub size : end ≡ length (blocks records)
   pub fits : Fit records
   pub file : IsTrue tells → content ≡ at_rest records
   pub durable : IsTrue tells → Only (at_rest records) may_leave
 
--- Records can be put behind those that stand: the piece is theirs but for the first gate, and a closed gate behind.
+-- Records can be written after those in the file: the piece is their encoding without the first gate, with a closed gate after it.
 pub record IsReady (tells : Bool) (content : List ℕ) (may_leave : Outcomes) (records : List (List ℕ)) (end : ℕ) (more : List (List ℕ)) (piece : List ℕ) : Type 0 where
   pub rest : IsAtRest tells content may_leave records end
   pub fits : Fit more
   pub piece_is : 1 ∷ piece ≡ at_rest more
 
--- These records were found in the file, all of which is on the disk, and `end` is the offset of the first gate that is not
--- open.
+-- These records were found in the file, all of which is durable, and `end` is the offset of the first gate that is not open.
 pub record IsFound (tells : Bool) (content : List ℕ) (may_leave : Outcomes) (records : List (List ℕ)) (end : ℕ) : Type 0 where
   pub size : end ≡ length (blocks records)
   pub fits : Fit records
   pub stands : IsTrue tells → Stands content records
   pub durable : IsTrue tells → Only content may_leave
 
--- Calls that only read: the file is as before, and a crash at any moment leaves what it might have left before.
+-- Calls that only read: the file is unchanged, and a crash at any moment results in a file that was possible before.
 pub record IsUndisturbed {D : Type 0} (content : D → List ℕ) (may_leave : D → Outcomes) (moment : D → ℕ) (left_since : D → ℕ → Outcomes) (old new : D) : Type 0 where
   pub same : content new ≡ content old
   pub crash : Within (may_leave old) (may_leave new)

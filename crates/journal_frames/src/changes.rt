@@ -1,4 +1,4 @@
-//! Changes of a disk that are synced at once.
+//! Changes of a disk, each with its sync.
 ghost use Rattle.std.specs.Prelude.{◌≡◌, ℕ, ◌≤◌, List, length, take, IsTrue, OnOk, OnErr};
 ghost use Rattle.outside.specs.Causes.{Rose};
 ghost use Rattle.outside.specs.Disks.{After, Cut, Follows, Holds, LeavesOnly, Only, Torn};
@@ -30,7 +30,7 @@ pub(crate) fn write_synced<D: Disk>(disk: &mut D, at: u64, piece: &[u8]) -> Resu
 /// Cuts the file to `len` bytes, if it is longer, and syncs.
 ///
 /// # Errors
-/// `Failed` if the disk met a fault, which is counted. A part behind `len` may be cut then.
+/// `Failed` if the disk met a fault, which is counted. A part after `len` may be cut then.
 pub(crate) fn cut_synced<D: Disk>(disk: &mut D, len: u64) -> Result<(), Failed>
     ensures cut { OnOk result (IsTrue D.tells → D.content disk.new ≡ take len (D.content disk.old)) }
     ensures durable { OnOk result (IsTrue D.tells → Only (D.content disk.new) (D.may_leave disk.new)) }

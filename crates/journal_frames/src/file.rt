@@ -15,7 +15,7 @@ use std::alloc::{AllocError, Global};
 pub(crate) enum LoadFault {
     /// The disk met a fault, which is counted.
     Disk,
-    /// Want of memory.
+    /// Out of memory.
     Memory,
 }
 
@@ -35,7 +35,7 @@ impl From<AllocError> for LoadFault {
     }
 }
 
-/// Reads from the file's first byte on until the buffer is full or the file ends, and gives how many bytes were read.
+/// Reads from the file's first byte on until the buffer is full or the file ends, and returns the number of bytes read.
 ///
 /// # Errors
 /// `Failed` if the disk met a fault, which is counted.
@@ -61,11 +61,11 @@ fn fill<D: Disk>(disk: &mut D, buf: &mut [u8]) -> Result<usize, Failed>
     Ok(at)
 }
 
-/// Syncs the disk and reads its whole file: by its length first, and then in as many reads as it takes.
+/// Syncs the disk and reads its whole file: first its length, and then the bytes in as many reads as it takes.
 ///
 /// # Errors
 /// - `LoadFault::Disk` only if the disk met a fault.
-/// - `LoadFault::Memory` for want of memory.
+/// - `LoadFault::Memory` if memory runs out.
 pub(crate) fn load<D: Disk>(alloc: Global, disk: &mut D) -> Result<Vec<u8>, LoadFault>
     ensures file { IfOk result (λ file. IsTrue D.tells → file.items ≡ D.content disk.old) }
     ensures durable { OnOk result (IsTrue D.tells → Only (D.content disk.old) (D.may_leave disk.new)) }

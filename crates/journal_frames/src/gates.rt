@@ -1,4 +1,4 @@
-//! What opening and appending do to a disk.
+//! The writes of opening and appending.
 ghost use Rattle.std.specs.Prelude.{◌≡◌, ℕ, ◌+◌, ◌<◌, ◌≤◌, ◌^◌, ◌++◌, [], ◌-◌, List, length, IsTrue, OnOk, OnErr};
 ghost use Rattle.outside.specs.Causes.{Rose};
 ghost use Rattle.outside.specs.Disks.{LeavesOnly, Only};
@@ -9,10 +9,10 @@ use crate::changes::{cut_synced, write_synced};
 use outside::disk::Disk;
 use outside::streams::Failed;
 
-/// Puts records behind the closed gate at `end`: all of them first but for the first gate, which is then opened.
+/// Writes records after the closed gate at `end`: first all of them without the first gate, and then that gate, which opens it.
 ///
 /// # Errors
-/// `Failed` if the disk met a fault, which is counted. All of the records stand then or none does.
+/// `Failed` if the disk met a fault, which is counted. Then all of the records are in the file or none is.
 pub(crate) fn put_records<D: Disk>(disk: &mut D, end: u64, piece: &[u8]) -> Result<(), Failed>
     requires { end + length piece.now < 2 ^ 64 - 1 }
     ensures put { (records more : List (List ℕ)) →
@@ -30,15 +30,15 @@ pub(crate) fn put_records<D: Disk>(disk: &mut D, end: u64, piece: &[u8]) -> Resu
     ensures place { D.place disk.new ≡ D.place disk.old }
 {
     write_synced(disk, end + 1, piece)?;
-    // The records have to be on the disk first: behind a gate that is open, what was there would count.
+    // The records must be durable first: once the gate is open, whatever bytes follow it count.
     write_synced(disk, end, &[1])?;
     Ok(())
 }
 
-/// Gives an empty file its first gate.
+/// Writes the first gate to an empty file.
 ///
 /// # Errors
-/// `Failed` if the disk met a fault, which is counted. No record stands then either.
+/// `Failed` if the disk met a fault, which is counted. Then too there is no record in the file.
 pub(crate) fn write_first_gate<D: Disk>(disk: &mut D) -> Result<(), Failed>
     ensures closed { (records : List (List ℕ)) →
         IsFound D.tells (D.content disk.old) (D.may_leave disk.old) records 0 →
@@ -61,10 +61,10 @@ pub(crate) fn write_first_gate<D: Disk>(disk: &mut D) -> Result<(), Failed>
     Ok(())
 }
 
-/// Closes the gate at `end`, the first that is not open, and leaves nothing behind it.
+/// Closes the gate at `end`, the first that is not open, and removes everything after it.
 ///
 /// # Errors
-/// `Failed` if the disk met a fault, which is counted. The same records stand then.
+/// `Failed` if the disk met a fault, which is counted. The file has the same records then.
 pub(crate) fn close_end<D: Disk>(disk: &mut D, end: u64) -> Result<(), Failed>
     requires { end < 2 ^ 64 - 1 }
     ensures closed { (records : List (List ℕ)) →
@@ -84,7 +84,7 @@ pub(crate) fn close_end<D: Disk>(disk: &mut D, end: u64) -> Result<(), Failed>
     ensures later { D.fault_count disk.old ≤ D.fault_count disk.new }
     ensures place { D.place disk.new ≡ D.place disk.old }
 {
-    // The cut has to be on the disk first: behind a gate that is torn open, what was there would count.
+    // The cut must be durable first: if the write of the gate is torn and leaves it open, whatever bytes follow it count.
     cut_synced(disk, end + 1)?;
     write_synced(disk, end, &[0])?;
     Ok(())

@@ -1,4 +1,4 @@
-//! A journal that is opened, appended to and handed back.
+//! A journal: opened, appended to and handed back.
 ghost use Rattle.std.specs.Prelude.{◌≡◌, ◌⊎◌, ◌+◌, ◌<◌, ◌≤◌, ◌^◌, ◌++◌, ◌∷◌, [], ℕ, List, length, true, IsTrue, IsErr, IfOk, IfErr, OnOk, OnErr};
 ghost use Rattle.outside.specs.Causes.{Rose};
 ghost use Rattle.outside.specs.Disks.{LeavesOnly};
@@ -18,15 +18,15 @@ use outside::streams::Failed;
 use std::alloc::{AllocError, Global};
 use std::marker::Model;
 
-// A journal of more bytes is not written.
+// A journal does not grow beyond this number of bytes.
 const MOST_BYTES: u64 = 1 << 63;
 
-/// A disk with the records that stand on it, to which more can be appended. It keeps none of them in memory.
+/// A disk with the records in its file, to which more can be appended. It keeps no record in memory.
 #[derive(Drop)]
 pub struct Journal<D: Disk> {
     alloc: Global,
     disk: D,
-    // The offset of the closed gate behind the records.
+    // The offset of the closed gate after the records.
     end: u64,
     is_open: bool,
 }
@@ -46,18 +46,18 @@ impl<D: Disk> Model for Journal<D> {
         IsAtRest D.tells (D.content j.disk) (D.may_leave j.disk) (records_in (D.content j.disk)) j.end };
 }
 
-/// Why a journal was not opened. Each hands the disk back, whose records stand as before.
+/// Why a journal was not opened. Each variant hands the disk back, which has the same records as before.
 #[derive(Drop)]
 pub enum OpenFault<D: Disk> {
     /// The disk met a fault, which is counted.
     Disk(D),
-    /// At the offset `place` an open gate stands before bytes that are no whole record; the disk's file is as before.
+    /// At the offset `place` there is an open gate, and the bytes after it are not a whole record; the disk's file is as before.
     Damaged { place: u64, disk: D },
-    /// Want of memory.
+    /// Out of memory.
     Memory(D),
 }
 
-/// Puts a record with an open gate behind others.
+/// Appends a record with an open gate to others.
 fn push_block(blocks: &mut Vec<u8>, bytes: &[u8]) -> Result<(), Memory>
     ensures { OnOk result (blocks.new.items ≡ blocks.old.items ++ 1 ∷ body bytes.now) }
 {
@@ -69,7 +69,7 @@ fn push_block(blocks: &mut Vec<u8>, bytes: &[u8]) -> Result<(), Memory>
     Ok(())
 }
 
-/// The bytes of records with open gates, and a closed gate behind them.
+/// Returns the bytes of records with open gates, and a closed gate after them.
 fn blocks_of(alloc: Global, bodies: &[Blob]) -> Result<Vec<u8>, Memory>
     ensures { IfOk result (λ blocks. blocks.items ≡ at_rest bodies.now) }
 {
@@ -81,10 +81,10 @@ fn blocks_of(alloc: Global, bodies: &[Blob]) -> Result<Vec<u8>, Memory>
     Ok(blocks)
 }
 
-/// Closes the gate behind the records that were found in a file of `len` bytes, and leaves nothing behind it.
+/// Closes the gate after the records that were found in a file of `len` bytes, and removes everything after it.
 ///
 /// # Errors
-/// `Failed` if the disk met a fault, which is counted. The same records stand then.
+/// `Failed` if the disk met a fault, which is counted. The file has the same records then.
 fn settle<D: Disk>(disk: &mut D, len: usize, end: usize) -> Result<(), Failed>
     requires within { end ≤ len }
     requires before { 0 < len → end < len }
@@ -114,15 +114,15 @@ fn settle<D: Disk>(disk: &mut D, len: usize, end: usize) -> Result<(), Failed>
 }
 
 impl<D: Disk> Journal<D> {
-    /// Opens the journal on a disk: the records are those from the front of its file whose gates are open. The disk is
-    /// synced, asked for its length and read; then an empty file gets a closed gate, and another one is cut behind the
-    /// first gate that is not open, which is then closed, each step synced. The records are handed out beside the journal.
+    /// Opens the journal on a disk: the records are those from the front of its file whose gates are open. The disk is synced, and its length and its file
+    /// are read; then an empty file gets a closed gate, and any other file is cut after the first gate that is not open, which is then closed. Each step is
+    /// synced. The records are returned with the journal.
     ///
     /// # Errors
-    /// - `OpenFault::Disk` only if the disk met a fault. With each other answer it met none.
-    /// - `OpenFault::Damaged` if an open gate stands before bytes that are no whole record, unless the disk met a fault or memory
-    ///   was wanted before that was seen, and only if such a gate stands there; the file is as before.
-    /// - `OpenFault::Memory` for want of memory.
+    /// - `OpenFault::Disk` only if the disk met a fault. With each other result it met none.
+    /// - `OpenFault::Damaged` if there is an open gate before bytes that are not a whole record, unless the disk met a fault or memory ran out before that
+    ///   was found, and only if there is such a gate; the file is as before.
+    /// - `OpenFault::Memory` if memory runs out.
     pub fn open(alloc: Global, disk: D) -> Result<(Journal<D>, RecordList), OpenFault<D>>
         ensures found { IfOk result (λ x. IsTrue D.tells → Stands (D.content disk) x.1) }
         ensures list { IfOk result (λ x. IsTrue D.tells → x.0.records ≡ x.1) }
@@ -136,8 +136,8 @@ impl<D: Disk> Journal<D> {
         ensures later { D.fault_count disk ≤ D.fault_count (disk_left result) }
         ensures place { D.place (disk_left result) ≡ D.place disk }
 
-        // Whatever it answers, the same records stand on the disk, and a crash at any moment left them standing, or
-        // what it might have left before.
+        // Whatever it returns, the disk has the same records, and a crash at any moment results in a file with these records, or in one that was possible
+        // before.
         ensures same { (records : List (List ℕ)) → IsTrue D.tells → Stands (D.content disk) records →
             Stands (D.content (disk_left result)) records }
         ensures any_moment { IsTrue D.tells → LeavesOnly D.moment D.left_since disk (disk_left result)
@@ -173,7 +173,7 @@ impl<D: Disk> Journal<D> {
         }
     }
 
-    /// The disk. Where the journal was open, its file is the journal of its records, byte for byte, and every crash leaves just that.
+    /// Returns the disk. Where the journal was open, its file is the journal of its records, byte for byte, and every crash results in just this file.
     pub fn into_disk(self) -> D
         ensures disk { result ≡ self.disk }
         ensures file { IsTrue self.is_open → IsTrue D.tells → Stands (D.content result) self.records }
@@ -214,8 +214,7 @@ impl<D: Disk> Log for Journal<D> {
         ensures later { D.fault_count self.old.disk ≤ D.fault_count self.new.disk }
         ensures place { D.place self.new.disk ≡ D.place self.old.disk }
 
-        // After it every crash leaves all records, and a crash at any moment of it left the earlier ones, with the new
-        // one or without.
+        // A crash after it results in a file with all records, and a crash at any moment of it in one with the earlier ones, with the new one or without it.
         ensures durable { OnOk result (IsTrue D.tells →
             (c : List ℕ) → D.may_leave self.new.disk c → Stands c self.new.records) }
         ensures any_moment { IsTrue D.tells → LeavesOnly (λ j. D.moment j.disk) (λ j t file. D.left_since j.disk t file) self.old self.new
@@ -230,8 +229,8 @@ impl<D: Disk> Log for Journal<D> {
         }
     }
 
-    /// Appends records, in order, all at once: they are written behind the closed gate, all their gates but the first open, and
-    /// synced; and then the first gate is opened and synced. Where there is none to append the disk is left alone.
+    /// Appends records, in order, all at once: they are written after the closed gate, all with open gates but the first, and synced; and then the first gate
+    /// is opened and synced. Where there is none to append the disk is not used.
     fn append_all(&mut self, bodies: &[Blob]) -> Result<(), LogFault>
         requires { IsTrue self.old.is_open }
         ensures appended { OnOk result (IsTrue D.tells → self.new.records ≡ self.old.records ++ bodies.now) }
@@ -249,8 +248,8 @@ impl<D: Disk> Log for Journal<D> {
         ensures later { D.fault_count self.old.disk ≤ D.fault_count self.new.disk }
         ensures place { D.place self.new.disk ≡ D.place self.old.disk }
 
-        // After it every crash leaves all records, and a crash at any moment of it left the earlier ones, with all of the
-        // new ones or without.
+        // A crash after it results in a file with all records, and a crash at any moment of it in one with the earlier ones, with all of the new ones or
+        // none.
         ensures durable { OnOk result (IsTrue D.tells →
             (c : List ℕ) → D.may_leave self.new.disk c → Stands c self.new.records) }
         ensures any_moment { IsTrue D.tells → LeavesOnly (λ j. D.moment j.disk) (λ j t file. D.left_since j.disk t file) self.old self.new

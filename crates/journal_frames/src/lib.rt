@@ -1,5 +1,5 @@
-//! The journal of a node: a row of records on a disk, which a crash at any moment leaves whole, with or without the
-//! newest. A record is a gate, its length and its bytes; the gate is opened once the rest is on the disk.
+//! The journal of a node: a sequence of records on a disk, which is whole after a crash at any moment, with or without the newest. A record is a gate, its
+//! length and its bytes; the gate is opened once the rest is durable.
 #![tactic(auto)]
 
 mod changes;

@@ -1,4 +1,4 @@
-//! Which records stand in the bytes of a file.
+//! The records in the bytes of a file.
 ghost use Rattle.std.specs.Prelude.{◌≡◌, ◌+◌, ◌<◌, ◌≤◌, ◌++◌, ◌∷◌, ◌⊎◌, [], ℕ, List, length, IfOk, IfErr, IfSome, IfNone};
 ghost use Rattle.journal_frames.specs.Files.{BeginsRecord, Stands, blocks};
 ghost use Rattle.journal_frames.specs.declared.records.ScanFault.TheVariants.{Memory as WantOfMemory};
@@ -15,15 +15,15 @@ pub(crate) enum Next<'a> {
     Shut,
     /// A record, and the bytes from the next gate on.
     Whole { bytes: &'a [u8], behind: &'a [u8] },
-    /// An open gate with no whole record behind it.
+    /// An open gate with no whole record after it.
     Damage,
 }
 
 /// Why no records were found.
 pub(crate) enum ScanFault {
-    /// No record stands behind the open gate at this offset.
+    /// There is no record after the open gate at this offset.
     Damage { place: usize },
-    /// Want of memory.
+    /// Out of memory.
     Memory,
 }
 
@@ -35,8 +35,8 @@ impl From<Memory> for ScanFault {
     }
 }
 
-/// The record that these bytes, which stand behind an open gate, begin with, and the bytes from the next gate on; none if
-/// no record ends before the last byte.
+/// Returns the record at the beginning of these bytes, which follow an open gate, and the bytes from the next gate on; none if no record ends before the last
+/// byte.
 #[tactic(auto, using(crate::proofs::Bodies::no_record_short, crate::proofs::Bodies::no_record_long))]
 fn split_record(rest: &[u8]) -> Option<(&[u8], &[u8])>
     ensures some { IfSome result (λ x. IsBody rest.now x.0.now x.1.now) }
@@ -53,7 +53,7 @@ fn split_record(rest: &[u8]) -> Option<(&[u8], &[u8])>
     Some(content.split_at(length as usize))
 }
 
-/// Looks at the bytes from a gate on.
+/// Reads the bytes from a gate on.
 pub(crate) fn next_record(file: &[u8]) -> Next<'_>
     ensures { IsNext file.now result }
 {
@@ -66,11 +66,11 @@ pub(crate) fn next_record(file: &[u8]) -> Next<'_>
     }
 }
 
-/// The records that stand in a file, and the offset of the first gate that is not open.
+/// Returns the records in a file, and the offset of the first gate that is not open.
 ///
 /// # Errors
-/// - `ScanFault::Damage` exactly if an open gate stands before bytes that are no whole record.
-/// - `ScanFault::Memory` for want of memory.
+/// - `ScanFault::Damage` exactly if there is an open gate before bytes that are not a whole record.
+/// - `ScanFault::Memory` if memory runs out.
 pub(crate) fn scan(alloc: Global, file: &[u8]) -> Result<(RecordList, usize), ScanFault>
     ensures found { IfOk result (λ x. Stands file.now x.0 × (x.1 ≡ length (blocks x.0)) × (x.1 ≤ length file.now)) }
     ensures before { IfOk result (λ x. 0 < length file.now → x.1 < length file.now) }

@@ -1,4 +1,4 @@
--- The place of a collection's table tells which it is, and where a new one goes.
+-- The position of a collection's table, and that of a new one.
 use Rattle.std.proofs.Common.{◌≡◌, ℕ, suc, List, [], ◌∷◌, ◌++◌, length, Bool, true, false, refl, ap, if◌then◌else◌, arith, get_or, drop, drop-cons, map, ◌<◌, ◌≤◌, sym, ◌∙◌, subst, zero}
 use Rattle.std.specs.Prelude.{Option, Some, None}
 use Rattle.std.specs.List.{slice_get, slice_set}
@@ -25,7 +25,7 @@ end_by : (same : Bool) (t u : Table) (tables : List Table) → (place_of t.names
 end_by true t u tables next e = absurd cc
 end_by false t u tables next e = ap (λ ts. u ∷ ts) (next (omega arith))
 
--- where none is of its collection, a table goes behind the others
+-- where none belongs to its collection, a table is appended
 pub with_end : (t : Table) (tables : List Table) → place_of t.namespace tables ≡ length tables → with_table t tables ≡ tables ++ t ∷ []
 with_end t [] e = refl
 with_end t (u ∷ tables) e = end_by (bytes_eq u.namespace t.namespace) t u tables (with_end t tables) e
@@ -41,7 +41,7 @@ here_by : (same : Bool) (t u v : Table) (tables : List Table)
 here_by true t u v tables next e = rw (some_one v u e) refl
 here_by false t u v tables next e = ap (λ ts. v ∷ ts) (next e)
 
--- else the longer of the two stands in the place of the one
+-- else the longer of the two is in its position
 pub with_here : (t u : Table) (tables : List Table) → slice_get tables (place_of t.namespace tables) ≡ Some u
     → with_table t tables ≡ slice_set tables (place_of t.namespace tables) (if is_longer t u then t else u)
 with_here t u [] e = absurd cc
@@ -60,17 +60,17 @@ same_set [] i u e = absurd cc
 same_set (v ∷ tables) zero u e = rw (some_one v u e) refl
 same_set (v ∷ tables) (suc i) u e = ap (λ ts. v ∷ ts) (same_set tables i u e)
 
--- what stays where the table there is at least as long
+-- nothing changes where the present table is at least as long
 pub with_longer : (t u : Table) (tables : List Table) → slice_get tables (place_of t.namespace tables) ≡ Some u → is_longer t u ≡ false → with_table t tables ≡ tables
 with_longer t u tables e short = with_here t u tables e ∙ rw (short) (same_set tables (place_of t.namespace tables) u e)
 
 module _ {X : Type 0} (seen : X → Table) where
-  -- a search from a place on comes to the table there
+  -- a search from a position finds the table there
   pub found_here : (namespace : List ℕ) (xs : List X) (i : ℕ) (x : X) → i < length xs → x ≡ get_or xs i x → bytes_eq (seen x).namespace namespace ≡ true
       → place_of namespace (map seen (drop i xs)) ≡ 0
   found_here namespace xs i x within is has = rw (drop-cons xs i x within, ← is, has) refl
 
-  -- or goes on behind it
+  -- or continues after it
   pub not_here : (namespace : List ℕ) (xs : List X) (i : ℕ) (x : X) → i < length xs → x ≡ get_or xs i x → bytes_eq (seen x).namespace namespace ≡ false
       → place_of namespace (map seen (drop i xs)) ≡ suc (place_of namespace (map seen (drop (suc i) xs)))
   not_here namespace xs i x within is has = rw (drop-cons xs i x within, ← is, has) refl
@@ -108,7 +108,7 @@ new_by : (same : Bool) (t u : Table) (tables : List Table) → (table_of t.names
 new_by true t u tables next e = absurd cc
 new_by false t u tables next e = ap (λ ts. u ∷ ts) (next e)
 
--- a table of a collection of which there was none goes behind the others
+-- a table of a collection without one is appended
 pub with_new : (t : Table) (tables : List Table) → table_of t.namespace tables ≡ None → with_table t tables ≡ tables ++ t ∷ []
 with_new t [] e = refl
 with_new t (u ∷ tables) e = new_by (bytes_eq u.namespace t.namespace) t u tables (with_new t tables) e

@@ -1,4 +1,4 @@
--- How what is known is told from other: as its parts.
+-- A code that determines a list of tables: its parts.
 use Rattle.std.specs.Prelude.{ℕ, List, refl}
 use Rattle.std.specs.Coded.{Coded, code_by, coded×, coded_list, coded_ℕ}
 use Rattle.chunk_table.specs.Code.{table_code}

@@ -1,4 +1,4 @@
-//! The tables that a node knows: of each collection the longest that it was told.
+//! The tables that a node knows: for each collection the longest that it received.
 #![tactic(auto)]
 
 mod list;

@@ -1,4 +1,4 @@
-//! Tables, one of a collection.
+//! Tables, at most one for each collection.
 
 ghost use Rattle.std.specs.Prelude.{◌≡◌, ◌≤◌, [], OnOk};
 ghost use Rattle.std.specs.Arc.{arc_value};
@@ -13,9 +13,9 @@ use std::alloc::Global;
 use std::marker::Model;
 use std::sync::Arc;
 
-/// Tables in the order in which their collections were first told of, each shared with whoever else has it.
+/// Tables in the order in which the node first received one of their collections, each shared with its other owners.
 ///
-/// A caller reserves room before a record is written, and adopts behind it, which then can't fail.
+/// A caller reserves room before it writes a record, and adopts after it, which then can't fail.
 #[derive(Drop)]
 pub struct TableList {
     tables: Vec<Arc<Table, Global>>,
@@ -36,7 +36,7 @@ impl Model for TableList {
 }
 
 impl TableList {
-    /// No table.
+    /// Returns the empty list.
     pub fn new(alloc: Global) -> TableList
         ensures { result.tables ≡ [] }
     {
@@ -45,7 +45,7 @@ impl TableList {
         }
     }
 
-    /// The table of a collection, if one is known. Takes no memory.
+    /// Returns the table of a collection, if one is known. Takes no memory.
     #[tactic(auto, using(crate::proofs::Places::known_there, crate::proofs::Places::not_known))]
     pub fn find(&self, namespace: &Namespace) -> Option<&Arc<Table, Global>>
         ensures { option_map (λ table. arc_value table.now) result ≡ table_of namespace.now self.now.tables }
@@ -58,7 +58,7 @@ impl TableList {
         }
     }
 
-    /// Makes room for one table more. Fails for want of memory. The tables are the same either way.
+    /// Reserves room for one more table. Returns `Memory` if memory runs out. The tables are the same either way.
     pub fn reserve(&mut self) -> Result<(), Memory>
         ensures room { OnOk result (1 ≤ self.new.room) }
         ensures tables { self.new.tables ≡ self.old.tables }
@@ -67,8 +67,8 @@ impl TableList {
         Ok(())
     }
 
-    /// Takes a table, for which there is room: in the place of the one of its collection, if it has seen more changes than that, or
-    /// behind the others. Takes no memory.
+    /// Stores a table, for which there is room: in place of the one of its collection, if it has more changes than that, or after the others. Takes no
+    /// memory.
     #[tactic(auto, using(crate::proofs::Places::within_map, crate::proofs::Places::kept_end, crate::proofs::Places::kept_here, crate::proofs::Places::kept_longer))]
     pub fn adopt(&mut self, table: Arc<Table, Global>)
         requires room { 1 ≤ self.old.room }
@@ -82,7 +82,7 @@ impl TableList {
         }
     }
 
-    // How many tables stand before that of a collection; all where there is none.
+    // Returns how many tables are before that of a collection; all where there is none.
     fn place(&self, namespace: &Namespace) -> usize
         ensures { result ≡ place_of namespace.now self.now.tables }
     {

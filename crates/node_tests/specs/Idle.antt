@@ -1,4 +1,4 @@
--- What the node, its messages and its inputs are by the definitions.
+-- The node, its messages and its inputs, by the definitions.
 use Rattle.std.specs.Prelude.{pos, [], Err, true}
 use Rattle.node_traits.specs.Letters.{Letter, half_overflow, read_rows}
 use Rattle.node_traits.specs.Letters as model
@@ -17,7 +17,7 @@ idle_state node = catalogue_state (record { me = node.me.0; time = 0; tables = [
 abbrev pub silent_letter : Silent → Letter
 silent_letter m = record { sender = 0; receiver = m.to.0; time = 0; body = read_rows (record { router = 0; life = 0; count = 0 }) 0 (Err half_overflow) }
 
--- a request without a field, which wants no reply
+-- a request without a field, which requests no reply
 abbrev pub request_of_nothing : Request
 request_of_nothing = record { id = pos 0; more = true; form = msg_form; body = read_body no_fields []; bytes = [] }
 

@@ -1,4 +1,4 @@
-//! What the node takes, and its steps.
+//! The inputs of the node, and its steps.
 
 ghost use Rattle.node_tests.specs.Idle.{idle_input, idle_state, request_of_nothing, silent_letter};
 
@@ -14,7 +14,7 @@ use std::thread::Threads;
 /// The count of steps at the last step.
 const LAST: u64 = (1 << 56) - 1;
 
-/// The answer to a read of no request, which a catalogue passes over.
+/// The answer to a read of no request, which a catalogue ignores.
 #[derive(Clone, Copy, Drop)]
 pub struct Silent {
     pub to: NodeId,
@@ -36,7 +36,7 @@ impl Mail for Silent {
     }
 }
 
-/// What the node takes.
+/// The inputs of the node.
 #[derive(Drop)]
 pub enum IdleInput {
     Client { link: u32, number: i32 },

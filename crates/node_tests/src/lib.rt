@@ -1,4 +1,4 @@
-//! Tests of nodes and drivers that are no rows of data: a node that answers nothing and a step of it, and lines of scripts.
+//! Tests of nodes and drivers that are not rows of data: a node that replies nothing and a step of it, and lines of scripts.
 #![tactic(auto)]
 
 mod idle;

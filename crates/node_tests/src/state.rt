@@ -15,7 +15,7 @@ pub struct Idle {
 }
 
 impl Idle {
-    /// The node of this number, before its first step.
+    /// Returns the node of this number, before its first step.
     pub fn new(alloc: Global, me: NodeId) -> Idle {
         Idle {
             alloc,

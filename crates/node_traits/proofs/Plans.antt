@@ -1,4 +1,4 @@
--- What was planned is taken where its records were appended, and is left off where a disk failed.
+-- A planned step is taken where its records were appended, and is broken off where a disk failed.
 use Rattle.std.proofs.Common.{◌≡◌, ℕ, List, subst}
 use Rattle.node_traits.specs.Calls.{LogCall, Appended, LeftOff}
 use Rattle.node_traits.specs.Effects.{StepPlanned, StepDone, StepBroken}

@@ -1,15 +1,15 @@
--- What a call says of the log that was lent to it.
+-- What a call says about the log that it borrowed.
 use Rattle.std.specs.Prelude.{◌≡◌, ◌⊎◌, ℕ, ◌≤◌, Bool, IsTrue, List, ◌++◌}
 use Rattle.outside.specs.Disks.{Outcomes}
 use Rattle.outside.specs.Logs.{LogFacts, WithOrWithout}
 
--- A crash since an earlier moment left what it might have left before the call, or a file that has P.
+-- A crash since an earlier moment results in a file that was possible before the call, or in one with P.
 pub record LeavesAlso {L : Type 0} (moment : L → ℕ) (left_since : L → ℕ → Outcomes) (old new : L) (P : Outcomes) : Type 0 where
   pub later : moment old ≤ moment new
   pub each : (t : ℕ) (file : List ℕ) → t ≤ moment old → left_since new t file → left_since old t file ⊎ P file
 
--- A log over a call: whether its type tells its records, and the records before and after; whether an opening would find a list after
--- the call, and in a file; and what a crash might have left.
+-- A log over a call: whether its records are observable, and the records before and after; whether an opening would find a list after the call, and in a
+-- file; and the files after a crash.
 pub record LogCall : Type 1 where
   pub tells : Bool
   pub before : List (List ℕ)
@@ -18,7 +18,7 @@ pub record LogCall : Type 1 where
   pub finds : List ℕ → List (List ℕ) → Type 0
   pub leaves_also : Outcomes → Type 0
 
--- a log as it was and as it is
+-- a log before and after
 abbrev pub log_call : {L : Type 0} → LogFacts L → L → L → LogCall
 log_call facts old new = record {
   tells = facts.tells;
@@ -29,7 +29,7 @@ log_call facts old new = record {
   leaves_also = λ P. LeavesAlso facts.moment facts.left_since old new P;
 }
 
--- after a crash during the call an opening finds the records of before, or all of these more
+-- after a crash during the call an opening finds the records of before, or these with all of the new ones
 abbrev pub IsWhole : LogCall → (more : List (List ℕ)) → Type 0
 IsWhole call more = IsTrue call.tells → call.leaves_also (λ file. WithOrWithout (call.finds file) call.before more)
 

@@ -1,4 +1,4 @@
--- What a step leaves and gives out.
+-- The results of a step.
 use Rattle.std.specs.Prelude.{◌≡◌, ◌⊎◌, ℕ, ◌+◌, ◌-◌, ◌≤◌, ◌^◌, List, [], ◌∷◌, map, if◌then◌else◌}
 use Rattle.std.specs.List.{AllByRecursion}
 use Rattle.node_model.specs.Exchanges.{reply_put}
@@ -17,20 +17,20 @@ use Rattle.node_traits.specs.declared.outputs.StepFault.TheVariants.{Disk, Steps
 abbrev pub put_by : Reply → List ℕ
 put_by r = reply_put r.number r.request r.document
 
--- the replies that are wanted, as bytes for their links
+-- the replies that are requested, as bytes for their links
 abbrev pub puts_of : List Reply → List ToLink
 puts_of [] = []
 puts_of (r ∷ replies) = if r.request.more then puts_of replies else record { link = r.link; bytes = put_by r } ∷ puts_of replies
 
--- what is kept, as the records of a journal
+-- what is written, as the records of a journal
 abbrev pub spellings : List Kept → List (List ℕ)
 spellings kept = map (λ k. spelled 1 (record_kept k)) kept
 
--- each has a spelling that says what it is
+-- each has an encoding that determines it
 abbrev pub AreSound : List Kept → Type 0
 AreSound kept = AllByRecursion (λ k. IsSound (record_kept k)) kept
 
--- A step is planned: nothing is written yet, and these are what it will give out, and its records.
+-- A step is planned: nothing is written yet; these are its messages, replies and records.
 pub record StepPlanned (old : NodeState) (input : Input) (mail : List Letter) (replies : List ToLink) (records : List (List ℕ)) (new : NodeState) : Type 0 where
   pub effect : Effect
   pub step : Step old input effect new
@@ -39,7 +39,7 @@ pub record StepPlanned (old : NodeState) (input : Input) (mail : List Letter) (r
   pub sound : AreSound effect.written
   pub spelled : records ≡ spellings effect.written
 
--- A step was taken: these messages and replies are given out, and its records were appended.
+-- A step was taken: these messages and replies are sent, and its records were appended.
 pub record StepDone (old : NodeState) (input : Input) (mail : List Letter) (replies : List ToLink) (call : LogCall) (new : NodeState) : Type 0 where
   pub effect : Effect
   pub step : Step old input effect new
@@ -48,7 +48,7 @@ pub record StepDone (old : NodeState) (input : Input) (mail : List Letter) (repl
   pub sound : AreSound effect.written
   pub kept : Appended call (spellings effect.written)
 
--- A disk failed: the records of a step stand or they don't. What the node is then is not said.
+-- A disk failed: the records of a step are stored or they aren't. Nothing is said of the state of the node.
 pub record StepBroken (old : NodeState) (input : Input) (call : LogCall) : Type 0 where
   pub effect : Effect
   pub new : NodeState
@@ -72,11 +72,11 @@ abbrev pub steps_after : StepFault → ℕ → ℕ
 steps_after Steps n = n
 steps_after fault n = n + 1
 
--- from this time on no time may come: it is the last second that a time can tell
+-- from this time on a step is refused: it is the last second that a time can encode
 abbrev pub last_time : ℕ
 last_time = 2 ^ 64 - 2 ^ 32
 
--- the time that an input brings
+-- the time that an input carries
 abbrev pub time_in : Input → ℕ
 time_in (client_input link number request) = 0
 time_in (letter_input m) = m.time

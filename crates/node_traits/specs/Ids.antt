@@ -1,4 +1,4 @@
--- What the number of a request in the program is, by the definitions.
+-- The number of a request in the program, by the definitions.
 use Rattle.cluster_base.specs.declared.identity.RequestId.{RequestId}
 use Rattle.node_model.specs.Exchanges as asked
 

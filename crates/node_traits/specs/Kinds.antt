@@ -1,4 +1,4 @@
--- The names of the kinds of messages, as scripts have them (own).
+-- The names of the kinds of messages in scripts (own).
 use Rattle.std.specs.Prelude.{ℕ, List, codes}
 use Rattle.node_model.specs.Letters.{Body, table_ask, table_told, write_ask, write_done, read_ask, half_ask, read_rows, stale, time_ask, time_told}
 

@@ -1,4 +1,4 @@
--- A list with a place of its own for one item.
+-- A list with room of its own for one item.
 use Rattle.std.specs.Prelude.{List, [], ◌∷◌, Option, Some, None}
 
 abbrev pub listed : {X : Type 0} → Option X → List X

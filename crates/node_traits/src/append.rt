@@ -9,11 +9,11 @@ use crate::outputs::StepFault;
 use bson_values::Blob;
 use outside::log::{Log, LogFault};
 
-/// Appends the records of a step, all at once; with no record the log is left alone.
+/// Appends the records of a step, all at once; with no record the log is not changed.
 ///
 /// # Errors
-/// - `StepFault::Disk` only if the disk of the log met a fault: then all of the records stand or none does.
-/// - `StepFault::Memory` for want of memory: the log is as it was.
+/// - `StepFault::Disk` only if the disk of the log met a fault: then all of the records are stored or none is.
+/// - `StepFault::Memory` if memory runs out: the log is unchanged.
 pub fn append_records<L: Log>(log: &mut L, records: &[Blob]) -> Result<(), StepFault>
     requires open { IsTrue (L.facts.is_open log.old) }
     ensures done { OnOk result (Appended (log_call L.facts log.old log.new) records.now) }

@@ -11,7 +11,7 @@ use std::marker::Model;
 /// The count of steps at the last one.
 const LAST_COUNT: u64 = (1 << 56) - 1;
 
-/// The last second that a time can tell: from it on no time may come.
+/// The last second that a time can encode: from it on a step is refused.
 const LAST_TIME: u64 = 0xffff_ffff_0000_0000;
 
 /// How many steps a node took since it was opened, below 2^56.
@@ -31,17 +31,17 @@ impl Model for StepCount {
 }
 
 impl StepCount {
-    /// No step.
+    /// Returns the count of no steps.
     pub fn new() -> StepCount
         ensures { result ≡ 0 }
     {
         StepCount { steps: 0 }
     }
 
-    /// Counts one more step, of a node at its own time, on an input that brings the other.
+    /// Counts one more step, of a node at its own time, on an input with the other.
     ///
     /// # Errors
-    /// `StepFault::Steps` exactly at the last step: where the count, or one of the times, is at its end. Nothing is counted then.
+    /// `StepFault::Steps` exactly at the last step: where the count, or one of the times, is at its end. Then nothing is counted.
     pub fn count(&mut self, own: Time, brought: Time) -> Result<(), StepFault>
         ensures counted { OnOk result (self.new ≡ self.old + 1) }
         ensures early { OnOk result ((own.0 < last_time) × (brought.0 < last_time)) }

@@ -1,4 +1,4 @@
-//! What drivers know of a node: what it takes, what a step gives out, and what a step leaves in its journal.
+//! What drivers know of a node: its inputs, the messages and replies of a step, and its records in the journal.
 #![tactic(auto)]
 
 mod append;

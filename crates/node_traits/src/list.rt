@@ -1,4 +1,4 @@
-//! Lists that steps give out.
+//! Lists of what a step sends.
 
 ghost use Rattle.std.specs.Prelude.{◌≡◌, ◌++◌, ◌∷◌, [], OnErr, OnOk};
 ghost use Rattle.node_traits.specs.Lists.{listed};
@@ -7,7 +7,7 @@ use bson_values::Memory;
 use std::alloc::Global;
 use std::marker::Model;
 
-/// A list of items, with a place of its own for one, its last, which needs no memory.
+/// A list of items, with room of its own for one, its last, which needs no memory.
 #[derive(Drop)]
 pub struct SpareList<T: Drop> {
     items: Vec<T>,
@@ -24,7 +24,7 @@ impl<T: Drop> Model for SpareList<T> {
 }
 
 impl<T: Drop> SpareList<T> {
-    /// No item.
+    /// Returns the empty list.
     pub fn new(alloc: Global) -> SpareList<T>
         ensures { result ≡ [] }
     {
@@ -34,7 +34,7 @@ impl<T: Drop> SpareList<T> {
         }
     }
 
-    /// One item, in the place that needs no memory.
+    /// Returns a list of one item, in the room that needs no memory.
     pub fn of_one(alloc: Global, item: T) -> SpareList<T>
         ensures { result ≡ item ∷ [] }
     {
@@ -44,7 +44,7 @@ impl<T: Drop> SpareList<T> {
         }
     }
 
-    /// Puts an item behind the others. Fails for want of memory, and then changes nothing.
+    /// Appends an item. Returns `Memory` if memory runs out, and then changes nothing.
     pub fn push(&mut self, item: T) -> Result<(), Memory>
         ensures ok { OnOk result (self.new ≡ self.old ++ item ∷ []) }
         ensures err { OnErr result (self.new ≡ self.old) }
@@ -58,7 +58,7 @@ impl<T: Drop> SpareList<T> {
         Ok(())
     }
 
-    /// Puts the items, in order, behind others. Fails for want of memory, and then those are as they were.
+    /// Appends the items, in order, to others. Returns `Memory` if memory runs out, and then those are unchanged.
     pub fn append_to(self, items: &mut Vec<T>) -> Result<(), Memory>
         ensures ok { OnOk result (items.new.items ≡ items.old.items ++ self) }
         ensures err { OnErr result (items.new.items ≡ items.old.items) }
@@ -73,7 +73,7 @@ impl<T: Drop> SpareList<T> {
         Ok(())
     }
 
-    /// The items in order, and the last one where it stands in the place of its own.
+    /// Returns the items in order, and the last one where it is in the room of its own.
     pub fn into_parts(self) -> (Vec<T>, Option<T>)
         ensures { self ≡ result.0.items ++ listed result.1 }
     {

@@ -13,15 +13,15 @@ pub trait Mail: Sized + Drop {
     // The message of the definitions that it is.
     ghost letter: { Self → Letter };
 
-    /// The node that it goes to.
+    /// Returns the node that it is sent to.
     fn to(&self) -> NodeId
         ensures { result.0 ≡ (letter self.now).receiver };
 
-    /// The name of its kind, as scripts have it.
+    /// Returns the name of its kind in scripts.
     fn kind(&self) -> &'static str
         ensures { result.now ≡ kind_of (letter self.now).body };
 
-    /// The same message once more. Fails for want of memory.
+    /// Returns a copy of the message, or `Memory` if memory runs out.
     fn copy(&self, alloc: Global) -> Result<Self, Memory>
         ensures { IfOk result (λ message. letter message ≡ letter self.now) };
 }

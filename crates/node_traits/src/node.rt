@@ -17,15 +17,15 @@ use std::alloc::Global;
 use std::marker::Sync;
 use std::thread::Threads;
 
-/// A node: one machine that takes one step on each input, and keeps in a log what has to outlive it.
+/// A node: one machine that takes one step on each input, and stores in a log what has to survive it.
 pub trait Node: Drop {
-    /// What it takes.
+    /// Its inputs.
     type Input: Drop;
 
-    /// What it sends.
+    /// Its messages.
     type Mail: Mail;
 
-    /// What clients ask of it.
+    /// The requests of its clients.
     type Request: Drop;
 
     // The state of the definitions that it is in.
@@ -40,33 +40,33 @@ pub trait Node: Drop {
     // The request of the definitions that a request is.
     ghost asks: { Self.Request → Request };
 
-    /// Its number among the nodes.
+    /// Returns its number among the nodes.
     fn me(&self) -> NodeId
         ensures { result.0 ≡ number_of (state self.now) };
 
-    /// The input that brings a request of a link, whose reply has this number.
+    /// Returns the input with a request of a link, whose reply has this number.
     fn client(link: u32, number: i32, request: Self::Request) -> Self::Input
         ensures { meaning result ≡ client_input link number (asks request) };
 
-    /// The input that tells the moment, in milliseconds since 1970.
+    /// Returns the input with the moment, in milliseconds since 1970.
     fn moment(ms: u64) -> Self::Input
         ensures { meaning result ≡ moment_input ms };
 
-    /// The input that tells that the node was opened.
+    /// Returns the input of the opening of the node.
     fn opened() -> Self::Input
         ensures { meaning result ≡ opened_input };
 
-    /// The input that delivers a message. What can be computed of the message alone is computed here, so that it needs no node.
+    /// Returns the input that delivers a message. What depends on the message alone is computed here, so that it needs no node.
     fn prepare<R: Threads + Sync>(rt: &R, alloc: Global, mail: Self::Mail) -> Self::Input
         ensures { meaning result ≡ letter_input (Self.Mail.letter mail) };
 
-    /// Takes one step on an input: its records are appended at once, and its messages and replies are given out.
+    /// Takes one step on an input: its records are appended at once, and its messages and replies are returned.
     ///
     /// # Errors
-    /// - `StepFault::Disk` only if the disk of the log met a fault: then all records of a step stand or none does, and the log and the
-    ///   node must be opened again.
-    /// - `StepFault::Steps` only at the last step: node and log are as they were.
-    /// - `StepFault::Memory` for want of memory: node and log are as they were, but the step is counted.
+    /// - `StepFault::Disk` only if the disk of the log met a fault: then all records of a step are stored or none is, and the log and the node must be
+    ///   reopened.
+    /// - `StepFault::Steps` only at the last step: node and log are unchanged.
+    /// - `StepFault::Memory` if memory runs out: node and log are unchanged, but the step is counted.
     fn step<L: Log>(
         &mut self,
         log: &mut L,
@@ -84,12 +84,12 @@ pub trait Node: Drop {
         ensures open { OnOk result (IsTrue (L.facts.is_open log.new)) }
         ensures kept { L.facts.holds log.old (L.facts.records log.old) → OnOk result (L.facts.holds log.new (L.facts.records log.new)) }
 
-        // Each step counts but the last, which is refused.
+        // Each step is counted, except the last, which is refused.
         ensures counted { OnOk result (steps self.new ≡ steps self.old + 1) }
         ensures counted_err { IfErr result (λ e. steps self.new ≡ steps_after e (steps self.old)) }
         ensures below { steps self.new < 2 ^ 56 }
 
-        // Of the log's disk.
+        // The log's disk.
         ensures cause { IfErr result (λ e. ByStepFault e
             (λ faults. (faults ≡ L.facts.fault_count log.new) × Rose (L.facts.fault_count log.old) (L.facts.fault_count log.new))
             (Unit {0})) }

@@ -1,4 +1,4 @@
-//! What a step gives out.
+//! What a step sends.
 
 ghost use Rattle.std.specs.Prelude.{◌≡◌};
 ghost use Rattle.node_traits.specs.declared.outputs.StepFault.TheVariants.{Memory as out_of_memory};
@@ -9,7 +9,7 @@ use bson_values::{Blob, Memory};
 /// The bytes of a reply, for a link.
 #[derive(Drop)]
 pub struct ToLink {
-    /// The number of the link, as it came with the request.
+    /// The number of the link on which the request came.
     pub link: u32,
     /// A whole message.
     pub bytes: Blob,
@@ -21,7 +21,7 @@ pub type MailList<M> = SpareList<M>;
 /// Replies, in order.
 pub type ReplyList = SpareList<ToLink>;
 
-/// The messages and the replies of a step. Both go out once its records are in the journal.
+/// The messages and the replies of a step. Both are sent once its records are in the journal.
 #[derive(Drop)]
 pub struct Outputs<M: Drop> {
     pub mail: MailList<M>,
@@ -31,11 +31,11 @@ pub struct Outputs<M: Drop> {
 /// Why a step was not taken.
 #[derive(Clone, Copy, Debug, PartialEq, Eq)]
 pub enum StepFault {
-    /// The disk of the log failed; its count of faults is shown. The log and the node must be opened again.
+    /// The disk of the log failed; its count of faults is shown. The log and the node must be reopened.
     Disk { faults: u64 },
     /// The node is at its last step: its count of steps, or a time, is at its end.
     Steps,
-    /// Want of memory. The node and the log are as they were.
+    /// Out of memory. The node and the log are unchanged.
     Memory,
 }
 

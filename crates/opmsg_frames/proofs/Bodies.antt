@@ -1,4 +1,4 @@
--- A body that is a fault.
+-- A body with a fault.
 use Rattle.std.proofs.Common.{◌≡◌, ◌≢◌, ℕ, ◌<◌, ◌^◌, List, Result, Ok, Err, refl, sym, ap}
 use Rattle.std.specs.Prelude.{ℤ, IfOk}
 use Rattle.std.specs.Int.{w32, cast_signed, cast_unsigned}

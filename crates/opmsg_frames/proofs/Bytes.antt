@@ -14,7 +14,7 @@ number_fits k bytes are = fits (take 4 (drop k bytes)) (AreBytes-take 4 (drop k 
     fits : (four : List ℕ) → AreBytes four → from_le_bytes w32 four < 2 ^ 32
     fits four are = omega (arith, are 0, are 1, are 2, are 3)
 
--- the number is spelled by its bytes
+-- the bytes encode the number
 number_bytes : (k : ℕ) (bytes : List ℕ) → AreBytes bytes → k + 4 ≤ length bytes → int32 (number_at k bytes) ≡ take 4 (drop k bytes)
 number_bytes k bytes are room =
     le_bytes_4 (take 4 (drop k bytes)) _ (length-take-le 4 (drop k bytes) (omega (arith, length-drop k bytes))) (AreBytes-take 4 (drop k bytes) (AreBytes-drop k bytes are)) refl

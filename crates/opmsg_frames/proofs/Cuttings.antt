@@ -1,4 +1,4 @@
--- A conversation with a framer gives the requests of the bytes that were fed.
+-- A conversation with a framer returns the requests in the bytes that were fed.
 use Rattle.std.proofs.Common.{◌≡◌, ℕ, ◌+◌, ◌⊎◌, inl, inr, Option, Some, None, Ok, Err, List, [], ◌∷◌, ◌++◌, length, refl, sym, ap, subst, ◌∙◌, append_assoc}
 use Rattle.std.proofs.lemmas.List.{append-nil}
 use Rattle.opmsg_model.specs.Frames.{IsFirst, FramesFrom, ends, fails, goes_on, Frames}
@@ -17,7 +17,7 @@ use Rattle.bson_model.specs.Grammar.{AreBytes}
 use Rattle.opmsg_frames.proofs.Stays.{whole_stays, fault_stays}
 use Rattle.opmsg_frames.proofs.OneReading.{first_once, behind_bytes}
 
--- requests stand one behind another from the bytes at an offset on, and behind them the bytes at another
+-- the bytes at an offset are requests, one after another, and then the bytes at another offset
 abbrev Prefix : ℕ → List ℕ → List requests.Request → ℕ → List ℕ → Type 0
 Prefix offset bytes [] end rest = (end ≡ offset) × (rest ≡ bytes)
 Prefix offset bytes (r ∷ rs) end rest = (behind : List ℕ) × IsFirst bytes r behind × Prefix (offset + length r.bytes) behind rs end rest
@@ -61,12 +61,12 @@ prefix_is offset bytes (r ∷ rs) end rest all left fault are f frames =
     let y = prefix_is (offset + length r.bytes) f.0 rs end rest x.0 left fault (behind_bytes bytes r f.0 are f.1) f.2 x.2 in
     (y.0, x.1 ∙ ap (λ (l : List requests.Request). r ∷ l) y.1)
 
--- a fault that was told stands in the bytes
+-- a fault that was returned is in the bytes
 abbrev Stands : Option wire.FrameFault → List ℕ → Type 0
 Stands None bytes = Unit {0}
 Stands (Some fault) bytes = wire.outline bytes ≡ wire.faulty_outline fault
 
--- what was fed and given so far
+-- what was fed and returned
 record Spoken (all : List ℕ) (requests_given : List Request) (now : FramerView) : Type 0 where
   meants : List requests.Request
   meant : AreMeant requests_given meants
@@ -175,7 +175,7 @@ fault_told steps fault offset end talk =
     let frames = prefix_then 0 (fed steps) s.meants t.0.offset t.0.bytes [] t.0.bytes (Some (fault_view fault, t.0.offset)) s.prefix (fails t.0.offset t.0.bytes (fault_view fault) stands) in
     (s.meants, s.meant, rw (append-nil s.meants, sym same, sym last.at) at frames)
 
--- ---- a fault is told again
+-- a fault is returned again
 
 -- one fault of the program is one of the definitions
 abbrev told_as : wire.FrameFault → faults.Malformed
@@ -203,7 +203,7 @@ told_back BadQuery = refl
 fault_once : (f g : faults.Malformed) → fault_view f ≡ fault_view g → f ≡ g
 fault_once f g e = sym (told_back f) ∙ ap (λ (h : wire.FrameFault). told_as h) e ∙ told_back g
 
--- a fault was told
+-- a fault was returned
 abbrev Holds : faults.Malformed → ℕ → FramerView → Type 0
 Holds fault offset now = (now.fault ≡ Some (fault_view fault)) × (now.offset ≡ offset)
 

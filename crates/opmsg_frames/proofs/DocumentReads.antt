@@ -1,4 +1,4 @@
--- Reading documents one behind the other: what was read, and what is left.
+-- Reading documents one after the other: what was read, and what is left.
 use Rattle.std.proofs.Common.{◌≡◌, ℕ, inl, inr, true, false, List, [], ◌∷◌, ◌++◌, length, take, drop, refl, sym, ap, ◌∙◌, arith, length-append, append_assoc}
 use Rattle.std.specs.Prelude.{nat_le}
 use Rattle.std.specs.Int.{w32, from_le_bytes}
@@ -12,7 +12,7 @@ use Rattle.opmsg_model.specs.Sections.{IsStated}
 use Rattle.opmsg_model.specs.Requests.{IsKept, AreKept, FirstFaulty}
 use Rattle.opmsg_model.specs.Outline.{has_stated}
 
--- these documents are left, behind those that were read
+-- these documents are left, after those that were read
 pub record Left (documents left : List (List ℕ)) (rest : List ℕ) (read : List Fields) : Type 0 where
   pub split : rest ≡ concat left
   pub stated : AllByRecursion IsStated left

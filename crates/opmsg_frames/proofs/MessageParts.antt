@@ -1,4 +1,4 @@
--- What the bytes of a spelled message tell: numbers, and what stands behind them.
+-- What the bytes of an encoded message contain: numbers, and what follows them.
 use Rattle.std.proofs.Common.{◌≡◌, ℕ, ◌+◌, ◌≤◌, false, List, length, drop, sym, ap, ◌∙◌, arith}
 use Rattle.std.specs.Int.{w32, cast_signed}
 use Rattle.std.specs.List.{flat_map}

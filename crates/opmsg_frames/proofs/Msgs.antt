@@ -1,4 +1,4 @@
--- A whole message of OP_MSG with which nothing is wrong.
+-- A whole message of OP_MSG without a fault.
 use Rattle.std.proofs.Common.{◌≡◌, ℕ, ◌+◌, ◌≤◌, ◌⊎◌, inl, inr, Bool, true, false, Option, Some, None, List, ◌++◌, length, drop, refl, ap, ◌∙◌, arith, length-drop}
 use Rattle.std.specs.Prelude.{◌||◌, ◌==◌, nat_lt, if◌then◌else◌}
 use Rattle.std.specs.Int.{w32, cast_signed}
@@ -13,7 +13,7 @@ use Rattle.bson_values.proofs.Leaves.{AreBytes-drop}
 use Rattle.bson_model.specs.Grammar.{AreBytes}
 use Rattle.opmsg_frames.proofs.Spellings.{sections_exist}
 
--- its flags are taken, and its sections are right
+-- its flags are allowed, and its sections are valid
 flags_and_sections : (short taken : Bool) (sections : Option FrameFault) → (if short then Some bad_flags else if taken then sections else Some bad_flags) ≡ None → (taken ≡ true) × (sections ≡ None)
 flags_and_sections true taken sections e = absurd (let q : Some bad_flags ≡ None = e in cc)
 flags_and_sections false false sections e = absurd (let q : Some bad_flags ≡ None = e in cc)

@@ -7,7 +7,7 @@ use Rattle.std.proofs.lemmas.Grind.{common_steps}
 use Rattle.std.proofs.Math.Seq.{take-suc}
 use Rattle.bson_model.specs.Faults.{before_zero}
 
--- what was passed before, and what is still found
+-- the bytes already passed, and the result for the rest
 abbrev pub after : List ℕ → Option (List ℕ) → Option (List ℕ)
 after prefix name = option_map (λ more. prefix ++ more) name
 

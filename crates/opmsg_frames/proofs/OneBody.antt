@@ -44,7 +44,7 @@ hold_once (sequence_section i documents ∷ sections) mss nss s t (m, others, e,
     let first : named i m ≡ named i n = ap (λ (x : List Fields). named i x) same in
     (both.0, cc (e, f, first, behind))
 
--- ---- a document that is kept has no fault
+-- a supported document has no fault
 
 apart : (bytes : List ℕ) (ms : Fields) (fault : Fault) (offset : ℕ) → AreBytes bytes → IsKept bytes ms → HasFirstFault bytes fault offset → ⊥
 apart bytes ms fault offset are kept first =

@@ -8,7 +8,7 @@ use Rattle.bson_values.proofs.Leaves.{AreBytes-take, AreBytes-drop}
 use Rattle.bson_model.specs.Grammar.{AreBytes}
 use Rattle.opmsg_frames.proofs.OneRequest.{one_request}
 
--- one request stands first
+-- one request comes first
 pub first_once : (bytes : List ℕ) (r s : Request) (behind rest : List ℕ) → AreBytes bytes → IsFirst bytes r behind → IsFirst bytes s rest → (r ≡ s) × (behind ≡ rest)
 first_once bytes r s behind rest are a b =
     let whole : message_outline (length r.bytes) ≡ message_outline (length s.bytes) = sym a.whole ∙ b.whole in
@@ -20,13 +20,13 @@ first_once bytes r s behind rest are a b =
       sym left ∙ ap (λ (l : List ℕ). drop (length r.bytes) l) b.split ∙ drop_at s.bytes rest (length r.bytes) (sym size),
     )
 
--- the bytes behind a request
+-- the bytes after a request
 pub behind_bytes : (bytes : List ℕ) (r : Request) (behind : List ℕ) → AreBytes bytes → IsFirst bytes r behind → AreBytes behind
 behind_bytes bytes r behind are a =
     let left : drop (length r.bytes) bytes ≡ behind = ap (λ (l : List ℕ). drop (length r.bytes) l) a.split ∙ drop_at r.bytes behind (length r.bytes) refl in
     rw left at (AreBytes-drop (length r.bytes) bytes are)
 
--- how bytes begin
+-- what bytes begin with
 not_partial : (bytes : List ℕ) (r : Request) (behind : List ℕ) → outline bytes ≡ partial_outline → IsFirst bytes r behind → ⊥
 not_partial bytes r behind e a = let q : partial_outline ≡ message_outline (length r.bytes) = sym e ∙ a.whole in cc
 

@@ -1,4 +1,4 @@
--- Bytes are one request at most.
+-- Bytes are at most one request.
 use Rattle.std.proofs.Common.{◌≡◌, ℕ, zero, suc, ◌<◌, ◌^◌, Bool, Some, List, [], ◌∷◌, ◌++◌, length, get_or, take, drop, refl, sym, ap, subst, ◌∙◌, arith, length-append, length-drop}
 use Rattle.std.specs.Prelude.{ℤ}
 use Rattle.std.specs.Int.{w32, cast_signed}
@@ -67,7 +67,7 @@ by_next (sequence_section i ds ∷ s) (sequence_section j es ∷ t) a b low e =
 pub sections_once : (s t : List Section) → AllByRecursion IsSection s → AllByRecursion IsSection t → length (flat_map section_bytes s) < 2 ^ 32 → flat_map section_bytes s ≡ flat_map section_bytes t → s ≡ t
 sections_once s t a b low e = by_next s t a b low (same_next s t a b low e)
 
--- the document of a message that holds no other
+-- the document of a message that has only this one
 cons_bytes : (bytes : List ℕ) → AreBytes bytes → (i : ℕ) → get_or (0 ∷ bytes) i 0 < 256
 cons_bytes bytes are zero = omega arith
 cons_bytes bytes are (suc i) = are i
@@ -75,7 +75,7 @@ cons_bytes bytes are (suc i) = are i
 pub lone_bytes : (document : List ℕ) → AreBytes document → AreBytes (flat_map section_bytes (body_section document ∷ []))
 lone_bytes document are = cons_bytes (document ++ []) (rw (append-nil document) are)
 
--- what two requests have the same
+-- what two requests have in common
 record Same (r s : Request) (f g : Form) : Type 0 where
   form : f ≡ g
   id : r.id ≡ s.id

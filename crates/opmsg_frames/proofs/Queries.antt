@@ -1,4 +1,4 @@
--- A whole message of OP_QUERY that greets.
+-- A whole message of OP_QUERY that is a greeting.
 use Rattle.std.proofs.Common.{◌≡◌, ℕ, ◌+◌, ◌-◌, ◌<◌, ◌≤◌, inl, inr, Bool, true, false, Option, Some, None, List, [], ◌∷◌, ◌++◌, length, take, drop, refl, sym, ap, ◌∙◌, drop-cons, arith, length-drop}
 use Rattle.std.specs.Prelude.{◌||◌, ◌&&◌, ◌==◌, nat_lt, nat_le, slice_index}
 use Rattle.std.specs.Int.{w32, cast_signed}

@@ -1,4 +1,4 @@
--- The section that stands first in the spelling of sections.
+-- The section that comes first in the encoding of sections.
 use Rattle.std.proofs.Common.{◌≡◌, ℕ, ◌+◌, ◌<◌, ◌≤◌, ◌^◌, false, eqb, Option, Some, None, List, [], ◌∷◌, ◌++◌, length, drop, refl, sym, ap, ◌∙◌, arith, length-append, append_assoc}
 use Rattle.std.specs.List.{AllByRecursion, concat, flat_map}
 use Rattle.std.specs.Str.{IsUtf8}
@@ -21,7 +21,7 @@ sized content = int32 (length content + 4) ++ content
 sized_stated : (content : List ℕ) → 1 ≤ length content → length content + 4 < 2 ^ 32 → IsStated (sized content)
 sized_stated content some low = (omega (arith, some), from_le_bytes-to_le_bytes_4 (length content + 4) low ∙ (let l : length content + 4 ≡ length (sized content) = omega arith in l))
 
--- what stands next, by the sections that are left
+-- what comes next, by the sections that are left
 abbrev pub next_of : List Section → Next
 next_of [] = no_section
 next_of (body_section document ∷ sections) = next_body document (flat_map section_bytes sections)

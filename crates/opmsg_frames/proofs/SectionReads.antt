@@ -1,4 +1,4 @@
--- Reading sections one behind the other: what was read, and what is left.
+-- Reading sections one after the other: what was read, and what is left.
 use Rattle.std.proofs.Common.{◌≡◌, ℕ, ◌<◌, ◌^◌, ◌⊎◌, inl, inr, List, [], ◌∷◌, ◌++◌, length, refl, arith, length-append, append_assoc}
 use Rattle.std.specs.List.{AllByRecursion, flat_map}
 use Rattle.std.proofs.lemmas.List.{append-nil}
@@ -25,11 +25,11 @@ pub record Left (sections left : List Section) (rest : List ℕ) (doc : Fields) 
 pub none_read : (sections : List Section) (bytes : List ℕ) (doc : Fields) → bytes ≡ flat_map section_bytes sections → length bytes < 2 ^ 32 → AllByRecursion IsSection sections → bodies sections ≡ 1 → Left sections sections bytes doc []
 none_read sections bytes doc e low each one = record { split = e; low = low; each = each; held = inl (one, λ ms sequences hold. hold); faulty = λ fault offset found. found }
 
--- what stands next
+-- what comes next
 pub next_left : (sections left : List Section) (rest : List ℕ) (doc : Fields) (read : List (List ℕ × List Fields)) → Left sections left rest doc read → next_section rest ≡ next_of left
 next_left sections left rest doc read l = rw l.split (next_is left l.each (rw l.split at l.low))
 
--- a body stands next
+-- a body comes next
 pub record AtBody (sections : List Section) (doc : Fields) (read : List (List ℕ × List Fields)) (document behind : List ℕ) : Type 0 where
   pub stated : IsStated document
   pub kept : (ms : Fields) → IsKept document ms → (more : List Section) × Left sections more behind ms read
@@ -62,7 +62,7 @@ at_body sections (body_section d ∷ left) rest doc read document behind e l =
       faulty = λ fault offset found. l.faulty fault offset (inl found);
     })
 
--- a document sequence stands next
+-- a document sequence comes next
 pub record AtSequence (sections : List Section) (doc : Fields) (read : List (List ℕ × List Fields)) (content behind : List ℕ) : Type 0 where
   pub identifier : List ℕ
   pub documents : List (List ℕ)
@@ -111,7 +111,7 @@ at_sequence sections (sequence_section identifier documents ∷ left) rest doc r
       faulty = λ fault offset found. l.faulty fault offset (faulty_prefix documents (documents_in left) fault offset found);
     }
 
--- nothing more stands there
+-- no section is left
 pub at_end : (sections left : List Section) (rest : List ℕ) (doc : Fields) (read : List (List ℕ × List Fields)) → no_section ≡ next_of left → Left sections left rest doc read → Hold sections (doc ∷ []) read
 at_end sections [] rest doc read e l = ended l.held
   where
@@ -121,7 +121,7 @@ at_end sections [] rest doc read e l = ended l.held
 at_end sections (body_section d ∷ left) rest doc read e l = absurd (let q : no_section ≡ next_body d (flat_map section_bytes left) = e in cc)
 at_end sections (sequence_section identifier documents ∷ left) rest doc read e l = absurd (let q : no_section ≡ next_sequence (sequence_bytes identifier documents) (flat_map section_bytes left) = e in cc)
 
--- only sections stand there
+-- each section that is left is of kind 0 or 1
 pub no_other_kind : (left : List Section) → unknown_kind ≡ next_of left → ⊥
 no_other_kind [] e = let q : unknown_kind ≡ no_section = e in cc
 no_other_kind (body_section d ∷ left) e = let q : unknown_kind ≡ next_body d (flat_map section_bytes left) = e in cc

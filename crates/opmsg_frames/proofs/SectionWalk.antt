@@ -1,4 +1,4 @@
--- What is wrong with sections, section by section.
+-- The fault of sections, section by section.
 use Rattle.std.proofs.Common.{◌≡◌, ℕ, zero, suc, ◌+◌, ◌-◌, ◌<◌, ◌≤◌, Bool, true, false, List, [], ◌∷◌, length, take, drop, refl, sym, ap, ◌∙◌, arith, length-drop, Some}
 use Rattle.std.specs.Prelude.{◌==◌, ◌||◌, not, if◌then◌else◌}
 use Rattle.std.proofs.lemmas.List.{length-take-le}
@@ -6,7 +6,7 @@ use Rattle.opmsg_model.specs.Messages.{number_at}
 use Rattle.opmsg_model.specs.Outline.{Next, has_stated, no_section, unknown_kind, bad_size, next_body, next_sequence, next_section, ended_fault, behind_fault, sections_fault, is_sequence, bad_kind, bad_section}
 use Rattle.opmsg_frames.proofs.StatedDocuments.{within}
 
--- what is wrong from here on is what is wrong with all
+-- the fault from here on is the fault of all sections
 pub record AsBefore (bodies : ℕ) (bad : Bool) (rest bytes : List ℕ) (n m : ℕ) : Type 0 where
   pub enough : length rest < m
   pub same : sections_fault m bodies bad rest ≡ sections_fault n 0 false bytes
@@ -43,7 +43,7 @@ module _ (bodies : ℕ) (bad : Bool) (rest bytes : List ℕ) (n m : ℕ) (so_far
   unfolding behind_fault
   size_bad e = sym (step m bodies bad rest _ so_far.enough e) ∙ so_far.same
 
--- what a section holds stands within what is left
+-- the content of a section is within what is left
 pub content_within : (rest content behind : List ℕ) → next_sequence content behind ≡ next_section rest → length content ≤ length rest
 content_within [] content behind e = absurd (let q : next_sequence content behind ≡ no_section = e in cc)
 content_within (kind ∷ bytes) content behind e = by_kind (kind == 0) (kind == 1) (has_stated bytes) refl e

@@ -1,4 +1,4 @@
--- The documents of a request are small, and its fault stands within the message.
+-- The documents of a request are small, and the offset of its fault is within the message.
 use Rattle.std.proofs.Common.{◌≡◌, ℕ, ◌-◌, ◌≤◌, inl, inr, List, [], ◌∷◌, length, sym, ap, subst, ◌∙◌, arith, length-append, length-drop}
 use Rattle.std.specs.List.{AllByRecursion, concat, flat_map}
 use Rattle.bson_model.specs.Tree.{Fields}
@@ -32,7 +32,7 @@ sections_short (sequence_section i documents ∷ sections) few =
     let content = length-append i (0 ∷ concat documents) in
     all_append IsShort documents (documents_in sections) (documents_short documents (omega (arith, few, size, content))) (sections_short sections (omega (arith, few, size)))
 
--- ---- what is read of short documents
+-- what is read from short documents
 
 are_small : (documents : List (List ℕ)) (mss : List Fields) → AllByRecursion IsShort documents → AreKept documents mss → AllByRecursion IsSmall mss
 are_small [] mss few none = subst (λ (l : List Fields). AllByRecursion IsSmall l) (sym none) tt

@@ -1,4 +1,4 @@
--- How long the spelling of a document is that was read.
+-- How long the encoding is of a document that was read.
 use Rattle.std.proofs.Common.{◌≡◌, ℕ, ◌+◌, ◌*◌, ◌<◌, ◌≤◌, List, ◌++◌, length, take, ap, arith, length-append}
 use Rattle.std.specs.Fmt.{decimal}
 use Rattle.std.proofs.lemmas.Fmt.{length-decimal-le}
@@ -10,7 +10,7 @@ use Rattle.bson_model.proofs.Lengths.{length-framed, length-element}
 use Rattle.opmsg_model.specs.Requests.{IsKept}
 use Rattle.opmsg_model.specs.MessageSizes.{IsSmall}
 
--- a value that was read as it is spelled
+-- a value that was read from its one encoding
 as_read : (bytes spelled : List ℕ) → bytes ≡ spelled → length spelled ≤ 5 * length bytes
 as_read bytes spelled e = omega (arith, ap (λ (l : List ℕ). length l) e)
 
@@ -23,7 +23,7 @@ in_element : (kind : ℕ) (bytes name value rest index spelled others : List ℕ
 in_element kind bytes name value rest index spelled others e near short more =
     omega (arith, near, short, more, ap (λ (l : List ℕ). length l) e, length-element kind name value, length-element kind index spelled, length-append (element kind name value) rest, length-append (element kind index spelled) others)
 
--- what an element leaves to the others
+-- the bytes that follow an element
 behind : (kind : ℕ) (bytes name value rest : List ℕ) → bytes ≡ element kind name value ++ rest → length bytes ≡ length name + length value + 2 + length rest
 behind kind bytes name value rest e =
     omega (arith, ap (λ (l : List ℕ). length l) e, length-element kind name value, length-append (element kind name value) rest)
@@ -70,6 +70,6 @@ written_short bytes ms (body, e, low, reads) few =
 pub kept_small : (bytes : List ℕ) (ms : Fields) → IsKept bytes ms → length bytes ≤ 48000000 → IsSmall ms
 kept_small bytes ms (reads, depth) few = (depth, omega (arith, few, written_short bytes ms reads (omega (arith, few))))
 
--- a document that begins short bytes
+-- a document that is a prefix of short bytes
 pub prefix_small : (bytes : List ℕ) (n : ℕ) (ms : Fields) → length bytes ≤ 48000000 → n ≤ length bytes → ReadsAs (take n bytes) ms → IsWithinDepth ms → IsSmall ms
 prefix_small bytes n ms few le reads depth = kept_small (take n bytes) ms (reads, depth) (omega (arith, few, le, length-take-le n bytes le))

@@ -35,7 +35,7 @@ some_documents : (documents : List (List ℕ)) → AllByRecursion AreBytes docum
 some_documents [] are stated = inl ([], refl)
 some_documents (d ∷ documents) are stated = one_more d documents (read_or_faulty d are.0 stated.0) (some_documents documents are.1 stated.1)
 
--- all documents of sections are kept: those of the bodies, and the sequences
+-- all documents of sections are supported: those of the bodies, and the sequences
 record Held (sections : List Section) : Type 0 where
   mss : List Fields
   sequences : List (List ℕ × List Fields)

@@ -1,4 +1,4 @@
--- The bytes of a spelled request have the outline of their length.
+-- The outline of the bytes of an encoded request is a message of their length.
 use Rattle.std.proofs.Common.{◌≡◌, ℕ, zero, suc, ◌+◌, ◌-◌, ◌<◌, ◌≤◌, ◌^◌, ◌⊎◌, inl, inr, Bool, true, false, Option, Some, None, List, [], ◌∷◌, ◌++◌, length, take, drop, refl, sym, ap, ◌∙◌, arith, length-append, length-drop}
 use Rattle.std.specs.Prelude.{◌&&◌, ◌||◌, ◌==◌, not, nat_lt, nat_le, slice_index, if◌then◌else◌}
 use Rattle.std.specs.List.{AllByRecursion, concat, flat_map}
@@ -124,7 +124,7 @@ query_right r document q = by_greeting q.greeting
         all_true (nat_le 44 (length r.bytes)) (bytes_eq (take 11 (drop 20 r.bytes)) admin_command) (number_at 39 r.bytes == length r.bytes - 39) (nat_lt 0 (slice_index r.bytes 43)) (greets (before_zero (drop 44 r.bytes)))
         long collection stated positive (ap (λ (l : List ℕ). greets (before_zero l)) named ∙ greeting_read name behind greeting)
 
--- what a header tells
+-- the fault of a header, by four tests
 abbrev header_by : Bool → Bool → Bool → Bool → Option FrameFault
 header_by short negative long known = if short || negative then Some bad_length else if long then Some too_long else if known then None else Some bad_opcode
 

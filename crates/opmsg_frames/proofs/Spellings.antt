@@ -1,4 +1,4 @@
--- Sections with which nothing is wrong are the spelling of sections.
+-- Sections without a fault are the encoding of sections.
 use Rattle.std.proofs.Common.{◌≡◌, ◌≢◌, ℕ, zero, suc, ◌+◌, Bool, true, false, eqb, Option, Some, None, List, [], ◌∷◌, ◌++◌, length, take, drop, refl, sym, ap, ◌∙◌, arith, length-drop}
 use Rattle.std.specs.Prelude.{◌||◌, not, if◌then◌else◌}
 use Rattle.std.specs.Int.{w32, from_le_bytes}
@@ -19,7 +19,7 @@ use Rattle.opmsg_frames.proofs.SectionPrefixes.{behind_zero}
 use Rattle.opmsg_frames.proofs.StatedDocuments.{within}
 use Rattle.bson_model.proofs.Booleans.{both}
 
--- the prefix of so many bytes as it states
+-- the prefix of the stated length
 pub stated_prefix : (bytes : List ℕ) → has_stated bytes ≡ true → IsStated (take (number_at 0 bytes) bytes)
 stated_prefix bytes e =
     let w = within bytes e in
@@ -43,7 +43,7 @@ documents_exist n [] e = ([], refl, tt)
 documents_exist zero (b ∷ bytes) e = absurd (let q : false ≡ true = e in cc)
 documents_exist (suc n) (b ∷ bytes) e = by_stated n (b ∷ bytes) (has_stated (b ∷ bytes)) refl (λ rest q. documents_exist n rest q) e
 
--- a name before the first 00
+-- a name and the first 00 after it
 abbrev Splits : List ℕ → List ℕ → Type 0
 Splits bytes name = (more : List ℕ) × (bytes ≡ name ++ 0 ∷ more) × HasNoZero name
 
@@ -83,7 +83,7 @@ by_name content (Some name) t e =
 pub sequence_exists : (content : List ℕ) → is_sequence content ≡ true → Sequence content
 sequence_exists content e = by_name content (before_zero content) refl e
 
--- what stands next, in the bytes
+-- what comes next, in the bytes
 abbrev Spelled : List ℕ → Next → Type 0
 Spelled bytes no_section = bytes ≡ []
 Spelled bytes unknown_kind = Unit {0}
@@ -115,7 +115,7 @@ next_spelled : (bytes : List ℕ) → AreBytes bytes → Spelled bytes (next_sec
 next_spelled [] are = refl
 next_spelled (kind ∷ bytes) are = by_kind kind bytes (eqb kind 0) (eqb kind 1) (has_stated bytes) refl refl refl (tail_bytes kind bytes are)
 
--- sections that are spelled
+-- sections that are encoded
 pub record Exist (seen : ℕ) (bad : Bool) (bytes : List ℕ) : Type 0 where
   pub sections : List Section
   pub split : bytes ≡ flat_map section_bytes sections

@@ -1,4 +1,4 @@
--- Bytes that are documents, one behind the other.
+-- Bytes that are documents, one after the other.
 use Rattle.std.proofs.Common.{◌≡◌, ℕ, zero, suc, ◌+◌, ◌-◌, ◌<◌, ◌≤◌, Bool, true, false, Option, Some, None, List, [], ◌∷◌, length, drop, refl, sym, ap, ◌∙◌, arith, length-drop}
 use Rattle.std.specs.Prelude.{nat_le, ◌&&◌, if◌then◌else◌}
 use Rattle.std.specs.Bool.{Decides}
@@ -18,7 +18,7 @@ within bytes e =
     let p = (Decides-and _ _ (Decides-and _ _ (decides_le 5 (length bytes)) (decides_le 5 (number_at 0 bytes))) (decides_le (number_at 0 bytes) (length bytes))).0 e in
     (p.0.1, p.1)
 
--- the documents that are left are the bytes' exactly where they all are
+-- the bytes that are left are documents exactly where all bytes are
 pub record AsBefore (rest bytes : List ℕ) (n m : ℕ) : Type 0 where
   pub enough : length rest ≤ m
   pub same : are_documents m rest ≡ are_documents n bytes

@@ -1,4 +1,4 @@
--- An outline that is not partial stays as bytes are added.
+-- An outline that is not partial does not change as bytes are added.
 use Rattle.std.proofs.Common.{◌≡◌, ℕ, ◌+◌, ◌<◌, ◌≤◌, ◌⊎◌, inl, inr, Bool, true, false, Option, Some, None, List, ◌++◌, length, take, drop, refl, sym, ap, ◌∙◌, arith, length-append, length-drop}
 use Rattle.std.specs.Prelude.{◌||◌, ◌==◌, ◌^◌, nat_lt, nat_le, if◌then◌else◌}
 use Rattle.std.specs.Int.{w32, from_le_bytes}
@@ -26,7 +26,7 @@ header_stays : (bytes more : List ℕ) → 16 ≤ length bytes → header_fault 
 header_stays bytes more least =
     ap (λ (n : ℕ). fault_by n (opcode (bytes ++ more))) (number_stays 0 bytes more (omega (arith, least))) ∙ ap (λ (n : ℕ). fault_by (stated_length bytes) n) (number_stays 12 bytes more (omega (arith, least)))
 
--- an outline behind a right header, by whether the message is cut, and its bytes
+-- an outline after a valid header, by whether the message is incomplete, and its bytes
 abbrev pub outline_by : ℕ → Bool → List ℕ → Outline
 outline_by n cut message = if cut then partial_outline else whole_outline n (message_fault message)
 

@@ -1,4 +1,4 @@
--- A document is read, or it has a first fault: a walk ends behind the document's first byte.
+-- A document is read, or it has a first fault: a walk ends after the document's first byte.
 use Rattle.std.proofs.Common.{◌≡◌, ℕ, ◌-◌, ◌⊎◌, inl, inr, List, Result, Ok, Err, refl}
 use Rattle.bson_model.specs.Tree.{Fields}
 use Rattle.bson_model.specs.Faults.{Fault, HasFirstFault}

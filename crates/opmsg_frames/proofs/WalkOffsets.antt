@@ -8,7 +8,7 @@ use Rattle.std.proofs.lemmas.Bool.Decides.{nat_tests}
 use Rattle.bson_model.specs.Faults.{Fault, length_fault, string_fault, boolean_fault, depth_fault, trailing_fault, Holder, last, Step, goes_on, ends_at, faulty, Form, fixed_form, string_form, holder_form, binary_form, boolean_form, form_of, before_zero, closed, short, fixed_step, boolean_step, stated_step, length_step, string_step, binary_step, holder_step, value_step, named_step, typed_step, element_step, first_step, Walks, walks_to_end, walks_to_fault, walks_on, HasFirstFault}
 use Rattle.opmsg_frames.proofs.Spellings.{zero_splits}
 
--- the offset of a step that does not end
+-- the offset of a step that is not an end
 abbrev Within : ℕ → Step → Type 0
 Within n (goes_on offset holders) = offset ≤ n
 Within n (ends_at offset) = Unit {0}

@@ -116,7 +116,7 @@ is_first n bytes meant o e is =
       l,
     )
 
--- a message that was read is the request that stands first
+-- a message that was read is the request that comes first
 pub first_read : {E : Type 0} (n : ℕ) (bytes message : List ℕ) (read : Result Content E) → outline bytes ≡ message_outline n → message ≡ take n bytes →
     IfOk read (λ c. (meant : Request) × IsContent c meant × (meant.bytes ≡ message) × IsRequest meant) →
     IfOk read (λ c. (meant : Request) × IsContent c meant × IsFirst bytes meant (drop n bytes) × (meant.bytes ≡ take n bytes) × (length meant.bytes ≡ n))

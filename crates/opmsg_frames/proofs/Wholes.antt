@@ -1,4 +1,4 @@
--- A document that begins the bytes whose number it states is all of them.
+-- A document that is a prefix of bytes of the stated length is all of them.
 use Rattle.std.proofs.Common.{◌≡◌, ℕ, ◌+◌, ◌<◌, ◌≤◌, ◌^◌, List, length, take, sym, ap, ◌∙◌, arith}
 use Rattle.std.specs.Int.{w32, from_le_bytes}
 use Rattle.std.proofs.lemmas.List.{length-take-le, take-take}
@@ -12,7 +12,7 @@ use Rattle.opmsg_model.specs.Sections.{IsStated}
 use Rattle.opmsg_model.specs.Requests.{IsKept}
 use Rattle.bson_model.proofs.Lengths.{length-framed}
 
--- a spelling states its length
+-- an encoding states its length
 framed_states : (body : List ℕ) → length body + 5 < 2 ^ 31 → number_at 0 (framed body) ≡ length body + 5
 framed_states body low = from_le_bytes-to_le_bytes_4 (length body + 5) (omega arith)
 

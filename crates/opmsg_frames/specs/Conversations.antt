@@ -1,5 +1,4 @@
--- Conversations with a framer: pieces of the bytes of a connection are fed to it, in any cutting, and it is asked for the
--- next request as often as one likes.
+-- Conversations with a framer: the bytes of a connection are fed to it in any pieces, and the next request is requested any number of times between them.
 use Rattle.std.specs.Prelude.{◌≡◌, ℕ, List, [], ◌∷◌, ◌++◌, Option, Some, None, Result, Ok, Err}
 use Rattle.std.specs.List.{flat_map, AllByRecursion}
 use Rattle.opmsg_model.specs.Requests as wire
@@ -14,12 +13,12 @@ use Rattle.opmsg_frames.specs.RequestMeanings.{IsMeant}
 pub data Step : Type 0 where
   -- this piece was taken
   took : List ℕ → Step
-  -- a piece was not taken, for want of memory
+  -- a piece was not taken, because memory ran out
   refused : Step
-  -- what a call for the next request answered
+  -- what a call for the next request returned
   answered : Result (Option Request) FrameFault → Step
 
--- a step changes a framer so
+-- what each step does to a framer
 abbrev pub IsStep : FramerView → Step → FramerView → Type 0
 IsStep old (took piece) new = (new.bytes ≡ old.bytes ++ piece) × (new.offset ≡ old.offset) × (new.fault ≡ old.fault)
 IsStep old refused new = (new.bytes ≡ old.bytes) × (new.offset ≡ old.offset) × (new.fault ≡ old.fault)
@@ -45,17 +44,17 @@ abbrev pub request_of : Step → List Request
 request_of (answered (Ok (Some request))) = request ∷ []
 request_of step = []
 
--- the requests that were given, in order
+-- the requests that were returned, in order
 abbrev pub given : List Step → List Request
 given steps = flat_map request_of steps
 
--- these are those of the definitions, one by one
+-- these are, one by one, requests of the definitions
 abbrev pub AreMeant : List Request → List wire.Request → Type 0
 AreMeant [] meants = meants ≡ []
 AreMeant (request ∷ requests) meants =
     (meant : wire.Request) × (others : List wire.Request) × (meants ≡ meant ∷ others) × IsMeant request meant × AreMeant requests others
 
--- each answer among these steps tells this fault at this offset
+-- each call for the next request among these steps returns this fault at this offset
 abbrev pub IsToldAgain : faults.Malformed → ℕ → Step → Type 0
 IsToldAgain fault offset (answered answer) = answer ≡ Err (Malformed fault offset)
 IsToldAgain fault offset step = Unit {0}

@@ -3,8 +3,7 @@ use Rattle.std.specs.Prelude.{◌≡◌, ℕ, List, Option, ◌==◌, if◌then�
 use Rattle.std.specs.Coded.{Coded, code_by, coded×, coded_list, coded_option, coded_ℕ}
 use Rattle.opmsg_model.specs.Outline.{FrameFault, bad_length, too_long, bad_opcode, bad_flags, bad_kind, bad_section, two_bodies, no_body, bad_query}
 
--- the bytes fed that were not given out, the offset of the first of them, the fault, if one was told, and for how many
--- bytes there is memory
+-- the bytes that were fed but not returned, the offset of the first of them, the fault, if one was returned, and for how many bytes there is room
 pub record FramerView : Type 0 where
   pub bytes : List ℕ
   pub offset : ℕ

@@ -1,4 +1,4 @@
--- What a call for the next request answers.
+-- What a call for the next request returns.
 use Rattle.std.specs.Prelude.{◌≡◌, ◌⊎◌, ℕ, ◌+◌, length, Option, Some, None, Result, Ok, Err}
 use Rattle.opmsg_model.specs.Frames.{IsFirst}
 use Rattle.opmsg_model.specs.Outline as wire
@@ -10,14 +10,14 @@ use Rattle.opmsg_frames.specs.Outlines.{fault_view}
 use Rattle.opmsg_frames.specs.RequestMeanings.{IsMeant}
 use Rattle.opmsg_frames.specs.FramerViews.{FramerView}
 
--- the request that stands first was given out
+-- the first request was returned
 pub record Given (old new : FramerView) (request : Request) (meant : requests.Request) : Type 0 where
   pub meant_is : IsMeant request meant
   pub first : IsFirst old.bytes meant new.bytes
   pub offset : new.offset ≡ old.offset + length meant.bytes
   pub fault : new.fault ≡ None
 
--- a fault is told, and told again
+-- a fault is returned, and returned again
 pub record Told (old new : FramerView) (fault : wire.FrameFault) (offset : ℕ) : Type 0 where
   pub at : offset ≡ old.offset
   pub cause : (old.fault ≡ Some fault) ⊎ ((old.fault ≡ None) × (wire.outline old.bytes ≡ wire.faulty_outline fault))

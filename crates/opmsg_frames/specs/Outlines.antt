@@ -1,4 +1,4 @@
--- What the program's outlines are by the definitions.
+-- The program's outlines as those of the definitions.
 use Rattle.std.specs.Prelude.{ℕ, ◌+◌, List, length, drop, Bool, true, false, Option, Some, None}
 use Rattle.std.specs.Str.{is_utf8}
 use Rattle.bson_model.specs.Faults.{before_zero}
@@ -33,13 +33,13 @@ next_view BadSize = wire.bad_size
 next_view (Body document behind) = wire.next_body document.now behind.now
 next_view (Sequence content behind) = wire.next_sequence content.now behind.now
 
--- what holds of the bytes behind a section that was found
+-- a property of the bytes after a section, if there is one
 abbrev pub IfBehind : Next → (List ℕ → Type 0) → Type 0
 IfBehind (Body document behind) holds = holds behind.now
 IfBehind (Sequence content behind) holds = holds behind.now
 IfBehind next holds = Unit {0}
 
--- the identifier of a document sequence, if it is a text, and what stands behind its 00
+-- the identifier of a document sequence, if it is a text, and what follows its 00
 abbrev pub parts_if : Bool → List ℕ → List ℕ → Option (List ℕ × List ℕ)
 parts_if false content name = None
 parts_if true content name = Some (name, drop (length name + 1) content)

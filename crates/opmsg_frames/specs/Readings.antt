@@ -1,4 +1,4 @@
--- What laws say of the bytes of a connection.
+-- What laws say about the bytes of a connection.
 use Rattle.std.specs.Prelude.{ℕ, Option}
 use Rattle.opmsg_model.specs.Outline.{FrameFault}
 

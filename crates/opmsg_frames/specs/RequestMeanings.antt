@@ -1,4 +1,4 @@
--- What the program's requests are by the definitions.
+-- The program's requests as those of the definitions.
 use Rattle.std.specs.Prelude.{◌≡◌, ◌≢◌, ℕ, Result, Ok, Err}
 use Rattle.bson_model.specs.Faults.{Fault}
 use Rattle.bson_values.specs.declared.fault.BsonFault.{BsonFault}
@@ -20,7 +20,7 @@ abbrev pub IsBody : Body → wire.Body → Type 0
 IsBody (Read doc sequences) body = body ≡ wire.read_body doc sequences
 IsBody (Faulty e) body = (fault : Fault) × (offset : ℕ) × (e ≡ fault_from fault offset) × (body ≡ wire.faulty_body fault offset)
 
--- the request of the definitions that this one is
+-- a request of the program and the request of the definitions that it shows
 pub record IsMeant (request : Request) (meant : wire.Request) : Type 0 where
   pub id : meant.id ≡ request.id
   pub more : meant.more ≡ request.more
@@ -28,7 +28,7 @@ pub record IsMeant (request : Request) (meant : wire.Request) : Type 0 where
   pub body : IsBody request.body meant.body
   pub bytes : meant.bytes ≡ request.bytes
 
--- the same but for its bytes
+-- the same, without the bytes
 pub record IsContent (content : Content) (meant : wire.Request) : Type 0 where
   pub id : meant.id ≡ content.id
   pub more : meant.more ≡ content.more

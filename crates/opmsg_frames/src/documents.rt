@@ -1,4 +1,4 @@
-//! Reading the documents of a message whose outline is right.
+//! Reading the documents of a message whose outline is valid.
 
 ghost use Rattle.std.specs.Prelude.{◌≡◌, ◌≤◌, ◌++◌, ◌∷◌, [], ℕ, IfOk, List, length};
 ghost use Rattle.std.specs.List.{AllByRecursion, concat, flat_map};
@@ -15,7 +15,7 @@ use crate::sections::{Next, has_stated, next_section, number_at, split_sequence}
 use bson_values::{BsonFault, Document, Text, read};
 use std::alloc::Global;
 
-/// Reads the document that the bytes are, all of them.
+/// Reads all of the bytes as one document.
 pub(crate) fn read_whole(alloc: Global, bytes: &[u8]) -> Result<Document, BsonFault>
     ensures kept { IsStated bytes.now →
         ReadOutcome (λ doc. IsKept bytes.now doc) (λ fault offset. HasFirstFault bytes.now fault offset) result }
@@ -25,7 +25,7 @@ pub(crate) fn read_whole(alloc: Global, bytes: &[u8]) -> Result<Document, BsonFa
     Ok(doc)
 }
 
-/// Reads documents, one behind the other.
+/// Reads documents, one after the other.
 fn read_documents(alloc: Global, bytes: &[u8]) -> Result<DocList, BsonFault>
     requires { length bytes.now ≤ most_bytes }
     ensures { (documents : List (List ℕ)) → bytes.now ≡ concat documents → AllByRecursion IsStated documents →
@@ -41,7 +41,7 @@ fn read_documents(alloc: Global, bytes: &[u8]) -> Result<DocList, BsonFault>
     Ok(list)
 }
 
-/// Reads a document sequence and puts it behind the others.
+/// Reads a document sequence and appends it.
 fn take_sequence(
     alloc: Global,
     content: &[u8],
@@ -67,7 +67,7 @@ fn take_sequence(
     }
 }
 
-/// Reads the documents of sections, one of which is of kind 0.
+/// Reads the documents of sections, of which exactly one is of kind 0.
 pub(crate) fn read_sections(
     alloc: Global,
     bytes: &[u8],
@@ -83,7 +83,7 @@ pub(crate) fn read_sections(
     'sections: loop {
         match next_section(rest) {
             Next::Nothing => return Ok((doc, sequences)),
-            // The outline is right, so neither comes.
+            // The outline is valid, so neither of these occurs.
             Next::UnknownKind => return Ok((doc, sequences)),
             Next::BadSize => return Ok((doc, sequences)),
             Next::Body { document, behind } => {

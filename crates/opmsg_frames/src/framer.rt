@@ -14,29 +14,27 @@ use bytes::BytesMut;
 use std::alloc::Global;
 use std::marker::Model;
 
-/// Where a request was given and the room was wider than this, it is let go of.
+/// Where a request is returned and the room was wider than this, it is released.
 const WIDE: usize = 1_048_576;
 
-/// Room is let go of only where no more bytes than these are left, since they are copied then.
+/// Room is released only where at most this many bytes are left, since they are copied.
 const FEW: usize = 65_536;
 
-/// The bytes of a connection that are not yet given out as requests, and the offset of the first of them.
+/// The bytes of a connection that are not yet returned as requests, and the offset of the first of them.
 ///
-/// Once a request was given and at most 65,536 bytes are left, the framer holds no block in which it ever had more than
-/// 1,048,576 bytes, those left and spare ones together: what is left is copied into a block of its size, and the wide one
-/// goes with the last request that came in it. (The block itself may be a few times as large: what was given before also
-/// stands in it, and it grows by doubling.) So at most 65,536 bytes are copied for more than 900,000 for which room was
-/// made. Where there is no memory for the copy, the wide block stays. No contract says any of this, but that `let_go`
-/// changes nothing else.
+/// Once a request was returned and at most 65,536 bytes are left, the framer holds no block in which it ever had more than 1,048,576 bytes, those left and
+/// spare ones together: what is left is copied into a block of its size, and the wide one is released with the last request that came in it. (The block
+/// itself may be a few times as large: what was returned before is also in it, and it grows by doubling.) So at most 65,536 bytes are copied for more than
+/// 900,000 for which room was made. Where there is no memory for the copy, the wide block is kept. No contract says any of this, except that `let_go` changes
+/// nothing else.
 #[derive(Drop)]
 pub struct Framer {
     alloc: Global,
     bytes: BytesMut,
-    // The most bytes, left and spare, since `bytes` was made anew: giving a request makes them fewer, but the block beneath
-    // stays whole.
+    // The most bytes, left and spare, since `bytes` was last allocated: returning a request makes them fewer, but the block beneath stays whole.
     widest: usize,
     offset: u64,
-    // The fault that was told.
+    // The fault that was returned.
     fault: Option<Malformed>,
 }
 
@@ -57,7 +55,7 @@ impl Model for Framer {
 }
 
 impl Framer {
-    /// No bytes so far.
+    /// Returns a framer without bytes.
     pub fn new(alloc: Global) -> Framer
         ensures { result ≡ new_framer }
     {
@@ -70,7 +68,7 @@ impl Framer {
         }
     }
 
-    /// Makes room for so many bytes more. Fails for want of memory, and then changes nothing.
+    /// Reserves room for `count` more bytes. Returns `Memory` if memory runs out, and then changes nothing.
     pub fn reserve(&mut self, count: usize) -> Result<(), Memory>
         ensures room { OnOk result (count ≤ self.new.room) }
         ensures bytes { self.new.bytes ≡ self.old.bytes }
@@ -82,8 +80,8 @@ impl Framer {
         Ok(())
     }
 
-    /// Takes the next bytes. Fails for want of memory, and then changes nothing; where there is room it doesn't fail, below
-    /// 2^64 - 1 bytes in all.
+    /// Takes the next bytes. Returns `Memory` if memory runs out, and then changes nothing; where there is room it does not fail, below 2^64 - 1 bytes in
+    /// all.
     pub fn feed(&mut self, piece: &[u8]) -> Result<(), Memory>
         ensures taken { OnOk result (IsStep self.old (took piece.now) self.new) }
         ensures refused { OnErr result (IsStep self.old refused self.new) }
@@ -98,18 +96,18 @@ impl Framer {
         Ok(())
     }
 
-    /// The bytes that are not yet given out as requests.
+    /// Returns the bytes that are not yet returned as requests.
     pub fn rest(&self) -> &[u8]
         ensures { result.now ≡ self.now.bytes }
     {
         self.bytes.as_slice()
     }
 
-    /// Gives the next request, if all its bytes came.
+    /// Returns the next request, or none if its bytes are incomplete.
     ///
     /// # Errors
-    /// - `FrameFault::Malformed` exactly if the bytes begin with no message; each later call gives it again.
-    /// - `FrameFault::Memory` for want of memory; nothing changed.
+    /// - `FrameFault::Malformed` exactly if the bytes do not begin with a message; each later call returns it again.
+    /// - `FrameFault::Memory` if memory runs out; nothing is changed.
     pub fn next(&mut self) -> Result<Option<Request>, FrameFault>
         ensures { IsNext self.old self.new result }
     {
@@ -133,7 +131,7 @@ impl Framer {
         }
     }
 
-    /// Gives the request that the first `count` bytes are, and hands these over to it.
+    /// Returns the request that the first `count` bytes are, and moves these bytes into it.
     fn take_message(&mut self, count: usize) -> Result<Option<Request>, FrameFault>
         requires whole { outline self.old.bytes ≡ message_outline count }
         requires fault { self.old.fault ≡ None }
@@ -150,7 +148,7 @@ impl Framer {
         Ok(Some(content.with_bytes(bytes)))
     }
 
-    /// Lets go of a wide block where few bytes are left. Where there is no memory for their copy, nothing changes.
+    /// Releases a wide block where few bytes are left. Where there is no memory for their copy, nothing changes.
     fn let_go(&mut self)
         ensures bytes { self.new.bytes ≡ self.old.bytes }
         ensures offset { self.new.offset ≡ self.old.offset }

@@ -14,8 +14,7 @@ ghost use Rattle.opmsg_model.specs.MessageSizes.{IsSmallBody};
 
 use crate::fault::{FrameFault, Malformed};
 
-/// A message or a fault at the beginning of the bytes stands there however they go on, and no message is told of before its
-/// last byte.
+/// A message or a fault at the beginning of the bytes remains there whatever bytes follow, and no prefix of a message is itself a message or a fault.
 pub fn outline_stays()
     ensures whole { (bytes more : List ℕ) (n : ℕ) →
         outline bytes ≡ message_outline n → outline (bytes ++ more) ≡ message_outline n }
@@ -25,25 +24,25 @@ pub fn outline_stays()
         outline bytes ≡ message_outline n → k < n → outline (take k bytes) ≡ partial_outline }
 {}
 
-/// The bytes of a request are a whole message, whatever stands behind them.
+/// The bytes of a request are a whole message, whatever bytes follow.
 pub fn request_is_whole()
     ensures { (request : Request) (more : List ℕ) → IsRequest request →
         outline (request.bytes ++ more) ≡ message_outline (length request.bytes) }
 {}
 
-/// The documents of a request are within 100 levels and spelled in at most 240,000,000 bytes, and a fault is told at a
-/// offset within the longest message.
+/// The documents of a request are within 100 levels and their encodings have at most 240,000,000 bytes, and the offset of its fault is within the longest
+/// message.
 pub fn request_is_small()
     ensures { (request : Request) → IsRequest request → IsSmallBody request.body }
 {}
 
-/// Bytes are one request at most.
+/// Bytes are at most one request.
 pub fn one_request()
     ensures { (request other : Request) → AreBytes request.bytes → request.bytes ≡ other.bytes →
         IsRequest request → IsRequest other → request ≡ other }
 {}
 
-/// Bytes are read in one way at most: as these requests, that rest, and this fault at its offset, or none.
+/// Bytes have at most one reading: these requests, this rest, and this fault at its offset, or none.
 pub fn one_reading()
     ensures requests { (bytes rest more : List ℕ) (requests others : List Request) →
         (fault other : PlacedFault) → AreBytes bytes →
@@ -56,7 +55,7 @@ pub fn one_reading()
         Frames bytes requests rest fault → Frames bytes others more other → fault ≡ other }
 {}
 
-/// A whole message is a request of as many bytes, and all bytes are read in some way.
+/// A whole message is a request of as many bytes, and all bytes have a reading.
 pub fn some_reading()
     ensures request { (bytes : List ℕ) (n : ℕ) → AreBytes bytes → outline bytes ≡ message_outline n →
         (request : Request) × (n ≡ length request.bytes) × IsFirst bytes request (drop n bytes) }
@@ -64,9 +63,9 @@ pub fn some_reading()
         (requests : List Request) × (rest : List ℕ) × (fault : PlacedFault) × Frames bytes requests rest fault }
 {}
 
-/// Whatever pieces the bytes come in, and however often a framer is asked between them: the requests given are the first
-/// of the bytes fed, in order; all of them, if it answered last that there is none or that there is a fault; and that
-/// fault is the one of the bytes, at its offset, which every later answer tells again.
+/// In whatever pieces the bytes are fed, and however often the next request is requested between them: the requests returned are the first requests of the
+/// bytes fed, in order, and all of them where the last call returned none or a fault; this fault is the one in the bytes, at its offset, and every later call
+/// returns it again.
 pub fn every_cutting()
     ensures prefix { (steps : List Step) (end : FramerView) →
         AreBytes (fed steps) → IsConversation new_framer steps end →

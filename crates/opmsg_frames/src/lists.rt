@@ -9,7 +9,7 @@ use bson_values::{Document, Memory, Text};
 use std::alloc::Global;
 use std::marker::Model;
 
-/// A row of documents, in order, each as small as a message has it.
+/// A sequence of documents, in order, each within the size that documents of a message have.
 #[derive(Drop)]
 pub struct DocList {
     documents: Vec<Document>,
@@ -34,7 +34,7 @@ impl Model for DocList {
 }
 
 impl DocList {
-    /// No document.
+    /// Returns the empty list.
     pub fn new(alloc: Global) -> DocList
         ensures { result ≡ [] }
     {
@@ -43,7 +43,7 @@ impl DocList {
         }
     }
 
-    /// Puts a document behind the others. Fails for want of memory, and then changes nothing.
+    /// Appends a document. Returns `Memory` if memory runs out, and then changes nothing.
     pub fn push(&mut self, document: Document) -> Result<(), Memory>
         requires small { IsSmall document }
         ensures ok { OnOk result (self.new ≡ self.old ++ document ∷ []) }
@@ -61,7 +61,7 @@ impl DocList {
         self.documents.as_slice()
     }
 
-    /// The documents, in order. The row is taken apart, and nothing is copied.
+    /// Returns the documents, in order. The list is taken apart, and nothing is copied.
     pub fn into_documents(self) -> Vec<Document>
         ensures documents { result.items ≡ self }
         ensures small { AllByRecursion IsSmall self }
@@ -77,7 +77,7 @@ pub struct Sequence {
     pub documents: DocList,
 }
 
-/// A row of document sequences, in order.
+/// A sequence of document sequences, in order.
 #[derive(Drop)]
 pub struct SequenceList {
     sequences: Vec<Sequence>,
@@ -99,7 +99,7 @@ impl Model for SequenceList {
 }
 
 impl SequenceList {
-    /// No sequence.
+    /// Returns the empty list.
     pub fn new(alloc: Global) -> SequenceList
         ensures { result ≡ [] }
     {
@@ -108,7 +108,7 @@ impl SequenceList {
         }
     }
 
-    /// Puts a sequence behind the others. Fails for want of memory, and then changes nothing.
+    /// Appends a sequence. Returns `Memory` if memory runs out, and then changes nothing.
     #[tactic(auto, using(crate::proofs::Pairs::pairs_push))]
     pub fn push(&mut self, sequence: Sequence) -> Result<(), Memory>
         ensures ok { OnOk result (self.new ≡ self.old ++ (sequence.identifier, sequence.documents) ∷ []) }
@@ -125,7 +125,7 @@ impl SequenceList {
         self.sequences.as_slice()
     }
 
-    /// The sequences, in order. The row is taken apart, and nothing is copied.
+    /// Returns the sequences, in order. The list is taken apart, and nothing is copied.
     pub fn into_sequences(self) -> Vec<Sequence>
         ensures { pairs_of result.items ≡ self }
     {

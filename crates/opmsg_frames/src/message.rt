@@ -1,4 +1,4 @@
-//! Reading a whole message whose outline is right.
+//! Reading a whole message whose outline is valid.
 
 ghost use Rattle.std.specs.Prelude.{◌≡◌, ◌≢◌, ◌⊎◌, ◌≤◌, ◌∷◌, [], List, None, true, drop, take, length, IfOk};
 ghost use Rattle.std.specs.Int.{w32, cast_signed};
@@ -20,7 +20,7 @@ use std::alloc::Global;
 
 const OP_MSG: u32 = 2013;
 
-/// The body whose first fault this is, unless memory ran out.
+/// Returns the body with this first fault, or `Memory` if memory ran out.
 fn faulty_body(fault: BsonFault) -> Result<Body, Memory>
     ensures { IfOk result (λ body. (fault ≢ BsonFault.Memory) × (body ≡ Body.Faulty fault)) }
 {
@@ -30,7 +30,7 @@ fn faulty_body(fault: BsonFault) -> Result<Body, Memory>
     }
 }
 
-/// The id of a request.
+/// Returns the id of a request.
 fn request_id(bytes: &[u8]) -> i32
     requires { 8 ≤ length bytes.now }
     ensures { result ≡ cast_signed w32 (number_at 4 bytes.now) }
@@ -38,7 +38,7 @@ fn request_id(bytes: &[u8]) -> i32
     number_at(bytes, 4).cast_signed()
 }
 
-/// Whether a request of OP_MSG wants no reply.
+/// Returns whether a request of OP_MSG requests no reply.
 fn is_more(bytes: &[u8]) -> bool
     requires { sections_offset ≤ length bytes.now }
     ensures { result ≡ wire.is_more (number_at 16 bytes.now) }
@@ -46,7 +46,7 @@ fn is_more(bytes: &[u8]) -> bool
     number_at(bytes, 16) % 0x1_0000 == 2
 }
 
-/// Reads the documents of sections, one of which is of kind 0.
+/// Reads the documents of sections, of which exactly one is of kind 0.
 fn read_body(alloc: Global, bytes: &[u8]) -> Result<Body, Memory>
     requires { length bytes.now ≤ most_bytes }
     ensures { (sections : List Section) → bytes.now ≡ flat_map section_bytes sections →
@@ -78,7 +78,7 @@ fn read_msg(alloc: Global, bytes: &[u8]) -> Result<Content, Memory>
     })
 }
 
-/// Reads the document of a message that holds no other.
+/// Reads the document of a message that has only this one.
 fn read_lone(alloc: Global, bytes: &[u8]) -> Result<Body, Memory>
     ensures { IsStated bytes.now →
         IfOk result (λ body. (meant : wire.Body) × IsBody body meant × wire.HasBody (body_section bytes.now ∷ []) meant) }
@@ -111,7 +111,7 @@ fn read_query(alloc: Global, bytes: &[u8]) -> Result<Content, Memory>
     })
 }
 
-/// Reads a whole message whose outline is right.
+/// Reads a whole message whose outline is valid.
 pub(crate) fn read_message(alloc: Global, bytes: &[u8]) -> Result<Content, Memory>
     requires least { header_length ≤ length bytes.now }
     requires most { length bytes.now ≤ most_bytes }
@@ -127,7 +127,7 @@ pub(crate) fn read_message(alloc: Global, bytes: &[u8]) -> Result<Content, Memor
     }
 }
 
-/// Reads the whole message of `count` bytes that begins the bytes.
+/// Reads the whole message that the first `count` bytes are.
 pub(crate) fn read_prefix(alloc: Global, bytes: &[u8], count: usize) -> Result<Content, Memory>
     requires { outline bytes.now ≡ message_outline count }
     ensures { IfOk result (λ c. (meant : wire.Request) × IsContent c meant × IsFirst bytes.now meant (drop count bytes.now)

@@ -1,4 +1,4 @@
-//! What stands at the beginning of the bytes of a connection.
+//! What the bytes of a connection begin with.
 
 ghost use Rattle.std.specs.Prelude.{◌≡◌, ◌+◌, ◌<◌, ◌≤◌, None, length};
 ghost use Rattle.std.specs.Option.{option_map};
@@ -9,7 +9,7 @@ ghost use Rattle.opmsg_frames.specs.Outlines.{fault_view, outline_view};
 use crate::fault::Malformed;
 use crate::sections::{before_zero, number_at, sections_fault};
 
-// Header, flags, collection, two counts and the least document.
+// Header, flags, collection, two counts and the smallest document.
 const LEAST_QUERY: usize = 44;
 
 const HEADER_LENGTH: usize = 16;
@@ -30,11 +30,11 @@ pub enum Outline {
     Partial,
     /// A whole message of that many bytes.
     Message(usize),
-    /// No message, however the bytes go on.
+    /// The bytes are not the beginning of a message, whatever bytes follow.
     Faulty(Malformed),
 }
 
-/// What is wrong with a header.
+/// Returns the fault of a header, if it has one.
 fn header_fault(bytes: &[u8]) -> Option<Malformed>
     requires { header_length ≤ length bytes.now }
     ensures { option_map (λ f. fault_view f) result ≡ header_fault bytes.now }
@@ -53,7 +53,7 @@ fn header_fault(bytes: &[u8]) -> Option<Malformed>
     Some(Malformed::BadOpcode)
 }
 
-/// Whether this is the first name of a greeting.
+/// Returns whether this is the first name of a greeting.
 fn greets(name: Option<&[u8]>) -> bool
     ensures { result ≡ greets (option_map (λ n. n.now) name.entry) }
 {
@@ -65,7 +65,7 @@ fn greets(name: Option<&[u8]>) -> bool
     }
 }
 
-/// Whether a whole message of OP_QUERY is a greeting.
+/// Returns whether a whole message of OP_QUERY is a greeting.
 fn is_query(bytes: &[u8]) -> bool
     ensures { result ≡ is_query bytes.now }
 {
@@ -81,7 +81,7 @@ fn is_query(bytes: &[u8]) -> bool
         && greets(before_zero(name))
 }
 
-/// What is wrong with a whole message of OP_MSG.
+/// Returns the fault of a whole message of OP_MSG, if it has one.
 fn msg_fault(bytes: &[u8]) -> Option<Malformed>
     ensures { option_map (λ f. fault_view f) result ≡ msg_fault bytes.now }
 {
@@ -96,7 +96,7 @@ fn msg_fault(bytes: &[u8]) -> Option<Malformed>
     sections_fault(sections)
 }
 
-/// What is wrong with a whole message that has one of the two opcodes.
+/// Returns the fault of a whole message that has one of the two opcodes, if it has one.
 fn message_fault(bytes: &[u8]) -> Option<Malformed>
     requires { header_length ≤ length bytes.now }
     ensures { option_map (λ f. fault_view f) result ≡ message_fault bytes.now }
@@ -110,7 +110,7 @@ fn message_fault(bytes: &[u8]) -> Option<Malformed>
     Some(Malformed::BadQuery)
 }
 
-/// What a whole message is.
+/// Returns the outline of a whole message.
 fn whole_outline(message: &[u8]) -> Outline
     requires { header_length ≤ length message.now }
     ensures { outline_view result ≡ whole_outline (length message.now) (message_fault message.now) }
@@ -121,7 +121,7 @@ fn whole_outline(message: &[u8]) -> Outline
     }
 }
 
-/// What stands at the beginning of bytes whose header is right.
+/// Returns the outline of bytes whose header is valid.
 fn headed_outline(bytes: &[u8]) -> Outline
     requires least { header_length ≤ length bytes.now }
     requires header { header_fault bytes.now ≡ None }
@@ -135,8 +135,8 @@ fn headed_outline(bytes: &[u8]) -> Outline
     whole_outline(message)
 }
 
-/// What stands at the beginning of the bytes: less than a whole message, a whole one, or a fault. It is a fault as soon as its
-/// header's 16 bytes tell one, or else once the message is whole.
+/// Returns what the bytes begin with: less than a whole message, a whole one, or a fault. A fault of the header is returned as soon as its 16 bytes are
+/// there, any other one once the message is whole.
 pub fn outline_of(bytes: &[u8]) -> Outline
     ensures { outline_view result ≡ outline bytes.now }
 {

@@ -27,7 +27,7 @@ const REPLY_HEAD: u32 = 36;
 /// Flags 8, cursor 0, starting from 0, and one document.
 const ONE_DOCUMENT: [u8; 20] = [8, 0, 0, 0, 0, 0, 0, 0, 0, 0, 0, 0, 0, 0, 0, 0, 1, 0, 0, 0];
 
-/// Puts a number. An `Err` changes nothing.
+/// Appends a number. An `Err` changes nothing.
 fn put_number(number: u32, out: &mut Vec<u8>) -> Result<(), Memory>
     ensures ok { OnOk result (out.new.items ≡ out.old.items ++ int32 number) }
     ensures err { OnErr result (out.new.items ≡ out.old.items) }
@@ -38,7 +38,7 @@ fn put_number(number: u32, out: &mut Vec<u8>) -> Result<(), Memory>
     Ok(())
 }
 
-/// Puts a length and an id. An `Err` may leave a part of it.
+/// Appends a length and an id. After an error a part of it may have been written.
 fn put_length(size: u32, id: i32, out: &mut Vec<u8>) -> Result<(), Memory>
     ensures ok { OnOk result (out.new.items ≡ out.old.items ++ (int32 size ++ int32 (cast_unsigned w32 id))) }
     ensures kept { take (length out.old.items) out.new.items ≡ out.old.items }
@@ -48,7 +48,7 @@ fn put_length(size: u32, id: i32, out: &mut Vec<u8>) -> Result<(), Memory>
     Ok(())
 }
 
-/// Puts an answered id and an opcode. An `Err` may leave a part of it.
+/// Appends the id of the request and an opcode. After an error a part of it may have been written.
 fn put_opcode(answers: i32, code: u32, out: &mut Vec<u8>) -> Result<(), Memory>
     ensures ok { OnOk result (out.new.items ≡ out.old.items ++ (int32 (cast_unsigned w32 answers) ++ int32 code)) }
     ensures kept { take (length out.old.items) out.new.items ≡ out.old.items }
@@ -58,7 +58,7 @@ fn put_opcode(answers: i32, code: u32, out: &mut Vec<u8>) -> Result<(), Memory>
     Ok(())
 }
 
-/// Puts a header. An `Err` may leave a part of it.
+/// Appends a header. After an error a part of it may have been written.
 fn put_header(size: u32, id: i32, answers: i32, code: u32, out: &mut Vec<u8>) -> Result<(), Memory>
     ensures ok { OnOk result (out.new.items
         ≡ out.old.items ++ header size (cast_unsigned w32 id) (cast_unsigned w32 answers) code) }
@@ -69,7 +69,7 @@ fn put_header(size: u32, id: i32, answers: i32, code: u32, out: &mut Vec<u8>) ->
     Ok(())
 }
 
-/// Puts what stands before the document of a reply to OP_MSG. An `Err` may leave a part of it.
+/// Appends what precedes the document of a reply to OP_MSG. After an error a part of it may have been written.
 fn put_msg_head(id: i32, number: i32, size: u32, out: &mut Vec<u8>) -> Result<(), Memory>
     requires { size ≤ most_bytes_written }
     ensures ok { OnOk result (out.new.items ≡ out.old.items ++ reply_head msg_form id number size) }
@@ -81,7 +81,7 @@ fn put_msg_head(id: i32, number: i32, size: u32, out: &mut Vec<u8>) -> Result<()
     Ok(())
 }
 
-/// Puts what stands before the document of an OP_REPLY. An `Err` may leave a part of it.
+/// Appends what precedes the document of an OP_REPLY. After an error a part of it may have been written.
 fn put_query_head(id: i32, number: i32, size: u32, out: &mut Vec<u8>) -> Result<(), Memory>
     requires { size ≤ most_bytes_written }
     ensures ok { OnOk result (out.new.items ≡ out.old.items ++ reply_head query_form id number size) }
@@ -92,7 +92,7 @@ fn put_query_head(id: i32, number: i32, size: u32, out: &mut Vec<u8>) -> Result<
     Ok(())
 }
 
-/// Puts what stands before the document of a reply. An `Err` may leave a part of it.
+/// Appends what precedes the document of a reply. After an error a part of it may have been written.
 fn put_head(form: Form, id: i32, number: i32, size: u32, out: &mut Vec<u8>) -> Result<(), Memory>
     requires { size ≤ most_bytes_written }
     ensures ok { OnOk result (out.new.items ≡ out.old.items ++ reply_head (form_view form) id number size) }
@@ -104,7 +104,7 @@ fn put_head(form: Form, id: i32, number: i32, size: u32, out: &mut Vec<u8>) -> R
     }
 }
 
-/// Puts a reply. An `Err` may leave a part of it.
+/// Appends a reply. After an error a part of it may have been written.
 fn put_reply(
     form: Form,
     id: i32,
@@ -123,9 +123,8 @@ fn put_reply(
     write(doc, out)
 }
 
-/// Puts the reply of this number to a request behind the bytes: to OP_MSG an OP_MSG, to OP_QUERY an OP_REPLY (MongoDB
-/// Wire Protocol). The document has at most 104 levels and its spelling at most 300,000,000 bytes. Fails for want of
-/// memory, and then leaves the bytes as they were.
+/// Appends the reply with this number to a request: to OP_MSG an OP_MSG, to OP_QUERY an OP_REPLY (MongoDB Wire Protocol). The document has at most 104 levels
+/// and its encoding at most 300,000,000 bytes. Returns `Memory` if memory runs out; then the bytes are as before.
 pub fn write_reply(
     form: Form,
     id: i32,

@@ -8,16 +8,16 @@ use crate::lists::SequenceList;
 use bson_values::{BsonFault, Document};
 use bytes::Bytes;
 
-/// In which message a request came.
+/// The kind of message that a request came in.
 #[derive(Clone, Copy, Debug, PartialEq, Eq)]
 pub enum Form {
     /// OP_MSG.
     Msg,
-    /// OP_QUERY, which only greets.
+    /// OP_QUERY, which is used only for greetings.
     Query,
 }
 
-/// What the documents of a request are.
+/// The documents of a request.
 #[derive(Drop)]
 pub enum Body {
     /// All are documents: that of the section of kind 0, and those of the sections of kind 1.
@@ -32,9 +32,9 @@ pub enum Body {
 /// A request (MongoDB Wire Protocol, "OP_MSG", "OP_QUERY").
 #[derive(Drop)]
 pub struct Request {
-    /// What the reply names.
+    /// The id that the reply names.
     pub id: i32,
-    /// Whether no reply is wanted.
+    /// Whether no reply is requested.
     pub more: bool,
     pub form: Form,
     pub body: Body,
@@ -42,7 +42,7 @@ pub struct Request {
 }
 
 impl Request {
-    /// The whole message that it came in, its header included.
+    /// Returns the whole message that it came in, including its header.
     pub fn bytes(&self) -> &[u8]
         ensures { result.now ≡ self.now.bytes }
     {
@@ -50,7 +50,7 @@ impl Request {
     }
 }
 
-/// What a message says: the request, but for its bytes.
+/// The content of a message: the request without its bytes.
 #[derive(Drop)]
 pub(crate) struct Content {
     pub id: i32,
@@ -60,7 +60,7 @@ pub(crate) struct Content {
 }
 
 impl Content {
-    /// The request that came in these bytes.
+    /// Returns the request that came in these bytes.
     pub(crate) fn with_bytes(self, bytes: Bytes) -> Request
         ensures { (meant : wire.Request) → IsContent self meant → meant.bytes ≡ bytes → IsMeant result meant }
     {

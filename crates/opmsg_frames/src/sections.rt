@@ -12,29 +12,29 @@ use crate::fault::Malformed;
 use byteorder::{ByteOrder, LittleEndian};
 use std::str;
 
-// The bytes of the least document.
+// The number of bytes of the smallest document.
 const LEAST: usize = 5;
 
-/// What stands next among the sections.
+/// What comes next in the sections.
 #[derive(Clone, Copy, Debug)]
 pub(crate) enum Next<'a> {
     Nothing,
     UnknownKind,
-    /// The size says not where the next section stands.
+    /// The size does not say where the next section begins.
     BadSize,
-    /// A document, and what stands behind it.
+    /// A document, and what follows it.
     Body {
         document: &'a [u8],
         behind: &'a [u8],
     },
-    /// What stands behind the size of a document sequence, and behind the whole.
+    /// What follows the size of a document sequence, and what follows the sequence.
     Sequence {
         content: &'a [u8],
         behind: &'a [u8],
     },
 }
 
-/// The little-endian number at an offset.
+/// Returns the little-endian number at an offset.
 pub(crate) fn number_at(bytes: &[u8], offset: usize) -> u32
     requires { offset + 4 ≤ length bytes.now }
     ensures { result ≡ number_at offset bytes.now }
@@ -42,7 +42,7 @@ pub(crate) fn number_at(bytes: &[u8], offset: usize) -> u32
     LittleEndian::read_u32(&bytes[offset..offset + 4])
 }
 
-/// The length that the bytes begin with, where it is at least 5 and within them.
+/// Returns whether the length that the bytes begin with is at least 5 and within them.
 pub(crate) fn has_stated(bytes: &[u8]) -> bool
     ensures { result ≡ has_stated bytes.now }
 {
@@ -53,7 +53,7 @@ pub(crate) fn has_stated(bytes: &[u8]) -> bool
     LEAST <= stated && stated <= bytes.len()
 }
 
-/// The section that the bytes begin with.
+/// Returns the section that the bytes begin with.
 pub(crate) fn next_section(bytes: &[u8]) -> Next<'_>
     ensures next { next_view result ≡ next_section bytes.now }
     ensures shorter { IfBehind result (λ behind. length behind < length bytes.now) }
@@ -78,7 +78,7 @@ pub(crate) fn next_section(bytes: &[u8]) -> Next<'_>
     Next::Sequence { content, behind }
 }
 
-/// What stands before the first 00.
+/// Returns the bytes before the first 00, or none if there is no 00.
 pub(crate) fn before_zero(bytes: &[u8]) -> Option<&[u8]>
     ensures found { option_map (λ name. name.now) result ≡ before_zero bytes.now }
     ensures shorter { IfSome result (λ name. length name.now < length bytes.now) }
@@ -91,7 +91,7 @@ pub(crate) fn before_zero(bytes: &[u8]) -> Option<&[u8]>
     None
 }
 
-/// Whether the bytes are documents, one behind the other.
+/// Returns whether the bytes are documents, one after the other.
 fn are_documents(bytes: &[u8]) -> bool
     ensures { (n : ℕ) → length bytes.now ≤ n → result ≡ are_documents n bytes.now }
 {
@@ -106,7 +106,7 @@ fn are_documents(bytes: &[u8]) -> bool
     true
 }
 
-/// The text that the bytes are.
+/// Returns the bytes as a text, or none if they are not UTF-8.
 #[tactic(auto, using(bson_values::proofs::Utf8Tests::utf8_tests))]
 fn text_of(bytes: &[u8]) -> Option<&str>
     ensures { option_map (λ t. t.now) result ≡ text_if (is_utf8 bytes.now) bytes.now }
@@ -117,7 +117,7 @@ fn text_of(bytes: &[u8]) -> Option<&str>
     }
 }
 
-/// The identifier that begins a document sequence, and what stands behind it.
+/// Returns the identifier at the beginning of a document sequence, and what follows it.
 pub(crate) fn split_sequence(content: &[u8]) -> Option<(&str, &[u8])>
     ensures parts { option_map (λ x. (x.0.now, x.1.now)) result ≡ sequence_parts content.now }
     ensures shorter { IfSome result (λ x. length x.1.now ≤ length content.now) }
@@ -128,7 +128,7 @@ pub(crate) fn split_sequence(content: &[u8]) -> Option<(&str, &[u8])>
     Some((identifier, documents))
 }
 
-/// Whether the bytes are an identifier, 00 and documents.
+/// Returns whether the bytes are an identifier, 00 and documents.
 fn is_sequence(content: &[u8]) -> bool
     ensures { result ≡ is_sequence content.now }
 {
@@ -138,7 +138,7 @@ fn is_sequence(content: &[u8]) -> bool
     }
 }
 
-/// What is wrong once all sections were seen: how many of them are bodies, and whether one of the others is bad.
+/// Returns the fault at the end of the sections, by the number of bodies and whether another section was bad.
 fn ended_fault(bodies: usize, bad: bool) -> Option<Malformed>
     ensures { option_map (λ f. fault_view f) result ≡ ended_fault bodies bad }
 {
@@ -152,7 +152,7 @@ fn ended_fault(bodies: usize, bad: bool) -> Option<Malformed>
     }
 }
 
-/// What is wrong with the sections.
+/// Returns the fault of the sections, if they have one.
 pub(crate) fn sections_fault(bytes: &[u8]) -> Option<Malformed>
     ensures { (n : ℕ) → length bytes.now < n →
         option_map (λ f. fault_view f) result ≡ sections_fault n 0 false bytes.now }

@@ -1,5 +1,5 @@
--- Messages of a connection (MongoDB Wire Protocol, "Standard Message Header"). Numbers are little-endian int32, and stand
--- here as the numbers of their four bytes: a negative one is 2^31 or more.
+-- Messages of a connection (MongoDB Wire Protocol, "Standard Message Header"). Numbers are little-endian int32, given here as the numbers of their four
+-- bytes: a negative one is 2^31 or more.
 use Rattle.std.specs.Prelude.{ℕ, List, ◌++◌, take, drop}
 use Rattle.std.specs.Int.{w32, to_le_bytes, from_le_bytes}
 
@@ -10,14 +10,14 @@ int32 n = to_le_bytes w32 n
 abbrev pub number_at : ℕ → List ℕ → ℕ
 number_at k bytes = from_le_bytes w32 (take 4 (drop k bytes))
 
--- the opcodes that are taken
+-- the supported opcodes
 abbrev pub op_msg : ℕ
 op_msg = 2013
 
 abbrev pub op_query : ℕ
 op_query = 2004
 
--- the longest message that is taken
+-- the greatest length of a supported message
 abbrev pub most_bytes : ℕ
 most_bytes = 48000000
 

@@ -9,8 +9,8 @@ use Rattle.opmsg_model.specs.Requests.{Form, msg_form, query_form}
 abbrev pub op_reply : ℕ
 op_reply = 1
 
--- What stands before the document of so many bytes, in the reply of this number to the request of this id. To OP_MSG:
--- flags 0 and a section of kind 0. To OP_QUERY: flags 8, cursor 0, starting from 0, one document.
+-- What precedes the document of `size` bytes in the reply with this number to the request with this id. To OP_MSG: flags 0 and a section of kind 0. To
+-- OP_QUERY: flags 8, cursor 0, starting from 0, one document.
 abbrev pub reply_head : Form → ℤ → ℤ → ℕ → List ℕ
 reply_head msg_form id number size =
     header (size + 21) (cast_unsigned w32 number) (cast_unsigned w32 id) op_msg ++ (int32 0 ++ 0 ∷ [])

@@ -12,7 +12,7 @@ pub data Form : Type 0 where
   msg_form : Form
   query_form : Form
 
--- what the documents of a request are
+-- the documents of a request
 pub data Body : Type 0 where
   -- its document, and its document sequences with their identifiers
   read_body : Fields → List (List ℕ × List Fields) → Body
@@ -21,14 +21,14 @@ pub data Body : Type 0 where
 
 pub record Request : Type 0 where
   pub id : ℤ
-  -- no reply is wanted
+  -- no reply is requested
   pub more : Bool
   pub form : Form
   pub body : Body
   -- the whole message
   pub bytes : List ℕ
 
--- the bits that no message may leave unread; the others may be anything
+-- the bits that a receiver must understand; the others may be any
 abbrev pub low_flags : ℕ → ℕ
 low_flags flags = flags % 2 ^ 16
 
@@ -60,7 +60,7 @@ IsGreeting name =
     ⊎ (name ≡ 105 ∷ 115 ∷ 109 ∷ 97 ∷ 115 ∷ 116 ∷ 101 ∷ 114 ∷ [])
     ⊎ (name ≡ 104 ∷ 101 ∷ 108 ∷ 108 ∷ 111 ∷ [])
 
--- these bytes, all of them, spell a document that is kept
+-- these bytes, all of them, encode a supported document
 abbrev pub IsKept : List ℕ → Fields → Type 0
 IsKept bytes ms = ReadsAs bytes ms × IsWithinDepth ms
 
@@ -71,7 +71,7 @@ abbrev pub AreKept : List (List ℕ) → List Fields → Type 0
 AreKept [] mss = mss ≡ []
 AreKept (bytes ∷ documents) mss = (ms : Fields) × (others : List Fields) × (mss ≡ ms ∷ others) × IsKept bytes ms × AreKept documents others
 
--- what the sections hold: the documents of those of kind 0, and the sequences
+-- what the sections contain: the documents of those of kind 0, and the sequences
 abbrev pub Hold : List Section → List Fields → List (List ℕ × List Fields) → Type 0
 Hold [] mss sequences = (mss ≡ []) × (sequences ≡ [])
 Hold (body_section document ∷ sections) mss sequences =
@@ -79,7 +79,7 @@ Hold (body_section document ∷ sections) mss sequences =
 Hold (sequence_section identifier documents ∷ sections) mss sequences =
     (kept : List Fields) × (others : List (List ℕ × List Fields)) × (sequences ≡ (identifier, kept) ∷ others) × AreKept documents kept × Hold sections mss others
 
--- a document stands among these whose first fault this is, and those before it are kept
+-- one of these documents has this first fault, and those before it are supported
 abbrev pub FirstFaulty : List (List ℕ) → Fault → ℕ → Type 0
 FirstFaulty [] fault offset = ⊥
 FirstFaulty (bytes ∷ documents) fault offset = HasFirstFault bytes fault offset ⊎ (IsReadable bytes × FirstFaulty documents fault offset)
@@ -88,7 +88,7 @@ abbrev pub HasBody : List Section → Body → Type 0
 HasBody sections (read_body ms sequences) = Hold sections (ms ∷ []) sequences
 HasBody sections (faulty_body fault offset) = FirstFaulty (documents_in sections) fault offset
 
--- the message of OP_MSG with these sections
+-- the request is the message of OP_MSG with these sections
 pub record IsMsg (r : Request) (sections : List Section) : Type 0 where
   pub number : ℕ
   pub answers : ℕ
@@ -104,7 +104,7 @@ pub record IsMsg (r : Request) (sections : List Section) : Type 0 where
   pub each : AllByRecursion IsSection sections
   pub one : bodies sections ≡ 1
 
--- the message of OP_QUERY with this document, whose first name is a greeting
+-- the request is the message of OP_QUERY with this document, whose first name is a greeting
 pub record IsQuery (r : Request) (document : List ℕ) : Type 0 where
   pub number : ℕ
   pub answers : ℕ
@@ -123,7 +123,7 @@ pub record IsQuery (r : Request) (document : List ℕ) : Type 0 where
   pub stated : IsStated document
   pub greeting : (kind : ℕ) × (name : List ℕ) × (behind : List ℕ) × IsGreeting name × (0 < kind) × (document ≡ int32 (length document) ++ (kind ∷ name ++ 0 ∷ behind))
 
--- a request is its message, read
+-- a request is the content of its message
 abbrev pub IsForm : Request → Form → Type 0
 IsForm r msg_form = (sections : List Section) × IsMsg r sections × HasBody sections r.body
 IsForm r query_form = (document : List ℕ) × IsQuery r document × HasBody (body_section document ∷ []) r.body

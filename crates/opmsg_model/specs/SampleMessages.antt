@@ -2,7 +2,7 @@
 use Rattle.std.specs.Prelude.{ℕ, List, [], ◌∷◌, ◌++◌}
 use Rattle.opmsg_model.specs.Messages.{int32}
 
--- a header of this length and opcode: request 1, which answers nothing
+-- a header of this length and opcode, of request 1, which answers no message
 abbrev pub header_stating : ℕ → ℕ → List ℕ
 header_stating length code = int32 length ++ (int32 1 ++ (int32 0 ++ int32 code))
 

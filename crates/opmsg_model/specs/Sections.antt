@@ -1,5 +1,5 @@
--- The sections of a message (MongoDB Wire Protocol, "OP_MSG": Kind 0 Body, Kind 1 Document Sequence). A document stands
--- here as its bytes, of which only the stated length is looked at.
+-- The sections of a message (MongoDB Wire Protocol, "OP_MSG": Kind 0 Body, Kind 1 Document Sequence). A document is given as its bytes, of which only the
+-- stated length is read.
 use Rattle.std.specs.Prelude.{◌≡◌, ℕ, ◌+◌, ◌≤◌, List, [], ◌∷◌, ◌++◌, length}
 use Rattle.std.specs.List.{concat, AllByRecursion}
 use Rattle.std.specs.Str.{IsUtf8}
@@ -12,7 +12,7 @@ pub data Section : Type 0 where
   -- its identifier, and the bytes of each of its documents
   sequence_section : List ℕ → List (List ℕ) → Section
 
--- what stands in a section of kind 1 behind its size, which counts its own four bytes
+-- the content of a section of kind 1 after its size, which counts its own four bytes
 abbrev pub sequence_bytes : List ℕ → List (List ℕ) → List ℕ
 sequence_bytes identifier documents = identifier ++ (0 ∷ concat documents)
 
@@ -21,7 +21,7 @@ section_bytes (body_section document) = 0 ∷ document
 section_bytes (sequence_section identifier documents) =
     1 ∷ (int32 (length (sequence_bytes identifier documents) + 4) ++ sequence_bytes identifier documents)
 
--- the bytes of a document are as many as its first four state
+-- a document has as many bytes as its first four state
 abbrev pub IsStated : List ℕ → Type 0
 IsStated document = (5 ≤ length document) × (number_at 0 document ≡ length document)
 

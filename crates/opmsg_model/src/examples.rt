@@ -6,7 +6,7 @@ ghost use Rattle.opmsg_model.specs.Frames.{Frames};
 ghost use Rattle.opmsg_model.specs.Outline.{bad_flags, bad_kind, bad_length, bad_opcode, bad_section, faulty_outline, has_stated, message_outline, no_body, outline, partial_outline, too_long, two_bodies};
 ghost use Rattle.opmsg_model.specs.Sections.{IsStated};
 
-/// A header is judged once its 16 bytes are there: its length first, and then its opcode.
+/// A header is checked once its 16 bytes are there: its length first, and then its opcode.
 pub fn headers()
     ensures short { outline (replicate 15 0) ≡ partial_outline }
     ensures longest { outline (header_stating 48000000 2013) ≡ partial_outline }
@@ -16,7 +16,7 @@ pub fn headers()
     ensures opcode { outline (header_stating 48000000 1) ≡ faulty_outline bad_opcode }
 {}
 
-/// The least request has 26 bytes. Flag bits 1 and 16 are taken, and bits 0 and 2 are not.
+/// The smallest request has 26 bytes. Flag bits 1 and 16 are allowed, and bits 0 and 2 are not.
 #[tactic(auto, unfolding(crate::specs::Outline::sections_fault, crate::specs::Outline::behind_fault))]
 pub fn least()
     ensures whole { outline (least_bytes 0) ≡ message_outline 26 }
@@ -28,7 +28,7 @@ pub fn least()
     ensures document { IsStated empty_document }
 {}
 
-/// A bad kind goes before a bad section, and both before a second document or none.
+/// A bad kind is reported before a bad section, and both before a second document or a missing one.
 #[tactic(auto, unfolding(crate::specs::Outline::sections_fault, crate::specs::Outline::behind_fault))]
 pub fn sections()
     ensures kind { outline (header_stating 21 2013 ++ (0 ∷ 0 ∷ 0 ∷ 0 ∷ 2 ∷ [])) ≡ faulty_outline bad_kind }

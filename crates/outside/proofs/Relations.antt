@@ -1,4 +1,4 @@
--- What was taken in two calls was taken in one, and so with what was put; and counts that rose have risen for good.
+-- Two calls of a stream are like one call for all their bytes; and a count that rose and then did not fall has risen.
 use Rattle.std.proofs.Common.{◌≡◌, ℕ, ◌≤◌, List, [], ◌∷◌, ◌++◌, Bool, inl, inr, refl, arith, append_assoc, sym, ◌∙◌, ap, subst}
 use Rattle.outside.specs.Causes.{Rose}
 use Rattle.outside.specs.Devices.{NoneFell, OneRose}
@@ -10,7 +10,7 @@ pub took_then : (tells : Bool) (left bytes left' more left'' : List ℕ) → Too
 took_then tells left bytes left' more left'' took took' told =
     took told ∙ ap (λ xs. bytes ++ xs) (took' told) ∙ sym (append_assoc bytes more left'')
 
--- two puts, one after the other, are one
+-- two writes, one after the other, are one
 pub put_then : (tells : Bool) (held bytes held' more held'' : List ℕ) → Put tells held bytes held' →
     Put tells held' more held'' → Put tells held (bytes ++ more) held''
 put_then tells held bytes held' more held'' put put' told =
@@ -29,7 +29,7 @@ one_rose_later (x ∷ a) (y ∷ b) [] fell rose = absurd rose
 one_rose_later (x ∷ a) (y ∷ b) (z ∷ c) fell (inl rose) = inl (later_rose x y z fell.0 rose)
 one_rose_later (x ∷ a) (y ∷ b) (z ∷ c) fell (inr rose) = inr (one_rose_later a b c fell.1 rose)
 
--- counts that did not fall twice did not fall
+-- counts that did not fall in two steps did not fall
 pub none_fell_then : (a b c : List ℕ) → NoneFell a b → NoneFell b c → NoneFell a c
 none_fell_then [] [] [] fell more = tt
 none_fell_then [] [] (z ∷ c) fell more = absurd more

@@ -1,10 +1,10 @@
--- What a call of the program says of its devices, the source, the sink and the disks: what each tells before the call and
--- after it, and its counts of faults.
+-- What a call of the program says about its devices, the source, the sink and the disks: their observable content before and after the call, and their counts
+-- of faults.
 use Rattle.std.specs.Prelude.{◌≡◌, ◌⊎◌, ℕ, ◌≤◌, Bool, List, [], ◌∷◌, map}
 use Rattle.outside.specs.Causes.{Rose}
 use Rattle.outside.specs.Streams.{Took, Put}
 
--- a source over a call: whether its type tells its bytes, and the bytes that were left and its count of faults
+-- a source over a call: whether its bytes are observable, the bytes that were left, and its count of faults
 pub record SourceCall : Type 0 where
   pub tells : Bool
   pub left_before : List ℕ
@@ -12,7 +12,7 @@ pub record SourceCall : Type 0 where
   pub faults_before : ℕ
   pub faults_after : ℕ
 
--- a sink over a call: whether its type tells its bytes, and the bytes that it held and its count of faults
+-- a sink over a call: whether its bytes are observable, the bytes that were written to it, and its count of faults
 pub record SinkCall : Type 0 where
   pub tells : Bool
   pub held_before : List ℕ
@@ -20,8 +20,7 @@ pub record SinkCall : Type 0 where
   pub faults_before : ℕ
   pub faults_after : ℕ
 
--- Disks over a call, in the order of a list: whether their type tells their files, and the files, where the disks are, and
--- their counts of faults.
+-- Disks over a call, in the order of a list: whether their files are observable, the files, the places of the disks, and their counts of faults.
 pub record DisksCall : Type 0 where
   pub tells : Bool
   pub files_before : List (List ℕ)
@@ -31,7 +30,7 @@ pub record DisksCall : Type 0 where
   pub faults_before : List ℕ
   pub faults_after : List ℕ
 
--- a source as it was and as it is, by what its type tells
+-- a source before and after, seen by these functions
 abbrev pub source_call : {S : Type 0} → Bool → (S → List ℕ) → (S → ℕ) → S → S → SourceCall
 source_call told left fault_count before after = record {
   tells = told;
@@ -41,7 +40,7 @@ source_call told left fault_count before after = record {
   faults_after = fault_count after;
 }
 
--- a sink as it was and as it is
+-- a sink before and after
 abbrev pub sink_call : {K : Type 0} → Bool → (K → List ℕ) → (K → ℕ) → K → K → SinkCall
 sink_call told held fault_count before after = record {
   tells = told;
@@ -51,7 +50,7 @@ sink_call told held fault_count before after = record {
   faults_after = fault_count after;
 }
 
--- disks as they were and as they are, in one order
+-- disks before and after, in one order
 abbrev pub disks_call : {D : Type 0} → Bool → (D → List ℕ) → (D → List ℕ) → (D → ℕ) → List D → List D → DisksCall
 disks_call told content place fault_count before after = record {
   tells = told;
@@ -63,27 +62,27 @@ disks_call told content place fault_count before after = record {
   faults_after = map fault_count after;
 }
 
--- the source gave these bytes
+-- the source gave these bytes, where they are observable
 abbrev pub SourceGave : SourceCall → List ℕ → Type 0
 SourceGave call bytes = Took call.tells call.left_before bytes call.left_after
 
--- the source's count of faults is as it was
+-- the source's count of faults is unchanged
 abbrev pub SourceIsCalm : SourceCall → Type 0
 SourceIsCalm call = call.faults_after ≡ call.faults_before
 
--- the source is as it was
+-- the source is unchanged
 abbrev pub SourceIsUntouched : SourceCall → Type 0
 SourceIsUntouched call = SourceGave call [] × SourceIsCalm call
 
--- the sink took these bytes
+-- the sink took these bytes, where they are observable
 abbrev pub SinkTook : SinkCall → List ℕ → Type 0
 SinkTook call bytes = Put call.tells call.held_before bytes call.held_after
 
--- the sink's count of faults is as it was
+-- the sink's count of faults is unchanged
 abbrev pub SinkIsCalm : SinkCall → Type 0
 SinkIsCalm call = call.faults_after ≡ call.faults_before
 
--- the sink is as it was
+-- the sink is unchanged
 abbrev pub SinkIsUntouched : SinkCall → Type 0
 SinkIsUntouched call = SinkTook call [] × SinkIsCalm call
 
@@ -98,6 +97,6 @@ NoneFell [] [] = Unit {0}
 NoneFell (before ∷ befores) (after ∷ afters) = (before ≤ after) × NoneFell befores afters
 NoneFell befores afters = ⊥
 
--- each disk is where it was
+-- each disk is in its place
 abbrev pub DisksAreInPlace : DisksCall → Type 0
 DisksAreInPlace call = call.places_after ≡ call.places_before

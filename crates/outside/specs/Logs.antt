@@ -1,35 +1,35 @@
--- What is said of logs, and what a log answers.
+-- What contracts say about logs, and what a log returns.
 use Rattle.std.specs.Prelude.{ℕ, List, Bool, IsTrue, ◌⊎◌, ◌++◌}
 use Rattle.outside.specs.Disks.{Outcomes}
 use Rattle.outside.specs.declared.log.LogFault.{LogFault}
 use Rattle.outside.specs.declared.log.LogFault.TheVariants.{Disk, Memory}
 
--- What contracts say of a log of a type, each as a function of it.
+-- What contracts say about a type of log, each as a function of the log.
 pub record LogFacts (L : Type 0) : Type 1 where
-  -- Whether the type tells its records. Clauses on the records are of those that do.
+  -- Whether the records are observable. Clauses on the records apply to types whose records are.
   pub tells : Bool
   -- the records, in order
   pub records : L → List (List ℕ)
-  -- Whether records can be appended. After a fault of the disk the log must be opened again.
+  -- Whether records can be appended. After a fault of the disk the log must be reopened.
   pub is_open : L → Bool
-  -- whether an opening of the log would find these records
+  -- whether opening the log would find these records
   pub holds : L → List (List ℕ) → Type 0
-  -- whether an opening finds these records in a file
+  -- whether opening a file finds these records
   pub finds : List ℕ → List (List ℕ) → Type 0
   -- the moment, by the clock of the log's disk
   pub moment : L → ℕ
-  -- which files a crash at some moment from that one on might have left
+  -- the files that a crash at some moment from that one on might have resulted in
   pub left_since : L → ℕ → Outcomes
-  -- how many faults the log's disk met
+  -- how many faults the log's disk has met
   pub fault_count : L → ℕ
   -- where the log's disk is
   pub place : L → List ℕ
 
--- a crash at this moment leaves a file in which an opening finds the log's records
+-- a crash at this moment results in a file in which opening finds the log's records
 abbrev pub IsDurable : {L : Type 0} → LogFacts L → L → Type 0
 IsDurable facts log = IsTrue facts.tells → (file : List ℕ) → facts.left_since log (facts.moment log) file → facts.finds file (facts.records log)
 
--- one thing holds where a disk failed, with its count of faults, and another where memory was wanted
+-- one fact where a disk failed, with its count of faults, and another where memory ran out
 abbrev pub ByFault : LogFault → (ℕ → Type 0) → Type 0 → Type 0
 ByFault (Disk faults) failed wanted = failed faults
 ByFault Memory failed wanted = wanted

@@ -1,4 +1,4 @@
--- What a sink notes of disks.
+-- What a sink notes about disks.
 use Rattle.std.specs.Prelude.{ℕ, List}
 
 -- a disk: where it is, the moment of its clock, and how many bytes had been written to the sink by then

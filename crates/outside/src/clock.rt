@@ -1,12 +1,12 @@
-//! The clock of the wall.
+//! The wall clock.
 ghost use Rattle.std.specs.Prelude.{ℕ};
 
-/// A clock of the wall.
+/// A wall clock.
 pub trait Clock {
     // The moments that the clock may give.
     ghost gives: { Self → ℕ → Type 0 };
 
-    /// The moment in milliseconds since 1970.
+    /// Returns the moment in milliseconds since 1970.
     fn now(&self) -> u64
         ensures { gives self.now result };
 }

@@ -1,35 +1,35 @@
-//! A file of bytes that stay.
+//! A durable file of bytes.
 ghost use Rattle.std.specs.Prelude.{◌≡◌, ℕ, ◌<◌, ◌≤◌, List, [], Bool, IsTrue, length, take, drop, Ok, IfOk, OnOk, OnErr};
 ghost use Rattle.outside.specs.Causes.{Rose};
 ghost use Rattle.outside.specs.Disks.{Cut, Elapses, Follows, Holds, Only, Torn, Within};
 
 use crate::streams::Failed;
 
-/// A file of bytes, which are read and written at offsets from 0 on. Each error is a fault that is counted, and nothing else is. Until a sync,
-/// a crash may leave any bytes in a range that was written and past the old end, and may undo a cut.
+/// A file of bytes, which are read and written at offsets from 0 on. Each error is a fault that is counted, and nothing else is counted. Until a sync, a
+/// crash may result in any bytes in a range that was written and past the old end, and may undo a cut.
 pub trait Disk: Drop {
-    // Whether the type tells what the file holds. Clauses on the content are of those that do.
+    // Whether the file's content is observable. Clauses on the content apply to types whose content is.
     ghost tells: { Bool };
 
-    // The file: what reads give.
+    // The file: the bytes that reads return.
     ghost content: { Self → List ℕ };
 
-    // What a crash at this moment may leave.
+    // The files that a crash at this moment may result in.
     ghost may_leave: { Self → List ℕ → Type 0 };
 
-    // The moment, by a clock that the disk's own calls move.
+    // The moment, by a clock that only the disk's own calls advance.
     ghost moment: { Self → ℕ };
 
-    // What a crash at some moment from that one on might have left, during a call or between two.
+    // The files that a crash at some moment from that one on might have resulted in, during a call or between two.
     ghost left_since: { Self → ℕ → List ℕ → Type 0 };
 
-    // How many faults the disk met.
+    // How many faults the disk has met.
     ghost fault_count: { Self → ℕ };
 
-    // Where the disk is: of a disk in memory the bytes that it was made of, of a disk over a file the bytes of its path.
+    // The place of the disk: for a disk in memory the bytes that it was made of, for a disk over a file the bytes of its path.
     ghost place: { Self → List ℕ };
 
-    /// The file's length in bytes.
+    /// Returns the file's length in bytes.
     ///
     /// # Errors
     /// `Failed` if the disk met a fault, which is counted.
@@ -44,8 +44,8 @@ pub trait Disk: Drop {
         ensures later { fault_count self.old ≤ fault_count self.new }
         ensures place { place self.new ≡ place self.old };
 
-    /// Reads bytes from the offset `at` on into the front of `buf`, and gives their number, of which 0 for a `buf` with
-    /// room is the end. It may read fewer than there are.
+    /// Reads bytes from the offset `at` on into the front of `buf`, and returns their number. 0, for a `buf` with room, means the end of the file. It may
+    /// read fewer bytes than there are.
     ///
     /// # Errors
     /// `Failed` if the disk met a fault, which is counted.
@@ -82,7 +82,7 @@ pub trait Disk: Drop {
     /// Cuts the file to `len` bytes, if it is longer.
     ///
     /// # Errors
-    /// `Failed` if the disk met a fault, which is counted. A part behind `len` may be cut then.
+    /// `Failed` if the disk met a fault, which is counted. A part after `len` may be cut then.
     fn cut(&mut self, len: u64) -> Result<(), Failed>
         ensures cut { OnOk result (IsTrue tells → content self.new ≡ take len (content self.old)) }
         ensures between { OnErr result (IsTrue tells → Cut len (content self.old) (content self.new)) }
@@ -94,10 +94,10 @@ pub trait Disk: Drop {
         ensures later { fault_count self.old ≤ fault_count self.new }
         ensures place { place self.new ≡ place self.old };
 
-    /// Makes what was written and cut stay: after it a crash leaves what reads give.
+    /// Makes what was written and cut durable: after it a crash results in the bytes that reads return.
     ///
     /// # Errors
-    /// `Failed` if the disk met a fault, which is counted. What a crash may leave is then no more than before.
+    /// `Failed` if the disk met a fault, which is counted. Then a crash may result in no more files than before.
     fn sync(&mut self) -> Result<(), Failed>
         ensures durable { OnOk result (IsTrue tells → Only (content self.new) (may_leave self.new)) }
         ensures stays { OnOk result (IsTrue tells → may_leave self.new (content self.new)) }
@@ -110,13 +110,13 @@ pub trait Disk: Drop {
         ensures later { fault_count self.old ≤ fault_count self.new }
         ensures place { place self.new ≡ place self.old };
 
-    /// How many faults the disk met, at most 2^64 - 1.
+    /// Returns how many faults the disk has met, at most 2^64 - 1.
     fn faults(&self) -> u64
         ensures { result ≡ fault_count self.now };
 
     // This moment is one of those since an earlier one.
     ghost counts_now: { (disk : Self) (t : ℕ) (c : List ℕ) → t ≤ moment disk → may_leave disk c → left_since disk t c };
 
-    // Since this moment there is no other.
+    // From this moment on there is no other moment yet.
     ghost only_now: { (disk : Self) (c : List ℕ) → left_since disk (moment disk) c → may_leave disk c };
 }

@@ -8,13 +8,13 @@ ghost use Rattle.outside.specs.Logs.{ByFault, WithOrWithout};
 ghost use Rattle.outside.specs.declared.log.LogFault.TheVariants.{Disk as DiskFault, Memory};
 ghost use Rattle.outside.specs.Streams.{Put, Took};
 
-/// A count that rises, one that stays, and one at its last value.
+/// A count that rises, one that is unchanged, and one at its greatest value.
 pub fn counted()
     ensures rises { Rose 0 1 × (Rose 1 1 → ⊥) }
     ensures last { Rose (2 ^ 64 - 1) (2 ^ 64 - 1) }
 {}
 
-/// Bytes are taken from the front of what was left, and put at the end of what was held, where a stream tells.
+/// Bytes are taken from the front of those that were left, and appended to those written before, where a stream is observable.
 pub fn moved()
     ensures taken { Took true (1 ∷ 2 ∷ []) (1 ∷ []) (2 ∷ []) × (Took true (1 ∷ 2 ∷ []) (2 ∷ []) (1 ∷ []) → ⊥) }
     ensures put { Put true (1 ∷ []) (2 ∷ []) (1 ∷ 2 ∷ []) × (Put true (1 ∷ []) (2 ∷ []) (2 ∷ 1 ∷ []) → ⊥) }
@@ -28,7 +28,7 @@ pub fn counted_each()
     ensures missing { NoneFell (0 ∷ 1 ∷ []) (0 ∷ []) → ⊥ }
 {}
 
-/// A source, here the bytes that it has left, and a sink, here the bytes that it holds, over a call.
+/// A source, here the bytes that are left, and a sink, here the bytes written to it, over a call.
 pub fn streamed()
     ensures gave { SourceGave (source_call true (λ (left : List ℕ). left) (λ _. 0) (1 ∷ []) []) (1 ∷ []) }
     ensures moved { SourceIsUntouched (source_call true (λ (left : List ℕ). left) (λ _. 0) (1 ∷ []) []) → ⊥ }
@@ -44,7 +44,7 @@ pub fn placed()
         ((1 ∷ []) ∷ (2 ∷ []) ∷ []) ((2 ∷ []) ∷ (1 ∷ []) ∷ [])) → ⊥ }
 {}
 
-/// Bytes 1 2 3 and a piece that was written over them, past their end, and behind a gap of any bytes.
+/// Bytes 1 2 3 and a piece that is written over them, past their end, and after a gap of any bytes.
 pub fn held()
     ensures over { Holds 1 (9 ∷ []) (1 ∷ 2 ∷ 3 ∷ []) (1 ∷ 9 ∷ 3 ∷ []) }
     ensures past { Holds 3 (9 ∷ []) (1 ∷ 2 ∷ 3 ∷ []) (1 ∷ 2 ∷ 3 ∷ 9 ∷ []) }
@@ -52,7 +52,7 @@ pub fn held()
     ensures elsewhere { Holds 1 (9 ∷ []) (1 ∷ 2 ∷ 3 ∷ []) (1 ∷ 9 ∷ 4 ∷ []) → ⊥ }
 {}
 
-/// A write of two bytes that was cut short leaves any bytes in its range, and the others as they were.
+/// A write of two bytes that was cut short results in any bytes in its range, and the others unchanged.
 pub fn torn()
     ensures range { Torn 1 2 (1 ∷ 2 ∷ 3 ∷ 4 ∷ []) (1 ∷ 8 ∷ 7 ∷ 4 ∷ []) }
     ensures grown { Torn 1 2 (1 ∷ []) (1 ∷ 8 ∷ []) }
@@ -60,7 +60,7 @@ pub fn torn()
     ensures shorter { Torn 1 2 (1 ∷ 2 ∷ 3 ∷ 4 ∷ []) (1 ∷ 2 ∷ 3 ∷ []) → ⊥ }
 {}
 
-/// A cut to one byte that was cut short leaves one byte or more, those of the front.
+/// A cut to one byte that was interrupted results in one byte or more, a prefix of the file.
 pub fn cut()
     ensures whole { Cut 1 (1 ∷ 2 ∷ 3 ∷ []) (1 ∷ []) × Cut 1 (1 ∷ 2 ∷ 3 ∷ []) (1 ∷ 2 ∷ 3 ∷ []) }
     ensures between { Cut 1 (1 ∷ 2 ∷ 3 ∷ []) (1 ∷ 2 ∷ []) }
@@ -68,7 +68,7 @@ pub fn cut()
     ensures changed { Cut 1 (1 ∷ 2 ∷ 3 ∷ []) (1 ∷ 9 ∷ []) → ⊥ }
 {}
 
-/// What a crash may leave where each outcome is one from before, or that after a step.
+/// The outcomes of a crash where each is one from before, or one after the step.
 pub fn outcomes()
     ensures within { Within (λ c. (c ≡ []) ⊎ (c ≡ 1 ∷ [])) (λ c. c ≡ 1 ∷ []) }
     ensures not_within { Within (λ c. c ≡ 1 ∷ []) (λ c. (c ≡ []) ⊎ (c ≡ 1 ∷ [])) → ⊥ }
@@ -77,7 +77,7 @@ pub fn outcomes()
     ensures not_follows { Follows (Cut 1) (λ c. c ≡ 1 ∷ 2 ∷ []) (λ c. c ≡ []) → ⊥ }
 {}
 
-/// Time goes on by one call. It neither forgets what might have been left nor makes it up.
+/// Time passes by one call. It neither drops an outcome that was possible before nor adds one.
 pub fn time()
     ensures goes_on { Elapses 0 1 (λ _ c. c ≡ []) (λ _ c. (c ≡ []) ⊎ (c ≡ 1 ∷ [])) (λ c. c ≡ 1 ∷ []) }
     ensures back { Elapses 1 0 (λ _ c. c ≡ []) (λ _ c. c ≡ []) (λ c. c ≡ []) → ⊥ }
@@ -91,7 +91,7 @@ pub fn each_moment()
     ensures not_leaves { LeavesOnly (λ (n : ℕ). n) (λ _ _ c. c ≡ []) 0 1 (λ c. c ≡ 1 ∷ []) → ⊥ }
 {}
 
-/// What a log answers where its disk failed, and where memory was wanted; two records of which both stand, none, or one alone.
+/// What a log returns where its disk failed, and where memory ran out; two records of which both are stored, none, or one alone.
 pub fn logged()
     ensures failed { ByFault (DiskFault 3) (λ n. n ≡ 3) ⊥ × (ByFault (DiskFault 3) (λ n. n ≡ 4) (Unit {0}) → ⊥) }
     ensures wanted { ByFault Memory (λ _. ⊥) (Unit {0}) × (ByFault Memory (λ _. Unit {0}) ⊥ → ⊥) }

@@ -1,7 +1,7 @@
-//! What was said on a link.
+//! What was exchanged on a link.
 use bson_values::Blob;
 
-/// A link that ended, and what was said on it.
+/// A link that ended, and what was exchanged on it.
 #[derive(Drop)]
 pub struct Spoken<L> {
     /// The link, as it was at its end.
@@ -17,7 +17,7 @@ pub struct Spoken<L> {
 pub struct Exchange {
     /// The number of the step that took the request.
     pub came: u64,
-    /// The number of the step that gave the reply, or `came` where there is none.
+    /// The number of the step that returned the reply, or `came` where there is none.
     pub step: u64,
     /// The bytes of the request's whole message.
     pub request: Blob,
@@ -28,19 +28,19 @@ pub struct Exchange {
 /// Why a link ended.
 #[derive(Clone, Copy, Debug, PartialEq, Eq)]
 pub enum LinkEnd {
-    /// The link was at its end.
+    /// The client closed the link.
     AtEnd,
-    /// The next bytes begin no message (MongoDB manual, "Wire Protocol").
+    /// The next bytes are not the beginning of a message (MongoDB manual, "Wire Protocol").
     NoFrame {
         /// The offset of the fault, in bytes from the link's first.
         place: u64,
     },
-    /// A fault was met while bytes were taken from the link.
+    /// A fault occurred while bytes were taken from the link.
     ReadFault,
-    /// A fault was met while bytes were put into the link.
+    /// A fault occurred while bytes were written to the link.
     WriteFault,
     /// 2^40 bytes were taken from the link.
     Long,
-    /// No memory was found for a message or a reply.
+    /// Memory ran out for a message or a reply.
     Lost,
 }

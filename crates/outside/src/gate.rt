@@ -1,4 +1,4 @@
-//! Places in the program where a test may hold it.
+//! Places in the program where a test may stop it.
 
 /// A place that the program passes.
 #[derive(Clone, Copy, Debug, PartialEq, Eq)]
@@ -7,8 +7,8 @@ pub enum Place {
     Half,
 }
 
-/// What stands at the places.
+/// What is called at these places.
 pub trait Gate {
-    /// The program passes this place.
+    /// The program is at this place.
     fn pass(&self, place: Place);
 }

@@ -1,4 +1,4 @@
-//! A row of records, which an opening finds again.
+//! A sequence of records that is found again when it is opened.
 ghost use Rattle.std.specs.Prelude.{◌≡◌, ℕ, ◌≤◌, ◌++◌, ◌∷◌, [], List, IsTrue, OnOk, IfErr, OnErr};
 ghost use Rattle.outside.specs.Causes.{Rose};
 ghost use Rattle.outside.specs.Disks.{LeavesOnly};
@@ -12,33 +12,33 @@ use std::marker::Model;
 /// Why records were not appended.
 #[derive(Clone, Copy, Debug, PartialEq, Eq)]
 pub enum LogFault {
-    /// The disk failed; its count of faults is shown. All of the records stand or none does, and the log must be opened again.
+    /// The disk failed; its count of faults is shown. All of the records are stored or none is, and the log must be reopened.
     Disk { faults: u64 },
-    /// Want of memory: the log is as it was.
+    /// Out of memory: the log is unchanged.
     Memory,
 }
 
-/// A sequence of records, to which records are appended; an opening finds them again.
+/// A sequence of records, to which records are appended; opening finds them again.
 pub trait Log {
-    /// The disk that the records are kept on.
+    /// The disk on which the records are stored.
     type Of: Disk;
 
-    // What contracts say of the log. `LogFacts` has each.
+    // What contracts say about the log. `LogFacts` explains each.
     ghost facts: { LogFacts Self };
 
-    /// The disk, which shows where it is and the moment of its clock. While records can be appended all of them are durable: a crash at
-    /// this moment leaves a file in which an opening finds just these records.
+    /// Returns the disk, which shows its place and the moment of its clock. While records can be appended all of them are durable: a crash at this moment
+    /// results in a file in which opening finds just these records.
     fn device(&self) -> &Self::Of
         ensures place { Self.Of.place result.now ≡ facts.place self.now }
         ensures moment { Self.Of.moment result.now ≡ facts.moment self.now }
         ensures durable { IsTrue (facts.is_open self.now) → IsDurable facts self.now };
 
-    /// Appends a record. After it, an opening of the log finds the records with this one (`kept`), and after a crash at any moment of
-    /// it the records with this one or without (`any_moment`). That a crash after it leaves them all, `device` says of an open log.
+    /// Appends a record. After it, opening the log finds the records with this one (`kept`), and after a crash at any moment of it the records with this one
+    /// or without it (`any_moment`). That a crash after it keeps them all is said by `device`, of an open log.
     ///
     /// # Errors
-    /// - `LogFault::Disk` only if the disk met a fault: then the record stands or it doesn't.
-    /// - `LogFault::Memory` for want of memory: nothing changed, and nothing was written.
+    /// - `LogFault::Disk` only if the disk met a fault: then the record is stored or it isn't.
+    /// - `LogFault::Memory` if memory runs out: nothing is changed, and nothing was written.
     fn append(&mut self, bytes: &[u8]) -> Result<(), LogFault>
         requires { IsTrue (facts.is_open self.old) }
         ensures appended { OnOk result (IsTrue facts.tells → facts.records self.new ≡ facts.records self.old ++ bytes.now ∷ []) }
@@ -56,12 +56,12 @@ pub trait Log {
         ensures later { facts.fault_count self.old ≤ facts.fault_count self.new }
         ensures place { facts.place self.new ≡ facts.place self.old };
 
-    /// Appends records, in order, all at once: after a crash at any moment of it all of them stand or none does. Where there is none
-    /// to append the log is as it was.
+    /// Appends records, in order, all at once: after a crash at any moment of it all of them are stored or none is. Where there is none to append the log is
+    /// unchanged.
     ///
     /// # Errors
-    /// - `LogFault::Disk` only if the disk met a fault: then all of these records stand or none does.
-    /// - `LogFault::Memory` for want of memory: nothing changed, and nothing was written.
+    /// - `LogFault::Disk` only if the disk met a fault: then all of these records are stored or none is.
+    /// - `LogFault::Memory` if memory runs out: nothing is changed, and nothing was written.
     fn append_all(&mut self, bodies: &[Blob]) -> Result<(), LogFault>
         requires { IsTrue (facts.is_open self.old) }
         ensures appended { OnOk result (IsTrue facts.tells → facts.records self.new ≡ facts.records self.old ++ bodies.now) }
@@ -81,7 +81,7 @@ pub trait Log {
         ensures place { facts.place self.new ≡ facts.place self.old };
 }
 
-/// A row of records in memory, in order.
+/// A sequence of records in memory, in order.
 #[derive(Drop)]
 pub struct RecordList {
     items: Vec<Blob>,
@@ -96,7 +96,7 @@ impl Model for RecordList {
 }
 
 impl RecordList {
-    /// No record.
+    /// Returns the empty list.
     pub fn new(alloc: Global) -> RecordList
         ensures { result ≡ [] }
     {
@@ -112,7 +112,7 @@ impl RecordList {
         self.items.as_slice()
     }
 
-    /// Puts a record behind the others. Fails for want of memory, and then changes nothing.
+    /// Appends a record. Returns `Memory` if memory runs out, and then changes nothing.
     pub fn push(&mut self, bytes: Blob) -> Result<(), Memory>
         ensures ok { OnOk result (self.new ≡ self.old ++ bytes ∷ []) }
         ensures err { OnErr result (self.new ≡ self.old) }

@@ -1,5 +1,4 @@
-//! The outside over the standard library: any reader and any writer, such as the process's own streams, files as
-//! disks, and the system's clock.
+//! Implementations over the standard library: any reader and any writer, such as the process's own streams, files as disks, and the system's clock.
 ghost use Rattle.std.specs.Prelude.{◌≡◌, ℕ, ◌<◌, ◌≤◌, [], length, take, false, IfOk, OnOk, OnErr};
 ghost use Rattle.std.specs.Io.KnownBytes.{Consumes, Appends, IsAtEnd, Keeps};
 ghost use Rattle.outside.specs.Causes.{Rose, next_count};
@@ -15,7 +14,7 @@ use std::io::{Read, Write};
 use std::rt;
 use std::time::{SystemTime, UNIX_EPOCH};
 
-/// A source over a reader. It counts the errors that it meets, and tells no bytes.
+/// A source over a reader. It counts the errors that it meets; its bytes are not observable.
 #[derive(Drop)]
 pub struct StdSource<R> {
     reader: R,
@@ -23,7 +22,7 @@ pub struct StdSource<R> {
 }
 
 impl<R: Read + Drop> StdSource<R> {
-    /// A source over this reader, with no error met.
+    /// Returns a source over this reader, with no error met.
     pub fn new(reader: R) -> StdSource<R>
         ensures reader { result.reader ≡ reader }
         ensures faults { result.faults ≡ 0 }
@@ -46,7 +45,7 @@ impl<R: Read + Drop> Source for StdSource<R> {
         ensures calm { OnOk result (self.new.faults ≡ self.old.faults) }
         ensures later { self.old.faults ≤ self.new.faults }
 
-        // An error is counted once. Where the reader tells its bytes, none is skipped.
+        // An error is counted once. Where the reader's bytes are observable, no byte is skipped.
         ensures fault { OnErr result (self.new.faults ≡ next_count self.old.faults) }
         ensures read { IfOk result (λ n. Consumes (R.remaining self.old.reader) (R.remaining self.new.reader)
             (take n buf.new)) }
@@ -63,8 +62,8 @@ impl<R: Read + Drop> Source for StdSource<R> {
     }
 }
 
-/// A sink over a writer, which it flushes at each call. It counts the errors that it meets, and tells no bytes. A write
-/// that takes no byte of a piece that has some is such an error. After an error a part of the piece may be written.
+/// A sink over a writer, which it flushes at each call. It counts the errors that it meets; its bytes are not observable. A write that takes no byte of a
+/// non-empty piece is such an error. After an error a part of the piece may have been written.
 #[derive(Drop)]
 pub struct StdSink<W> {
     writer: W,
@@ -72,7 +71,7 @@ pub struct StdSink<W> {
 }
 
 impl<W: Write + Drop> StdSink<W> {
-    /// A sink over this writer, with no error met.
+    /// Returns a sink over this writer, with no error met.
     pub fn new(writer: W) -> StdSink<W>
         ensures writer { result.writer ≡ writer }
         ensures faults { result.faults ≡ 0 }
@@ -95,7 +94,7 @@ impl<W: Write + Drop> Sink for StdSink<W> {
         ensures calm { OnOk result (self.new.faults ≡ self.old.faults) }
         ensures later { self.old.faults ≤ self.new.faults }
 
-        // An error is counted once. Where the writer tells its bytes, none is dropped.
+        // An error is counted once. Where the writer's bytes are observable, no byte is dropped.
         ensures fault { OnErr result (self.new.faults ≡ next_count self.old.faults) }
         ensures wrote { IfOk result (λ n. Appends (W.contents self.old.writer) (W.contents self.new.writer)
             (take n piece.now)) }
@@ -115,10 +114,10 @@ impl<W: Write + Drop, D: Disk> Witness<D> for StdSink<W> {
     fn note(&mut self, _disk: &D) {}
 }
 
-/// Writes bytes of the front of the piece, at least one if it has any, flushes the writer, and gives their number.
+/// Writes bytes from the front of the piece, at least one if it has any, flushes the writer, and returns their number.
 ///
 /// # Errors
-/// `Failed` if the write or the flush failed, or if no byte of a piece that has some was written.
+/// `Failed` if the write or the flush failed, or if no byte of a non-empty piece was written.
 fn write_through<W: Write>(writer: &mut W, piece: &[u8]) -> Result<usize, Failed>
     ensures count { IfOk result (λ n. n ≤ length piece.now) }
     ensures some { IfOk result (λ n. 0 < length piece.now → 0 < n) }
@@ -136,14 +135,14 @@ fn write_through<W: Write>(writer: &mut W, piece: &[u8]) -> Result<usize, Failed
     }
 }
 
-/// A clock over the runtime's.
+/// A clock over the runtime's clock.
 #[derive(Drop)]
 pub struct WallClock<R> {
     runtime: R,
 }
 
 impl<R: rt::Clock + Drop> WallClock<R> {
-    /// A clock over this runtime's.
+    /// Returns a clock over this runtime's clock.
     pub fn new(runtime: R) -> WallClock<R>
         ensures { result.runtime ≡ runtime }
     {
@@ -154,7 +153,7 @@ impl<R: rt::Clock + Drop> WallClock<R> {
 impl<R: rt::Clock + Drop> Clock for WallClock<R> {
     ghost gives = { λ _ _. Unit {0} };
 
-    /// The moment in milliseconds since 1970, at most 2^64 - 1. It is 0 if the clock can't be read.
+    /// Returns the moment in milliseconds since 1970, at most 2^64 - 1, or 0 if the clock can't be read.
     fn now(&self) -> u64 {
         let Ok(time) = SystemTime::now(&self.runtime) else {
             return 0;

@@ -1,29 +1,29 @@
-//! Streams of bytes: where bytes come from, where bytes go to, and the links that clients open.
+//! Streams of bytes: sources, sinks, and the links that clients open.
 ghost use Rattle.std.specs.Prelude.{◌≡◌, ℕ, ◌<◌, ◌≤◌, List, [], length, take, Bool, IsTrue, IfOk, OnOk, OnErr};
 ghost use Rattle.outside.specs.Causes.{Rose};
 ghost use Rattle.outside.specs.Notes.{Note};
 ghost use Rattle.outside.specs.Streams.{Took, Put};
 
-/// The device failed. What it was asked for was not done, and its count of faults rose.
+/// The device failed. The request was not carried out, and its count of faults rose.
 #[derive(Clone, Copy, Debug, PartialEq, Eq)]
 pub struct Failed;
 
 /// A stream that bytes are taken from.
 pub trait Source {
-    // Whether the type tells which bytes it gives.
+    // Whether the bytes that it gives are observable.
     ghost tells: { Bool };
 
-    // The bytes that are left, where the type tells them.
+    // The bytes that are left, where they are observable.
     ghost left: { Self → List ℕ };
 
-    // How many faults the source met.
+    // How many faults the source has met.
     ghost fault_count: { Self → ℕ };
 
-    // What a take leaves alone. Where the value is a sink too, it is what that holds, and its count of faults.
+    // What a take does not change. Where the value is a sink too, this is the sink's content and its count of faults.
     ghost beside: { Self → List ℕ × ℕ } = { λ _. ([], 0) };
 
-    /// Takes bytes into the front of `buf`, and gives their number, of which 0 for a `buf` with room is the end.
-    /// It may take fewer than there is room for.
+    /// Takes bytes into the front of `buf`, and returns their number. 0, for a `buf` with room, means the end of the stream. It may take fewer bytes than
+    /// there is room for.
     ///
     /// # Errors
     /// `Failed` if the source met a fault: no byte was taken, and the fault is counted.
@@ -39,27 +39,27 @@ pub trait Source {
         ensures aside { beside self.new ≡ beside self.old };
 }
 
-/// A stream that bytes are put into.
+/// A stream that bytes are written to.
 pub trait Sink {
-    // Whether the type tells which bytes it holds.
+    // Whether the bytes written to it are observable.
     ghost tells: { Bool };
 
-    // The bytes that were put, where the type tells them.
+    // The bytes written to it, where they are observable.
     ghost held: { Self → List ℕ };
 
-    // The disks that were noted, in order, where the type tells them. Only a witness takes notes.
+    // The disks that were noted, in order, where they are observable. Only a witness takes notes.
     ghost noted: { Self → List Note } = { λ _. [] };
 
-    // How many faults the sink met.
+    // How many faults the sink has met.
     ghost fault_count: { Self → ℕ };
 
-    // What a put leaves alone. Where the value is a source too, it is what that has left, and its count of faults.
+    // What a write does not change. Where the value is a source too, this is what the source has left, and its count of faults.
     ghost beside: { Self → List ℕ × ℕ } = { λ _. ([], 0) };
 
-    /// Puts bytes of the front of `piece`, and gives their number: at least one, if `piece` has any.
+    /// Writes bytes from the front of `piece`, and returns their number: at least one, if `piece` has any.
     ///
     /// # Errors
-    /// `Failed` if the sink met a fault: no byte was put, and the fault is counted.
+    /// `Failed` if the sink met a fault: no byte was written, and the fault is counted.
     fn put(&mut self, piece: &[u8]) -> Result<usize, Failed>
         ensures count { IfOk result (λ n. n ≤ length piece.now) }
         ensures some { IfOk result (λ n. 0 < length piece.now → 0 < n) }
@@ -72,25 +72,24 @@ pub trait Sink {
         ensures aside { beside self.new ≡ beside self.old };
 }
 
-/// A client's link: requests are taken from it, and replies are put into it. Each direction has its own count of
-/// faults.
+/// A client's link: requests are taken from it, and replies are written to it. Each direction has its own count of faults.
 pub trait Link: Source + Sink {
-    // A take leaves alone what was put and the faults of puts.
+    // A take does not change what was written and the faults of writes.
     ghost take_is_apart: { (l : Self) → Self.Source.beside l ≡ (Self.Sink.held l, Self.Sink.fault_count l) };
 
-    // A put leaves alone what is left and the faults of takes.
+    // A write does not change what is left and the faults of takes.
     ghost put_is_apart: { (l : Self) → Self.Sink.beside l ≡ (Self.Source.left l, Self.Source.fault_count l) };
 }
 
 /// A place where clients open links.
 pub trait Acceptor {
-    /// What a client opens.
+    /// The link that a client opens.
     type Link: Link + Drop;
 
-    // How many faults the acceptor met.
+    // How many faults the acceptor has met.
     ghost fault_count: { Self → ℕ };
 
-    /// Listens on a port from here on.
+    /// Listens on a port from now on.
     ///
     /// # Errors
     /// `Failed` if the acceptor met a fault, which is counted.
@@ -99,7 +98,7 @@ pub trait Acceptor {
         ensures calm { OnOk result (fault_count self.new ≡ fault_count self.old) }
         ensures later { fault_count self.old ≤ fault_count self.new };
 
-    /// The next link that a client opens.
+    /// Returns the next link that a client opens.
     ///
     /// # Errors
     /// `Failed` if the acceptor met a fault, which is counted.

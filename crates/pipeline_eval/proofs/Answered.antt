@@ -1,4 +1,4 @@
--- From what the stages made of documents to what is answered.
+-- From the result of the stages to what is returned.
 use Rattle.std.proofs.Common.{◌≡◌, ℕ, List, Result, Ok, Err, length, refl, sym, ap, ◌∙◌, subst}
 use Rattle.std.specs.Prelude.{IfOk, Option, Some, None, option_map}
 use Rattle.bson_values.specs.Tree.{Fields}
@@ -13,12 +13,12 @@ use Rattle.pipeline_eval.specs.declared.fault.EvalFault.{EvalFault}
 use Rattle.pipeline_eval.specs.declared.fault.EvalFault.TheVariants.{Overflow, TooMuch, Memory}
 use Rattle.pipeline_eval.specs.Evals.{Answers, HalfAnswers, RunsTo}
 
--- where a call gives what it promises, what follows from that holds
+-- a fact that follows from what a call that succeeds promises
 pub if_ok : {V E : Type 0} (r : Result V E) (P Q : V → Type 0) → ((x : V) → P x → Q x) → IfOk r P → IfOk r Q
 if_ok (Ok x) P Q f h = f x h
 if_ok (Err e) P Q f h = tt
 
--- the rows of groups are what a half ends in
+-- the rows of groups are what a half returns
 pub partials_given : (spec own : GroupSpec) (docs : List Fields) (rows shown : List PartialRow) → own ≡ spec → IsGrouped own docs rows → shown ≡ rows →
     EndsIn (partials_end spec) docs (partial_rows shown)
 partials_given spec own docs rows shown same grouped is =
@@ -30,7 +30,7 @@ pub count_given : (docs : List Fields) (n : ℕ) (rows : Rows) → n ≡ length 
 count_given docs n rows is are =
     subst (λ (r : Rows). EndsIn counted_end docs r) (sym (are ∙ ap (λ (m : ℕ). counted_rows m) is)) (in_count docs)
 
--- nothing is told of nothing
+-- where no excess is returned there is none
 none_told : (found : Option ℕ) → None ≡ option_map capped found → found ≡ None
 none_told None e = refl
 none_told (Some n) e = absurd (cc e)

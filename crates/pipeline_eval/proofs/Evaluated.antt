@@ -1,4 +1,4 @@
--- Stages, one behind the other.
+-- Stages, one after the other.
 use Rattle.std.proofs.Common.{Global, Vec, ◌≡◌, ℕ, List, [], ◌∷◌, map, take, drop, Result, Ok, Err, refl, sym, ap, ◌∙◌, subst, arith}
 use Rattle.std.specs.Arc.{arc_value}
 use Rattle.std.specs.declared.sync.Arc.{Arc}
@@ -22,11 +22,11 @@ use Rattle.pipeline_eval.specs.declared.fault.EvalFault.{EvalFault}
 use Rattle.pipeline_eval.specs.declared.fault.EvalFault.TheVariants.{Overflow, TooMuch, Memory}
 use Rattle.pipeline_eval.specs.Evals.{Does, DoesBefore, RunsTo, limit_in_front}
 
--- the documents that a function gives
+-- the documents that a function returns
 abbrev pub documents_in : Vec (Arc Fields Global) Global → List Fields
 documents_in ds = map arc_value ds.items
 
--- From the documents that were left, the stages behind go on.
+-- The later stages run on the documents that were the result.
 abbrev pub GoesOn : Stage → List Fields → List Fields → Type 0
 GoesOn stage docs left = (rest : List Stage) (out : Outcome) → Runs rest left out → Runs (stage ∷ rest) docs out
 
@@ -65,7 +65,7 @@ module _ (spec own : GroupSpec) (docs : List Fields) (rows : List PartialRow) (s
   pub group_overflows : (by : GroupSpec) → by ≡ own → documents_of by rows ≡ None → (rest : List Stage) → Runs (group_stage spec ∷ rest) docs overflowed
   group_overflows by is e rest = overflow_run spec rest docs rows there (subst (λ (s : GroupSpec). documents_of s rows ≡ None) (is ∙ same) e)
 
--- what holds before any stages holds before a limit
+-- what holds before any stage holds before a limit
 pub before_any : {X : Type 0} (limit : Option ℕ) (see : X → List Fields) (stage : Stage) (docs : List Fields) (result : Result X EvalFault) →
     Does see stage docs result → DoesBefore limit see stage docs result
 before_any limit see stage docs (Ok x) h = λ rest out begins run. h rest out run
@@ -73,13 +73,13 @@ before_any limit see stage docs (Err Overflow) h = h
 before_any limit see stage docs (Err (TooMuch n)) h = h
 before_any limit see stage docs (Err Memory) h = h
 
--- what a stage does of documents, seen as another stage and list that are the same
+-- the effect of a stage on documents, seen as another stage and list that are equal
 pub does_as : {X : Type 0} (limit : Option ℕ) (see : X → List Fields) (stage own : Stage) (docs seen : List Fields) (result : Result X EvalFault) →
     own ≡ stage → seen ≡ docs → DoesBefore limit see own seen result → DoesBefore limit see stage docs result
 does_as limit see stage own docs seen result same are h =
     subst (λ (s : Stage). DoesBefore limit see s docs result) same (subst (λ (ds : List Fields). DoesBefore limit see own ds result) are h)
 
--- another stage than a limit
+-- a stage other than a limit
 pub no_limit : (stage : lang.Stage) (rest : List Stage) → ((n : ℕ) → stage ≡ stages.Limit n → ⊥) → limit_in_front (stage_of stage ∷ rest) ≡ None
 no_limit (stages.Match asked) rest other = refl
 no_limit (stages.Project rules) rest other = refl
@@ -92,7 +92,7 @@ no_limit (stages.Count name) rest other = refl
 same_number : (m n : ℕ) → (let a : Option ℕ = Some m in a) ≡ Some n → m ≡ n
 same_number m n e = ap (λ (o : Option ℕ). unwrap_or o m) e
 
--- before a limit the first documents in order are enough
+-- before a limit the first documents in order suffice
 pub first_was_sorted : (spec : SortSpec) (n : ℕ) (docs left : List Fields) → AreFirst (comes_before spec) n docs left →
     (rest : List Stage) (out : Outcome) → limit_in_front rest ≡ Some n → Runs rest left out → Runs (sort_stage spec ∷ rest) docs out
 first_was_sorted spec n docs left first [] out begins run = absurd (cc begins)

@@ -1,4 +1,4 @@
--- What a sort with a limit keeps while documents come: the first n of those that came before the others, and the others.
+-- What a sort with a limit keeps while documents are read: the first n of those that were read before the others, and the others.
 use Rattle.std.proofs.Common.{◌≡◌, ℕ, ◌+◌, ◌-◌, ◌<◌, ◌≤◌, List, [], ◌∷◌, ◌++◌, length, get_or, map, take, drop, refl, sym, ap, ◌∙◌, subst, append_assoc, append-nil, add-one, arith}
 use Rattle.std.specs.Prelude.{Bool, true, false, cond, IsPermutation, IsSortedBy}
 use Rattle.std.specs.List.{AllByRecursion}
@@ -21,7 +21,7 @@ module _ {X : Type 0} (lt : X → X → Bool)
   short : (xs : List X) → length (take n xs) ≤ n
   short xs = omega (arith, length-take n xs)
 
-  -- one more comes
+  -- one more is kept
   pub top_more : (cut : ℕ) (docs rows : List X) (x : X) → cut ≤ length rows → IsTop lt n cut docs rows → IsTop lt n cut (docs ++ x ∷ []) (rows ++ x ∷ [])
   top_more cut docs rows x within top = record {
     before = top.before;
@@ -32,14 +32,14 @@ module _ {X : Type 0} (lt : X → X → Bool)
         (IsPermutation-append_left (x ∷ []) docs (top.before ++ drop cut rows) top.others);
   }
 
-  -- of all that came, the first n are the first n of the rows in order
+  -- of all that were read, the first n are the first n of the sorted rows
   first_of_all : (cut : ℕ) (docs rows sorted : List X) (top : IsTop lt n cut docs rows) → IsPermutation rows sorted → IsSortedBy lt sorted →
       AreFirst lt n (top.before ++ drop cut rows) (take n sorted)
   first_of_all cut docs rows sorted top moved up =
       first_of_more lt chain one_way n top.before (take cut rows) (drop cut rows) sorted some top.first
       (subst (λ (l : List X). IsPermutation l sorted) (sym (take-append-drop cut rows)) moved) up
 
-  -- the rows are put in order and cut
+  -- the rows are sorted and cut
   pub top_cut : (cut : ℕ) (docs rows sorted : List X) → IsTop lt n cut docs rows → IsPermutation rows sorted → IsSortedBy lt sorted →
       IsTop lt n n docs (take n sorted)
   top_cut cut docs rows sorted top moved up = record {
@@ -59,7 +59,7 @@ module _ {X : Type 0} (lt : X → X → Bool)
       let all = first_of_all cut docs rows sorted top moved up in
       record { whole = all.whole; permutes = IsPermutation-trans _ _ _ top.others all.permutes; sorted = all.sorted; first = all.first }
 
-  -- what does not come before the last does not come before any
+  -- what does not sort before the last does not sort before any
   below_none : (front : List X) (last x : X) → Up lt chain one_way (front ++ last ∷ []) → lt x last ≡ false →
       AllByRecursion (λ y. Above lt chain one_way y (x ∷ [])) (front ++ last ∷ [])
   below_none front last x up late =
@@ -74,7 +74,7 @@ module _ {X : Type 0} (lt : X → X → Bool)
       (up_left lt chain one_way (take n first.whole) (drop n first.whole)
       (subst (λ (l : List X). Up lt chain one_way l) (sym (take-append-drop n first.whole)) (up_from_sorted lt chain one_way first.whole first.sorted)))
 
-  -- one that comes too late is passed over
+  -- one that sorts too late is dropped
   pub top_late : (docs rows : List X) (k : ℕ) (x last : X) → n ≡ k + 1 → n ≤ length rows → last ≡ get_or rows k last → lt x last ≡ false →
       IsTop lt n n docs rows → IsTop lt n n (docs ++ x ∷ []) rows
   top_late docs rows k x last is full there late top =

@@ -34,7 +34,7 @@ grouped_next {A = A} see spec xs i x kept after less is adds joined =
 pub nothing_grouped : (spec : GroupSpec) (rows : List PartialRow) → rows ≡ [] → IsJoined spec [] rows
 nothing_grouped spec rows none = subst (λ (l : List PartialRow). IsJoined spec [] l) (sym none) (record { each = tt; apart = tt; every = tt })
 
--- one more of n is skipped, behind m
+-- one more of n is skipped, after m
 pub one_skipped : {A : Type 0} (n m : ℕ) (x : A) (left rest whole : List A) → m < n → left ≡ x ∷ rest → drop (n - m) left ≡ whole →
     drop (n - (m + 1)) rest ≡ whole
 one_skipped {A = A} n m x left rest whole less is so_far =
@@ -45,7 +45,7 @@ one_skipped {A = A} n m x left rest whole less is so_far =
 pub none_skipped : {A : Type 0} (k : ℕ) (left now whole : List A) → now ≡ left → length left ≡ 0 → drop k left ≡ whole → now ≡ whole
 none_skipped k left now whole is none so_far = is ∙ drop_all 0 left (omega arith) ∙ sym (drop_all k left (omega arith)) ∙ so_far
 
--- as many are skipped as are to be
+-- as many are skipped as the stage says
 pub all_skipped : {A : Type 0} (n m : ℕ) (left now whole : List A) → n ≤ m → now ≡ left → drop (n - m) left ≡ whole → now ≡ whole
 all_skipped n m left now whole enough is so_far =
     let none : n - m ≡ 0 = omega arith in

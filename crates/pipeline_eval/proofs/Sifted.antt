@@ -1,4 +1,4 @@
--- What a sieve drops, a filter drops.
+-- Each document that a sieve drops the filter drops too.
 use Rattle.std.proofs.Common.{◌≡◌, List, [], ◌∷◌, refl, sym, ap, ◌∙◌}
 use Rattle.std.specs.Prelude.{Bool, true, false, cond, filter, map}
 

@@ -1,4 +1,4 @@
--- Documents are in order where their keys are.
+-- Documents are sorted where their keys are.
 use Rattle.std.proofs.Common.{◌≡◌, List, [], ◌∷◌, ◌++◌, length, map, refl, sym, ap, ◌∙◌, subst, append_assoc, arith}
 use Rattle.std.specs.Prelude.{Bool, true, false, cond, filter, not, ◌&&◌, IsPermutation, IsSortedBy}
 use Rattle.std.specs.List.{AllByRecursion}
@@ -53,7 +53,7 @@ module _ (spec : SortSpec) where
       subst (λ (l : List Fields). IsPermutation l documents) were
       (subst (λ (l : List Fields). IsPermutation (map document_of rows) l) (sym are) (IsPermutation-map document_of rows now moved))
 
--- the next row is put behind the others
+-- the next row is appended
 pub next_put : {A B C : Type 0} (f : A → C) (see : B → C) (done now : List A) (a : A) (left rest : List B) (b : B) (whole : List C) →
     now ≡ done ++ a ∷ [] → left ≡ b ∷ rest → f a ≡ see b → map f done ++ map see left ≡ whole → map f now ++ map see rest ≡ whole
 next_put {A = A} {B = B} {C = C} f see done now a left rest b whole put is same so_far =

@@ -1,4 +1,4 @@
--- What halves give, as plain data.
+-- What halves return, as plain data.
 use Rattle.std.specs.Prelude.{map}
 use Rattle.std.specs.Arc.{arc_value}
 use Rattle.pipeline_model.specs.Halves as model

@@ -1,4 +1,4 @@
-//! Whole answers.
+//! Results of whole pipelines.
 
 ghost use Rattle.std.specs.Prelude.{◌≡◌, map};
 ghost use Rattle.std.specs.Arc.{arc_value};
@@ -12,9 +12,9 @@ use pipeline_lang::Pipeline;
 use std::alloc::Global;
 use std::sync::Arc;
 
-/// What a pipeline makes of the documents in this order: an outcome that the pipeline has on them. Fails with `Overflow` only where
-/// it has on them that a sum is outside int64; with `TooMuch` where the outcome has more than 104,857,600 bytes, or a document of it
-/// more than 16,777,216; and for want of memory.
+/// Returns the result of a pipeline on the documents in this order: an outcome that the pipeline has for them. Returns `Overflow` only where an outcome for
+/// them is that a sum is outside int64; `TooMuch` where the outcome has more than 104,857,600 bytes, or a document of it more than 16,777,216; and `Memory`
+/// if memory runs out.
 pub fn eval(
     alloc: Global,
     pipeline: &Pipeline,

@@ -1,18 +1,18 @@
-//! Why a pipeline's answer is not given.
+//! Why a pipeline has no result.
 
 ghost use Rattle.std.specs.Prelude.{◌≡◌};
 
 use bson_values::Memory;
 use std::alloc::{AllocError, AllocFailed};
 
-/// Why a pipeline's answer is not given.
+/// Why a pipeline has no result.
 #[derive(Clone, Copy, Debug, PartialEq, Eq)]
 pub enum EvalFault {
     /// A sum is outside int64.
     Overflow,
-    /// The documents or rows have so many bytes, which are too many.
+    /// The documents or rows have this number of bytes, which is too great.
     TooMuch { bytes: u64 },
-    /// Want of memory.
+    /// Out of memory.
     Memory,
 }
 

@@ -18,7 +18,7 @@ use pipeline_lang::{Half, HalfEnd};
 use std::alloc::Global;
 use std::sync::Arc;
 
-/// The documents, each shared once more. Fails for want of memory.
+/// Returns the documents, each shared. Returns `Memory` if memory runs out.
 pub fn share_all(
     alloc: Global,
     documents: &[Arc<Document, Global>],
@@ -55,7 +55,7 @@ fn counted_rows(count: usize) -> Result<Rows, Memory>
     }
 }
 
-// What is given behind the stages. Fails for want of memory.
+// Returns what the half returns after its stages, or `Memory` if memory runs out.
 fn ended(alloc: Global, last: &HalfEnd, left: Vec<Arc<Document, Global>>) -> Result<Rows, Memory>
     ensures { IfOk result (λ rows. EndsIn (end_of last.now) (map arc_value left.items) (rows_of rows)) }
 {
@@ -66,9 +66,8 @@ fn ended(alloc: Global, last: &HalfEnd, left: Vec<Arc<Document, Global>>) -> Res
     }
 }
 
-/// What a half gives of the documents in this order. Fails with `Overflow` only where its stages have that a sum is outside int64; with
-/// `TooMuch` where the rows have more than 104,857,600 bytes; and for want of memory, also where there are 2^58 documents or more to
-/// group or count.
+/// Returns the result of a half on the documents in this order. Returns `Overflow` only where an outcome of its stages is that a sum is outside int64;
+/// `TooMuch` where the rows have more than 104,857,600 bytes; and `Memory` if memory runs out, also where there are 2^58 documents or more to group or count.
 pub fn eval_half(
     alloc: Global,
     half: &Half,

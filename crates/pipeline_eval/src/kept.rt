@@ -1,4 +1,4 @@
-//! What the filter at the head of a half keeps.
+//! The documents that the filter at the head of a half keeps.
 
 ghost use Rattle.std.specs.Prelude.{◌≡◌, IfOk, filter, map};
 ghost use Rattle.std.specs.Arc.{arc_value};
@@ -12,7 +12,7 @@ use pipeline_lang::{Half, Stage};
 use std::alloc::Global;
 use std::sync::Arc;
 
-// The documents, each shared. Fails for want of memory.
+// Returns the documents, each shared, or `Memory` if memory runs out.
 fn share_found(
     alloc: Global,
     documents: &[&Arc<Document, Global>],
@@ -27,8 +27,8 @@ fn share_found(
     Ok(all)
 }
 
-// The documents, but for some of those that the filter drops. It takes a part of what the filter takes, so that the processor has
-// the next documents on their way from memory meanwhile. Takes no memory.
+// Returns the documents without some of those that the filter drops. It tests a part of the filter, so that meanwhile the processor loads the next documents
+// from memory. Takes no memory.
 fn sifted<'a>(
     asked: &Expr,
     documents: Vec<&'a Arc<Document, Global>>,
@@ -42,7 +42,7 @@ fn sifted<'a>(
     left
 }
 
-// Those that the filter holds of. Takes no memory.
+// Returns those that match the filter. Takes no memory.
 fn passing<'a>(
     asked: &Expr,
     documents: Vec<&'a Arc<Document, Global>>,
@@ -54,8 +54,8 @@ fn passing<'a>(
     left
 }
 
-/// Of documents those that the filter at the head of a half's stages keeps, where one stands there, in this order. Each is shared, and
-/// what is dropped is only read. Fails for want of memory.
+/// Returns the documents that the filter at the head of a half's stages keeps, where there is one, in this order. Each is shared, and what is dropped is only
+/// read. Returns `Memory` if memory runs out.
 pub fn share_kept(
     alloc: Global,
     half: &Half,

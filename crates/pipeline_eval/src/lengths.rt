@@ -1,4 +1,4 @@
-//! How many bytes an answer has, and whether they are too many (MongoDB manual, "MongoDB Limits and Thresholds").
+//! The number of bytes of a result, and whether it is too great (MongoDB manual, "MongoDB Limits and Thresholds").
 
 ghost use Rattle.std.specs.Prelude.{◌≡◌, map, option_map};
 ghost use Rattle.std.specs.Arc.{arc_value};
@@ -11,10 +11,10 @@ use bson_values::{Document, MOST_BYTES_KEPT};
 use std::alloc::Global;
 use std::sync::Arc;
 
-/// The most bytes that the documents of an answer, or the rows of a half, have together.
+/// The greatest number of bytes that the documents of a result, or the rows of a half, have together.
 pub const MOST_BYTES_ANSWERED: usize = 104_857_600;
 
-// The bytes of all documents, or the greatest `usize` where that is less.
+// Returns the number of bytes of all documents, or the greatest `usize` where that is less.
 fn total_size(documents: &[Arc<Document, Global>]) -> usize
     ensures { result ≡ capped (documents_length (map arc_value documents.now)) }
 {
@@ -25,7 +25,7 @@ fn total_size(documents: &[Arc<Document, Global>]) -> usize
     total
 }
 
-// The bytes of the first document that is too long.
+// Returns the number of bytes of the first document that is too long.
 fn first_too_long(documents: &[Arc<Document, Global>]) -> Option<usize>
     ensures { result ≡ option_map capped (excess_of_documents (map arc_value documents.now)) }
 {
@@ -38,7 +38,7 @@ fn first_too_long(documents: &[Arc<Document, Global>]) -> Option<usize>
     None
 }
 
-/// How many bytes an answer has that are too many: of all its documents, else of the first that is too long. Sizes alone are summed.
+/// Returns the number of bytes of a result that is too long: that of all its documents, else that of the first that is too long. Only sizes are added.
 pub(crate) fn excess_of_answer(documents: &[Arc<Document, Global>]) -> Option<usize>
     ensures { result ≡ option_map capped (excess_of_answer (map arc_value documents.now)) }
 {
@@ -49,7 +49,7 @@ pub(crate) fn excess_of_answer(documents: &[Arc<Document, Global>]) -> Option<us
     first_too_long(documents)
 }
 
-// The bytes of the rows of a half, or the greatest `usize` where that is less.
+// Returns the number of bytes of the rows of a half, or the greatest `usize` where that is less.
 fn rows_size(rows: &Rows) -> usize
     ensures { result ≡ capped (rows_length (rows_of rows.now)) }
 {
@@ -60,7 +60,7 @@ fn rows_size(rows: &Rows) -> usize
     }
 }
 
-/// How many bytes the rows of a half have that are too many.
+/// Returns the number of bytes of the rows of a half that are too long.
 pub(crate) fn excess_of_rows(rows: &Rows) -> Option<usize>
     ensures { result ≡ option_map capped (excess_of_half (rows_of rows.now)) }
 {

@@ -1,4 +1,4 @@
-//! What pipelines make of documents, whole and by halves (MongoDB manual, "Aggregation Pipeline").
+//! The results of pipelines on documents, whole and by halves (MongoDB manual, "Aggregation Pipeline").
 #![tactic(auto)]
 
 mod answers;

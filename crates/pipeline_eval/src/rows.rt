@@ -1,4 +1,4 @@
-//! What halves give.
+//! What halves return.
 
 ghost use Rattle.std.specs.Prelude.{◌≡◌, ◌<◌, ◌≤◌, ◌^◌, IfNone, IfOk, IfSome};
 ghost use Rattle.pipeline_eval.specs.Rows.{rows_of};
@@ -10,10 +10,10 @@ use std::alloc::Global;
 use std::marker::Model;
 use std::sync::Arc;
 
-/// Below this is the number of documents of a part.
+/// The number of documents of a part is less than this.
 const DOCUMENTS_OF_PART: u64 = 1 << 58;
 
-/// A number of documents of a part: below 2^58.
+/// The number of documents of a part: less than 2^58.
 #[derive(Drop)]
 pub struct PartCount {
     count: u64,
@@ -30,7 +30,7 @@ impl Model for PartCount {
 }
 
 impl PartCount {
-    /// The number; none where it is 2^58 or more.
+    /// Returns the number, or none where it is 2^58 or more.
     pub fn of(count: u64) -> Option<PartCount>
         ensures count { IfSome result (λ c. c ≡ count) }
         ensures none { IfNone result (2 ^ 58 ≤ count) }
@@ -42,7 +42,7 @@ impl PartCount {
         }
     }
 
-    /// The number.
+    /// Returns the number.
     pub fn get(&self) -> u64
         ensures count { result ≡ self.now }
         ensures bound { result < 2 ^ 58 }
@@ -51,19 +51,19 @@ impl PartCount {
     }
 }
 
-/// What a half gives of a part of the documents.
+/// What a half returns for a part of the documents.
 #[derive(Drop)]
 pub enum Rows {
     /// Documents.
     Docs(Vec<Arc<Document, Global>>),
     /// The rows that they are grouped into.
     Partials(PartialList),
-    /// Their number.
+    /// The number of the documents.
     Counted(PartCount),
 }
 
 impl Rows {
-    /// The same rows once more, which share the documents. Fails for want of memory.
+    /// Returns a copy of the rows, which shares the documents, or `Memory` if memory runs out.
     pub fn copy(&self, alloc: Global) -> Result<Rows, Memory>
         ensures { IfOk result (λ rows. rows_of rows ≡ rows_of self.now) }
     {

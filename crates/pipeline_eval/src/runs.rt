@@ -1,4 +1,4 @@
-//! What stages, one behind the other, make of a list of documents.
+//! The result of stages, one after the other, on a list of documents.
 
 ghost use Rattle.std.specs.Prelude.{◌≡◌, ◌<◌, map};
 ghost use Rattle.std.specs.Arc.{arc_value};
@@ -69,7 +69,7 @@ fn sort_first(
     Ok(left)
 }
 
-// The documents in order, or so many of them as the next stage leaves.
+// Returns the documents in order, or only the first of them, as many as the next stage keeps.
 fn run_sort(
     alloc: Global,
     spec: &SortSpec,
@@ -100,7 +100,7 @@ fn run_count(
     Ok(one)
 }
 
-// What one stage makes of the documents. Before a limit, a sort gives the first of them alone.
+// Returns the result of one stage on the documents. Before a limit, a sort returns only the first of them.
 fn run_stage(
     alloc: Global,
     stage: &Stage,
@@ -120,7 +120,7 @@ fn run_stage(
     }
 }
 
-// How many documents a limit leaves that stands in front.
+// Returns how many documents a limit keeps that comes first.
 fn limit_in_front(stages: &[Stage]) -> Option<u64>
     ensures { result ≡ limit_in_front (map stage_of stages.now) }
 {
@@ -133,8 +133,8 @@ fn limit_in_front(stages: &[Stage]) -> Option<u64>
     }
 }
 
-/// What the stages make of the documents, one behind the other. Fails with `Overflow` where they have that a sum is outside int64, and
-/// for want of memory.
+/// Returns the result of the stages on the documents, one after the other. Returns `Overflow` where an outcome of them is that a sum is outside int64, and
+/// `Memory` if memory runs out.
 pub(crate) fn run_stages(
     alloc: Global,
     stages: &[Stage],

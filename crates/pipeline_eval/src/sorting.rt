@@ -1,4 +1,4 @@
-//! Documents in the order of a sort. Each key is found once, and kept beside its document meanwhile.
+//! Documents in the order of a sort. Each key is computed once, and stored with its document meanwhile.
 
 ghost use Rattle.std.specs.Prelude.{◌≡◌, IfOk, IsPermutation, IsSortedBy, OnOk, map};
 ghost use Rattle.std.specs.Arc.{arc_value};
@@ -20,7 +20,7 @@ pub(crate) struct Keyed {
     pub(crate) document: Arc<Document, Global>,
 }
 
-// Each document with its key. Fails for want of memory.
+// Returns each document with its key, or `Memory` if memory runs out.
 fn with_keys(
     alloc: Global,
     spec: &SortSpec,
@@ -38,7 +38,7 @@ fn with_keys(
     Ok(rows)
 }
 
-/// The documents alone. Fails for want of memory.
+/// Returns the documents without their keys, or `Memory` if memory runs out.
 pub(crate) fn without_keys(
     alloc: Global,
     rows: Vec<Keyed>,
@@ -53,7 +53,7 @@ pub(crate) fn without_keys(
     Ok(documents)
 }
 
-/// Puts the rows in the order of their keys. Fails for want of memory.
+/// Sorts the rows by their keys. Returns `Memory` if memory runs out.
 pub(crate) fn sort_rows(spec: &SortSpec, rows: &mut Vec<Keyed>) -> Result<(), Memory>
     ensures permutes { IsPermutation rows.old.items rows.new.items }
     ensures sorted { OnOk result (IsSortedBy (keys_before spec.now) rows.new.items) }
@@ -63,7 +63,7 @@ pub(crate) fn sort_rows(spec: &SortSpec, rows: &mut Vec<Keyed>) -> Result<(), Me
     Ok(())
 }
 
-/// The documents in order; those that compare equal stay in the order in which they stood. Fails for want of memory.
+/// Returns the documents in order; those that compare equal keep their order. Returns `Memory` if memory runs out.
 pub fn sorted(
     alloc: Global,
     spec: &SortSpec,

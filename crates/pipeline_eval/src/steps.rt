@@ -1,4 +1,4 @@
-//! What each stage leaves of a list of documents.
+//! The result of each stage on a list of documents.
 
 ghost use Rattle.std.specs.Prelude.{◌≡◌, ◌++◌, IfOk, drop, filter, map, take};
 ghost use Rattle.std.specs.Arc.{arc_value};
@@ -17,7 +17,7 @@ use std::alloc::Global;
 use std::collections::VecDeque;
 use std::sync::Arc;
 
-/// The documents that the filter holds of. Takes no memory.
+/// Returns the documents that match the filter. Takes no memory.
 pub(crate) fn matching(
     asked: &Expr,
     documents: Vec<Arc<Document, Global>>,
@@ -29,7 +29,7 @@ pub(crate) fn matching(
     left
 }
 
-/// What the projection leaves of each document. Fails for want of memory.
+/// Returns the projection of each document, or `Memory` if memory runs out.
 pub(crate) fn projected(
     alloc: Global,
     rules: &Projection,
@@ -46,7 +46,7 @@ pub(crate) fn projected(
     Ok(left)
 }
 
-/// The documents without so many at the front. Takes no memory.
+/// Returns the documents without the first `count`. Takes no memory.
 pub(crate) fn skipped(
     documents: Vec<Arc<Document, Global>>,
     count: u64,
@@ -63,7 +63,7 @@ pub(crate) fn skipped(
     Vec::from(left)
 }
 
-/// So many documents at the front. Takes no memory.
+/// Returns the first `count` documents. Takes no memory.
 pub(crate) fn limited(
     documents: Vec<Arc<Document, Global>>,
     count: u64,
@@ -75,7 +75,7 @@ pub(crate) fn limited(
     first
 }
 
-// A number as a value: int32 where it fits, else int64; one outside int64 is want of memory.
+// Returns a number as a value: int32 where it fits, else int64; `Memory` where it is outside int64.
 fn count_value(count: usize) -> Result<Value, Memory>
     ensures { IfOk result (λ v. datum_of v ≡ count_value count) }
 {
@@ -88,7 +88,7 @@ fn count_value(count: usize) -> Result<Value, Memory>
     Err(Memory)
 }
 
-/// One document with the number under the name, and none for 0. Fails for want of memory.
+/// Returns one document with the number under the name, or none for 0. Returns `Memory` if memory runs out.
 pub fn counted(
     alloc: Global,
     name: &Name,
@@ -108,7 +108,7 @@ pub fn counted(
     Ok(documents)
 }
 
-/// The groups of the documents. Fails for want of memory.
+/// Returns the groups of the documents, or `Memory` if memory runs out.
 pub(crate) fn grouped(
     alloc: Global,
     spec: Arc<GroupSpec, Global>,

@@ -1,4 +1,4 @@
-//! The first of the documents in the order of a sort, so many: what is kept while they come.
+//! The first `count` documents in the order of a sort: what is kept while they are read.
 
 ghost use Rattle.std.specs.Prelude.{◌≡◌, ◌<◌, ◌≤◌, ◌++◌, ◌∷◌, [], IfOk, IsTrue, List, OnOk, cond, length, map, true};
 ghost use Rattle.std.specs.Arc.{arc_value};
@@ -16,14 +16,14 @@ use std::alloc::Global;
 use std::collections::VecDeque;
 use std::sync::Arc;
 
-// Rows that are kept while documents come. Once they are cut, so many in front, as are asked for, are the first so far.
+// Rows that are kept while documents are read. Once they are cut, the first `count` of them are the first of the documents read before the other rows.
 #[derive(Drop)]
 pub(crate) struct Top {
     pub(crate) rows: Vec<Keyed>,
     pub(crate) is_cut: bool,
 }
 
-// Whether so many rows in front are the first so far, and the key does not come before the last of them.
+// Returns whether the rows are cut, and the key does not sort before the last of the first `count` rows.
 fn comes_late(spec: &SortSpec, count: usize, top: &Top, key: &SortKey) -> bool
     requires some { 0 < count }
     requires cut { cond top.now.is_cut count 0 ≤ length top.now.rows.items }
@@ -36,7 +36,7 @@ fn comes_late(spec: &SortSpec, count: usize, top: &Top, key: &SortKey) -> bool
     !compare_keys(spec, key, &top.rows[count - 1].key).is_lt()
 }
 
-// Puts the rows in order, and leaves so many. Fails for want of memory.
+// Sorts the rows, and keeps the first `count`. Returns `Memory` if memory runs out.
 fn cut_rows(spec: &SortSpec, count: usize, top: &mut Top) -> Result<(), Memory>
     requires some { 0 < count }
     requires many { count ≤ length top.old.rows.items }
@@ -50,7 +50,7 @@ fn cut_rows(spec: &SortSpec, count: usize, top: &mut Top) -> Result<(), Memory>
     Ok(())
 }
 
-// Takes in the row of the next document. Fails for want of memory.
+// Adds the row of the next document. Returns `Memory` if memory runs out.
 fn put(spec: &SortSpec, count: usize, top: &mut Top, row: Keyed) -> Result<(), Memory>
     requires some { 0 < count }
     requires cut { cond top.old.is_cut count 0 ≤ length top.old.rows.items }
@@ -69,7 +69,7 @@ fn put(spec: &SortSpec, count: usize, top: &mut Top, row: Keyed) -> Result<(), M
     Ok(())
 }
 
-// The rows that are kept of all documents: at most twice so many. Fails for want of memory.
+// Returns the rows that are kept of all documents: at most twice `count`. Returns `Memory` if memory runs out.
 fn kept_rows(
     alloc: Global,
     spec: &SortSpec,
@@ -92,7 +92,7 @@ fn kept_rows(
     Ok(top)
 }
 
-/// The first of the documents in order, so many. At most twice so many are kept meanwhile, with their keys. Fails for want of memory.
+/// Returns the first `count` documents in order. At most twice `count` are kept meanwhile, with their keys. Returns `Memory` if memory runs out.
 pub(crate) fn first_sorted(
     alloc: Global,
     spec: &SortSpec,

@@ -20,7 +20,7 @@ use Rattle.pipeline_model.specs.Stages.{may_count, read_pipeline, read_stage, re
 use Rattle.pipeline_lang.specs.declared.stage.Stage.{Stage}
 use Rattle.pipeline_lang.specs.View.{stage_of}
 
--- a name under which a number may stand has no 00
+-- a name under which a count may be returned has no 00
 no_zero_by : (dot zero : Bool) (bs : List ℕ) → ((dot || zero) || list_any (λ b. (b == byte ".") || (b == 0)) bs) ≡ false →
     (list_any (λ b. (b == byte ".") || (b == 0)) bs ≡ false → has_no_zero bs ≡ true) → (if zero then false else has_no_zero bs) ≡ true
 no_zero_by true zero bs e later = absurd cc
@@ -74,7 +74,7 @@ one_read stages stage read others e =
     ap (λ (r : Result model.Stage QueryFault). with_front (map stage_of stages) (r >>= λ first. others >>= λ more. Ok (first ∷ more))) e
     ∙ one_behind stages stage others
 
--- the next stage is read
+-- the next stage is valid
 pub goes_on : (stages now : List Stage) (stage : Stage) (vs : List Value) (i : ℕ) (v : Value) (whole : Result (List model.Stage) QueryFault) →
     i < length vs → v ≡ get_or vs i v → now ≡ stages ++ stage ∷ [] → read_stage (datum_of v) ≡ Ok (stage_of stage) →
     with_front (map stage_of stages) (read_stages (elements (items_of (drop i vs)))) ≡ whole →
@@ -85,7 +85,7 @@ goes_on stages now stage vs i v whole less is put read so_far =
     ∙ ap (λ (l : List Value). with_front (map stage_of stages) (read_stages (elements (items_of l)))) (sym (next_one vs i v less is))
     ∙ so_far
 
--- the next stage is at fault
+-- the next stage has a fault
 pub fails_there : (stages : List Stage) (vs : List Value) (i : ℕ) (v : Value) (whole : Result (List model.Stage) QueryFault) (f : QueryFault) →
     i < length vs → v ≡ get_or vs i v → with_front (map stage_of stages) (read_stages (elements (items_of (drop i vs)))) ≡ whole →
     read_stage (datum_of v) ≡ Err f → whole ≡ Err f

@@ -1,4 +1,4 @@
--- How stages are told from others: by what they hold, each in a place of its own.
+-- A code that determines a stage: each of its parts at a position of its own.
 use Rattle.std.specs.Prelude.{◌≡◌, ◌⊎◌, ℕ, List, refl}
 use Rattle.std.proofs.Common.{inl, inr}
 use Rattle.std.specs.Coded.{Coded, code_by, coded⊎, coded_list, coded_ℕ}

@@ -1,4 +1,4 @@
--- What halves and merges are as plain data.
+-- Halves and merges as plain data.
 use Rattle.std.specs.Arc.{arc_value}
 use Rattle.pipeline_model.specs.Halves as model
 use Rattle.pipeline_model.specs.Halves.{documents_end, partials_end, counted_end, joined_in_order, joined_groups, joined_counts, joined_as_they_come}

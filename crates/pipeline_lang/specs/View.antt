@@ -1,4 +1,4 @@
--- What stages are as plain data, and how they are read step by step.
+-- Stages as plain data, and how they are read step by step.
 use Rattle.std.specs.Prelude.{ℕ, List, Result, Ok, Err, ok_or, nat_lt, if◌then◌else◌}
 use Rattle.std.specs.Arc.{arc_value}
 use Rattle.bson_model.specs.Tree.{Datum}
@@ -29,7 +29,7 @@ name_of names.Skip = skip_name
 name_of names.Limit = limit_name
 name_of names.Count = count_name
 
--- the stage of that name, of an operand
+-- the stage of that name with an operand
 abbrev pub read_named : List ℕ → Datum → Result model.Stage QueryFault
 read_named name d = ok_or (named stage_names name) unknown_operator >>= λ which. read_stage_of which d
 

@@ -1,4 +1,4 @@
-//! The parts of a pipeline that is split: what each part of the documents gets, and what puts the rows together (MongoDB manual,
+//! The two parts of a pipeline that is split: the half that runs on each part of the documents, and the merge that joins their rows (MongoDB manual,
 //! "Aggregation Pipeline and Sharded Collections").
 
 use crate::stage::Pipeline;
@@ -9,46 +9,46 @@ use std::alloc::Global;
 use std::sync::Arc;
 use value_compare::SpanList;
 
-/// What a half gives of the documents behind its stages.
+/// What a half returns for the documents after its stages.
 #[derive(Drop)]
 pub enum HalfEnd {
     /// The documents.
     Docs,
     /// The rows that they are grouped into.
     Partials(Arc<GroupSpec, Global>),
-    /// Their number.
+    /// The number of the documents.
     Counted,
 }
 
-/// What each part of the documents gets of a pipeline.
+/// The half of a pipeline that runs on each part of the documents.
 #[derive(Drop)]
 pub struct Half {
-    /// Ranges and points; no document with a key outside adds anything.
+    /// Ranges and points; no document with a key outside them adds anything.
     pub span: SpanList,
-    /// The stages, one behind the other.
+    /// The stages, one after the other.
     pub stages: Pipeline,
-    /// What is given behind them.
+    /// What is returned after them.
     pub last: HalfEnd,
 }
 
-/// How the rows of the parts are put together.
+/// How the rows of the parts are joined.
 #[derive(Drop)]
 pub enum Joining {
     /// Documents in order.
     InOrder(Arc<SortSpec, Global>),
-    /// Rows of groups, one of each key.
+    /// Rows of groups, one for each key.
     Groups(Arc<GroupSpec, Global>),
     /// Numbers, as one document with their sum under this name.
     Counts(Name),
-    /// Documents, one part behind the other.
+    /// Documents, one part after the other.
     AsTheyCome,
 }
 
-/// What puts the rows of the parts together, and goes on from there.
+/// What joins the rows of the parts, and runs the stages after that.
 #[derive(Drop)]
 pub struct Merge {
-    /// How the rows are put together.
+    /// How the rows are joined.
     pub joining: Joining,
-    /// The stages behind that.
+    /// The stages after that.
     pub stages: Pipeline,
 }

@@ -1,4 +1,4 @@
-//! Pipelines: their stages as documents spell them, and the parts of one that is split (MongoDB manual, "Aggregation Pipeline Stages").
+//! Pipelines: their stages as documents encode them, and the two parts of one that is split (MongoDB manual, "Aggregation Pipeline Stages").
 #![tactic(auto)]
 
 mod halves;

@@ -21,7 +21,7 @@ use sort_keys::SortSpec;
 use std::alloc::Global;
 use std::sync::Arc;
 
-/// The most stages that a pipeline has.
+/// The greatest number of stages of a pipeline.
 pub const MOST_STAGES: usize = 1000;
 
 // A stage without its operand.
@@ -36,7 +36,7 @@ pub(crate) enum StageName {
     Count,
 }
 
-// The stage of that name.
+// Returns the stage of that name.
 fn stage_named(name: &str) -> Option<StageName>
     ensures { option_map name_of result ≡ named stage_names name.now }
 {
@@ -59,7 +59,7 @@ fn stage_named(name: &str) -> Option<StageName>
     }
 }
 
-// The number, where it is not negative.
+// Returns the number, where it is not negative.
 fn natural_of(number: i64) -> Result<u64, ParseFault>
     ensures gives { Gives (λ n. n) result (as_natural number) }
 {
@@ -69,7 +69,7 @@ fn natural_of(number: i64) -> Result<u64, ParseFault>
     Ok(number as u64)
 }
 
-// The whole number that a value is, where it is not negative.
+// Returns the whole number that a value is, where it is not negative.
 fn parse_natural(value: &Value) -> Result<u64, ParseFault>
     ensures gives { Gives (λ n. n) result (read_natural (datum_of value.now)) }
 {
@@ -131,7 +131,7 @@ fn parse_skip(value: &Value) -> Result<Stage, ParseFault>
     Ok(Stage::Skip(number))
 }
 
-// So many, which is not none.
+// Returns `$limit` with the number, which must not be 0.
 fn some_of(number: u64) -> Result<Stage, ParseFault>
     ensures gives { Gives stage_of result (at_least_one number) }
 {
@@ -148,7 +148,7 @@ fn parse_limit(value: &Value) -> Result<Stage, ParseFault>
     some_of(number)
 }
 
-// Whether a dot or 00 is among the bytes.
+// Returns whether the bytes contain a dot or 00.
 fn has_dot_or_zero(bytes: &[u8]) -> bool
     ensures { result ≡ list_any (λ b. (b == byte ".") || (b == 0)) bytes.now }
 {
@@ -160,7 +160,7 @@ fn has_dot_or_zero(bytes: &[u8]) -> bool
     false
 }
 
-// Whether a name begins with `$`.
+// Returns whether a name begins with `$`.
 fn begins_with_dollar(name: &[u8]) -> bool
     ensures { result ≡ begins_with_dollar name.now }
 {
@@ -170,7 +170,7 @@ fn begins_with_dollar(name: &[u8]) -> bool
     }
 }
 
-// Whether a number may stand under that name.
+// Returns whether a count may be returned under that name.
 fn may_count(name: &[u8]) -> bool
     ensures { result ≡ may_count name.now }
 {
@@ -197,7 +197,7 @@ fn parse_count(alloc: Global, value: &Value) -> Result<Stage, ParseFault>
     }
 }
 
-// The stage of that name, of an operand.
+// Returns the stage of that name with an operand.
 fn parse_stage_of(alloc: Global, name: StageName, value: &Value) -> Result<Stage, ParseFault>
     ensures gives { Gives stage_of result (read_stage_of (name_of name) (datum_of value.now)) }
 {
@@ -212,7 +212,7 @@ fn parse_stage_of(alloc: Global, name: StageName, value: &Value) -> Result<Stage
     }
 }
 
-// The stage that a document of one field is.
+// Returns the stage that a document of one field is.
 fn parse_named(alloc: Global, field: &Field) -> Result<Stage, ParseFault>
     ensures gives { Gives stage_of result (read_named field.now.name (datum_of field.now.value)) }
 {
@@ -222,7 +222,7 @@ fn parse_named(alloc: Global, field: &Field) -> Result<Stage, ParseFault>
     }
 }
 
-// The stage that a value is: a document of one field.
+// Returns the stage that a value is: a document of one field.
 fn parse_stage(alloc: Global, value: &Value) -> Result<Stage, ParseFault>
     ensures gives { Gives stage_of result (read_stage (datum_of value.now)) }
 {
@@ -236,7 +236,7 @@ fn parse_stage(alloc: Global, value: &Value) -> Result<Stage, ParseFault>
     }
 }
 
-// The stages that the values of an array are.
+// Returns the stages that the values of an array are.
 fn parse_stages(alloc: Global, array: &Array) -> Result<Vec<Stage>, ParseFault>
     ensures gives { Gives (λ stages. map stage_of stages.items) result (read_stages (elements array.now)) }
 {
@@ -248,7 +248,7 @@ fn parse_stages(alloc: Global, array: &Array) -> Result<Vec<Stage>, ParseFault>
     Ok(stages)
 }
 
-/// The pipeline that an array is.
+/// Returns the pipeline that an array is.
 #[tactic(auto, using(crate::proofs::StagesRead::too_many, crate::proofs::StagesRead::few_enough))]
 pub(crate) fn parse_pipeline(alloc: Global, array: &Array) -> Result<Pipeline, ParseFault>
     ensures gives { Gives (λ p. p) result (read_pipeline array.now) }

@@ -16,26 +16,26 @@ use std::alloc::Global;
 use std::marker::Model;
 use std::sync::Arc;
 
-/// A stage (MongoDB manual, "Aggregation Pipeline Stages"). What it asks for is shared, so that a part of a pipeline copies none of it.
+/// A stage (MongoDB manual, "Aggregation Pipeline Stages"). Its operand is shared, so that a part of a pipeline copies none of it.
 #[derive(Drop)]
 pub enum Stage {
-    /// The documents that the filter holds of.
+    /// The documents that match the filter.
     Match(Arc<Expr, Global>),
-    /// What is left of each document.
+    /// The projection of each document.
     Project(Arc<Projection, Global>),
     /// A document of each group.
     Group(Arc<GroupSpec, Global>),
     /// The documents in order.
     Sort(Arc<SortSpec, Global>),
-    /// All but so many at the front.
+    /// All documents but the first ones, this many.
     Skip(u64),
-    /// So many at the front.
+    /// The first documents, this many.
     Limit(u64),
-    /// One document, with their number under this name.
+    /// One document, with the number of documents under this name.
     Count(Name),
 }
 
-/// Stages, one behind the other, seen as the list of them.
+/// Stages, one after the other, seen as a list.
 #[derive(Drop)]
 pub struct Pipeline {
     pub(crate) stages: Vec<Stage>,
@@ -55,7 +55,7 @@ impl Model for Pipeline {
 }
 
 impl Stage {
-    /// The same stage once more; what it asks for is shared. Fails for want of memory.
+    /// Returns the same stage, whose operand is shared. Returns `Memory` if memory runs out.
     pub fn share(&self) -> Result<Stage, Memory>
         ensures { IfOk result (λ s. stage_of s ≡ stage_of self.now) }
     {
@@ -72,27 +72,27 @@ impl Stage {
 }
 
 impl Pipeline {
-    /// The pipeline of these stages.
+    /// Returns the pipeline of these stages.
     pub fn of(stages: Vec<Stage>) -> Pipeline
         ensures { result ≡ map stage_of stages.items }
     {
         Pipeline { stages }
     }
 
-    /// Its stages.
+    /// Returns its stages.
     pub fn stages(&self) -> &[Stage]
         ensures { map stage_of result.now ≡ self.now }
     {
         self.stages.as_slice()
     }
 
-    /// The pipeline that an array is. Fails where it is none: with `BadOperand` where it has more than 1,000 stages, else with the first
-    /// fault of the stages in order (`BadOperand`, `UnknownOperator`, or what its operand is at fault with, as the filter, the
-    /// projection, the specification of groups or of a sort have it). Fails with `Memory` for want of memory.
+    /// Returns the pipeline that an array is. Where it is none, returns `BadOperand` if it has more than 1,000 stages, else the first fault of the stages in
+    /// order (`BadOperand`, `UnknownOperator`, or the fault of its operand as the filter, the projection, the specification of groups or of a sort has it).
+    /// Returns `Memory` if memory runs out.
     pub fn parse(alloc: Global, array: &Array) -> Result<Pipeline, ParseFault>
-        // A pipeline is what the array reads as.
+        // A pipeline is what the definitions read from the array.
         ensures pipeline { IfOk result (λ p. read_pipeline array.now ≡ Ok p) }
-        // A fault is the first, unless memory ran out.
+        // A fault is the first, unless memory runs out.
         ensures fault { IfErr result (λ e. Fails e (read_pipeline array.now)) }
     {
         parse_pipeline(alloc, array)

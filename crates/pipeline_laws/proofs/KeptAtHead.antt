@@ -1,4 +1,4 @@
--- What the filter at the head of a half's stages drops adds nothing to what the half gives.
+-- The documents that the filter at the head of a half's stages removes add nothing to what the half returns.
 use Rattle.std.proofs.Common.{◌≡◌, List, [], ◌∷◌, refl, sym, ap, subst, ◌∙◌}
 use Rattle.std.specs.Prelude.{Bool, true, false, filter, ◌↔◌, if◌then◌else◌}
 use Rattle.bson_model.specs.Tree.{Fields}

@@ -1,4 +1,4 @@
--- The law of halves: what is merged of the halves of parts is what the whole pipeline has on the parts' documents joined.
+-- The law of halves: merging the halves of parts gives a result of the whole pipeline on the joined documents of the parts.
 use Rattle.std.proofs.Common.{◌≡◌, ℕ, zero, suc, ◌+◌, ◌-◌, ◌≤◌, ◌<◌, ◌^◌, ◌⊎◌, inl, inr, ⊎_elim, List, [], ◌∷◌, ◌++◌, map, length, take, drop, refl, sym, ap, ◌∙◌, subst, arith}
 use Rattle.std.specs.Prelude.{true, nat_lt, flat_map, IsPermutation}
 use Rattle.std.specs.List.{AllZip, list_all}
@@ -22,7 +22,7 @@ use Rattle.pipeline_laws.proofs.PartRows.{Joined, joined, AllGive, chain_of, one
 goes_from : (stages : List Stage) (start out : Outcome) (docs : List Fields) → start ≡ listed docs → GoesOn stages start out → Runs stages docs out
 goes_from stages start out docs e h = subst (λ s. GoesOn stages s out) e h
 
--- documents of which so many front ones are the same
+-- documents with the same first n
 module _ (n : ℕ) (xs ys : List Fields) (same : take n xs ≡ take n ys) where
   fewer : (m : ℕ) → m ≤ n → take m xs ≡ take m ys
   fewer m le = sym (take-take m n xs le) ∙ ap (take m) same ∙ take-take m n ys le
@@ -30,7 +30,7 @@ module _ (n : ℕ) (xs ys : List Fields) (same : take n xs ≡ take n ys) where
   all_same : length xs ≤ n → length ys ≤ n → xs ≡ ys
   all_same short less = sym (take_all n xs short) ∙ same ∙ take_all n ys less
 
--- what makes a reach reach far enough: the documents are fewer than it, or its sum is exact
+-- what makes a reach great enough: there are fewer documents than it, or its sum is exact
 abbrev pub Reaches : List Stage → List Fields → Type 0
 Reaches stages docs = (length docs < 2 ^ 62) ⊎ (list_all has_int64 stages ≡ true)
 
@@ -46,7 +46,7 @@ small_behind (stage ∷ rest) h = h
 reaches_behind : (stages : List Stage) (docs : List Fields) → Reaches stages docs → Reaches (behind_front stages) docs
 reaches_behind stages docs = ⊎_elim inl (λ small. inr (small_behind stages small))
 
--- as many as are skipped and taken are the same
+-- the documents that are skipped and taken are the same
 reached_exactly : (s n : ℕ) (xs ys : List Fields) → s + n ≤ 2 ^ 64 - 1 → take (reach s n) xs ≡ take (reach s n) ys → take n (drop s xs) ≡ take n (drop s ys)
 reached_exactly s n xs ys exact same =
     sym (drop-take s n xs) ∙ ap (drop s) (fewer (reach s n) xs ys same (s + n) (omega arith)) ∙ drop-take s n ys
@@ -57,7 +57,7 @@ reached s n xs ys few less same =
     ⊎_elim (λ far. ap (λ zs. take n (drop s zs)) (all_same (reach s n) xs ys same (omega arith) (omega arith)))
     (λ near. reached_exactly s n xs ys (omega arith) same) (cases_lt (2 ^ 62) (s + n))
 
--- stages that go on alike from lists that begin alike
+-- stages that give the same results from lists with the same first documents
 abbrev Carries : ℕ → List Stage → Type 0
 Carries n stages = (out : Outcome) (whole kept : List Fields) → Reaches stages whole → Reaches stages kept → take n whole ≡ take n kept →
     Runs stages kept out → Runs stages whole out
@@ -84,7 +84,7 @@ kept_length n [] = omega arith
 kept_length n (p ∷ parts) =
     omega (arith, length-append (take n p) (flat_map (take n) parts), length-append p (flat_map (λ q. q) parts), length-take n p, kept_length n parts)
 
--- a sort of which each part gives the first n
+-- a sort of which each part returns the first n
 sorted_first : (spec : SortSpec) (n : ℕ) (go : List Stage) (parts : List (List Fields)) (rows : List Rows) (start out : Outcome) →
     Reaches go (flat_map (λ p. p) parts) → Carries n go → Sorteds spec n parts rows → Joined (joined_in_order spec) rows start → GoesOn go start out →
     Runs (sort_stage spec ∷ go) (flat_map (λ p. p) parts) out
@@ -101,7 +101,7 @@ sorted_first spec n go parts rows start out far carries sorteds merged h =
     (carries out done.whole kept (reaches_fewer go _ done.whole (omega arith) far)
     (reaches_fewer go _ kept (omega (arith, kept_length n sorteds.sorteds)) far) done.front (goes_from go start out kept merged.3 h))
 
--- a sort of which each part gives all
+-- a sort of which each part returns all
 sorted_all : (spec : SortSpec) (go : List Stage) (parts : List (List Fields)) (rows : List Rows) (start out : Outcome) →
     AllGive (sort_stage spec ∷ []) documents_end parts rows →
     Joined (joined_in_order spec) rows start → GoesOn go start out → Runs (sort_stage spec ∷ go) (flat_map (λ p. p) parts) out
@@ -124,7 +124,7 @@ first_taken : (n : ℕ) (parts : List (List Fields)) → take n (flat_map (λ p.
 first_taken n [] = refl
 first_taken n (p ∷ parts) = sym (taken n n p (flat_map (take n) parts) (flat_map (λ q. q) parts) (omega arith) (sym (first_taken n parts)))
 
--- the first n of each part, as they come
+-- the first n of each part, in their order
 limited : (n : ℕ) (go : List Stage) (parts : List (List Fields)) (rows : List Rows) (start out : Outcome) →
     Reaches go (flat_map (λ p. p) parts) → Carries n go → AllGive (limit_stage n ∷ []) documents_end parts rows → Joined joined_as_they_come rows start → GoesOn go start out → Runs go (flat_map (λ p. p) parts) out
 limited n go parts rows start out far carries given merged h =
@@ -156,7 +156,7 @@ grouped spec go parts rows start out given merged h =
     (overflow_run spec go (flat_map (λ p. p) parts) merged.0 made none.0))
     merged.2
 
--- by how the stages behind the front are cut
+-- by the way in which the stages after the front are cut
 cut_merges : (stages : List Stage) (parts : List (List Fields)) (rows : List Rows) (start out : Outcome) → Reaches stages (flat_map (λ p. p) parts) →
     AllGive (cut stages).stages (cut stages).last parts rows → Joined (cut stages).merge.joining rows start → GoesOn (cut stages).merge.stages start out →
     Runs stages (flat_map (λ p. p) parts) out
@@ -195,7 +195,7 @@ halves_of stages parts rows out far halves merged =
     (omega (arith, past_length stages (flat_map (λ p. p) parts), ap (λ (l : List Fields). length l) past)) (reaches_behind stages _ far))
     (behind_front_given stages parts rows halves) (joined merged.joins) merged.goes_on))
 
--- by which of the two makes the reach far enough
+-- by which of the two makes the reach great enough
 pub halves_merge : (stages : List Stage) (half : Half) (merge : Merge) (parts : List (List Fields)) (rows : List Rows) (out : Outcome) →
     Reaches stages (flat_map (λ p. p) parts) →
     split stages ≡ (half, merge) → AllZip (IsHalf half) parts rows → Merges merge rows out → Runs stages (flat_map (λ p. p) parts) out

@@ -1,4 +1,4 @@
--- A document whose key is outside a half's span is gone behind the front; and no half overflows.
+-- A document whose key is outside a half's span is removed by the front; and no half overflows.
 use Rattle.std.proofs.Common.{◌≡◌, List, [], ◌∷◌, ◌++◌, refl, sym, ap, ◌∙◌, subst}
 use Rattle.std.specs.Prelude.{Bool, true, false, cond, codes, filter, Some, Result, Ok, Err, ◌↔◌}
 use Rattle.bson_model.specs.Tree.{Datum, Fields, get}
@@ -58,7 +58,7 @@ module _ (stages : List Stage) where
       same ∙ sym (past_append stages (document ∷ []) docs ∙ ap (λ l. l ++ past_front stages docs)
       (gone stages document (is_outside (span_of_stages stages) document e)))
 
-  -- the documents in the span leave what all leave
+  -- the documents in the span have the same result after the front as all
   pub past_outside : (docs : List Fields) → past_front stages (filter stands docs) ≡ past_front stages docs
   past_outside [] = refl
   past_outside (document ∷ docs) = first_or_not (stands document) document docs (filter stands docs) refl (past_outside docs)
@@ -108,7 +108,7 @@ cut_lists stages docs h = not_listed (opened h)
 pub half_lists : (stages : List Stage) (docs : List Fields) → Runs (split stages).0.stages docs overflowed → ⊥
 half_lists stages docs h = cut_lists (behind_front stages) (past_front stages docs) (leaves stages (cut (behind_front stages)).stages docs overflowed h)
 
--- the same of a half that stages are split into
+-- the same for a half that stages are split into
 pub split_half_outside : (stages : List Stage) (half : Half) (merge : Merge) (docs : List Fields) (rows : Rows) → split stages ≡ (half, merge) →
     IsHalf half (filter (may_stand_in half.span) docs) rows ↔ IsHalf half docs rows
 split_half_outside stages half merge docs rows e = subst (λ s. IsHalf s.0 (filter (may_stand_in s.0.span) docs) rows ↔ IsHalf s.0 docs rows) e

@@ -1,4 +1,4 @@
--- What the halves of all parts gave, together, for each way in which a pipeline is cut.
+-- What the halves of all parts return together, for each way in which a pipeline is cut.
 use Rattle.std.proofs.Common.{◌≡◌, ℕ, ◌+◌, ◌⊎◌, inl, inr, List, [], ◌∷◌, ◌++◌, map, length, take, refl, sym, ap, ◌∙◌, subst, arith}
 use Rattle.std.specs.Prelude.{true, false, sum_by, flat_map, IsPermutation, IsSortedBy, Some, None}
 use Rattle.std.specs.List.{AllByRecursion, AllZip}
@@ -16,7 +16,7 @@ use Rattle.pipeline_model.proofs.Fronts.{opened}
 use Rattle.pipeline_model.proofs.OrderedLists.{Up, up_from_sorted}
 use Rattle.pipeline_model.proofs.SortOrder.{documents_total, below_chain, below_one_way}
 
--- what the ends of a half and the ways of joining are, by the end and the way
+-- the ends of a half and the ways of merging, by the end and the way
 abbrev Ended : HalfEnd → List Fields → Rows → Type 0
 Ended documents_end left rows = rows ≡ document_rows left
 Ended (partials_end spec) left rows = (partials : List PartialRow) × IsGrouped spec left partials × (rows ≡ partial_rows partials)
@@ -44,7 +44,7 @@ joined (in_overflow spec parts rows made none) = (rows, made, inr (none, refl))
 joined (in_sum name parts) = refl
 joined (as_they_come parts) = refl
 
--- what is given of documents behind the front
+-- what is returned for documents after the front
 pub record Gives (stages : List Stage) (last : HalfEnd) (docs : List Fields) (rows : Rows) : Type 0 where
   pub left : List Fields
   pub runs : Runs stages docs (listed left)
@@ -65,7 +65,7 @@ one_way_of spec x y = below_one_way (documents_total spec) x y
 abbrev pub IsUp : SortSpec → List Fields → Type 0
 IsUp spec docs = Up (comes_before spec) (chain_of spec) (one_way_of spec) docs
 
--- the parts in order, of which the first n of each were given
+-- the parts in order, of which the first n of each were returned
 pub record Sorteds (spec : SortSpec) (n : ℕ) (parts : List (List Fields)) (rows : List Rows) : Type 0 where
   pub sorteds : List (List Fields)
   pub permutes : IsPermutation (flat_map (λ p. p) parts) (flat_map (λ p. p) sorteds)
@@ -88,7 +88,7 @@ sorted_parts spec n (p ∷ parts) (r ∷ rows) h =
       given = (λ i. documents_in_part (ended h.0.ends i) ++ others.given i) ∙ ap (λ l. l ++ flat_map (take n) others.sorteds) cut;
     }
 
--- the parts in order, all of which was given
+-- the parts in order, all of which was returned
 pub whole_parts : (spec : SortSpec) (parts : List (List Fields)) (rows : List Rows) → AllGive (sort_stage spec ∷ []) documents_end parts rows →
     IsPermutation (flat_map (λ p. p) parts) (flat_map documents_in_part rows)
 whole_parts spec [] [] h = IsPermutation-refl []

@@ -1,4 +1,4 @@
--- The constants of what is read have no values inside.
+-- The constants of a pipeline that was read have no nested values.
 use Rattle.std.proofs.Common.{◌≡◌, ℕ, List, [], ◌∷◌, refl}
 use Rattle.std.specs.Prelude.{Bool, true, false, ◌&&◌, Option, Some, None, Result, Ok, Err, ok_or, nat_lt, length}
 use Rattle.std.specs.List.{list_all}

@@ -1,4 +1,4 @@
--- No stage deepens documents.
+-- No stage makes documents deeper.
 use Rattle.std.proofs.Common.{◌≡◌, ℕ, zero, suc, ◌≤◌, ℤ, pos, List, [], ◌∷◌, map, take, drop, length, refl, sym, subst, arith}
 use Rattle.std.specs.Prelude.{Bool, true, false, ◌&&◌, cond, filter, filter_map, Contains, Option, Some, None, option_map, option_and_then, unwrap_or, if◌then◌else◌}
 use Rattle.std.specs.List.{AllByRecursion, list_all}
@@ -64,7 +64,7 @@ module _ (n : ℕ) (some : 1 ≤ n) where
     own_cells_fit fields document (second_so (is_plain_field f) (list_all is_plain_field fields) e) h,
   )
 
-  -- a row whose key and values fit
+  -- a group whose key and values fit
   pub record FitsRow (row : PartialRow) : Type 0 where
     pub key : suc (value_depth row.key) ≤ n
     pub cells : FitCells row.cells
@@ -240,7 +240,7 @@ module _ (n : ℕ) (some : 1 ≤ n) where
       (grouped_fit spec docs rows documents (first_so (is_plain_group spec) (list_all is_plain_stage rest) e) h grouped shown)
   outcome_fits (overflow_run spec rest docs rows grouped none) e h = tt
 
--- no stage makes documents deeper than the deepest that it was given, nor than one level
+-- no stage makes documents deeper than the deepest of its input, or than one level
 pub run_fits : (n : ℕ) (stages : List Stage) (docs documents : List Fields) → 1 ≤ n → list_all is_plain_stage stages ≡ true →
     AllByRecursion (λ document. document_depth document ≤ n) docs → Runs stages docs (listed documents) →
     AllByRecursion (λ document. document_depth document ≤ n) documents

@@ -1,4 +1,4 @@
--- What the worked runs need: an order by one name, and a place in a list.
+-- What the worked runs need: an order by one name, and a position in a list.
 use Rattle.std.proofs.Common.{◌≡◌, ℕ, ◌<◌, ◌≤◌, List, [], ◌∷◌}
 use Rattle.std.specs.Prelude.{true, leb, ltb, IsSortedBy, codes}
 use Prim.Native.String.{String}

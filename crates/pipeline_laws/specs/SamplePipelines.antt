@@ -22,7 +22,7 @@ abbrev pub doc : List (String × Datum) → Fields
 doc [] = no_fields
 doc (f ∷ fields) = field (codes f.0) f.1 (doc fields)
 
--- what a projection leaves of a document
+-- the result of a projection of a document
 abbrev pub projected : Fields → Fields → Result Fields QueryFault
 projected specification document = read_projection specification >>= λ rules. Ok (project rules document)
 
@@ -33,7 +33,7 @@ key_by specification document = read_sort specification >>= λ spec. Ok (sort_ke
 abbrev pub compared_by : Fields → Fields → Fields → Result Ordering QueryFault
 compared_by specification a b = read_sort specification >>= λ spec. Ok (order_documents spec a b)
 
--- the row that a document is by itself, and the documents of rows
+-- the group of one document, and the documents of groups
 abbrev pub row_by : Fields → Fields → Result PartialRow QueryFault
 row_by specification document = read_group specification >>= λ spec. Ok (own_row spec document)
 
@@ -44,11 +44,11 @@ shown_by specification rows = read_group specification >>= λ spec. Ok (document
 abbrev pub stages_of : List Fields → Result (List Stage) QueryFault
 stages_of documents = read_pipeline (items_of (map document_value documents))
 
--- what they are split into
+-- the half and the merge that they are split into
 abbrev pub split_of : List Fields → Result (Half × Merge) QueryFault
 split_of documents = stages_of documents >>= λ stages. Ok (split stages)
 
--- so many times the same
+-- the same document n times
 abbrev pub repeated : ℕ → Fields → List Fields
 repeated zero document = []
 repeated (suc n) document = document ∷ repeated n document
@@ -62,11 +62,11 @@ same_fields (suc n) = field (codes "a") (int32_value (pos 1)) (same_fields n)
 abbrev pub by_a : SortSpec
 by_a = record { path = codes "a" ∷ []; direction = ascending } ∷ []
 
--- an array of stages has this outcome on documents
+-- an array of stages has this outcome for documents
 abbrev pub RunsTo : List Fields → List Fields → Outcome → Type 0
 RunsTo stages docs out = elim (stages_of stages) [ Ok read ↦ Runs read docs out | Err fault ↦ ⊥ ]
 
--- what its halves gave is merged to this outcome
+-- what its halves returned is merged to this outcome
 abbrev pub MergesTo : List Fields → List Rows → Outcome → Type 0
 MergesTo stages parts out = elim (stages_of stages) [ Ok read ↦ Merges (split read).1 parts out | Err fault ↦ ⊥ ]
 

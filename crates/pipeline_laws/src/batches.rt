@@ -6,7 +6,7 @@ ghost use Rattle.pipeline_model.specs.Halves.{counted_rows, document_rows};
 ghost use Rattle.pipeline_model.specs.Lengths.{excess_of_answer, if_more, rows_length};
 ghost use Rattle.pipeline_laws.specs.SamplePipelines.{numbered};
 
-/// As many as the size allows, all where none is given, and none at size 0 alone.
+/// As many as the size allows, all where no size is given, and none only at size 0.
 pub fn batches()
     ensures none { IsBatch (Some 0) (numbered 1 1 ∷ []) [] }
     ensures few { IsBatch (Some 2) (numbered 1 1 ∷ numbered 2 1 ∷ numbered 3 1 ∷ []) (numbered 1 1 ∷ numbered 2 1 ∷ []) }
@@ -15,7 +15,7 @@ pub fn batches()
     ensures too_short { IsBatch (Some 2) (numbered 1 1 ∷ numbered 2 1 ∷ []) (numbered 1 1 ∷ []) → ⊥ }
 {}
 
-/// A count has no length; what is told to be too much is above the limit.
+/// A count has no length; an excess is reported only above the limit.
 pub fn lengths()
     ensures rows { (rows_length (document_rows (numbered 1 1 ∷ numbered 2 1 ∷ [])) ≡ 42) × (rows_length (counted_rows 5) ≡ 0) }
     ensures answer { excess_of_answer (numbered 1 1 ∷ []) ≡ None }

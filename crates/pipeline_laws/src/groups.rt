@@ -12,7 +12,7 @@ ghost use Rattle.pipeline_model.specs.Lengths.{row_length};
 ghost use Rattle.pipeline_laws.specs.SamplePipelines.{doc, row_by, shown_by};
 ghost use Rattle.query_model.specs.SampleChanges.{long, text};
 
-/// The row of one document: what is absent has the key null; a sum takes whole numbers alone, a constant for each document.
+/// The group of one document: a missing key is null; a sum adds only whole numbers, and a constant once for each document.
 pub fn rows_of_documents()
     ensures path { row_by (doc (("_id", text "$x") ∷ ("n", inner "$sum" (text "$y")) ∷ [])) (doc (("x", number 5) ∷ ("y", number 2) ∷ []))
         ≡ Ok (record { key = number 5; cells = sum_cell (pos 2) true ∷ [] }) }
@@ -29,8 +29,7 @@ pub fn rows_of_documents()
         ≡ Ok (record { key = array (number 1 ∷ []); cells = extreme_cell (array (inner "b" (number 1) ∷ number 2 ∷ [])) ∷ [] }) }
 {}
 
-/// Sums are exact, and int32 where each number was and the sum fits; an extreme value is none of the null ones, where there is
-/// another.
+/// Sums are exact, and int32 where each number was and the sum fits; a minimum or maximum ignores null where there is another value.
 pub fn cells_together()
     ensures sums { (total (sum_cell (pos 9223372036854775807) false ∷ sum_cell (pos 9223372036854775807) false
         ∷ sum_cell (negsuc 9223372036854775806) false ∷ sum_cell (negsuc 9223372036854775806) false ∷ []) ≡ pos 0)
@@ -41,7 +40,7 @@ pub fn cells_together()
     ensures greatest { IsExtreme descending (number 3 ∷ number 4 ∷ []) (number 3) → ⊥ }
 {}
 
-/// `_id` first, then the fields in order; a sum outside int64 leaves the whole answer without documents.
+/// `_id` first, then the fields in order; where a sum is outside int64 the whole result has no documents.
 pub fn rows_shown()
     ensures row { shown_by (doc (("n", inner "$sum" (text "$y")) ∷ ("_id", text "$x") ∷ ("c", inner "$count" (document_value no_fields)) ∷ []))
         (record { key = number 5; cells = sum_cell (pos 3) true ∷ count_cell 2 ∷ [] } ∷ []) ≡ Ok
@@ -60,14 +59,14 @@ pub fn rows_shown()
     ensures counts { (count_value 2147483647 ≡ number 2147483647) × (count_value 2147483648 ≡ long 2147483648) }
 {}
 
-/// 10 bytes of `{_id: null}` and 16 of a sum or a count; an extreme null has 8.
+/// 10 bytes for `{_id: null}` and 16 for a sum or a count; 8 for a minimum or maximum that is null.
 pub fn lengths()
     ensures sum { row_length (record { key = null_value; cells = sum_cell (pos 5) true ∷ [] }) ≡ 26 }
     ensures others { row_length (record { key = null_value; cells = count_cell 5 ∷ extreme_cell null_value ∷ [] }) ≡ 34 }
 {}
 
-/// An `_id` is a path, or a constant that is no document and no array; an accumulator is a document of one field; names are not
-/// tested; that there is one `_id` is judged last.
+/// An `_id` is a path, or a constant that is neither a document nor an array; an accumulator is a document of one field; names are not checked; that there is
+/// one `_id` is checked last.
 pub fn refused()
     ensures keys { (read_group (doc (("_id", document_value no_fields) ∷ [])) ≡ Err bad_operand)
         × (read_group (doc (("_id", array []) ∷ [])) ≡ Err bad_operand)

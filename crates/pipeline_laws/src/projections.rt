@@ -10,8 +10,8 @@ ghost use Rattle.pipeline_model.specs.Projections.{read_projection};
 ghost use Rattle.pipeline_laws.specs.SamplePipelines.{doc, projected};
 ghost use Rattle.query_model.specs.SampleChanges.{long, text};
 
-/// `true` and numbers that are not 0 include a field, `false` and 0 exclude it; `_id` stays unless it is excluded, also beside
-/// fields that are included. All fields of a name go one way, and fields stay in the document's order.
+/// `true` and numbers that are not 0 include a field, `false` and 0 exclude it; `_id` is kept unless it is excluded, also where other fields are included.
+/// All fields of one name are treated alike, and fields keep the document's order.
 pub fn included()
     ensures number { projected (doc (("a", number 1) ∷ [])) (doc (("_id", number 1) ∷ ("a", number 2) ∷ ("b", number 3) ∷ []))
         ≡ Ok (doc (("_id", number 1) ∷ ("a", number 2) ∷ [])) }
@@ -38,8 +38,8 @@ pub fn excluded()
         (doc (("b", number 1) ∷ [])) }
 {}
 
-/// A computed field takes the value at its path in the document as it came. It stands behind the stored ones, in the
-/// projection's order; a stored field of its name is left out, and without a value there is none.
+/// A computed field has the value at its path in the input document. It follows the stored ones, in the projection's order; a stored field of its name is
+/// removed, and without a value there is no computed one.
 pub fn computed()
     ensures with_id { projected (doc (("x", text "$a") ∷ [])) (doc (("_id", number 1) ∷ ("a", number 2) ∷ ("b", number 3) ∷ []))
         ≡ Ok (doc (("_id", number 1) ∷ ("x", number 2) ∷ [])) }
@@ -69,8 +69,8 @@ pub fn paths_through_arrays()
     ensures first { value_at (codes "a" ∷ []) (doc (("a", null_value) ∷ ("a", number 1) ∷ [])) ≡ Some null_value }
 {}
 
-/// A name is one part, and a text a path behind `$`; a name is judged before its value, and the rules before the whole: that
-/// there is one, and that names which are included or computed have only `_id` excluded beside them, and not both ways.
+/// A name is one part, and a text is a path after `$`; a name is checked before its value, and both before the whole: that there is a rule, and that where
+/// names are included or computed only `_id` is excluded, and has no other rule.
 pub fn refused()
     ensures names { (read_projection (doc (("a.b", number 1) ∷ [])) ≡ Err bad_operand)
         × (read_projection (doc (("0", null_value) ∷ [])) ≡ Err (path_fault digits_part))

@@ -20,14 +20,14 @@ pub fn worked()
         (listed (doc (("_id", number 2) ∷ ("total", number 3) ∷ []) ∷ doc (("_id", number 5) ∷ ("total", number 3) ∷ []) ∷ [])) }
 {}
 
-/// Documents that compare equal stand in either order, and others in one.
+/// Documents that compare equal may come in any order, others only in one.
 pub fn ties()
     ensures kept { RunsTo (one "$sort" (inner "x" (number 1)) ∷ []) (numbered 1 2 ∷ numbered 2 2 ∷ []) (listed (numbered 1 2 ∷ numbered 2 2 ∷ [])) }
     ensures exchanged { RunsTo (one "$sort" (inner "x" (number 1)) ∷ []) (numbered 1 2 ∷ numbered 2 2 ∷ []) (listed (numbered 2 2 ∷ numbered 1 2 ∷ [])) }
     ensures wrong { RunsTo (one "$sort" (inner "x" (number 1)) ∷ []) (numbered 1 2 ∷ numbered 2 1 ∷ []) (listed (numbered 1 2 ∷ numbered 2 1 ∷ [])) → ⊥ }
 {}
 
-/// Over nothing there is no row, and nothing is counted; 5 and 5L are one group, and either may be shown.
+/// Without documents there is no group, and nothing is counted; 5 and 5L are one group, and either may be shown.
 pub fn groups()
     ensures nothing { RunsTo (one "$group" (inner "_id" null_value) ∷ []) [] (listed []) }
     ensures none_counted { RunsTo (one "$count" (text "n") ∷ []) [] (listed []) }
@@ -39,7 +39,7 @@ pub fn groups()
         (record { key = number 5; cells = [] } ∷ record { key = long 5; cells = [] } ∷ []) → ⊥ }
 {}
 
-/// With M the greatest int64: M and 1 overflow whatever comes later; of two parts M, M and -M, -M the sum is 0L.
+/// With M the greatest int64: M and 1 overflow whatever comes later; for two parts M, M and -M, -M the sum is 0L.
 pub fn exact_sums()
     ensures overflow { RunsTo (sums ∷ one "$limit" (number 1) ∷ []) (doc (("v", long 9223372036854775807) ∷ []) ∷ doc (("v", number 1) ∷ []) ∷ []) overflowed }
     ensures merged { MergesTo (sums ∷ []) (partial_rows (record { key = null_value; cells = sum_cell (pos 18446744073709551614) false ∷ [] } ∷ [])

@@ -10,8 +10,8 @@ ghost use Rattle.pipeline_model.specs.SortKeys.{empty_array, order_parts, read_s
 ghost use Rattle.pipeline_laws.specs.SamplePipelines.{compared_by, doc, key_by, same_fields};
 ghost use Rattle.query_model.specs.SampleChanges.{long, text};
 
-/// Upwards the least of what stands at the path, downwards the greatest; an array stands for its elements, one step deep, and an
-/// empty one for a mark.
+/// Ascending takes the least of the values at the path, descending the greatest; an array contributes its elements, one level deep, and an empty array
+/// contributes a mark.
 pub fn keys_of_values()
     ensures scalar { key_by (doc (("a", number 1) ∷ [])) (doc (("a", number 3) ∷ [])) ≡ Ok (value_part (number 3) ∷ []) }
     ensures least { key_by (doc (("a", number 1) ∷ [])) (doc (("a", array (number 3 ∷ number 1 ∷ number 2 ∷ [])) ∷ [])) ≡ Ok (value_part (number 1) ∷ []) }
@@ -26,7 +26,7 @@ pub fn keys_of_values()
     ensures empty { key_by no_fields (doc (("a", number 1) ∷ [])) ≡ Ok [] }
 {}
 
-/// At `a.b`: a gap adds null to the values; an element that is no document adds nothing; without a value the key is null.
+/// At `a.b`: a gap adds null to the values; an element that is not a document adds nothing; without a value the key is null.
 pub fn keys_at_paths()
     ensures gap { (key_by (doc (("a.b", number 1) ∷ [])) (doc (("a", array (inner "b" (number 1) ∷ inner "c" (number 2) ∷ [])) ∷ [])) ≡ Ok
         (value_part null_value ∷ []))
@@ -41,7 +41,7 @@ pub fn keys_at_paths()
         ≡ Ok (empty_array ∷ []) }
 {}
 
-/// The mark stands above MinKey and below null, and no value is one with it. Numbers compare by value.
+/// The mark sorts after MinKey and before null, and no value equals it. Numbers compare by value.
 pub fn parts_in_order()
     ensures least { order_parts (value_part min_key_value) empty_array ≡ Less }
     ensures mark { (order_parts empty_array (value_part null_value) ≡ Less)
@@ -64,7 +64,7 @@ pub fn documents_in_order()
     ensures none { compared_by no_fields (doc (("a", number 1) ∷ [])) (doc (("a", number 2) ∷ [])) ≡ Ok Equal }
 {}
 
-/// A direction is the whole number 1 or -1; more than 32 fields are judged before each of them, a path before its direction.
+/// A direction is the whole number 1 or -1; that there are more than 32 fields is checked before each of them, a path before its direction.
 pub fn refused()
     ensures directions { (read_sort (doc (("a", number 2) ∷ [])) ≡ Err bad_operand)
         × (read_sort (doc (("a", number 0) ∷ [])) ≡ Err bad_operand)

@@ -14,7 +14,7 @@ ghost use Rattle.pipeline_model.specs.Split.{reach};
 ghost use Rattle.pipeline_laws.specs.SamplePipelines.{by_a, repeated, split_of, stages_of};
 ghost use Rattle.query_model.specs.SampleChanges.{long, text};
 
-/// An array of documents of one field each; no stage at all is a pipeline.
+/// An array of documents of one field each; an empty array is a pipeline.
 pub fn read()
     ensures stages { stages_of (one "$match" (document_value no_fields) ∷ one "$sort" (inner "a" (number 1)) ∷ one "$skip" (number 0)
         ∷ one "$limit" (long 1) ∷ one "$count" (text "n") ∷ [])
@@ -24,7 +24,7 @@ pub fn read()
     ensures many { is_ok (stages_of (repeated 1000 (one "$skip" (number 1)))) ≡ true }
 {}
 
-/// The first fault of the stages in order, of each the name before the operand; more than 1000 are judged before each of them.
+/// The first fault of the stages in order, of each the name before the operand; that there are more than 1000 is checked before each of them.
 pub fn refused()
     ensures elements { (read_pipeline (item (number 5) no_items) ≡ Err bad_operand)
         × (stages_of (no_fields ∷ []) ≡ Err bad_operand)
@@ -49,8 +49,8 @@ pub fn refused()
     ensures many { stages_of (repeated 1001 (one "$lookup" (number 1))) ≡ Err bad_operand }
 {}
 
-/// Behind the front of `$match` and `$project`: a sort with what it is limited to, a limit, a group or a count go into the half;
-/// the merge goes on at `$skip` or `$limit`, or behind the rest. A skip never does.
+/// After the front of `$match` and `$project` stages: a sort with its limit, a limit, a group or a count belongs to the half; the merge begins at `$skip` or
+/// `$limit`, or after them. A skip never belongs to the half.
 pub fn split()
     ensures sort_skip_limit { split_of (one "$match" (document_value no_fields) ∷ one "$sort" (inner "a" (number 1)) ∷ one "$skip" (number 2)
         ∷ one "$limit" (number 3) ∷ one "$count" (text "n") ∷ [])
@@ -90,7 +90,7 @@ pub fn split()
     ensures reach { (reach 2 3 ≡ 5) × (reach (2 ^ 64 - 1) 2 ≡ 2 ^ 64 - 1) }
 {}
 
-/// The span of all `$match` in front together; none of one behind another stage.
+/// The span of all leading `$match` stages together; a `$match` after another stage adds none.
 pub fn spans()
     ensures together { result_map_both (λ s. s.0.span) (λ e. e)
         (split_of (one "$match" (inner "a" (number 1)) ∷ one "$match" (inner "_id" (inner "$in" (array (number 6 ∷ number 5 ∷ []))))

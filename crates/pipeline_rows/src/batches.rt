@@ -7,8 +7,8 @@ use fixtures::{RowFault, Rows, field, number};
 use std::alloc::Global;
 use std::collections::VecDeque;
 
-/// `LENGTHS | SIZE | COUNTS`: how many documents stand in each batch of a cursor on documents of these lengths, asked for with the size,
-/// or with none where it is `none`; behind the last one the cursor is gone.
+/// `LENGTHS | SIZE | COUNTS`: how many documents are in each batch of a cursor on documents of these lengths, where the size is requested, or none where it
+/// is `none`; after the last one the cursor is closed.
 #[derive(Drop)]
 pub struct Batches;
 
@@ -23,7 +23,7 @@ impl Rows for Batches {
     }
 }
 
-// A shelf with a cursor on documents of these lengths.
+// Returns a shelf with a cursor on documents of these lengths.
 fn shelf_of(alloc: Global, lengths: &str) -> Result<Shelf, RowFault> {
     let namespace = namespace_of(alloc)?;
     let documents = long_documents(alloc, lengths)?;
@@ -48,7 +48,7 @@ fn namespace_of(alloc: Global) -> Result<Namespace, RowFault> {
     }
 }
 
-// Whether the batches have so many documents each, and none comes behind them.
+// Returns whether the batches have these numbers of documents, and no batch follows.
 fn are_batches(
     shelf: &mut Shelf,
     namespace: &Namespace,
@@ -73,7 +73,7 @@ fn is_so_many(found: Option<usize>, wanted: usize) -> bool {
     }
 }
 
-// The number of documents in the next batch of the cursor, if it is open; they are taken out.
+// Returns the number of documents in the next batch of the cursor, if it is open; they are removed.
 fn next_count(
     shelf: &mut Shelf,
     namespace: &Namespace,

@@ -8,8 +8,8 @@ use pipeline_lang::Half;
 use std::alloc::Global;
 use std::sync::Arc;
 
-/// What the half gives of each part, a part being an array of documents. Fails where a part is none or has no rows, and for want of
-/// memory.
+/// Returns the result of the half on each part, where a part is an array of documents. Returns `Form` where a part is not an array or has no rows, and
+/// `Memory` if memory runs out.
 pub fn rows_of_parts(alloc: Global, half: &Half, parts: Array) -> Result<Vec<Rows>, RowFault> {
     let mut all = Vec::new(alloc);
     for part in parts.into_values() {
@@ -24,7 +24,7 @@ fn rows_of_part(alloc: Global, half: &Half, part: Value) -> Result<Rows, RowFaul
     eval_half(alloc, half, documents).map_err(row_fault)
 }
 
-/// What the half gives of each document by itself. Fails where one has no rows, and for want of memory.
+/// Returns the result of the half on each document by itself. Returns `Form` where one has no rows, and `Memory` if memory runs out.
 pub fn rows_of_each(
     alloc: Global,
     half: &Half,
@@ -39,7 +39,7 @@ pub fn rows_of_each(
     Ok(all)
 }
 
-/// The number of documents in the longest list of documents among the rows.
+/// Returns the number of documents in the longest list of documents among the rows.
 pub fn most_documents(all: &[Rows]) -> usize {
     let mut most = 0usize;
     for rows in all {

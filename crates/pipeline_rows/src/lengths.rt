@@ -1,4 +1,4 @@
-//! How many bytes are too many.
+//! Results that are too long.
 
 use crate::halves::rows_of_each;
 use crate::long_documents::long_documents;
@@ -11,8 +11,8 @@ use pipeline_split::split;
 use std::alloc::Global;
 use std::sync::Arc;
 
-/// `LENGTHS | ANSWER | HALF`: of documents of these lengths, what the pipeline without stages tells of its answer, and the same of what
-/// is merged, each document being a part by itself; and what its half tells. That is `fits`, or the number of bytes that are too many.
+/// `LENGTHS | ANSWER | HALF`: for documents of these lengths, the outcome of the pipeline without stages, and the same for the merge, where each document is
+/// a part by itself; and the outcome of its half. An outcome is `fits`, or the number of bytes that is too great.
 #[derive(Drop)]
 pub struct Lengths;
 
@@ -31,7 +31,7 @@ impl Rows for Lengths {
     }
 }
 
-// The pipeline without stages.
+// Returns the pipeline without stages.
 fn no_stages(alloc: Global) -> Pipeline {
     Pipeline::of(Vec::new(alloc))
 }
@@ -76,7 +76,7 @@ fn merge_tells(
     }
 }
 
-// Whether that is why there is no answer: so many bytes are too many.
+// Returns whether the fault is this number of bytes, which is too great.
 fn is_told(fault: EvalFault, wanted: &str) -> Result<bool, RowFault> {
     match fault {
         EvalFault::TooMuch { bytes } => is_number(bytes, wanted),

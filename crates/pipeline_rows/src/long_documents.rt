@@ -1,18 +1,18 @@
-//! Documents of so many bytes.
+//! Documents of a given length.
 
 use bson_values::{Blob, Document, Value};
 use fixtures::{RowFault, number, push};
 use std::alloc::Global;
 use std::sync::Arc;
 
-// The bytes of the document `{b: ..}` with binary data beside those of the data: the length, the type, the name with its 00, the length
-// of the data, their subtype, and the 00 at the end.
+// The bytes of the document `{b: ..}` with binary data in addition to those of the data: the length, the type, the name with its 00, the length of the data,
+// their subtype, and the 00 at the end.
 const BESIDE_DATA: usize = 4 + 1 + 2 + 4 + 1 + 1;
 
 const BLOCK: usize = 4096;
 
-/// Documents of the lengths in words with blanks between, in order: a number of bytes, or such a number, `*` and how many documents
-/// have it, which are one that is shared. Fails at any other word, where a length is below 13, and for want of memory.
+/// Returns documents of the lengths in words separated by blanks, in order: a number of bytes, or such a number, `*` and how many documents have it, which
+/// are one that is shared. Returns `Form` for any other word and where a length is below 13, and `Memory` if memory runs out.
 pub fn long_documents(
     alloc: Global,
     lengths: &str,
@@ -54,7 +54,7 @@ fn long_document(alloc: Global, length: usize) -> Result<Document, RowFault> {
     Ok(document)
 }
 
-// So many bytes, put there in blocks, since there may be millions.
+// Returns this number of bytes, which are written in blocks, since there may be millions.
 fn filled(alloc: Global, length: usize) -> Result<Vec<u8>, RowFault> {
     let block = vec![in alloc; 7u8; BLOCK]?;
     let mut data = Vec::with_capacity(alloc, length)?;

@@ -1,5 +1,5 @@
-//! Checks rows of data about pipelines: what they answer, whole and by halves that are merged, which arrays are none, how many bytes are
-//! too many, and the batches of cursors. For each file it prints how many rows hold, and each row that does not.
+//! Checks rows of data on pipelines: their results, whole and by halves that are merged, which arrays are not pipelines, which results are too long, and the
+//! batches of cursors. For each file it prints how many rows hold, and each row that does not.
 #![tactic(auto)]
 
 mod batches;

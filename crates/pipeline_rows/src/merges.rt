@@ -8,8 +8,8 @@ use group_merge::merge;
 use pipeline_split::split;
 use std::alloc::Global;
 
-/// `PIPELINE | PARTS | MOST | OUTCOME`: what the halves of the parts are merged to, each part being an array of documents, and how many
-/// documents the longest half has.
+/// `PIPELINE | PARTS | MOST | OUTCOME`: what the halves of the parts are merged to, where each part is an array of documents, and how many documents the
+/// longest half has.
 #[derive(Drop)]
 pub struct Merges;
 
@@ -48,7 +48,7 @@ impl Rows for ForeignRows {
     }
 }
 
-// What the halves of the pipeline give of the parts.
+// Returns the results of the pipeline's half on the parts.
 fn rows_of(alloc: Global, words: &str, list: &str) -> Result<Vec<pipeline_eval::Rows>, RowFault> {
     let parts = array_of(alloc, list)?;
     let pipeline = pipeline_of(alloc, words)?;

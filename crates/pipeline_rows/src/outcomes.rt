@@ -1,4 +1,4 @@
-//! Outcomes of pipelines, held against a row.
+//! Outcomes of pipelines, compared with a row.
 
 use crate::words::documents_of;
 use bson_values::Document;
@@ -7,11 +7,11 @@ use pipeline_eval::EvalFault;
 use std::alloc::Global;
 use std::sync::Arc;
 
-/// What a pipeline answers.
+/// The result of a pipeline.
 pub type Outcome = Result<Vec<Arc<Document, Global>>, EvalFault>;
 
-/// Whether an outcome is one that the rest of a row allows: `ordered | LIST | LIST ..`, one of these lists; `any | LIST | LIST ..`, the
-/// documents of one of these lists in any order; or `overflow`. Fails where the row is in no such form, and for want of memory.
+/// Returns whether an outcome is one that the rest of a row allows: `ordered | LIST | LIST ..`, one of these lists; `any | LIST | LIST ..`, the documents of
+/// one of these lists in any order; or `overflow`. Returns `Form` where the row is in no such form, and `Memory` if memory runs out.
 pub fn is_allowed(alloc: Global, outcome: &Outcome, wanted: &str) -> Result<bool, RowFault> {
     match outcome {
         Ok(documents) => is_listed(alloc, documents, wanted),
@@ -35,7 +35,7 @@ fn is_listed(
     }
 }
 
-// Whether the documents are those of one of the lists, in that order if it counts.
+// Returns whether the documents are those of one of the lists, in that order if it matters.
 fn is_one_of(
     alloc: Global,
     documents: &[Arc<Document, Global>],
@@ -65,7 +65,7 @@ fn is_list(
     are_as_often(documents, list)
 }
 
-// Whether each document is the other list's at its place.
+// Returns whether each document equals the other list's at its position.
 fn are_same(documents: &[Arc<Document, Global>], list: &[Arc<Document, Global>]) -> bool {
     for (document, other) in documents.iter().zip(list) {
         if !document.same_data(other) {
@@ -75,7 +75,7 @@ fn are_same(documents: &[Arc<Document, Global>], list: &[Arc<Document, Global>])
     true
 }
 
-// Whether each document of the list stands among the documents as often as in the list.
+// Returns whether each document of the list occurs among the documents as often as in the list.
 fn are_as_often(documents: &[Arc<Document, Global>], list: &[Arc<Document, Global>]) -> bool {
     for one in list {
         if count_of(documents, one) != count_of(list, one) {

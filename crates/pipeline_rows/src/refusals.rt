@@ -1,4 +1,4 @@
-//! Arrays that are pipelines, and arrays that are none.
+//! Arrays that are pipelines, and arrays that are not.
 
 use crate::words::{array_of, parse_word};
 use bson_values::{Array, Value};
@@ -18,7 +18,7 @@ impl Rows for Refusals {
     }
 }
 
-/// `VALUE | COUNT | pipeline`, or its first fault: the same of the array that has the value so often.
+/// `VALUE | COUNT | pipeline`, or its first fault: the same for the array that has the value this number of times.
 #[derive(Drop)]
 pub struct LongPipelines;
 
@@ -32,7 +32,7 @@ impl Rows for LongPipelines {
     }
 }
 
-// The array that has the value so often.
+// Returns the array that has the value this number of times.
 fn repeated(alloc: Global, value: &Value, count: u32) -> Result<Array, RowFault> {
     let mut array = Array::new(alloc);
     for _ in 0..count {
@@ -41,7 +41,7 @@ fn repeated(alloc: Global, value: &Value, count: u32) -> Result<Array, RowFault>
     Ok(array)
 }
 
-// What an array reads as, in a word.
+// Returns what an array reads as, in a word.
 fn word_of(alloc: Global, array: &Array) -> &'static str {
     match Pipeline::parse(alloc, array) {
         Ok(_pipeline) => "pipeline",

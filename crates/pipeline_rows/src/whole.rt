@@ -1,4 +1,4 @@
-//! What pipelines answer.
+//! Results of whole pipelines.
 
 use crate::halves::rows_of_each;
 use crate::outcomes::is_allowed;
@@ -12,8 +12,8 @@ use pipeline_split::split;
 use std::alloc::Global;
 use std::sync::Arc;
 
-/// `PIPELINE | DOCUMENTS | OUTCOME`: what the pipeline answers on the documents; and, an outcome that is allowed as well, what is
-/// merged of its halves, each document being a part by itself.
+/// `PIPELINE | DOCUMENTS | OUTCOME`: the result of the pipeline on the documents; and the result of merging its halves, each document being a part by itself,
+/// which is allowed too.
 #[derive(Drop)]
 pub struct Answers;
 

@@ -8,12 +8,12 @@ use pipeline_lang::Pipeline;
 use std::alloc::Global;
 use std::sync::Arc;
 
-/// The array that words spell, the byte of its type in front. Fails where they spell none, and for want of memory.
+/// Returns the array that words encode, the byte of its type first. Returns `Form` where they encode none, and `Memory` if memory runs out.
 pub fn array_of(alloc: Global, words: &str) -> Result<Array, RowFault> {
     array_in(spelled_value(alloc, words)?)
 }
 
-/// The array that a value is. Fails where it is none.
+/// Returns the array that a value is, or `Form` where it is none.
 pub fn array_in(value: Value) -> Result<Array, RowFault> {
     match value {
         Value::Array(array) => Ok(array),
@@ -21,7 +21,7 @@ pub fn array_in(value: Value) -> Result<Array, RowFault> {
     }
 }
 
-/// The documents of an array, in order. Fails where another value is in it, and for want of memory.
+/// Returns the documents of an array, in order. Returns `Form` where another value is in it, and `Memory` if memory runs out.
 pub fn documents_in(alloc: Global, array: Array) -> Result<Vec<Arc<Document, Global>>, RowFault> {
     let mut documents = Vec::new(alloc);
     for value in array.into_values() {
@@ -37,12 +37,12 @@ fn document_in(alloc: Global, value: Value) -> Result<Arc<Document, Global>, Row
     }
 }
 
-/// The documents of the array that words spell. Fails where they spell none, and for want of memory.
+/// Returns the documents of the array that words encode. Returns `Form` where they encode none, and `Memory` if memory runs out.
 pub fn documents_of(alloc: Global, words: &str) -> Result<Vec<Arc<Document, Global>>, RowFault> {
     documents_in(alloc, array_of(alloc, words)?)
 }
 
-/// The pipeline that the array is which words spell. Fails where they spell none, and for want of memory.
+/// Returns the pipeline of the array that words encode. Returns `Form` where they encode none, and `Memory` if memory runs out.
 pub fn pipeline_of(alloc: Global, words: &str) -> Result<Pipeline, RowFault> {
     let array = array_of(alloc, words)?;
     match Pipeline::parse(alloc, &array) {
@@ -52,7 +52,7 @@ pub fn pipeline_of(alloc: Global, words: &str) -> Result<Pipeline, RowFault> {
     }
 }
 
-/// What a row can't be used for, where a half has no rows.
+/// Returns why a row can't be used, where a half has no rows.
 pub fn row_fault(fault: EvalFault) -> RowFault {
     match fault {
         EvalFault::Memory => RowFault::Memory,
@@ -60,7 +60,7 @@ pub fn row_fault(fault: EvalFault) -> RowFault {
     }
 }
 
-/// The word for a fault of reading.
+/// Returns the word for a fault of reading.
 pub fn parse_word(fault: ParseFault) -> &'static str {
     match fault {
         ParseFault::UnknownOperator => "operator",

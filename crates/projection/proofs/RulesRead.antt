@@ -12,7 +12,7 @@ use Rattle.pipeline_model.specs.Operands.{named_path, read_name}
 use Rattle.pipeline_model.specs.Projections.{Treatment, NameRule, Projection, one_part, read_treatment, read_rules}
 use Rattle.projection.specs.RuleReading.{read_rule}
 
--- a rule, and the others behind it
+-- a rule, and those after it
 abbrev ruled : List ℕ → Treatment → NameRule
 ruled part treatment = record { name = part; treatment = treatment }
 
@@ -62,6 +62,6 @@ pub no_dollar : (bs : List ℕ) → ((rest : List ℕ) → bs ≢ 36 ∷ rest) �
 no_dollar [] h = refl
 no_dollar (b ∷ bs) h = rw (ne_eqb b 36 (λ e. h bs (ap (λ (x : ℕ). x ∷ bs) e))) refl
 
--- a text without $ in front computes nothing
+-- a text without a leading $ computes nothing
 pub not_computed : (bs : List ℕ) → ((rest : List ℕ) → bs ≢ 36 ∷ rest) → read_treatment (string_value bs) ≡ Err bad_operand
 not_computed bs h = rw (no_dollar bs h, read_treatment) refl

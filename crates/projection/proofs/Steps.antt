@@ -1,4 +1,4 @@
--- One element of a loop, and those behind it, until there is none.
+-- One element of a loop, and those after it, until there is none.
 use Rattle.std.proofs.Common.{◌≡◌, ℕ, ◌<◌, ◌≤◌, ◌+◌, List, length, get_or, drop, sym, ap, ◌∙◌}
 use Rattle.std.proofs.lemmas.List.{drop_all}
 use Rattle.bson_model.proofs.Joined.{joined_none, joined_items_none}
@@ -12,21 +12,21 @@ use Rattle.pipeline_model.proofs.Depths.{project_within}
 use Rattle.projection.specs.declared.rules.NameRule.{NameRule}
 use Rattle.projection.specs.View.{rules_of}
 
--- the next field is put behind the others
+-- the next field is appended
 pub put_field : (of : Fields → Fields) (before now whole : Fields) (ms : List Field) (i : ℕ) (m : Field) → i < length ms → m ≡ get_or ms i m →
     ((rest : Fields) → joined now (of rest) ≡ joined before (of (field m.name (datum_of m.value) rest))) →
     joined before (of (fields_of (drop i ms))) ≡ whole → joined now (of (fields_of (drop (i + 1) ms))) ≡ whole
 put_field of before now whole ms i m less is put so_far =
     put (fields_of (drop (i + 1) ms)) ∙ ap (λ (x : List Field). joined before (of (fields_of x))) (sym (next_field ms i m less is)) ∙ so_far
 
--- the next value is put behind the others
+-- the next value is appended
 pub put_value : (of : Items → Items) (before now whole : Items) (vs : List Value) (i : ℕ) (v : Value) → i < length vs → v ≡ get_or vs i v →
     ((rest : Items) → joined_items now (of rest) ≡ joined_items before (of (item (datum_of v) rest))) →
     joined_items before (of (items_of (drop i vs))) ≡ whole → joined_items now (of (items_of (drop (i + 1) vs))) ≡ whole
 put_value of before now whole vs i v less is put so_far =
     put (items_of (drop (i + 1) vs)) ∙ ap (λ (x : List Value). joined_items before (of (items_of x))) (sym (next_one vs i v less is)) ∙ so_far
 
--- all fields were gone through
+-- all fields were visited
 pub all_fields : (of : Fields → Fields) (before whole : Fields) (ms : List Field) (i : ℕ) → of no_fields ≡ no_fields → length ms ≤ i →
     joined before (of (fields_of (drop i ms))) ≡ whole → before ≡ whole
 all_fields of before whole ms i none less so_far =
@@ -35,7 +35,7 @@ all_fields of before whole ms i none less so_far =
     ∙ ap (λ (x : List Field). joined before (of (fields_of x))) (sym (drop_all i ms less))
     ∙ so_far
 
--- all values were gone through
+-- all values were visited
 pub all_values : (of : Items → Items) (before whole : Items) (vs : List Value) (i : ℕ) → of no_items ≡ no_items → length vs ≤ i →
     joined_items before (of (items_of (drop i vs))) ≡ whole → before ≡ whole
 all_values of before whole vs i none less so_far =
@@ -44,7 +44,7 @@ all_values of before whole vs i none less so_far =
     ∙ ap (λ (x : List Value). joined_items before (of (items_of x))) (sym (drop_all i vs less))
     ∙ so_far
 
--- all rules were gone through
+-- all rules were visited
 pub all_rules : (document before whole : Fields) (rules : List NameRule) (i : ℕ) → length rules ≤ i →
     joined before (computed_fields (rules_of (drop i rules)) document) ≡ whole → before ≡ whole
 all_rules document before whole rules i less so_far =

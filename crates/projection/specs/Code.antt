@@ -1,4 +1,4 @@
--- How rules are told from others: by their names, and numbers and paths for what is done with them.
+-- A code that determines a rule: its name, and a number and a path for its treatment.
 use Rattle.std.specs.Prelude.{◌≡◌, ℕ, List, [], refl, ◌==◌, if◌then◌else◌}
 use Rattle.std.specs.Coded.{Coded, code_by, coded_list, coded×, coded_ℕ}
 use Rattle.query_model.specs.Paths.{Path}

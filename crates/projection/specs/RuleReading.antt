@@ -1,4 +1,4 @@
--- The rule that one field of a projection is.
+-- The rule that one field of a projection reads as.
 use Rattle.std.specs.Prelude.{ℕ, List, Result, Ok}
 use Rattle.bson_model.specs.Tree.{Datum}
 use Rattle.query_model.specs.Queries.{QueryFault}

@@ -1,4 +1,4 @@
--- What the rules of the program are as plain data.
+-- The rules of the program as plain data.
 use Rattle.std.specs.Prelude.{List, map, filter_map, Bool, Option, option_and_then}
 use Rattle.bson_model.specs.Tree.{Items, document_value}
 use Rattle.query_model.specs.Paths.{Path, as_document, elements}

@@ -1,4 +1,4 @@
-//! Projections: the document that they leave of another (MongoDB manual, "$project", "Project Fields to Return from Query").
+//! Projections: the document that they make of another (MongoDB manual, "$project", "Project Fields to Return from Query").
 #![tactic(auto)]
 
 mod parser;

@@ -26,7 +26,7 @@ fn switch(is_shown: bool) -> Treatment
     }
 }
 
-// Computed, from the path behind the text's `$`.
+// Computed, from the path after the text's `$`.
 fn parse_computed(alloc: Global, text: &str) -> Result<Treatment, ParseFault>
     ensures gives { Gives treatment_of result (read_treatment (string_value text.now)) }
 {
@@ -37,7 +37,7 @@ fn parse_computed(alloc: Global, text: &str) -> Result<Treatment, ParseFault>
     Ok(Treatment::Compute(path))
 }
 
-// What a value tells to do with its field's name.
+// Returns what a value says to do with its field's name.
 fn parse_treatment(alloc: Global, value: &Value) -> Result<Treatment, ParseFault>
     ensures gives { Gives treatment_of result (read_treatment (datum_of value.now)) }
 {
@@ -50,7 +50,7 @@ fn parse_treatment(alloc: Global, value: &Value) -> Result<Treatment, ParseFault
     }
 }
 
-// The rule that a field is.
+// Returns the rule that a field is.
 fn parse_rule(alloc: Global, field: &Field) -> Result<NameRule, ParseFault>
     ensures gives { Gives rule_of result (read_rule field.now.name (datum_of field.now.value)) }
 {
@@ -63,7 +63,7 @@ fn parse_rule(alloc: Global, field: &Field) -> Result<NameRule, ParseFault>
     Ok(NameRule { name, treatment })
 }
 
-/// The rules that the fields of a document are.
+/// Returns the rules that the fields of a document are.
 pub fn parse_rules(alloc: Global, document: &Document) -> Result<Vec<NameRule>, ParseFault>
     ensures gives { Gives (λ rules. rules_of rules.items) result (read_rules document.now) }
 {
@@ -75,8 +75,7 @@ pub fn parse_rules(alloc: Global, document: &Document) -> Result<Vec<NameRule>, 
     Ok(rules)
 }
 
-// Whether a rule may stand beside names that stay or are computed: another than `_id` is not excluded, nor is `_id` where it has
-// a rule of another kind.
+// Returns whether a rule is allowed where names are included or computed: no other name than `_id` is excluded, nor is `_id` where it has another rule too.
 fn may_stand(rule: &NameRule, is_id_shown: bool) -> bool
     ensures { (rules : List model.NameRule) →
         is_id_shown ≡ (has_rule includes rules (codes "_id") || has_rule computes rules (codes "_id")) → result ≡ may_stand rules (rule_of rule.now) }
@@ -84,7 +83,7 @@ fn may_stand(rule: &NameRule, is_id_shown: bool) -> bool
     !rule.treatment.has_kind(Kind::Exclude) || (rule.name.as_str() == "_id" && !is_id_shown)
 }
 
-// Whether each rule may stand beside names that stay or are computed.
+// Returns whether each rule is allowed where names are included or computed.
 fn all_may_stand(rules: &[NameRule]) -> bool
     ensures { result ≡ list_all (may_stand (rules_of rules.now)) (rules_of rules.now) }
 {
@@ -98,7 +97,7 @@ fn all_may_stand(rules: &[NameRule]) -> bool
     true
 }
 
-/// Whether there are rules and they may stand together, where it is known whether each excludes its name.
+/// Returns whether there are rules and they are allowed together, given whether each excludes its name.
 pub fn is_projection(rules: &[NameRule], all_excluded: bool) -> bool
     requires { all_excluded ≡ is_excluding (rules_of rules.now) }
     ensures { result ≡ is_projection (rules_of rules.now) }

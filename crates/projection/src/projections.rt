@@ -1,4 +1,4 @@
-//! Projections, and the document that they leave.
+//! Projections, and the document that they make.
 
 ghost use Rattle.std.specs.Prelude.{◌≡◌, ◌≤◌, ◌∷◌, IfErr, IfOk, List, Ok, OnOk};
 ghost use Rattle.field_paths.specs.ReadFaults.{Fails};
@@ -16,7 +16,7 @@ use field_paths::ParseFault;
 use std::alloc::Global;
 use std::marker::Model;
 
-/// A projection, seen as the rules that it has.
+/// A projection, seen as its rules.
 #[derive(Drop)]
 pub struct Projection {
     pub(crate) rules: Vec<NameRule>,
@@ -40,13 +40,13 @@ impl Model for Projection {
 }
 
 impl Projection {
-    /// The projection that a document is. Fails where it is none, with its first fault: of the fields in order, of each first its
-    /// name (`Path`, then `BadOperand` where it has more than one part) and then its value (`BadOperand`, or `Path` for the path
-    /// behind its `$`); behind them with `BadOperand` for what concerns the whole. Fails with `Memory` for want of memory.
+    /// Returns the projection that a document is. Returns its first fault where it is none: of the fields in order, of each first its name (`Path`, then
+    /// `BadOperand` where it has more than one part) and then its value (`BadOperand`, or `Path` for the path after its `$`); after them `BadOperand` for
+    /// what concerns the whole. Returns `Memory` if memory runs out.
     pub fn parse(alloc: Global, document: &Document) -> Result<Projection, ParseFault>
-        // A projection is what the document reads as.
+        // A projection is what the definitions read from the document.
         ensures projection { IfOk result (λ p. read_projection document.now ≡ Ok p) }
-        // A fault is the first, unless memory ran out.
+        // A fault is the first, unless memory runs out.
         ensures fault { IfErr result (λ e. Fails e (read_projection document.now)) }
     {
         let rules = parse_rules(alloc, document)?;
@@ -61,7 +61,7 @@ impl Projection {
     }
 }
 
-// Whether a stored field of that name stays.
+// Returns whether a stored field of that name is kept.
 fn stays(projection: &Projection, name: &str) -> bool
     ensures { result ≡ stays projection.now name.now }
 {
@@ -75,7 +75,7 @@ fn stays(projection: &Projection, name: &str) -> bool
     }
 }
 
-// Puts a field behind the others, if it stays.
+// Appends a field, if it is kept.
 #[tactic(auto, using(bson_model::proofs::Joined::joined_one))]
 fn push_stored(projection: &Projection, stored: &Field, left: &mut Document) -> Result<(), Memory>
     ensures { OnOk result ((rest : Fields) → joined left.new (fields_named (stays projection.now) rest)
@@ -89,7 +89,7 @@ fn push_stored(projection: &Projection, stored: &Field, left: &mut Document) -> 
     left.push(name, value)
 }
 
-// Puts the field that a rule computes behind the others, if it computes one and there is a value.
+// Appends the field that a rule computes, if it computes one and there is a value.
 #[tactic(auto, using(bson_model::proofs::Joined::joined_one))]
 fn push_computed(
     alloc: Global,
@@ -110,7 +110,7 @@ fn push_computed(
     left.push(name, value)
 }
 
-// The stored fields that stay.
+// Returns the stored fields that are kept.
 fn stored_fields(
     alloc: Global,
     projection: &Projection,
@@ -125,8 +125,8 @@ fn stored_fields(
     Ok(left)
 }
 
-/// The document that the projection leaves of another: the stored fields that stay, in their order, and then the computed ones, in
-/// the projection's. Fails for want of memory.
+/// Returns the result of the projection of a document: the stored fields that are kept, in their order, and then the computed ones, in the projection's.
+/// Returns `Memory` if memory runs out.
 pub fn project(
     alloc: Global,
     projection: &Projection,

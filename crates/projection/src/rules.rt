@@ -12,7 +12,7 @@ use field_paths::Path;
 pub enum Treatment {
     Include,
     Exclude,
-    /// The value at a path takes its place.
+    /// The value at a path replaces it.
     Compute(Path),
 }
 
@@ -32,7 +32,7 @@ pub struct NameRule {
 }
 
 impl Treatment {
-    // Whether it is of that kind.
+    // Returns whether it is of that kind.
     pub fn has_kind(&self, kind: Kind) -> bool
         ensures { result ≡ has_kind kind (treatment_of self.now) }
     {
@@ -45,7 +45,7 @@ impl Treatment {
     }
 }
 
-/// Whether a rule of that name is of that kind.
+/// Returns whether there is a rule of that name and that kind.
 pub fn has_rule(rules: &[NameRule], kind: Kind, name: &str) -> bool
     ensures { result ≡ has_rule (has_kind kind) (rules_of rules.now) name.now }
 {
@@ -57,7 +57,7 @@ pub fn has_rule(rules: &[NameRule], kind: Kind, name: &str) -> bool
     false
 }
 
-/// Whether each rule excludes its name.
+/// Returns whether each rule excludes its name.
 pub fn is_excluding(rules: &[NameRule]) -> bool
     ensures { result ≡ is_excluding (rules_of rules.now) }
 {

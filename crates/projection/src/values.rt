@@ -1,4 +1,4 @@
-//! The value at a path, as an expression takes it (MongoDB manual, "Field Path").
+//! The value at a path, as an expression evaluates it (MongoDB manual, "Field Path").
 
 ghost use Rattle.std.specs.Prelude.{◌≡◌, ◌∷◌, IfOk, OnOk, option_map};
 ghost use Rattle.bson_model.specs.Tree.{Items, array_value, document_value, item, joined_items};
@@ -10,8 +10,8 @@ use bson_values::{Array, Document, Memory, Text, Value};
 use field_paths::Path;
 use std::alloc::Global;
 
-/// The value at the path in the document: through an array, the array of the values of those of its elements that are documents
-/// and have one. Fails for want of memory.
+/// Returns the value at the path in the document: through an array, the array of the values of those of its elements that are documents and have one. Returns
+/// `Memory` if memory runs out.
 pub fn value_at(alloc: Global, path: &Path, document: &Document) -> Result<Option<Value>, Memory>
     ensures { IfOk result (λ v. option_map datum_of v ≡ value_at path.now document.now) }
 {
@@ -21,7 +21,7 @@ pub fn value_at(alloc: Global, path: &Path, document: &Document) -> Result<Optio
     }
 }
 
-// The value at what is left of a path.
+// The value at the rest of a path.
 #[cycle(value)]
 fn value_from(alloc: Global, parts: &[Text], value: &Value) -> Result<Option<Value>, Memory>
     ensures { IfOk result (λ v. option_map datum_of v ≡ value_from parts.now (datum_of value.now)) }
@@ -72,7 +72,7 @@ fn values_in_array(
     Ok(found)
 }
 
-// Puts what an element has behind the others, if it is a document and has a value.
+// Appends the value of an element, if it is a document and has one.
 #[cycle(value)]
 #[tactic(auto, using(bson_model::proofs::Joined::joined_items_one))]
 fn push_element(

@@ -1,4 +1,4 @@
--- What messages of the program say, by the definitions.
+-- The contents of the program's messages, by the definitions.
 use Rattle.std.specs.Prelude.{map, Result, Ok, Err}
 use Rattle.std.specs.Arc.{arc_value}
 use Rattle.std.specs.Option.{option_map}

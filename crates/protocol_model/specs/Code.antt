@@ -1,4 +1,4 @@
--- How an operation is told from others: by its kind, its documents and whether it is an upsert.
+-- A code that determines an operation: its kind, its documents and whether it is an upsert.
 use Rattle.std.specs.Prelude.{◌≡◌, ℕ, Bool, false, ◌==◌, if◌then◌else◌, refl}
 use Rattle.std.specs.Coded.{Coded, code_by, coded×, coded_ℕ, coded_bool}
 use Rattle.bson_values.specs.Code.{fields_code}

@@ -1,4 +1,4 @@
--- The requests of the definitions whose heads are kept.
+-- The requests of the definitions whose heads are stored.
 use Rattle.std.specs.Prelude.{ℕ, List, [], ◌∷◌}
 use Rattle.bson_model.specs.Tree.{no_fields}
 use Rattle.opmsg_model.specs.Requests as wire
@@ -15,6 +15,6 @@ abbrev pub bytes_came : List (Request × ℕ) → List ℕ
 bytes_came [] = []
 bytes_came (c ∷ more) = c.0.bytes
 
--- the request that came: its documents and its bytes are there for proofs alone
+-- the request that came: its documents and its bytes exist only for proofs
 abbrev pub head_request : Head → wire.Request
 head_request h = record { id = h.id; more = h.more; form = form_view h.form; body = body_came h.came.items; bytes = bytes_came h.came.items }

@@ -1,4 +1,4 @@
--- The inputs of the definitions that those of the program are.
+-- The program's inputs, by the definitions.
 use Rattle.node_model.specs.Letters as letters
 use Rattle.node_model.specs.Letters.{client_input, letter_input, moment_input, opened_input}
 use Rattle.protocol_model.specs.declared.input.Input.{Input}

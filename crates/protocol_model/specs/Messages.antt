@@ -1,4 +1,4 @@
--- The messages of the definitions that those of the program are.
+-- The program's messages, by the definitions.
 use Rattle.node_model.specs.Letters as letters
 use Rattle.protocol_model.specs.declared.message.Message.{Message}
 use Rattle.protocol_model.specs.Bodies.{body_view}

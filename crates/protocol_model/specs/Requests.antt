@@ -1,4 +1,4 @@
--- The requests of the definitions that those of the program are, as a function.
+-- The program's requests, by the definitions, as a function.
 use Rattle.bson_model.specs.Faults.{short_fault, length_fault, type_fault, string_fault, boolean_fault, depth_fault, trailing_fault}
 use Rattle.opmsg_model.specs.Requests as wire
 use Rattle.bson_values.specs.declared.fault.BsonFault.{BsonFault}
@@ -8,7 +8,7 @@ use Rattle.opmsg_frames.specs.declared.request.Body.TheVariants.{Read, Faulty}
 use Rattle.opmsg_frames.specs.declared.request.Request.{Request}
 use Rattle.opmsg_frames.specs.RequestMeanings.{form_view}
 
--- A framer tells want of memory itself, so no request has it for a fault: what it would be says nothing.
+-- A framer returns out of memory itself, so no request has it as its fault; the value for it has no meaning.
 abbrev pub faulty_body_of : BsonFault → wire.Body
 faulty_body_of (Short offset) = wire.faulty_body short_fault offset
 faulty_body_of (BadLength offset) = wire.faulty_body length_fault offset

@@ -1,4 +1,4 @@
--- What statements of the program, and what they are told, are by the definitions.
+-- The program's statements and their outcomes, by the definitions.
 use Rattle.std.specs.Arc.{arc_value}
 use Rattle.std.specs.Prelude.{Option}
 use Rattle.std.specs.Option.{option_map}
@@ -23,7 +23,7 @@ abbrev pub operation_view : Operation → history.Operation
 operation_view (Insert document) = insert_operation document
 operation_view (Change operation) = operation
 
--- a statement of a request, with the number that its client gave or the router's own
+-- a statement of a request, with the number from its client or the router's own
 abbrev pub statement_view : Option ClientNumber → RequestId → Statement → letters.Statement
 statement_view given id s = record { number = number_for given id s.index; operation = operation_view s.operation }
 

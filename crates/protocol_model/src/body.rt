@@ -1,4 +1,4 @@
-//! What a message says.
+//! The contents of messages.
 
 ghost use Rattle.std.specs.Prelude.{◌≡◌, IfOk};
 ghost use Rattle.node_traits.specs.Kinds.{kind_of};
@@ -12,7 +12,7 @@ use chunk_table::Version;
 use cluster_base::RequestId;
 use std::alloc::Global;
 
-/// The answer to an ask that was sent with an older table than the shard's: the version of that.
+/// The answer to a request that was sent with an older table than the shard's: the version of the shard's table.
 #[derive(Clone, Copy, Debug, PartialEq, Eq, Drop)]
 pub struct Stale {
     pub id: RequestId,
@@ -20,7 +20,7 @@ pub struct Stale {
     pub met: Version,
 }
 
-/// What a message says. A turn counts the tries of a request that met a stale table.
+/// The content of a message. A turn counts the tries of a request that was sent with a stale table.
 #[derive(Drop)]
 pub enum Body {
     TableAsk(TableAsk),
@@ -36,7 +36,7 @@ pub enum Body {
 }
 
 impl Body {
-    /// The name of the message's kind.
+    /// Returns the name of the message's kind.
     pub fn kind(&self) -> &'static str
         ensures { result.now ≡ kind_of (body_view self.now) }
     {
@@ -54,7 +54,7 @@ impl Body {
         }
     }
 
-    /// The same once more. Documents, keys and tables are shared. Fails for want of memory.
+    /// Returns a copy, which shares the documents, keys and tables, or `Memory` if memory runs out.
     pub fn copy(&self, alloc: Global) -> Result<Body, Memory>
         ensures { IfOk result (λ body. body_view body ≡ body_view self.now) }
     {

@@ -1,4 +1,4 @@
-//! Updates and deletes that clients ask for.
+//! Updates and deletes from clients.
 
 ghost use Rattle.std.specs.Prelude.{◌≡◌, IfOk};
 ghost use Rattle.std.specs.Arc.{arc_value};
@@ -11,8 +11,8 @@ use std::marker::Model;
 use std::sync::Arc;
 use value_compare::OpWords;
 
-/// The words of an update or a delete: a statement under one key, whose documents have the size that those of statements may have (MongoDB
-/// manual, "update", "delete"), so it may be kept. They are shared with whoever else has them.
+/// The operands of an update or a delete: a statement under one key, whose documents are within the size of statements (MongoDB manual, "update", "delete"),
+/// so it may be stored. They are shared with their other owners.
 #[derive(Drop)]
 pub struct NewChange {
     words: Arc<OpWords, Global>,
@@ -36,7 +36,7 @@ impl Model for NewChange {
 }
 
 impl NewChange {
-    /// The words, to be shared. Fails for want of memory.
+    /// Returns the operands, to be shared, or `Memory` if memory runs out.
     pub fn of(alloc: Global, words: OpWords) -> Result<NewChange, Memory>
         requires { IsKeepable (operation_view words) }
         ensures { IfOk result (λ new. new ≡ operation_view words) }
@@ -45,7 +45,7 @@ impl NewChange {
         Ok(NewChange { words })
     }
 
-    /// The words that it is, which may be kept.
+    /// Returns the operands, which may be stored.
     pub fn words(&self) -> &Arc<OpWords, Global>
         ensures same { operation_view (arc_value result.now) ≡ self.now }
         ensures keepable { IsKeepable self.now }
@@ -53,7 +53,7 @@ impl NewChange {
         &self.words
     }
 
-    /// The same words, shared once more. Fails for want of memory.
+    /// Returns a copy, which shares the operands, or `Memory` if memory runs out.
     pub fn copy(&self) -> Result<NewChange, Memory>
         ensures { IfOk result (λ new. new ≡ self.now) }
     {

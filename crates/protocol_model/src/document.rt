@@ -1,4 +1,4 @@
-//! Documents that clients put in.
+//! Documents that clients insert.
 
 ghost use Rattle.std.specs.Prelude.{◌≡◌, IfOk};
 ghost use Rattle.std.specs.Arc.{arc_value};
@@ -10,8 +10,8 @@ use std::alloc::Global;
 use std::marker::Model;
 use std::sync::Arc;
 
-/// A document that a client puts in: it has a key and the size that documents may have (MongoDB manual, "insert"), so it may be kept. It
-/// is shared with whoever else has it.
+/// A document that a client inserts: it has a key and is within the size of documents (MongoDB manual, "insert"), so it may be stored. It is shared with its
+/// other owners.
 #[derive(Drop)]
 pub struct NewDocument {
     document: Arc<Document, Global>,
@@ -35,7 +35,7 @@ impl Model for NewDocument {
 }
 
 impl NewDocument {
-    /// The document, to be shared. Fails for want of memory.
+    /// Returns the document, to be shared, or `Memory` if memory runs out.
     pub fn of(alloc: Global, document: Document) -> Result<NewDocument, Memory>
         requires { IsKeepable (insert_operation document) }
         ensures { IfOk result (λ new. new ≡ document) }
@@ -44,7 +44,7 @@ impl NewDocument {
         Ok(NewDocument { document })
     }
 
-    /// The document that it is, which may be kept.
+    /// Returns the document, which may be stored.
     pub fn document(&self) -> &Arc<Document, Global>
         ensures same { arc_value result.now ≡ self.now }
         ensures keepable { IsKeepable (insert_operation self.now) }
@@ -52,7 +52,7 @@ impl NewDocument {
         &self.document
     }
 
-    /// The same document, shared once more. Fails for want of memory.
+    /// Returns a copy, which shares the document, or `Memory` if memory runs out.
     pub fn copy(&self) -> Result<NewDocument, Memory>
         ensures { IfOk result (λ new. new ≡ self.now) }
     {

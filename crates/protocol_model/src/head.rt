@@ -1,4 +1,4 @@
-//! What is kept of a request whose documents were given away.
+//! What is stored of a request whose documents were moved out.
 
 ghost use Rattle.std.specs.Prelude.{◌≡◌};
 ghost use Rattle.protocol_model.specs.Heads.{head_request};
@@ -7,7 +7,7 @@ ghost use Rattle.protocol_model.specs.Requests.{request_of};
 use ghost_list::GhostList;
 use opmsg_frames::{Body, Form, Request};
 
-/// What the reply to a request needs of it. The request itself is there for proofs alone.
+/// What the reply to a request needs of it. The request itself exists only for proofs.
 #[derive(Drop)]
 pub struct Head {
     pub id: i32,
@@ -17,7 +17,7 @@ pub struct Head {
 }
 
 impl Head {
-    /// The head and the body of a request; its own bytes are let go.
+    /// Returns the head and the body of a request; its own bytes are freed.
     pub fn of(request: Request) -> (Head, Body)
         ensures request { head_request result.0 ≡ request_of request }
         ensures body { result.1 ≡ request.body }

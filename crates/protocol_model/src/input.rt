@@ -1,4 +1,4 @@
-//! What a node takes.
+//! The inputs of a node.
 
 ghost use Rattle.std.specs.Prelude.{◌≡◌};
 ghost use Rattle.node_traits.specs.Effects.{time_in};
@@ -8,10 +8,10 @@ use crate::message::Message;
 use cluster_base::{Time, moment_time};
 use opmsg_frames::Request;
 
-/// What a node takes in one step.
+/// The input of a node in one step.
 #[derive(Drop)]
 pub enum Input {
-    /// A request comes on a link; the number is that of its reply.
+    /// A request arrives on a link; the number is that of its reply.
     Client {
         link: u32,
         number: i32,
@@ -26,7 +26,7 @@ pub enum Input {
 }
 
 impl Input {
-    /// The time that it brings: that of a message, or that of a moment; else 0.
+    /// Returns the time that it carries: that of a message, or that of a moment; else 0.
     pub fn time(&self) -> Time
         ensures { result.0 ≡ time_in (input_of self.now) }
     {

@@ -5,7 +5,7 @@ ghost use Rattle.opmsg_frames.specs.RequestMeanings.{IsMeant};
 ghost use Rattle.opmsg_frames.specs.declared.request.Request.{Request};
 ghost use Rattle.protocol_model.specs.Requests.{request_of};
 
-/// A request that a framer gave is the one of the definitions that `request_of` names.
+/// A request from a framer is the one of the definitions that `request_of` returns.
 pub fn one_meaning()
     ensures { (request : Request) (meant : wire.Request) → IsMeant request meant → meant ≡ request_of request }
 {}

@@ -1,4 +1,4 @@
-//! What nodes tell each other, as values.
+//! The messages of nodes, as values.
 #![tactic(auto)]
 
 mod body;

@@ -13,13 +13,13 @@ use std::sync::Arc;
 /// Statements, in order.
 pub type StatementList = Vec<Statement>;
 
-/// What statements were told, in order.
+/// The outcomes of statements, in order.
 pub type DoneList = Vec<Done>;
 
 /// Documents that are shared, in order.
 pub type DocumentList = Vec<Arc<Document, Global>>;
 
-/// The same statements once more, which share their documents. Fails for want of memory.
+/// Returns copies of the statements, which share their documents, or `Memory` if memory runs out.
 pub(crate) fn copy_statements(
     alloc: Global,
     statements: &[Statement],
@@ -34,7 +34,7 @@ pub(crate) fn copy_statements(
     Ok(list)
 }
 
-/// The same once more. Fails for want of memory.
+/// Returns copies of the outcomes, or `Memory` if memory runs out.
 pub(crate) fn copy_dones(alloc: Global, dones: &[Done]) -> Result<DoneList, Memory>
     ensures { IfOk result (λ list. map done_view list.items ≡ map done_view dones.now) }
 {

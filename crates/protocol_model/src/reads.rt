@@ -12,16 +12,16 @@ use pipeline_lang::Half;
 use std::alloc::Global;
 use std::sync::Arc;
 
-/// Why a half gives no rows.
+/// Why a half returns no rows.
 #[derive(Clone, Copy, Debug, PartialEq, Eq, Drop)]
 pub enum HalfFault {
     /// A sum is outside int64.
     Overflow,
-    /// The rows have so many bytes, which are too many.
+    /// The rows have this number of bytes, which is too great.
     TooMuch { bytes: u64 },
 }
 
-/// To a shard: what a half gives of its documents at a time. The half is shared.
+/// To a shard: the result of a half on its documents at a time is requested. The half is shared.
 #[derive(Drop)]
 pub struct ReadAsk {
     pub id: RequestId,
@@ -33,7 +33,7 @@ pub struct ReadAsk {
 }
 
 impl ReadAsk {
-    /// The same once more, which shares the half. Fails for want of memory.
+    /// Returns a copy, which shares the half, or `Memory` if memory runs out.
     pub fn copy(&self) -> Result<ReadAsk, Memory>
         ensures { IfOk result (λ ask. read_ask_view ask ≡ read_ask_view self.now) }
     {
@@ -50,7 +50,7 @@ impl ReadAsk {
     }
 }
 
-/// From a shard to itself: the documents to make a half of.
+/// From a shard to itself: the documents on which a half is to run.
 #[derive(Drop)]
 pub struct HalfAsk {
     pub id: RequestId,
@@ -62,7 +62,7 @@ pub struct HalfAsk {
 }
 
 impl HalfAsk {
-    /// The same once more, which shares the half and the documents. Fails for want of memory.
+    /// Returns a copy, which shares the half and the documents, or `Memory` if memory runs out.
     pub fn copy(&self, alloc: Global) -> Result<HalfAsk, Memory>
         ensures { IfOk result (λ ask. half_ask_view ask ≡ half_ask_view self.now) }
     {
@@ -89,7 +89,7 @@ pub struct ReadRows {
 }
 
 impl ReadRows {
-    /// The same once more, which shares the documents. Fails for want of memory.
+    /// Returns a copy, which shares the documents, or `Memory` if memory runs out.
     pub fn copy(&self, alloc: Global) -> Result<ReadRows, Memory>
         ensures { IfOk result (λ told. read_rows_view told ≡ read_rows_view self.now) }
     {
@@ -105,13 +105,13 @@ impl ReadRows {
     }
 }
 
-/// To a shard, for a read of a time that the router has not reached: its time.
+/// To a shard, for a read of a time that the router has not reached: its time is requested.
 #[derive(Clone, Copy, Debug, PartialEq, Eq, Drop)]
 pub struct TimeAsk {
     pub id: RequestId,
 }
 
-/// The answer: the time stands in the message.
+/// The answer: the time is in the message.
 #[derive(Clone, Copy, Debug, PartialEq, Eq, Drop)]
 pub struct TimeTold {
     pub id: RequestId,

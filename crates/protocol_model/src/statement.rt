@@ -1,4 +1,4 @@
-//! Statements of writes, and what they are told (MongoDB manual, "insert", "update", "delete").
+//! Statements of writes, and their outcomes (MongoDB manual, "insert", "update", "delete").
 
 ghost use Rattle.std.specs.Prelude.{◌≡◌, IfOk, Option, is_some};
 ghost use Rattle.command_model.specs.Writes.{ClientNumber};
@@ -14,17 +14,17 @@ use std::alloc::Global;
 use std::sync::Arc;
 use value_compare::Key;
 
-/// What a statement does.
+/// The operation of a statement.
 #[derive(Drop)]
 pub enum Operation {
-    /// Puts a document in.
+    /// Inserts a document.
     Insert(NewDocument),
-    /// Changes a document, puts one in where none is met, or takes one out.
+    /// Updates a document, upserts one, or deletes one.
     Change(NewChange),
 }
 
 impl Operation {
-    /// The same once more, which shares its documents. Fails for want of memory.
+    /// Returns a copy, which shares its documents, or `Memory` if memory runs out.
     pub fn copy(&self) -> Result<Operation, Memory>
         ensures { IfOk result (λ operation. operation_view operation ≡ operation_view self.now) }
     {
@@ -43,7 +43,7 @@ pub struct Statement {
 }
 
 impl Statement {
-    /// The same statement once more, which shares its documents. Fails for want of memory.
+    /// Returns a copy of the statement, which shares its documents, or `Memory` if memory runs out.
     pub fn copy(&self) -> Result<Statement, Memory>
         ensures { (given : Option ClientNumber) (id : RequestId) →
             IfOk result (λ statement. statement_view given id statement ≡ statement_view given id self.now) }
@@ -56,21 +56,21 @@ impl Statement {
     }
 }
 
-/// What an entry tells its statement.
+/// The outcome of an entry.
 #[derive(Drop)]
 pub struct Outcome {
-    /// How many documents it met or put in.
+    /// How many documents it matched or inserted.
     pub count: u32,
     /// How many documents it changed.
     pub modified: u32,
-    /// The key of the document that an upsert put in.
+    /// The key of the document that an upsert inserted.
     pub upserted: Option<Arc<Key, Global>>,
-    /// Its error, if it is told one.
+    /// Its error, if it has one.
     pub error: Option<Code>,
 }
 
 impl Outcome {
-    /// The same once more. Fails for want of memory.
+    /// Returns a copy, or `Memory` if memory runs out.
     fn copy(&self) -> Result<Outcome, Memory>
         ensures { IfOk result (λ outcome. outcome_view outcome ≡ outcome_view self.now) }
     {
@@ -87,22 +87,22 @@ impl Outcome {
     }
 }
 
-/// What a statement is told.
+/// The outcome of a statement.
 #[derive(Drop)]
 pub enum StatementOutcome {
-    /// It was done.
+    /// It was applied.
     WasDone {
         /// The time of its entry.
         time: Time,
-        /// What the entry tells.
+        /// The outcome of the entry.
         outcome: Outcome,
     },
-    /// It was not done: its session has this greater transaction.
+    /// It was not applied: its session has this greater transaction.
     Older(i64),
 }
 
 impl StatementOutcome {
-    /// Whether it is an error.
+    /// Returns whether it is an error.
     pub fn fails(&self) -> bool
         ensures { result ≡ is_some (refusal_in (answer_view self.now)) }
     {
@@ -112,7 +112,7 @@ impl StatementOutcome {
         }
     }
 
-    /// The same once more. Fails for want of memory.
+    /// Returns a copy, or `Memory` if memory runs out.
     fn copy(&self) -> Result<StatementOutcome, Memory>
         ensures { IfOk result (λ answer. answer_view answer ≡ answer_view self.now) }
     {
@@ -126,7 +126,7 @@ impl StatementOutcome {
     }
 }
 
-/// What the statement with an index in its command is told.
+/// The outcome of the statement with an index in its command.
 #[derive(Drop)]
 pub struct Done {
     pub index: u32,
@@ -134,7 +134,7 @@ pub struct Done {
 }
 
 impl Done {
-    /// The same once more. Fails for want of memory.
+    /// Returns a copy, or `Memory` if memory runs out.
     pub fn copy(&self) -> Result<Done, Memory>
         ensures { IfOk result (λ done. done_view done ≡ done_view self.now) }
     {

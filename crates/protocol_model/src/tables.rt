@@ -11,16 +11,16 @@ use cluster_base::{Namespace, Time};
 use std::alloc::Global;
 use std::sync::Arc;
 
-/// For which time a table is asked.
+/// The time for which a table is requested.
 #[derive(Clone, Copy, Debug, PartialEq, Eq, Drop)]
 pub enum At {
-    /// For none.
+    /// No time.
     NoTime,
-    /// For a read at this one.
+    /// A read at this time.
     Time(Time),
 }
 
-/// To the catalogue: the table of a collection, which begins now where `create` is true and there is none.
+/// To the catalogue: the table of a collection is requested; the collection is created where `create` is true and it does not exist.
 #[derive(Drop)]
 pub struct TableAsk {
     pub namespace: Namespace,
@@ -29,7 +29,7 @@ pub struct TableAsk {
 }
 
 impl TableAsk {
-    /// The same once more. Fails for want of memory.
+    /// Returns a copy, or `Memory` if memory runs out.
     pub fn copy(&self) -> Result<TableAsk, Memory>
         ensures { IfOk result (λ ask. table_ask_view ask ≡ table_ask_view self.now) }
     {
@@ -42,7 +42,7 @@ impl TableAsk {
     }
 }
 
-/// The answer: the table, if there is one, with what it answers. The table is shared.
+/// The answer: the table, if there is one, with the request that it answers. The table is shared.
 #[derive(Drop)]
 pub struct TableTold {
     pub namespace: Namespace,
@@ -51,7 +51,7 @@ pub struct TableTold {
     pub table: Option<Arc<Table, Global>>,
 }
 
-/// The same table once more, shared. Fails for want of memory.
+/// Returns the same table, shared, or `Memory` if memory runs out.
 fn share_table(table: &Option<Arc<Table, Global>>) -> Result<Option<Arc<Table, Global>>, Memory>
     ensures { IfOk result (λ copy. option_map (λ t. arc_value t) copy ≡ option_map (λ t. arc_value t) table.now) }
 {
@@ -62,7 +62,7 @@ fn share_table(table: &Option<Arc<Table, Global>>) -> Result<Option<Arc<Table, G
 }
 
 impl TableTold {
-    /// The same once more, which shares the table. Fails for want of memory.
+    /// Returns a copy, which shares the table, or `Memory` if memory runs out.
     pub fn copy(&self) -> Result<TableTold, Memory>
         ensures { IfOk result (λ told. table_told_view told ≡ table_told_view self.now) }
     {

@@ -10,7 +10,7 @@ use cluster_base::{Namespace, RequestId};
 use command_replies::ClientNumber;
 use std::alloc::Global;
 
-/// To a shard: the statements of a request that follow one another and go there, with the number that the client gave, if it gave one.
+/// To a shard: consecutive statements of a request that go to this shard, with the number from the client, if it gave one.
 #[derive(Drop)]
 pub struct WriteAsk {
     pub id: RequestId,
@@ -23,7 +23,7 @@ pub struct WriteAsk {
 }
 
 impl WriteAsk {
-    /// The same once more, which shares the documents. Fails for want of memory.
+    /// Returns a copy, which shares the documents, or `Memory` if memory runs out.
     pub fn copy(&self, alloc: Global) -> Result<WriteAsk, Memory>
         ensures { IfOk result (λ ask. write_ask_view ask ≡ write_ask_view self.now) }
     {
@@ -41,7 +41,7 @@ impl WriteAsk {
     }
 }
 
-/// The answer: what was done, in order.
+/// The answer: the outcomes of the statements, in order.
 #[derive(Drop)]
 pub struct WriteDone {
     pub id: RequestId,
@@ -49,7 +49,7 @@ pub struct WriteDone {
 }
 
 impl WriteDone {
-    /// The same once more. Fails for want of memory.
+    /// Returns a copy, or `Memory` if memory runs out.
     pub fn copy(&self, alloc: Global) -> Result<WriteDone, Memory>
         ensures { IfOk result (λ done. write_done_view done ≡ write_done_view self.now) }
     {

@@ -1,4 +1,4 @@
-//! Documents that are changes, and documents that are none.
+//! Documents that are changes, and documents that are not.
 
 use crate::update_words::{document_of, parse_word};
 use bson_values::Document;
@@ -6,7 +6,7 @@ use fixtures::{RowFault, Rows, field};
 use std::alloc::Global;
 use update_ops::Update;
 
-/// `DOCUMENT | replacement` or `edits`, or in its place its first fault, in a word.
+/// `DOCUMENT | replacement` or `edits`, or instead its first fault, in a word.
 #[derive(Drop)]
 pub struct Changes;
 
@@ -18,7 +18,7 @@ impl Rows for Changes {
     }
 }
 
-// What a document reads as, in a word.
+// Returns what a document reads as, in a word.
 fn word_of(alloc: Global, document: &Document) -> &'static str {
     match Update::parse(alloc, document) {
         Ok(Update::Replacement(_)) => "replacement",

@@ -1,4 +1,4 @@
-//! The keys that documents ask for, before they are read as filters.
+//! The keys that documents require, before they are read as filters.
 
 use crate::filter_documents::document_of;
 use bson_values::{Document, Value};
@@ -8,7 +8,7 @@ use std::alloc::Global;
 use std::cmp::Ordering;
 use value_compare::compare;
 
-/// `DOCUMENT | VALUE`, or `none` in place of the value. Where the document is a filter, the filter asks for the same.
+/// `DOCUMENT | VALUE`, or `none` in place of the value. Where the document is a filter, the filter requires the same key.
 #[derive(Drop)]
 pub struct DocumentKeys;
 
@@ -24,7 +24,7 @@ impl Rows for DocumentKeys {
     }
 }
 
-// Whether the document asks for this, and the filter does, where it is one.
+// Returns whether the document requires this key, and the filter does, where it is one.
 fn is_asked(alloc: Global, document: &Document, wanted: Option<&Value>) -> bool {
     is_same(key_asked_in(document), wanted)
         && match Expr::parse(alloc, document) {
@@ -33,7 +33,7 @@ fn is_asked(alloc: Global, document: &Document, wanted: Option<&Value>) -> bool 
         }
 }
 
-// Whether both are there and equal, or both are absent.
+// Returns whether both exist and are equal, or neither exists.
 fn is_same(found: Option<&Value>, wanted: Option<&Value>) -> bool {
     match (found, wanted) {
         (Some(found), Some(wanted)) => compare(found, wanted) == Ordering::Equal,

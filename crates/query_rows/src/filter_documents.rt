@@ -1,4 +1,4 @@
-//! Documents that are filters, and documents that are none.
+//! Documents that are filters, and documents that are not.
 
 use bson_values::{Document, read};
 use field_paths::{ParseFault, PathFault};
@@ -6,14 +6,14 @@ use fixtures::{RowFault, Rows, bytes_of, field};
 use match_expr::Expr;
 use std::alloc::Global;
 
-/// The document that words spell. Fails where they spell none, and for want of memory.
+/// Returns the document that words encode. Returns `Form` where they encode none, and `Memory` if memory runs out.
 pub fn document_of(alloc: Global, words: &str) -> Result<Document, RowFault> {
     let bytes = bytes_of(alloc, words)?;
     let (document, _length) = read(alloc, &bytes)?;
     Ok(document)
 }
 
-/// The filter that words spell. Fails with `Form` where they spell none, and for want of memory.
+/// Returns the filter that words encode. Returns `Form` where they encode none, and `Memory` if memory runs out.
 pub fn filter_of(alloc: Global, words: &str) -> Result<Expr, RowFault> {
     let document = document_of(alloc, words)?;
     match Expr::parse(alloc, &document) {
@@ -23,7 +23,7 @@ pub fn filter_of(alloc: Global, words: &str) -> Result<Expr, RowFault> {
     }
 }
 
-/// What a document reads as, in a word.
+/// Returns what a document reads as, in a word.
 pub fn word_of(alloc: Global, document: &Document) -> &'static str {
     match Expr::parse(alloc, document) {
         Ok(_filter) => "filter",

@@ -1,4 +1,4 @@
-//! Of which documents filters hold.
+//! Which documents match a filter.
 
 use crate::filter_documents::{document_of, filter_of};
 use bson_values::Document;
@@ -6,7 +6,7 @@ use fixtures::{RowFault, Rows, field};
 use match_expr::{Expr, holds};
 use std::alloc::Global;
 
-/// `DOCUMENT`: it is kept; `FILTER | ANSWERS`: of which of the kept documents it holds, in order, `y` or `n`.
+/// `DOCUMENT`: it is stored; `FILTER | ANSWERS`: which of the stored documents match it, in order, `y` or `n`.
 #[derive(Drop)]
 pub struct Filters {
     documents: Vec<Document>,
@@ -34,7 +34,7 @@ impl Rows for Filters {
     }
 }
 
-// Whether these are the answers, one a document.
+// Returns whether these are the answers, one for each document.
 fn are_answers(filter: &Expr, documents: &[Document], answers: &[u8]) -> bool {
     let mut left = answers;
     for document in documents {

@@ -7,9 +7,8 @@ use group_accum::{GroupFault, GroupSpec, Groups, PartialList};
 use std::alloc::Global;
 use std::sync::Arc;
 
-/// `GROUP | DOCUMENTS | DOCUMENTS | DOCUMENTS`: what the documents of the first two lists are grouped into, one list behind the other;
-/// and, the same, each list by itself and then joined. In place of the last list `overflow`. A list is a document whose values are its
-/// documents.
+/// `GROUP | DOCUMENTS | DOCUMENTS | DOCUMENTS`: what the documents of the first two lists are grouped into, one list after the other; and the same with each
+/// list grouped by itself and then joined. In place of the last list `overflow`. A list is a document whose values are its documents.
 #[derive(Drop)]
 pub struct Grouped;
 

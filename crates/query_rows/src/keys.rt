@@ -1,4 +1,4 @@
-//! The keys that filters ask for, and where the keys of their documents are.
+//! The keys that filters require, and where the keys of their documents are.
 
 use crate::filter_documents::filter_of;
 use bson_values::Value;
@@ -24,7 +24,7 @@ impl Rows for Keys {
     }
 }
 
-// Whether the filter asks for this key.
+// Returns whether the filter requires this key.
 fn is_key(filter: &Expr, value: &Value) -> bool {
     match key_equal(filter) {
         Some(key) => compare(key.value(), value) == Ordering::Equal,

@@ -1,11 +1,11 @@
-//! Queries and operator documents in one another.
+//! Nested queries and operator documents.
 
 use crate::filter_documents::{document_of, word_of};
 use bson_values::{Array, Document, Name, Value, is_name};
 use fixtures::{RowFault, Rows, field, number};
 use std::alloc::Global;
 
-/// `NAME | DOCUMENT | N | WORD`: what the document is within N operators of that name, in one another.
+/// `NAME | DOCUMENT | N | WORD`: what the document reads as when it is nested in N operators of that name.
 #[derive(Drop)]
 pub struct Levels;
 
@@ -21,7 +21,7 @@ impl Rows for Levels {
     }
 }
 
-// The filter with so many operators of that name around a document.
+// Returns the filter with this number of operators of that name around a document.
 fn filter_around(
     alloc: Global,
     name: &str,
@@ -38,7 +38,7 @@ fn filter_around(
     }
 }
 
-// The document within one operator of that name.
+// Returns the document nested in one operator of that name.
 fn within(alloc: Global, name: &str, document: Document) -> Result<Document, RowFault> {
     match name {
         "$and" | "$or" | "$nor" => within_connective(alloc, name, document),
@@ -61,7 +61,7 @@ fn within_element(alloc: Global, document: Document) -> Result<Document, RowFaul
     single(alloc, "a", Value::Doc(tests))
 }
 
-// The document with this one field. Fails with `Form` where no field has the name, and for want of memory.
+// Returns the document with this one field. Returns `Form` where no field may have the name, and `Memory` if memory runs out.
 fn single(alloc: Global, name: &str, value: Value) -> Result<Document, RowFault> {
     if !is_name(name) {
         return Err(RowFault::Form);

@@ -1,5 +1,5 @@
-//! Checks rows of data about paths, filters, changes and statements, projections, sorts and groups: which are read, and what each gives.
-//! For each file it prints how many rows hold, and each row that does not.
+//! Checks rows of data on paths, filters, changes and statements, projections, sorts and groups: which are read, and what each results in. For each file it
+//! prints how many rows hold, and each row that does not.
 #![tactic(auto)]
 
 mod changes;

@@ -6,8 +6,7 @@ use sort_keys::{SortSpec, compare_keys, sort_key};
 use std::alloc::Global;
 use std::cmp::Ordering;
 
-/// `SORT | DOCUMENT | DOCUMENT | SIGN`: how the first document compares with the second, `<`, `=` or `>`; and the second with the
-/// first the other way round.
+/// `SORT | DOCUMENT | DOCUMENT | SIGN`: how the first document compares with the second, `<`, `=` or `>`; the second compares with the first conversely.
 #[derive(Drop)]
 pub struct Orders;
 

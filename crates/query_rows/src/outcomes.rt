@@ -1,4 +1,4 @@
-//! What a statement leaves and is told, held against a row.
+//! The effect and the outcome of a statement, compared with a row.
 
 use crate::update_words::document_if_any;
 use bson_values::{Document, Value};
@@ -7,7 +7,7 @@ use std::alloc::Global;
 use update_ops::Applied;
 use value_compare::Key;
 
-/// Whether the outcome is `AFTER | N | MODIFIED | KEY`.
+/// Returns whether the outcome is `AFTER | N | MODIFIED | KEY`.
 pub fn is_outcome(alloc: Global, applied: &Applied, wanted: &str) -> Result<bool, RowFault> {
     let (after, told) = field(wanted);
     let (n, told) = field(told);
@@ -23,7 +23,7 @@ pub fn is_outcome(alloc: Global, applied: &Applied, wanted: &str) -> Result<bool
     )
 }
 
-// Whether the same stands afterwards.
+// Returns whether the document after it is this one.
 fn is_left(after: &Option<Document>, wanted: &Option<Document>) -> bool {
     match after {
         Some(document) => match wanted {
@@ -34,7 +34,7 @@ fn is_left(after: &Option<Document>, wanted: &Option<Document>) -> bool {
     }
 }
 
-// Whether this key is told, in this spelling, or none.
+// Returns whether the outcome has this key, in this encoding, or none.
 fn is_told(alloc: Global, key: &Option<Key>, wanted: &str) -> Result<bool, RowFault> {
     match key {
         Some(key) => is_spelled(alloc, key.value(), wanted),
@@ -42,7 +42,7 @@ fn is_told(alloc: Global, key: &Option<Key>, wanted: &str) -> Result<bool, RowFa
     }
 }
 
-// Whether a value is spelled so.
+// Returns whether a value has this encoding.
 fn is_spelled(alloc: Global, value: &Value, wanted: &str) -> Result<bool, RowFault> {
     let other = spelled_value(alloc, wanted)?;
     Ok(value.same_data(&other))

@@ -1,10 +1,10 @@
-//! Collections of documents, and of which of them filters hold.
+//! Collections of documents, and which of them match filters.
 
 use crate::filters::Filters;
 use fixtures::{RowFault, Rows, field};
 use std::alloc::Global;
 
-/// `page | WHAT`: the documents that were kept are let go; else a row of [`Filters`].
+/// `page | WHAT`: the stored documents are dropped; any other line is a row of [`Filters`].
 #[derive(Drop)]
 pub struct Pages {
     filters: Filters,

@@ -5,7 +5,7 @@ use fixtures::{RowFault, Rows, bytes_of, field};
 use std::alloc::Global;
 use std::str;
 
-/// `WORDS | path`, or the fault in place of `path`: the name is spelled by its bytes.
+/// `WORDS | path`, or the fault in place of `path`: the name is encoded by its bytes.
 #[derive(Drop)]
 pub struct Bytes;
 

@@ -1,4 +1,4 @@
-//! What stands at paths in documents.
+//! The values at paths in documents.
 
 ghost use Rattle.std.specs.Ordering.{is_eq};
 ghost use Rattle.bson_values.specs.View.{datum_of};
@@ -35,7 +35,7 @@ fn document_of(alloc: Global, words: &str) -> Result<Document, RowFault> {
     Ok(document)
 }
 
-// Whether these values stand at the path and no others, each of them is met, and MaxKey is not.
+// Returns whether these values and no others are at the path, each of them is met, and MaxKey is not.
 fn has_values(
     alloc: Global,
     path: &Path,
@@ -54,7 +54,7 @@ fn has_values(
     Ok(left.is_empty() && !any_at(path, document, &Same(Value::MaxKey)))
 }
 
-// Whether the value is the one that the words spell, and is met at the path.
+// Returns whether the value is the one that the words encode, and is met at the path.
 fn is_met(
     alloc: Global,
     path: &Path,
@@ -67,7 +67,7 @@ fn is_met(
     Ok(is_same && any_at(path, document, &Same(wanted)))
 }
 
-/// Asks for values that compare equal to this one.
+/// Meets values that compare equal to this one.
 #[derive(Drop)]
 struct Same(Value);
 

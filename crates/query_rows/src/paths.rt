@@ -1,10 +1,10 @@
-//! Names that are paths, and names that are none.
+//! Names that are paths, and names that are not.
 
 use field_paths::{Path, PathFault};
 use fixtures::{RowFault, Rows, field};
 use std::alloc::Global;
 
-/// The path of a name. Fails with `Form` where it is none, and for want of memory.
+/// Returns the path of a name. Returns `Form` where it is none, and `Memory` if memory runs out.
 pub fn path_of(alloc: Global, name: &str) -> Result<Path, RowFault> {
     match Path::parse(alloc, name) {
         Ok(path) => Ok(path),
@@ -24,8 +24,7 @@ impl Rows for Paths {
     }
 }
 
-/// Whether a name is a path, where `path` is wanted, or is refused with the fault that is wanted. Fails with `Form` where the word is
-/// neither.
+/// Returns whether a name is a path, where `path` is expected, or is refused with the fault that is expected. Returns `Form` where the word is neither.
 pub fn is_read_so(alloc: Global, name: &str, wanted: &str) -> Result<bool, RowFault> {
     match wanted {
         "path" => Ok(is_path(alloc, name)),
@@ -37,7 +36,7 @@ pub fn is_read_so(alloc: Global, name: &str, wanted: &str) -> Result<bool, RowFa
     }
 }
 
-// Whether the name is a path, of so many parts as dots and one.
+// Returns whether the name is a path with one more part than dots.
 fn is_path(alloc: Global, name: &str) -> bool {
     match Path::parse(alloc, name) {
         Ok(path) => path.parts().len() == name.split('.').count(),

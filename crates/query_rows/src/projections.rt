@@ -1,11 +1,11 @@
-//! The documents that projections leave.
+//! The results of projections.
 
 use crate::shape_documents::{first_document, row_fault};
 use fixtures::{RowFault, Rows};
 use projection::{Projection, project};
 use std::alloc::Global;
 
-/// `PROJECTION | DOCUMENT | DOCUMENT`, the last one the document that it leaves of the other.
+/// `PROJECTION | DOCUMENT | DOCUMENT`, where the last one is the projection of the other.
 #[derive(Drop)]
 pub struct Projections;
 

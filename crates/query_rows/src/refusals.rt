@@ -1,4 +1,4 @@
-//! Documents that are projections, sorts or groups, and documents that are none.
+//! Documents that are projections, sorts or groups, and documents that are not.
 
 use crate::shape_documents::first_document;
 use field_paths::{ParseFault, PathFault};

@@ -5,8 +5,8 @@ use field_paths::ParseFault;
 use fixtures::{RowFault, bytes_of, field};
 use std::alloc::Global;
 
-/// The document that the words in a row's first field spell, and the other fields. Fails where they spell none, and for want of
-/// memory.
+/// Returns the document that the words in a row's first field encode, and the other fields. Returns `Form` where they encode none, and `Memory` if memory
+/// runs out.
 pub fn first_document(alloc: Global, row: &str) -> Result<(Document, &str), RowFault> {
     let (words, others) = field(row);
     let bytes = bytes_of(alloc, words)?;
@@ -14,7 +14,7 @@ pub fn first_document(alloc: Global, row: &str) -> Result<(Document, &str), RowF
     Ok((document, others))
 }
 
-/// What a row can't be used for.
+/// Returns why a row can't be used.
 pub fn row_fault(fault: ParseFault) -> RowFault {
     match fault {
         ParseFault::Memory => RowFault::Memory,

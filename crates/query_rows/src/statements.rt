@@ -1,4 +1,4 @@
-//! What statements leave, and are told.
+//! The effects and the outcomes of statements.
 
 use crate::outcomes::is_outcome;
 use crate::update_words::{apply_word, document_if_any, document_of, parse_word};
@@ -7,9 +7,8 @@ use std::alloc::Global;
 use update_ops::{Op, apply};
 use value_compare::OpWords;
 
-/// `insert | DOCUMENT | BEFORE | OUTCOME`, `update | FILTER | CHANGE | BEFORE | OUTCOME`, `upsert` likewise, and
-/// `delete | FILTER | BEFORE | OUTCOME`. A document that is not there is `none`. An outcome is `AFTER | N | MODIFIED | KEY`, the key
-/// being the upserted one, or `none`; or a fault, in a word.
+/// `insert | DOCUMENT | BEFORE | OUTCOME`, `update | FILTER | CHANGE | BEFORE | OUTCOME`, `upsert` likewise, and `delete | FILTER | BEFORE | OUTCOME`. A
+/// document that does not exist is `none`. An outcome is `AFTER | N | MODIFIED | KEY`, where the key is the upserted one, or `none`; or a fault, in a word.
 #[derive(Drop)]
 pub struct Statements;
 
@@ -27,13 +26,13 @@ impl Rows for Statements {
     }
 }
 
-// Whether an insert has the outcome.
+// Returns whether an insert has the outcome.
 fn insert_holds(alloc: Global, document: &str, rest: &str) -> Result<bool, RowFault> {
     let document = document_of(alloc, document)?;
     does(alloc, &OpWords::Insert(document), rest)
 }
 
-// Whether an update has the outcome.
+// Returns whether an update has the outcome.
 fn update_holds(alloc: Global, filter: &str, rest: &str, upsert: bool) -> Result<bool, RowFault> {
     let (change, rest) = field(rest);
     let filter = document_of(alloc, filter)?;
@@ -46,13 +45,13 @@ fn update_holds(alloc: Global, filter: &str, rest: &str, upsert: bool) -> Result
     does(alloc, &words, rest)
 }
 
-// Whether a delete has the outcome.
+// Returns whether a delete has the outcome.
 fn delete_holds(alloc: Global, filter: &str, rest: &str) -> Result<bool, RowFault> {
     let filter = document_of(alloc, filter)?;
     does(alloc, &OpWords::Delete { filter }, rest)
 }
 
-// Whether a statement has the outcome, of a document that stands before, if any.
+// Returns whether a statement has the outcome, for the document before it, if any.
 fn does(alloc: Global, words: &OpWords, row: &str) -> Result<bool, RowFault> {
     match Op::read(alloc, words) {
         Ok(op) => applies(alloc, &op, row),
@@ -60,7 +59,7 @@ fn does(alloc: Global, words: &OpWords, row: &str) -> Result<bool, RowFault> {
     }
 }
 
-// The same of a statement that was read.
+// The same for a statement that was read.
 fn applies(alloc: Global, op: &Op, row: &str) -> Result<bool, RowFault> {
     let (before, wanted) = field(row);
     let before = document_if_any(alloc, before)?;

@@ -6,14 +6,14 @@ use fixtures::{RowFault, bytes_of};
 use std::alloc::Global;
 use update_ops::ApplyFault;
 
-/// The document that words spell. Fails where they spell none, and for want of memory.
+/// Returns the document that words encode. Returns `Form` where they encode none, and `Memory` if memory runs out.
 pub fn document_of(alloc: Global, words: &str) -> Result<Document, RowFault> {
     let bytes = bytes_of(alloc, words)?;
     let (document, _length) = read(alloc, &bytes)?;
     Ok(document)
 }
 
-/// The document that words spell, or none, where they are `none`.
+/// Returns the document that words encode, or none, where they are `none`.
 pub fn document_if_any(alloc: Global, words: &str) -> Result<Option<Document>, RowFault> {
     if words == "none" {
         return Ok(None);
@@ -22,7 +22,7 @@ pub fn document_if_any(alloc: Global, words: &str) -> Result<Option<Document>, R
     Ok(Some(document))
 }
 
-/// The word for a fault of reading.
+/// Returns the word for a fault of reading.
 pub fn parse_word(fault: ParseFault) -> &'static str {
     match fault {
         ParseFault::UnknownOperator => "operator",
@@ -37,7 +37,7 @@ pub fn parse_word(fault: ParseFault) -> &'static str {
     }
 }
 
-/// The word for a fault of a statement.
+/// Returns the word for a fault of a statement.
 pub fn apply_word(fault: ApplyFault) -> &'static str {
     match fault {
         ApplyFault::Duplicate => "duplicate",

@@ -9,8 +9,8 @@ use Rattle.pipeline_model.specs.Batches.{IsBatch}
 use Rattle.command_model.specs.Cursors.{Batch}
 use Rattle.base_model.specs.Identities.{RequestId}
 
--- A cursor of a router in one of its lives: its number, whose documents it shows, the time at which these were read, and those that
--- remain. A cursor of which none remain is closed; it keeps its number.
+-- A cursor of a router in one of its lives: its number, the namespace of its documents, the time at which these were read, and those that remain. A cursor
+-- with no remaining documents is closed; it keeps its number.
 pub record Cursor : Type 0 where
   pub router : ℕ
   pub life : ℕ
@@ -26,13 +26,13 @@ has_number id number c = (c.router == id.router) && ((c.life == id.life) && int_
 abbrev pub is_open : Cursor → Bool
 is_open c = elim c.remaining [ [] ↦ false | document ∷ documents ↦ true ]
 
--- the open cursor of that number in the life of the request's router, where it is one of that namespace
+-- the open cursor of that number in the life of the request's router, where it belongs to that namespace
 abbrev pub open_cursor : RequestId → ℤ → (namespace : List ℕ) → List Cursor → Option Cursor
 open_cursor id number namespace [] = None
 open_cursor id number namespace (c ∷ cursors) =
     if has_number id number c && (bytes_eq c.namespace namespace && is_open c) then Some c else open_cursor id number namespace cursors
 
--- the cursors where these documents remain of that one
+-- the cursors after the remaining documents of one are replaced by these
 abbrev pub with_remaining : RequestId → ℤ → List Fields → List Cursor → List Cursor
 with_remaining id number remaining [] = []
 with_remaining id number remaining (c ∷ cursors) =
@@ -46,12 +46,12 @@ with_remaining id number remaining (c ∷ cursors) =
     } ∷ cursors
     else c ∷ with_remaining id number remaining cursors
 
--- a number that the router never gave before, in whichever life, and that is not 0
+-- a number that the router never used before, in any life, and that is not 0
 abbrev pub IsNewNumber : RequestId → ℤ → List Cursor → Type 0
 IsNewNumber id number cursors =
     ((n : ℕ) × (0 < n) × (number ≡ pos n)) × AllByRecursion (λ (c : Cursor). ((c.router == id.router) && int_eq c.number number) ≡ false) cursors
 
--- What is told of documents that are not in the first batch: 0 where there are none, or where the request asks for no other batch; else the
+-- The number that is returned for documents that are not in the first batch: 0 where there are none, or where the request asks for no other batch; else the
 -- number of a new cursor.
 pub data Opens (id : RequestId) (single : Bool) (namespace : List ℕ) (time : ℕ) (cursors : List Cursor) : (rest : List Fields) → (number : ℤ)
     → (next : List Cursor) → Type 0 where
@@ -66,13 +66,13 @@ pub data Opens (id : RequestId) (single : Bool) (namespace : List ℕ) (time : �
         remaining = rest;
       } ∷ [])
 
--- the first batch of documents, of this size at most
+-- the first batch of documents, of at most this size
 pub record ShowsFirst (id : RequestId) (size : ℕ) (single : Bool) (cursors : List Cursor) (documents : List Fields) (batch : Batch)
     (next : List Cursor) : Type 0 where
   pub batch_of : IsBatch (Some size) documents batch.documents
   pub opens : Opens id single batch.namespace batch.time cursors (drop (length batch.documents) documents) batch.cursor next
 
--- the number that is told of an open cursor, 0 where none remain
+-- the number that is returned for an open cursor, 0 where no document remains
 abbrev pub number_left : ℤ → List Fields → ℤ
 number_left number [] = pos 0
 number_left number (document ∷ documents) = number
@@ -85,7 +85,7 @@ pub record ShowsNext (id : RequestId) (size : Option ℕ) (cursors : List Cursor
   pub time : batch.time ≡ c.time
   pub rest : next ≡ with_remaining id c.number (drop (length batch.documents) c.remaining) cursors
 
--- Cursors are closed in order: those that are found, those that are not, and the cursors then.
+-- Cursors are closed in order: those that are found, those that are not, and the cursors after it.
 pub data Kills (id : RequestId) (namespace : List ℕ) : (cursors : List Cursor) → (numbers killed missing : List ℤ) → (next : List Cursor) → Type 0 where
   kills_none : (cursors : List Cursor) → Kills id namespace cursors [] [] [] cursors
   kills : (cursors next : List Cursor) (number : ℤ) (numbers killed missing : List ℤ) (c : Cursor) → open_cursor id number namespace cursors ≡ Some c

@@ -1,4 +1,4 @@
--- The requests that routers took, and what each was told.
+-- The requests that routers took, and the reply to each.
 use Rattle.std.specs.Prelude.{ℕ, ℤ, List, [], ◌∷◌, Bool, false, ◌==◌, ◌&&◌, Option, Some, None, pos, if◌then◌else◌}
 use Rattle.bson_model.specs.Tree.{Fields}
 use Rattle.base_model.specs.Identities.{RequestId, same_request}
@@ -7,8 +7,8 @@ use Rattle.opmsg_model.specs.Replies.{reply_bytes}
 use Rattle.command_model.specs.Writes.{ClientNumber}
 use Rattle.history_model.specs.History.{Session, client_session, router_session, StatementNumber, Entry}
 
--- A request that a router took: on which link, with which number for its reply, in which step; and what the router knew then: its
--- cluster time, and the last moment that it was given (0 if none was).
+-- A request that a router took: on which link, with which number for its reply, in which step; and what the router knew then: its cluster time, and its last
+-- moment (0 if it had none).
 pub record Asked : Type 0 where
   pub id : RequestId
   pub link : ℕ
@@ -18,7 +18,7 @@ pub record Asked : Type 0 where
   pub moment : ℕ
   pub request : Request
 
--- What a request was told: on which link, with which number, in which step and at which time of its router.
+-- The reply to a request: on which link, with which number, in which step and at which time of its router.
 pub record Answered : Type 0 where
   pub id : RequestId
   pub link : ℕ
@@ -28,7 +28,7 @@ pub record Answered : Type 0 where
   pub time : ℕ
   pub document : Fields
 
--- The bytes that are put. A request with moreToCome is answered too, but its answer is not put.
+-- The bytes that are written. A request with moreToCome is answered too, but its reply is not written.
 abbrev pub reply_put : ℤ → Request → Fields → List ℕ
 reply_put number request document = if request.more then [] else reply_bytes request.form request.id number document
 

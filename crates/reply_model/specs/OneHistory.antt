@@ -1,4 +1,4 @@
--- What it means that whatever clients were told is one history of an unsharded collection, over any number of routers.
+-- What it means that the replies to clients are one history of an unsharded collection, over any number of routers.
 use Rattle.std.specs.Prelude.{◌≡◌, ◌≢◌, ◌⊎◌, ℕ, ◌<◌, ◌≤◌, List, [], ◌∷◌, map, Some, None, Ok, true, false, ◌==◌, ◌&&◌, nat_lt, int_lt, if◌then◌else◌}
 use Rattle.std.specs.List.{AllByRecursion}
 use Rattle.bson_model.specs.Tree.{Datum}
@@ -22,13 +22,13 @@ pub record IsWriteIn (namespace : List ℕ) (a : Asked) : Type 0 where
   pub asks : command_of a.request ≡ Ok (write_command write)
   pub name : write.namespace ≡ namespace
 
--- the error with which an answer ends is that of a done statement in front of this index
+-- the error with which a reply ends is that of an applied statement before this index
 abbrev pub EndsBefore : (index : ℕ) → WriteCommand → List Done → Type 0
 EndsBefore index write [] = ⊥
 EndsBefore index write (d ∷ dones) = ((d.index < index) × (ends write.ordered d ≡ true) × WasDone d.answer) ⊎ EndsBefore index write dones
 
--- The entry was made for a request that a router took and that sent its statement: it is later than what the router knew then, and the
--- request was not told that it had ended in front of that statement.
+-- The entry was made for a request that a router took and that sent its statement: it is later than what the router knew then, and the reply to the request
+-- did not say that the write had ended before that statement.
 pub record WasSent (history : List Entry) (asked : List Asked) (answered : List Answered) (e : Entry) : Type 0 where
   pub request : Asked
   pub taken : IsIn request asked
@@ -37,14 +37,14 @@ pub record WasSent (history : List Entry) (asked : List Asked) (answered : List 
   pub goes_on : (t : Answered) (dones : List Done) → IsIn t answered → t.id ≡ request.id → AreTold history asked t sends.write 0 sends.write.operations dones
       → t.document ≡ answer_document (answer_of sends.write.kind t.time dones) → ¬ EndsBefore sends.index sends.write dones
 
--- so is a collection that begins
+-- a collection was created for a write that a router took, and is later than what the router knew then
 pub record WasWanted (asked : List Asked) (c : Creation) : Type 0 where
   pub request : Asked
   pub taken : IsIn request asked
   pub writes : IsWriteIn c.namespace request
   pub later : request.time < c.at
 
--- of a write without a client's number a prefix of the statements stands by now
+-- of a write without a client's number a prefix of the statements is stored
 abbrev pub StandsInPart : List Entry → Asked → Type 0
 StandsInPart history a = (write : WriteCommand) → command_of a.request ≡ Ok (write_command write) → write.number ≡ None → IsPart history a.id write
 
@@ -52,7 +52,7 @@ StandsInPart history a = (write : WriteCommand) → command_of a.request ≡ Ok 
 abbrev pub IsOrdered : List Asked → Entry → Type 0
 IsOrdered asked e = AllByRecursion (λ (b : Asked). (sends : Sends b e) → sends.write.ordered ≡ true) asked
 
--- then each statement in front of it was done before, without an error
+-- then each statement before it was applied before it, without an error
 abbrev pub IsReached : List Entry → List Asked → Entry → Type 0
 IsReached history asked e = IsOrdered asked e → (i : ℕ) → i < e.number.index
     → (d : Entry) × IsIn d history × (d.number ≡ record { session = e.number.session; transaction = e.number.transaction; index = i })
@@ -82,7 +82,7 @@ last_from node step moment (g ∷ given) =
 abbrev pub last_given : (node step : ℕ) → List Given → ℕ
 last_given node step given = last_from node step 0 given
 
--- the time was met: that of a moment that was given, of a collection that began or of an entry
+-- the time occurs in the run: it is that of a moment that was given, of a collection that was created or of an entry
 abbrev pub WasMet : List Given → List Creation → List Entry → ℕ → Type 0
 WasMet given creations history time =
     (time ≡ 0)
@@ -90,7 +90,7 @@ WasMet given creations history time =
     ⊎ (((c : Creation) × IsIn c creations × (time ≡ c.at))
     ⊎ ((e : Entry) × IsIn e history × (time ≡ e.time))))
 
--- what was told is a right answer to a request that was taken, on its link and with its number, not before, and at a time that was met
+-- the reply is a right one to a request that was taken, on its link and with its number, not before it, and at a time that occurs in the run
 pub record IsRightOf (given : List Given) (creations : List Creation) (history : List Entry) (asked : List Asked) (answered : List Answered)
     (cursors : List Cursor) (t : Answered) (next : List Cursor) : Type 0 where
   pub request : Asked
@@ -104,19 +104,19 @@ pub record IsRightOf (given : List Given) (creations : List Creation) (history :
   pub met : WasMet given creations history t.time
   pub right : IsRight creations history asked answered cursors request t next
 
--- all that was told, in order, from these cursors on
+-- all replies, in order, starting with these cursors
 pub data AreRight (given : List Given) (creations : List Creation) (history : List Entry) (asked : List Asked) (answered : List Answered) :
     List Cursor → List Answered → Type 0 where
   nothing_told : (cursors : List Cursor) → AreRight given creations history asked answered cursors []
   then_told : (cursors next : List Cursor) (t : Answered) (later : List Answered) → IsRightOf given creations history asked answered cursors t next
       → AreRight given creations history asked answered next later → AreRight given creations history asked answered cursors (t ∷ later)
 
--- what was told in the life of the request's router, before it came, is not later than what the router knew when it took it
+-- a time returned in the life of the request's router, before it came, is not later than what the router knew when it took it
 abbrev pub IsNotBefore : Asked → Answered → Type 0
 IsNotBefore a t = (time : ℕ) → t.id.router ≡ a.id.router → t.id.life ≡ a.id.life → t.step < a.came → operation_time (Some t.document) ≡ Some time
     → time ≤ a.time
 
--- So neither what a request reads is older, nor what it writes, since an entry is later.
+-- So neither what a request reads nor what it writes is older, since an entry is later.
 abbrev pub IsFresh : List Answered → Asked → Type 0
 IsFresh answered a = AllByRecursion (IsNotBefore a) answered
 
@@ -124,7 +124,7 @@ IsFresh answered a = AllByRecursion (IsNotBefore a) answered
 abbrev pub IsInOrder : List Asked → Asked → Type 0
 IsInOrder asked a = AllByRecursion (λ (b : Asked). b.id.router ≡ a.id.router → b.id.life ≡ a.id.life → b.came < a.came → b.time ≤ a.time) asked
 
--- what a router knew when it took a request: its last moment, and a time that was met and is not before that
+-- what a router knew when it took a request: its last moment, and a time that occurs in the run and is not before that
 pub record IsKnown (given : List Given) (creations : List Creation) (history : List Entry) (a : Asked) : Type 0 where
   pub moment : a.moment ≡ last_given a.id.router a.came given
   pub time : WasMet given creations history a.time
@@ -146,7 +146,7 @@ abbrev pub AreDifferentNames : List Creation → Type 0
 AreDifferentNames [] = Unit {0}
 AreDifferentNames (c ∷ creations) = AllByRecursion (λ (d : Creation). d.namespace ≢ c.namespace) creations × AreDifferentNames creations
 
--- the entry stands on the shard that owned its key at its time, in a collection that began before it
+-- the entry is on the shard that owned its key at its time, in a collection that was created before it
 pub record IsPlaced (creations : List Creation) (e : Entry) : Type 0 where
   pub creation : Creation
   pub key : Datum
@@ -156,10 +156,10 @@ pub record IsPlaced (creations : List Creation) (e : Entry) : Type 0 where
   pub writes : key_written e.operation ≡ Some key
   pub owner : owner_at (first_table creation) key e.time ≡ Some e.shard
 
--- Whatever clients send: the entries are one legal history of an unsharded collection with each statement at most once; each is
--- of a request that a router took, stands where it belongs and is later than what its router knew; no shard uses a number again, nor takes
--- an older transaction; each statement in front of one that stands was done, where all who sent it are ordered; each collection was wanted
--- by a write; each request is told once at most, and rightly; and what its router knew then is not before what it had told and taken.
+-- For all inputs: the entries are one legal history of an unsharded collection with each statement at most once; each belongs to a request that a router
+-- took, is on the shard that owns its key and is later than what its router knew; no shard uses a number again, nor applies an older transaction; each
+-- statement before a stored one was applied, where all requests that sent it are ordered; each collection was created for a write; each request has at most
+-- one reply, a right one; and what its router knew then is not before what it had returned and taken.
 pub record OneHistory (given : List Given) (creations : List Creation) (history : List Entry) (asked : List Asked) (answered : List Answered) : Type 0 where
   pub legal : Legal history
   pub sent : AllByRecursion (WasSent history asked answered) history

@@ -1,4 +1,4 @@
--- What statements are told, and how their outcomes are told together (MongoDB manual, "insert", "update", "delete", "ordered").
+-- The outcomes of statements, and their joint answer (MongoDB manual, "insert", "update", "delete", "ordered").
 use Rattle.std.specs.Prelude.{ℕ, ℤ, ◌+◌, List, [], ◌∷◌, Option, Some, None, Bool, max, is_some}
 use Rattle.std.specs.Option.{unwrap_or}
 use Rattle.history_model.specs.History.{Outcome, Entry}
@@ -7,7 +7,7 @@ use Rattle.base_model.specs.Refusals.{Refusal, number_evidence, without_evidence
 use Rattle.command_model.specs.Writes.{Upserted, WriteError, WriteKind, WriteSummary}
 use Rattle.command_model.specs.Answers.{Answer, write_answer}
 
--- What a statement is told: that it was done, at this time and with this outcome; or why it was not.
+-- The outcome of a statement: it was applied, at this time and with this result; or why it was not.
 pub data StatementOutcome : Type 0 where
   was_done : (time : ℕ) → Outcome → StatementOutcome
   was_refused : Refusal → StatementOutcome
@@ -20,12 +20,12 @@ WasDone (was_refused refusal) = ⊥
 abbrev pub is_older : (greatest : ℤ) → StatementOutcome
 is_older greatest = was_refused (record { error = transaction_too_old; evidence = number_evidence greatest })
 
--- what the statement with this index is told
+-- the outcome of the statement with this index
 pub record Done : Type 0 where
   pub index : ℕ
   pub answer : StatementOutcome
 
--- what the entry of a statement is told
+-- the outcome of a statement with this entry
 abbrev pub answer_by : Entry → StatementOutcome
 answer_by e = was_done e.time e.outcome
 
@@ -37,16 +37,16 @@ abbrev pub outcome_in : StatementOutcome → Outcome
 outcome_in (was_done time outcome) = outcome
 outcome_in (was_refused refusal) = record { count = 0; modified = 0; upserted = None; error = Some refusal.error }
 
--- the error that a statement is told, with its evidence
+-- the error of a statement, with its evidence
 abbrev pub refusal_in : StatementOutcome → Option Refusal
 refusal_in (was_done time outcome) = elim outcome.error [ None ↦ None | Some error ↦ Some (without_evidence error) ]
 refusal_in (was_refused refusal) = Some refusal
 
--- the statement is told an error
+-- the statement has an error
 abbrev pub fails : Done → Bool
 fails d = is_some (refusal_in d.answer)
 
--- how many documents were put in, met or taken out
+-- how many documents were inserted, matched or deleted
 abbrev pub sum_of : List Done → ℕ
 sum_of [] = 0
 sum_of (d ∷ dones) = (outcome_in d.answer).count + sum_of dones
@@ -56,7 +56,7 @@ abbrev pub modified_by : List Done → ℕ
 modified_by [] = 0
 modified_by (d ∷ dones) = (outcome_in d.answer).modified + modified_by dones
 
--- the keys of the documents that upserts put in
+-- the keys of the upserted documents
 abbrev pub upserted_by : List Done → List Upserted
 upserted_by [] = []
 upserted_by (d ∷ dones) =
@@ -70,7 +70,7 @@ abbrev pub later : ℕ → Option ℕ → ℕ
 later time None = time
 later time (Some other) = max time other
 
--- the greatest time of the entries that answered, if any did
+-- the greatest time of the entries, if there are any
 abbrev pub time_of : List Done → Option ℕ
 time_of [] = None
 time_of (d ∷ dones) = elim d.answer [ was_done time outcome ↦ Some (later time (time_of dones)) | was_refused refusal ↦ time_of dones ]
@@ -85,6 +85,6 @@ summary_of time dones = record {
   time = unwrap_or (time_of dones) time;
 }
 
--- what the statements of a command are told together
+-- the joint answer of the statements of a command
 abbrev pub answer_of : WriteKind → (time : ℕ) → List Done → Answer
 answer_of kind time dones = write_answer kind (summary_of time dones)

@@ -1,4 +1,4 @@
--- What a read may be told, by one history (MongoDB manual, "Read Concern", "Read Isolation, Consistency, and Recency").
+-- The right results of a read, by one history (MongoDB manual, "Read Concern", "Read Isolation, Consistency, and Recency").
 use Rattle.std.specs.Prelude.{◌≡◌, ℕ, ◌<◌, ◌≤◌, List, [], ◌∷◌, Bool, false, ◌==◌, filter, Option, Some, None, Ok, IsPermutation, if◌then◌else◌}
 use Rattle.std.specs.Str.{bytes_eq}
 use Rattle.bson_model.specs.Tree.{Fields}
@@ -22,8 +22,8 @@ abbrev pub IfReached : Option ℕ → ℕ → Type 0
 IfReached None time = Unit {0}
 IfReached (Some after) time = after ≤ time
 
--- What a read names of its time, by what its router knew: it is that one; or else the router's time as it took the request, where that is
--- not before the time to be reached; or else one that the router reached later.
+-- The time of a read, by what its router knew: the one that is named; or else the router's time as it took the request, where that is not before the time to
+-- be reached; or else one that the router reached later.
 pub data IsTimeRead (a : Asked) (t : Answered) (reading : Reading) : (time : ℕ) → Type 0 where
   named_time : (time : ℕ) → reading.at ≡ Some time → time ≤ t.time → IsTimeRead a t reading time
   own_time : reading.at ≡ None → IfReached reading.after a.time → IsTimeRead a t reading a.time
@@ -37,7 +37,7 @@ abbrev pub is_on : ℕ → Option ℕ → Bool
 is_on shard None = false
 is_on shard (Some owner) = owner == shard
 
--- the documents of the collection whose keys a shard owned at a time, by the collections that began
+-- the documents of the collection whose keys a shard owned at a time, by the collections that were created
 abbrev pub is_owned : List Creation → (namespace : List ℕ) → (shard time : ℕ) → Fields → Bool
 is_owned [] namespace shard time document = false
 is_owned (c ∷ creations) namespace shard time document =
@@ -47,8 +47,8 @@ is_owned (c ∷ creations) namespace shard time document =
 abbrev pub owned_by : List Creation → (namespace : List ℕ) → (shard time : ℕ) → List Fields → List Fields
 owned_by creations namespace shard time documents = filter (is_owned creations namespace shard time) documents
 
--- A length that is too much: of an answer that the read may give, of a document of one, or of the rows that the half gives of the documents
--- that one shard owned.
+-- A length that is too great: of a result that the read may have, of a document of one, or of the rows that the half returns for the documents that one shard
+-- owned.
 pub data IsExcess (history : List Entry) (creations : List Creation) (reading : Reading) (time n : ℕ) : Type 0 where
   excess_answer : (answer : List Fields) → MayGive history reading time (listed answer) → excess_of_answer answer ≡ Some n
       → IsExcess history creations reading time n
@@ -60,8 +60,8 @@ pub data IsExcess (history : List Entry) (creations : List Creation) (reading : 
 abbrev pub time_wanted : Reading → Option ℕ
 time_wanted reading = elim reading.at [ None ↦ reading.after | Some named ↦ Some named ]
 
--- The time that is wanted is ahead of the router's, and of each that any router had told a write of an entry of its own, before the request
--- came.
+-- The time that a read requires is ahead of the router's, and of each operation time that a router returned to a write before the request came and that is
+-- the time of an entry of that write.
 pub record IsAhead (history : List Entry) (answered : List Answered) (a : Asked) (t : Answered) (reading : Reading) : Type 0 where
   pub wanted : ℕ
   pub wants : time_wanted reading ≡ Some wanted

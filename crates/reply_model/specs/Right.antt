@@ -24,19 +24,19 @@ use Rattle.reply_model.specs.Outcomes.{StatementOutcome, is_older, Done, answer_
 use Rattle.reply_model.specs.Cursors.{Cursor, open_cursor, ShowsFirst, ShowsNext, Kills}
 use Rattle.reply_model.specs.Reads.{IsTimeRead, MayGive, IsExcess, IsAhead}
 
--- the entry is that of this statement: under its number, in its namespace, in the words of the client
+-- the entry belongs to this statement: it has its number, its namespace and its operation, as the client sent it
 pub record IsStatement (number : StatementNumber) (namespace : List ℕ) (operation : Operation) (e : Entry) : Type 0 where
   pub same_number : e.number ≡ number
   pub name : e.namespace ≡ namespace
   pub does : e.operation ≡ operation
 
--- the statement ends its command: it is told an error, and the command is ordered
+-- the statement ends its command: it has an error, and the command is ordered
 abbrev pub ends : Bool → Done → Bool
 ends ordered d = ordered && fails d
 
 -- WHO SENT A STATEMENT
 
--- the entry is that of the statement with this index of a request
+-- the entry belongs to the statement with this index of a request
 pub record IsEntryAt (a : Asked) (write : WriteCommand) (index : ℕ) (e : Entry) : Type 0 where
   pub prefix : List Operation
   pub operation : Operation
@@ -59,10 +59,10 @@ pub record HadSent (asked : List Asked) (e : Entry) (t : Answered) : Type 0 wher
   pub sends : Sends request e
   pub came : request.came ≤ t.step
 
--- WHAT STATEMENTS ARE TOLD
+-- OUTCOMES OF STATEMENTS
 
--- What a statement may be told: the outcome of its own entry; where a client gave the number, that of another entry under it; or that an
--- entry of the client's session has this greater transaction. The entry is not later than what the router knows as it tells.
+-- The right outcomes of a statement: that of its own entry; where a client gave the number, that of another entry under it; or that an entry of the client's
+-- session has this greater transaction. The entry is not later than what the router knows as it replies.
 pub data MayBeTold (history : List Entry) (asked : List Asked) (t : Answered) (given : Option ClientNumber) (number : StatementNumber) (namespace : List ℕ)
     (operation : Operation) : StatementOutcome → Type 0 where
   told_own : (e : Entry) → IsIn e history → IsStatement number namespace operation e → e.time ≤ t.time
@@ -73,7 +73,7 @@ pub data MayBeTold (history : List Entry) (asked : List Asked) (t : Answered) (g
       → int_lt number.transaction e.number.transaction ≡ true → e.time ≤ t.time → HadSent asked e t
       → MayBeTold history asked t given number namespace operation (is_older e.number.transaction)
 
--- these are told to the statements of a write from this index on, to all, or up to the error that ends an ordered command
+-- these are right outcomes of the statements of a write from this index on, of all, or up to the error that ends an ordered command
 abbrev pub AreTold : List Entry → List Asked → Answered → WriteCommand → ℕ → List Operation → List Done → Type 0
 AreTold history asked t write index [] dones = dones ≡ []
 AreTold history asked t write index (operation ∷ operations) [] = ⊥
@@ -82,9 +82,9 @@ AreTold history asked t write index (operation ∷ operations) (d ∷ dones) =
     × MayBeTold history asked t write.number (number_for write.number t.id index) write.namespace operation d.answer
     × elim (ends write.ordered d) [ true ↦ dones ≡ [] | false ↦ AreTold history asked t write (index + 1) operations dones ]
 
--- WHAT STANDS OF A WRITE THAT HAS NO NUMBER FROM ITS CLIENT
+-- THE STORED PART OF A WRITE THAT HAS NO NUMBER FROM ITS CLIENT
 
--- these entries are those of the statements from this index on, in their order; the first error ends an ordered command
+-- these entries belong to the statements from this index on, in their order; the first error ends an ordered command
 abbrev pub AreStatements : RequestId → List ℕ → (ordered : Bool) → ℕ → List Operation → List Entry → Type 0
 AreStatements id namespace ordered index operations [] = Unit {0}
 AreStatements id namespace ordered index [] (e ∷ entries) = ⊥
@@ -92,7 +92,7 @@ AreStatements id namespace ordered index (operation ∷ operations) (e ∷ entri
     IsStatement (number_for None id index) namespace operation e × (ends ordered (done_of e) ≡ true → entries ≡ [])
     × AreStatements id namespace ordered (index + 1) operations entries
 
--- these outcomes are those of all statements, or of those up to the error that ends an ordered command
+-- these outcomes belong to all statements, or to those up to the error that ends an ordered command
 abbrev pub AreAll : (ordered : Bool) → List Operation → List Done → Type 0
 AreAll ordered [] dones = dones ≡ []
 AreAll ordered (operation ∷ operations) [] = ⊥
@@ -102,18 +102,18 @@ AreAll ordered (operation ∷ operations) (d ∷ dones) = elim (ends ordered d) 
 abbrev pub IsPart : List Entry → RequestId → WriteCommand → Type 0
 IsPart history id write = AreStatements id write.namespace write.ordered 0 write.operations (entries_by id history)
 
--- what its statements are told
+-- the outcomes of its statements
 abbrev pub told_by : RequestId → List Entry → List Done
 told_by id history = map done_of (entries_by id history)
 
--- It is served whole: the entries of all its statements stand, up to the error that ends an ordered one, and none else.
+-- It is applied as a whole: the entries of all its statements are stored, up to the error that ends an ordered one, and no other.
 pub record IsWhole (history : List Entry) (id : RequestId) (write : WriteCommand) : Type 0 where
   pub part : IsPart history id write
   pub all : AreAll write.ordered write.operations (told_by id history)
 
--- WHAT READS ARE TOLD
+-- REPLIES TO READS
 
--- how many documents a first batch has at most, where no size is given
+-- the greatest size of a first batch, where no size is given
 abbrev pub usual_size : ℕ
 usual_size = 101
 
@@ -126,11 +126,11 @@ pub data Reads : Result Command Refusal → Reading → Type 0 where
 abbrev pub asks_for_one : Batches → Request → Bool
 asks_for_one batches request = batches.single || request.more
 
--- what is read stays with a request that gets no reply
+-- a request that gets no reply does not change the cursors
 abbrev pub unless_silent : Request → (before after : List Cursor) → List Cursor
 unless_silent request before after = if request.more then before else after
 
--- A read is refused: it has no outcome, or too long a one, or its time is ahead of the router's, which is told.
+-- A read is refused: it has no outcome, or one that is too long, or its time is ahead of the router's, which is shown.
 pub data IsReadRefused (creations : List Creation) (history : List Entry) (answered : List Answered) (a : Asked) (t : Answered)
     (reading : Reading) : Type 0 where
   refused_overflow : (time : ℕ) → IsTimeRead a t reading time → MayGive history reading time overflowed
@@ -141,9 +141,9 @@ pub data IsReadRefused (creations : List Creation) (history : List Entry) (answe
   refused_ahead : IsAhead history answered a t reading
       → t.document ≡ answer_document (refusal_answer (time_ahead t.time)) → IsReadRefused creations history answered a t reading
 
--- The request is told rightly, where these cursors were opened before, and these are afterwards: what its statements may be told, in a
--- collection that began; or a batch of what a read may give at its time, or how many documents there are, or why it is refused; or the next
--- batch of its cursor, or that this is not open; or which cursors are closed; or what is told without a look at documents; or its refusal.
+-- The reply to the request is a right one, where the first cursors were open before it, and the next ones are after it: right outcomes of its statements, in
+-- a collection that was created; or a batch of a result that the read may have at its time, or the number of documents, or why it is refused; or the next
+-- batch of its cursor, or that this is not open; or which cursors are closed; or a reply that needs no document; or its refusal.
 pub data IsRight (creations : List Creation) (history : List Entry) (asked : List Asked) (answered : List Answered) (cursors : List Cursor) (a : Asked)
     (t : Answered) : (next : List Cursor) → Type 0 where
   right_write : (write : WriteCommand) (dones : List Done) (c : Creation) → command_of a.request ≡ Ok (write_command write)

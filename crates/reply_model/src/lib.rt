@@ -1,2 +1,2 @@
-//! Requests with what their routers knew and what they were told, and which of these are right by one history. Definitions.
+//! Requests with what their routers knew and their replies, and which of these are right by one history. Definitions.
 #![tactic(auto)]

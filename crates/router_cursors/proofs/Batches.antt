@@ -18,7 +18,7 @@ use Rattle.router_cursors.specs.CursorLists.{advanced, batch_of}
 use Rattle.router_cursors.specs.Marks.{Marked, rises, left_in, AreKept, cursor_by}
 use Rattle.router_cursors.proofs.Looks.{advanced_is, open_none, open_under, under_is}
 
--- the number that is told
+-- the number that is shown
 told_zero : (number : ℤ) (documents : List Fields) → length documents ≡ 0 → number_left number documents ≡ pos 0
 told_zero number [] e = refl
 told_zero number (d ∷ documents) e = absurd (omega (arith, e))

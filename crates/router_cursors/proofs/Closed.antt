@@ -13,7 +13,7 @@ use Rattle.router_cursors.specs.Marks.{Marked, rises, left_in, AreKept, cursor_b
 use Rattle.router_cursors.proofs.Looks.{changed, has_is}
 use Rattle.router_cursors.proofs.Opened.{apart, itself}
 
--- one closed behind the others
+-- one more is closed after the others
 pub closed_last : (id : RequestId) (numbers : List ℤ) (number : ℤ) (cursors : List Cursor) → closed_all id (numbers ++ number ∷ []) cursors ≡ with_remaining id number [] (closed_all id numbers cursors)
 closed_last id [] number cursors = refl
 closed_last id (n ∷ numbers) number cursors = closed_last id numbers number (with_remaining id n [] cursors)
@@ -46,7 +46,7 @@ module _ (router life count : ℕ) where
   abbrev id : RequestId
   id = record { router = router; life = life; count = count }
 
-  -- as the shelf has them then
+  -- the cursors as the shelf has them afterwards
   pub closed_looks : (numbers : List ℤ) (look : ℤ → Option OpenCursor) (gave : ℕ) (marks : List Marked) → rises 0 gave marks ≡ true
       → closed_all id numbers (map (λ m. cursor_by router life look m) marks) ≡ map (λ m. cursor_by router life (closed_look numbers look) m) marks
   closed_looks [] look gave marks rising = refl
@@ -57,7 +57,7 @@ module _ (router life count : ℕ) where
       (ap (λ (b : Bool). left_in (if b then None else look n)) (itself n))))
       ∙ closed_looks numbers (λ i. if int_eq i n then None else look i) gave marks rising
 
-  -- one is open then, if it was and was not closed
+  -- a cursor is open afterwards, if it was open and was not closed
   pub open_closed : (numbers : List ℤ) (look : ℤ → Option OpenCursor) (number : ℤ) (namespace : List ℕ) (gave : ℕ) (marks : List Marked) → rises 0 gave marks ≡ true → AreKept look gave marks
       → is_some (open_cursor id number namespace (closed_all id numbers (map (λ m. cursor_by router life look m) marks)))
       ≡ (is_some (open_cursor id number namespace (map (λ m. cursor_by router life look m) marks)) && not (list_any (int_eq number) numbers))
@@ -74,7 +74,7 @@ module _ (router life count : ℕ) where
       by false true = refl
       by false false = refl
 
--- ONE NUMBER MORE
+-- ONE MORE NUMBER
 
 module _ (id : RequestId) (namespace : List ℕ) (cursors : List Cursor) (number : ℤ) (numbers all killed missing : List ℤ) (so_far : CloseSoFar id namespace cursors (number ∷ numbers) all killed missing) where
   abbrev current : List Cursor
@@ -110,7 +110,7 @@ all_closed id namespace cursors left all killed missing none so_far =
     (so_far [] [] (closed_all id killed cursors)
     (subst (λ (l : List ℤ). Kills id namespace (closed_all id killed cursors) l [] [] (closed_all id killed cursors)) (sym none) (kills_none (closed_all id killed cursors)))))
 
--- the next number in front
+-- the next of the numbers
 cut_off : (numbers : List ℤ) (i : ℕ) (n d : ℤ) → i < length numbers → n ≡ get_or numbers i d → drop i numbers ≡ n ∷ drop (i + 1) numbers
 cut_off numbers i n d inside is = rw add-one (drop-cons numbers i d inside ∙ ap (λ (first : ℤ). first ∷ drop (suc i) numbers) (sym is))
 
@@ -125,7 +125,7 @@ close_next id numbers i n d old new whole inside is closed so_far =
     ap (λ (cs : List Cursor). closed_all id (drop (i + 1) numbers) cs) closed
     ∙ ap (λ (l : List ℤ). closed_all id l old) (sym (cut_off numbers i n d inside is)) ∙ so_far
 
--- whether one is open then, and not among those that were closed
+-- whether a cursor is open, and not one of those that were closed
 pub new_is : (router life count : ℕ) (look : ℤ → Option OpenCursor) (gave : ℕ) (marks : List Marked) (closed : BTreeSet ℤ) (killed : List ℤ) (k number : ℤ) (namespace : List ℕ) (flag : Bool)
     → rises 0 gave marks ≡ true → AreKept look gave marks → Has closed killed → k ≡ number
     → flag ≡ (is_some (open_cursor (record { router = router; life = life; count = count }) k namespace (map (λ m. cursor_by router life look m) marks)) && not (contains int_cmp closed k))

@@ -56,7 +56,7 @@ module _ (router life count : ℕ) where
   made_same : (a b : ℤ) (c d : List ℕ) (e f : ℕ) (g h : List Fields) → a ≡ b → c ≡ d → e ≡ f → g ≡ h → made a c e g ≡ made b d f h
   made_same a b c d e f g h i j k l = rw (i, j, k, l) refl
 
-  -- which cursor it is hangs on its number
+  -- which cursor it is depends on its number
   by_number : (number other : ℤ) (namespace : List ℕ) (time : ℕ) (remaining : List Fields) → has_number id number (made other namespace time remaining) ≡ int_eq other number
   by_number number other namespace time remaining = rw (eq-eqb router router refl, eq-eqb life life refl) refl
 
@@ -74,14 +74,14 @@ module _ (router life count : ℕ) where
     numbered : (number : ℤ) (m : Marked) → has_number id number (cursor m) ≡ int_eq (pos m.1.number) number
     numbered number m = by_number number (pos m.1.number) m.0 m.1.time.0 (left_in (look (pos m.1.number)))
 
-    -- a number that none has
+    -- a number that no cursor has
     open_none_has : (number : ℤ) (namespace : List ℕ) (marks : List Marked) → NoneHas number marks → open_cursor id number namespace (map (λ m. cursor m) marks) ≡ None
     open_none_has number namespace [] none = refl
     open_none_has number namespace (m ∷ marks) none =
         passes number namespace m marks (first_not (has_number id number (cursor m)) (bytes_eq m.0 namespace) (is_open (cursor m)) (numbered number m ∙ none.0))
         ∙ open_none_has number namespace marks none.1
 
-    -- the one that the shelf has under a number
+    -- the cursor that the shelf has under a number
     pub open_some : (number : ℤ) (namespace : List ℕ) (c : OpenCursor) (marks : List Marked) → look number ≡ Some c → bytes_eq c.namespace namespace ≡ true
         → mark_of number marks ≡ Some (c.namespace, c.time) → is_left c.remaining ≡ true
         → open_cursor id number namespace (map (λ m. cursor m) marks) ≡ Some (made number c.namespace c.time c.remaining)
@@ -105,7 +105,7 @@ module _ (router life count : ℕ) where
               (left_is (left_in (look (pos m.1.number))) ∙ ap (λ (l : List Fields). is_left l) has_left ∙ left))
               ∙ ap (λ (x : Cursor). Some x) (made_same _ _ _ _ _ _ _ _ same is.0 is.1 has_left)
 
-    -- each is of the namespace that the shelf has it under
+    -- each belongs to the namespace under which the shelf has it
     abbrev AreNamed : List Marked → Type 0
     AreNamed [] = Unit {0}
     AreNamed (m ∷ marks) = ((c : OpenCursor) → look (pos m.1.number) ≡ Some c → m.0 ≡ c.namespace) × AreNamed marks
@@ -151,7 +151,7 @@ module _ (router life count : ℕ) where
     open_none number namespace gave marks rising kept none =
         open_none_by number namespace marks none (are_named gave 0 gave marks marks rising (omega arith) (λ n more. refl) kept)
 
-    -- a number behind those that were given
+    -- a number greater than those that were used
     pub open_not_given : (number : ℤ) (namespace : List ℕ) (gave : ℕ) (marks : List Marked) → rises 0 gave marks ≡ true → int_le number (pos gave) ≡ false
         → open_cursor id number namespace (map (λ m. cursor m) marks) ≡ None
     open_not_given number namespace gave marks rising behind = open_none_has number namespace marks (not_given 0 gave number marks rising behind)
@@ -186,12 +186,12 @@ module _ (router life count : ℕ) where
     other_cursor : (m : Marked) → int_eq (pos m.1.number) number ≡ false → cursor_by router life next m ≡ cursor_by router life look m
     other_cursor m e = ap (λ (o : Option OpenCursor). made (pos m.1.number) m.0 m.1.time.0 (left_in o)) (others (pos m.1.number) (λ same. absurd (cc (e, subst (λ (i : ℤ). int_eq i number ≡ true) (sym same) (itself number)))))
 
-    -- where none has the number nothing changes
+    -- where no cursor has the number nothing changes
     pub none_changed : (marks : List Marked) → NoneHas number marks → map (λ m. cursor_by router life next m) marks ≡ map (λ m. cursor_by router life look m) marks
     none_changed [] none = refl
     none_changed (m ∷ marks) none = rw (other_cursor m none.0, none_changed marks none.1) refl
 
-    -- the one with the number has these documents left
+    -- the cursor with the number has these documents left
     pub changed : (rest : List Fields) (least greatest : ℕ) (marks : List Marked) → rises least greatest marks ≡ true → left_in (next number) ≡ rest
         → map (λ m. cursor_by router life next m) marks ≡ with_remaining id number rest (map (λ m. cursor_by router life look m) marks)
     changed rest least greatest [] e left = refl
@@ -215,7 +215,7 @@ module _ (router life count : ℕ) where
               (by_number number (pos m.1.number) m.0 m.1.time.0 (left_in (look (pos m.1.number))) ∙ is)))
 
   module _ (look : ℤ → Option OpenCursor) (number : ℤ) (shown : ℕ) where
-    -- so many documents were shown
+    -- the first documents of a cursor were shown
     pub advanced_is : (marks : List Marked)
         → advanced id number shown (map (λ m. cursor_by router life look m) marks) ≡ with_remaining id number (drop shown (left_in (look number))) (map (λ m. cursor_by router life look m) marks)
     advanced_is [] = refl
@@ -236,7 +236,7 @@ module _ (router life count : ℕ) where
           ∙ sym (ap (λ (b : Bool). if b then made (pos m.1.number) m.0 m.1.time.0 (drop shown (left_in (look number))) ∷ map (λ k. cursor_by router life look k) marks
           else cursor_by router life look m ∷ with_remaining id number (drop shown (left_in (look number))) (map (λ k. cursor_by router life look k) marks)) test)
 
-  -- one more is opened behind the others
+  -- one more is opened after the others
   pub opened_last : (look next : ℤ → Option OpenCursor) (gave n : ℕ) (marks : List Marked) (m : Marked) (c : OpenCursor) → rises 0 gave marks ≡ true → n ≡ gave + 1 → m.1.number ≡ n
       → ((i : ℤ) → i ≢ pos n → next i ≡ look i) → next (pos n) ≡ Some c
       → map (λ k. cursor_by router life next k) (marks ++ m ∷ []) ≡ map (λ k. cursor_by router life look k) marks ++ made (pos n) m.0 m.1.time.0 c.remaining ∷ []
@@ -258,7 +258,7 @@ left_kept : (c : OpenCursor) (rest : List Fields) → left_in (left_with c rest)
 left_kept c [] = refl
 left_kept c (d ∷ rest) = refl
 
--- what is left where so many documents were shown
+-- what is left after the first documents were shown
 pub left_then : (before after : Option OpenCursor) (shown : ℕ) → ((c : OpenCursor) → before ≡ Some c → after ≡ left_with c (drop shown c.remaining)) → (before ≡ None → after ≡ None)
     → left_in after ≡ drop shown (left_in before)
 left_then None after shown some none = ap (λ (o : Option OpenCursor). left_in o) (none refl) ∙ sym (drop_none shown)
@@ -271,12 +271,12 @@ kept_with c d (x ∷ rest) e =
     (ap (λ (k : OpenCursor). k.namespace) same, ap (λ (k : OpenCursor). k.time) same, ap (λ (k : OpenCursor). is_left k.remaining) (sym same))
 
 module _ (look next : ℤ → Option OpenCursor) (gave : ℕ) (marks : List Marked) (kept : AreKept look gave marks) where
-  -- others stay as they are
+  -- other cursors are unchanged
   kept_others : (number : ℤ) → ((i : ℤ) → i ≢ number → next i ≡ look i) → (i : ℤ) (c : OpenCursor) → int_eq i number ≡ false → next i ≡ Some c → int_le i (pos gave) ≡ true
       → (mark_of i marks ≡ Some (c.namespace, c.time)) × (is_left c.remaining ≡ true)
   kept_others number others i c other has given = kept i c (sym (others i (λ same. absurd (cc (other, subst (λ (j : ℤ). int_eq j number ≡ true) (sym same) (itself number))))) ∙ has) given
 
-  -- so many documents of one were shown
+  -- the first documents of one were shown
   pub kept_advanced : (number : ℤ) (shown : ℕ) → ((c : OpenCursor) → look number ≡ Some c → next number ≡ left_with c (drop shown c.remaining)) → (look number ≡ None → next number ≡ None)
       → ((i : ℤ) → i ≢ number → next i ≡ look i) → AreKept next gave marks
   kept_advanced number shown some none others i c has given = by (int_eq i number) refl where
@@ -302,7 +302,7 @@ module _ (look next : ℤ → Option OpenCursor) (gave : ℕ) (marks : List Mark
   above_given : (n : ℕ) → gave < n → int_le (pos n) (pos gave) ≡ true → ⊥
   above_given n above given = omega (arith, above, leb-true n gave given)
 
-  -- one is put under a number that was not given yet
+  -- one is stored under a number that was not used yet
   pub kept_put : (n : ℕ) → gave < n → ((i : ℤ) → i ≢ pos n → next i ≡ look i) → AreKept next gave marks
   kept_put n above others i c has given = by (int_eq i (pos n)) refl where
     by : (b : Bool) → int_eq i (pos n) ≡ b → (mark_of i marks ≡ Some (c.namespace, c.time)) × (is_left c.remaining ≡ true)
@@ -317,7 +317,7 @@ module _ (look next : ℤ → Option OpenCursor) (gave : ℕ) (marks : List Mark
       not_same k n gave behind low other = omega (arith, behind, low, other)
   given_before (negsuc k) n behind other given = refl
 
-  -- one is opened under the number behind
+  -- one is opened under the number after
   pub kept_opened : (n : ℕ) (m : Marked) (c : OpenCursor) → rises 0 gave marks ≡ true → n ≡ gave + 1 → m.1.number ≡ n → m.0 ≡ c.namespace → m.1.time.0 ≡ c.time → is_left c.remaining ≡ true
       → ((i : ℤ) → i ≢ pos n → next i ≡ look i) → next (pos n) ≡ Some c → AreKept next n (marks ++ m ∷ [])
   kept_opened n m c rising behind is name time left others there i d has given = by (int_eq i (pos n)) refl where

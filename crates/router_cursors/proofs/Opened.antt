@@ -35,13 +35,13 @@ rises_pushed least greatest [] m e above = and (lt-ltb least m.1.number (omega (
 rises_pushed least greatest (k ∷ marks) m e above =
     let h = both (nat_lt least k.1.number) (rises k.1.number greatest marks) e in and h.0 (rises_pushed k.1.number greatest marks m h.1 above)
 
--- none is above the greatest
+-- no number exceeds the greatest
 pub rises_low : (least greatest : ℕ) (marks : List Marked) → rises least greatest marks ≡ true → least ≤ greatest
 rises_low least greatest [] e = leb-true least greatest e
 rises_low least greatest (k ∷ marks) e =
     let h = both (nat_lt least k.1.number) (rises k.1.number greatest marks) e in omega (arith, ltb-true least k.1.number h.0, rises_low k.1.number greatest marks h.1)
 
--- a number that none has
+-- a number that no cursor has
 abbrev pub NoneHas : ℤ → List Marked → Type 0
 NoneHas number [] = Unit {0}
 NoneHas number (m ∷ marks) = (int_eq (pos m.1.number) number ≡ false) × NoneHas number marks
@@ -53,14 +53,14 @@ above_all least greatest n (m ∷ marks) e above =
     let low = rises_low m.1.number greatest marks h.1 in
     (apart (pos m.1.number) (pos n) (λ same. absurd (omega (arith, pos_same m.1.number n same, low, above))), above_all m.1.number greatest n marks h.1 above)
 
--- a number behind those that were given
+-- a number greater than those that were used
 pub not_given : (least greatest : ℕ) (number : ℤ) (marks : List Marked) → rises least greatest marks ≡ true → int_le number (pos greatest) ≡ false → NoneHas number marks
 not_given least greatest (pos n) marks e behind = above_all least greatest n marks e (behind_is n greatest behind) where
   behind_is : (n greatest : ℕ) → int_le (pos n) (pos greatest) ≡ false → greatest < n
   behind_is n greatest f = leb-false n greatest f
 not_given least greatest (negsuc n) marks e behind = absurd (cc behind)
 
--- behind a number that rises
+-- after a number that rises
 pub none_behind : (least greatest : ℕ) (marks : List Marked) → rises least greatest marks ≡ true → NoneHas (pos least) marks
 none_behind least greatest marks e = none_up least least greatest marks (omega arith) e where
   none_up : (n least greatest : ℕ) (marks : List Marked) → n ≤ least → rises least greatest marks ≡ true → NoneHas (pos n) marks
@@ -76,7 +76,7 @@ pub mark_none : (number : ℤ) (marks : List Marked) → NoneHas number marks �
 mark_none number [] none = refl
 mark_none number (m ∷ marks) none = ap (λ (b : Bool). if b then Some (m.0, m.1.time.0) else mark_of number marks) none.0 ∙ mark_none number marks none.1
 
--- one more behind the others
+-- one more after the others
 pub mark_last : (number : ℤ) (marks : List Marked) (m : Marked) → NoneHas number marks → pos m.1.number ≡ number → mark_of number (marks ++ m ∷ []) ≡ Some (m.0, m.1.time.0)
 mark_last number [] m none same =
     ap (λ (b : Bool). if b then Some (m.0, m.1.time.0) else None) (subst (λ (i : ℤ). int_eq i number ≡ true) (sym same) (itself number))

@@ -1,4 +1,4 @@
--- Room for a cursor, and a cursor put into it.
+-- Room for a cursor, and a cursor that is stored there.
 use Rattle.std.proofs.Common.{◌≡◌, sym, subst, ℕ, ℤ, List, []}
 use Rattle.std.specs.Prelude.{Some, pos}
 use Rattle.cursor_shelf.specs.Cursors.{OpenCursor}

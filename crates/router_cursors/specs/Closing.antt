@@ -12,12 +12,12 @@ use Rattle.router_cursors.specs.CursorLists.{closed_all}
 abbrev pub Has : BTreeSet ℤ → List ℤ → Type 0
 Has closed numbers = (i : ℤ) → contains int_cmp closed i ≡ list_any (int_eq i) numbers
 
--- what a shelf has once the cursors of these numbers were closed
+-- the shelf after the cursors of these numbers were closed
 abbrev pub closed_look : List ℤ → (ℤ → Option OpenCursor) → ℤ → Option OpenCursor
 closed_look [] look = look
 closed_look (number ∷ numbers) look = closed_look numbers (λ i. if int_eq i number then None else look i)
 
--- so many of all numbers were sorted out, and what closes the others closes all
+-- a prefix of all numbers is sorted into closed and missing ones, and closing the others then closes all
 abbrev pub CloseSoFar : RequestId → (namespace : List ℕ) → List Cursor → (numbers all killed missing : List ℤ) → Type 0
 CloseSoFar id namespace cursors numbers all killed missing =
     (ks ms : List ℤ) (next : List Cursor) → Kills id namespace (closed_all id killed cursors) numbers ks ms next → Kills id namespace cursors all (killed ++ ks) (missing ++ ms) next

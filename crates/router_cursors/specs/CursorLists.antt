@@ -11,14 +11,14 @@ use Rattle.router_cursors.specs.Marks.{cursor_by}
 use Rattle.router_cursors.specs.Numbers.{number_given}
 use Rattle.router_cursors.specs.declared.list.CursorList.{CursorList}
 
--- how many blocks of numbers were written, and the last number that was given
+-- how many blocks of numbers were written, and the last number that was used
 abbrev pub blocks_of : CursorList → ℕ
 blocks_of list = list.blocks
 
 abbrev pub gave_of : CursorList → ℕ
 gave_of list = list.gave
 
--- those that this router opened in this of its lives
+-- the cursors that this router opened in this one of its lives
 abbrev pub cursors_of : (router life : ℕ) → CursorList → List Cursor
 cursors_of router life list = map (λ m. cursor_by router life (λ i. cursor_in list.shelf i) m) list.opened.items
 
@@ -28,18 +28,18 @@ HasRoomFor list namespace time =
     (number_given list.blocks list.gave ≤ 2 ^ 62)
     × (cursor_in list.shelf (pos (number_given list.blocks list.gave)) ≡ Some (record { namespace = namespace; time = time; remaining = [] }))
 
--- these were closed, one after another
+-- the cursors after these were closed, one after another
 abbrev pub closed_all : RequestId → List ℤ → List Cursor → List Cursor
 closed_all id [] cursors = cursors
 closed_all id (number ∷ numbers) cursors = closed_all id numbers (with_remaining id number [] cursors)
 
--- so many documents of the cursor with this number were shown
+-- the cursors after this number of documents of one were shown
 abbrev pub advanced : RequestId → ℤ → (count : ℕ) → List Cursor → List Cursor
 advanced id number count [] = []
 advanced id number count (c ∷ cursors) =
     if has_number id number c then record { router = c.router; life = c.life; number = c.number; namespace = c.namespace; time = c.time; remaining = drop count c.remaining } ∷ cursors
     else c ∷ advanced id number count cursors
 
--- the batch of the cursor of this number, of that namespace, which the shelf gave
+-- the batch of the cursor of this number, in that namespace, from the shelf's
 abbrev pub batch_of : (number : ℤ) → (namespace : List ℕ) → shelves.Batch → Batch
 batch_of number namespace b = record { cursor = if b.is_last then pos 0 else number; namespace = namespace; documents = map arc_value b.documents.items; time = b.time.0 }

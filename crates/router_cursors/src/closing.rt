@@ -1,4 +1,4 @@
-//! Cursors that are closed.
+//! Closing cursors.
 
 ghost use Rattle.std.specs.Prelude.{◌≡◌};
 
@@ -7,7 +7,7 @@ use bson_values::Memory;
 use cluster_base::Namespace;
 use std::collections::BTreeSet;
 
-/// Numbers that were named, in order: those of open cursors, each once, and the others.
+/// Numbers that a request named, in order: those of open cursors, each once, and the others.
 #[derive(Drop)]
 pub struct Closing {
     pub killed: Vec<i64>,
@@ -22,15 +22,15 @@ impl CursorList {
     ghost use Rattle.router_cursors.specs.Closing.{CloseSoFar, Has};
     ghost use Rattle.router_cursors.specs.CursorLists.{blocks_of, closed_all, cursors_of, gave_of};
 
-    // Whether the cursor of that number is open on the namespace.
+    // Returns whether the cursor of that number is open on the namespace.
     fn has(&self, number: i64, namespace: &Namespace) -> bool
         ensures { (router life count : ℕ) → result ≡ is_some (open_cursor (record { router = router; life = life; count = count }) number namespace.now (cursors_of router life self.now)) }
     {
         self.is_given(number) && self.shelf.has(number, namespace)
     }
 
-    // Whether the cursor of that number is open on the namespace, and not among those that are closed, to which it is added then. Fails for
-    // want of memory.
+    // Returns whether the cursor of that number is open on the namespace, and not among those to be closed, to which it is then added. Returns `Memory` if
+    // memory runs out.
     fn is_new(
         &self,
         closed: &mut BTreeSet<i64>,
@@ -48,7 +48,7 @@ impl CursorList {
         }
     }
 
-    // Puts a number with those that are closed, if its cursor is open and not closed yet, else with the others. Fails for want of memory.
+    // Appends a number to those to be closed, if its cursor is open and not among them yet, else to the others. Returns `Memory` if memory runs out.
     fn sort_out(
         &self,
         closed: &mut BTreeSet<i64>,
@@ -70,7 +70,8 @@ impl CursorList {
         Ok(())
     }
 
-    /// Which of these numbers are closed, in order, and which are not those of open cursors of the namespace. Fails for want of memory.
+    /// Returns which of these numbers are to be closed, in order, and which are not those of open cursors of the namespace. Returns `Memory` if memory runs
+    /// out.
     pub fn closing(&self, namespace: &Namespace, numbers: &[i64]) -> Result<Closing, Memory>
         ensures { (router life count : ℕ) → IfOk result (λ closing. Kills (record { router = router; life = life; count = count }) namespace.now (cursors_of router life self.now)
             numbers.now closing.killed.items closing.missing.items (closed_all (record { router = router; life = life; count = count }) closing.killed.items (cursors_of router life self.now))) }

@@ -14,16 +14,16 @@ use std::alloc::Global;
 use std::collections::VecDeque;
 use std::sync::Arc;
 
-/// The cursors that a router opened in its life, and the numbers that it gave in all its lives.
+/// The cursors that a router opened in its life, and the numbers that it used in all its lives.
 #[derive(Drop)]
 pub struct CursorList {
     pub(crate) alloc: Global,
     pub(crate) shelf: Shelf,
     // How many blocks of numbers were written.
     pub(crate) blocks: u64,
-    // The last number that was given.
+    // The last number that was used.
     pub(crate) gave: u64,
-    // Those that were opened, for proofs alone.
+    // The cursors that were opened, for proofs only.
     pub(crate) opened: GhostList<Namespace, Mark>,
     ghost few: { blocks ≤ 2 ^ 56 },
     ghost within: { gave ≤ 64 * blocks },
@@ -40,7 +40,7 @@ impl CursorList {
     ghost use Rattle.router_cursors.specs.Marks.{is_left};
     ghost use Rattle.router_cursors.specs.Numbers.{block_given, blocks_then, number_given};
 
-    /// No cursor, where no number was given yet.
+    /// Returns an empty list, where no number was used yet.
     pub fn new(alloc: Global) -> CursorList
         ensures cursors { (router life : ℕ) → cursors_of router life result ≡ [] }
         ensures blocks { blocks_of result ≡ 0 }
@@ -55,7 +55,7 @@ impl CursorList {
         }
     }
 
-    /// The number of the next cursor. None where numbers are at their end.
+    /// Returns the number of the next cursor, or none where the numbers are exhausted.
     pub fn next_number(&self) -> Option<NewNumber>
         ensures number { IfSome result (λ n. n.number ≡ number_given (blocks_of self.now) (gave_of self.now)) }
         ensures block { IfSome result (λ n. n.block ≡ block_given (blocks_of self.now) (gave_of self.now)) }
@@ -68,8 +68,8 @@ impl CursorList {
         number_behind(self.blocks, self.gave)
     }
 
-    /// Makes room for the next cursor, on documents of a namespace at a time. Fails for want of memory, and where numbers are at their
-    /// end. The cursors are the same either way.
+    /// Reserves room for the next cursor, on documents of a namespace at a time. Returns `Memory` if memory runs out, and where the numbers are exhausted.
+    /// The cursors are the same either way.
     pub fn make_room(&mut self, namespace: &Namespace, time: Time) -> Result<(), Memory>
         ensures room { OnOk result (HasRoomFor self.new namespace.now time.0) }
         ensures cursors { (router life : ℕ) → cursors_of router life self.new ≡ cursors_of router life self.old }
@@ -110,15 +110,15 @@ impl CursorList {
         }
     }
 
-    // Whether a number is one of those that were given, or below them.
+    // Returns whether a number is at most the last one that was used.
     pub(crate) fn is_given(&self, number: i64) -> bool
         ensures { result ≡ int_le number (pos self.now.gave) }
     {
         number <= as_signed(self.gave)
     }
 
-    /// The next batch of the cursor of that number, if it is open on the namespace, of so many documents at most, where a size is given;
-    /// they are shared. Fails with `NotFound` where there is no such cursor, and for want of memory.
+    /// Returns the next batch of the cursor of that number, if it is open on the namespace, of at most this many documents, where a size is given; they are
+    /// shared. Returns `NotFound` where there is no such cursor, and `Memory` if memory runs out.
     pub fn next_batch(
         &self,
         number: i64,
@@ -138,7 +138,7 @@ impl CursorList {
         self.shelf.next(number, namespace, size)
     }
 
-    /// Takes out the first documents, so many, of the cursor of that number. Takes no memory.
+    /// Removes the first `count` documents of the cursor of that number. Takes no memory.
     pub fn advance(&mut self, number: i64, count: usize)
         ensures cursors { (router life request : ℕ) → cursors_of router life self.new
             ≡ advanced (record { router = router; life = life; count = request }) number count (cursors_of router life self.old) }

@@ -1,8 +1,8 @@
-//! What stays of each cursor.
+//! What is known of each cursor.
 
 use cluster_base::Time;
 
-/// Which cursor it is: its number, and the time at which its documents were read.
+/// The number of a cursor, and the time at which its documents were read.
 #[derive(Clone, Copy, Debug, PartialEq, Eq)]
 pub struct Mark {
     pub number: u64,

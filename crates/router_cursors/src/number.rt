@@ -6,20 +6,20 @@ ghost use Rattle.router_cursors.specs.Numbers.{block_given, blocks_then, number_
 /// How many numbers a block has.
 const BLOCK_SIZE: u64 = 64;
 
-/// So many blocks are never written: each is written in one of 2^56 steps.
+/// This number of blocks is never written: each is written in one of 2^56 steps.
 const MOST_BLOCKS: u64 = 1 << 56;
 
 /// The number of a new cursor.
 #[derive(Clone, Copy, Debug, PartialEq, Eq)]
 pub struct NewNumber {
     pub number: u64,
-    /// The block that has to be written first, if one has.
+    /// The block that must be written first, if one must.
     pub block: Option<u64>,
-    /// How many blocks are written then.
+    /// How many blocks are written afterwards.
     pub blocks: u64,
 }
 
-/// The number as commands have it.
+/// Returns the number as commands have it.
 pub(crate) fn as_signed(number: u64) -> i64
     requires { number ≤ 2 ^ 62 }
     ensures { result ≡ pos number }
@@ -27,7 +27,7 @@ pub(crate) fn as_signed(number: u64) -> i64
     number as i64
 }
 
-/// The next number behind those that were given, where so many blocks were written. None where they are at their end.
+/// Returns the next number, given how many blocks were written and the last number, or none where the numbers are exhausted.
 pub(crate) fn number_behind(blocks: u64, gave: u64) -> Option<NewNumber>
     requires few { blocks ≤ 2 ^ 56 }
     requires within { gave ≤ 64 * blocks }

@@ -1,11 +1,11 @@
--- What an open request waits for, asked again.
+-- What an open request waits for, requested again.
 use Rattle.std.proofs.Common.{◌≡◌, ap, ◌∙◌, ℕ, [], ◌∷◌}
 use Rattle.std.specs.Prelude.{Option, None, Some}
 use Rattle.node_model.specs.RouterRows.{asks_again, asks_shards, asks_table, asks_times, id_of}
 use Rattle.node_model.specs.States.{Router, Wait, Open, for_time, for_table, for_shards}
 use Rattle.chunk_model.specs.Tables.{Table, table_of}
 
--- one that waits for shards asks them by the table that is known
+-- a request that waits for shards sends its messages by the table that is known
 pub shards_again : (r : Router) (time : ℕ) (q : Open) (t : Table) → q.wait ≡ for_shards → table_of q.namespace r.tables ≡ Some t
     → asks_again r time q ≡ asks_shards r time q.count q.namespace t q.work
 shards_again r time q t waits known =

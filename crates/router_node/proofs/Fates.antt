@@ -1,4 +1,4 @@
--- The rows of letters that tell something to an open request.
+-- The transitions for messages that answer an open request.
 use Rattle.std.proofs.Common.{◌≡◌, ◌≢◌, refl, sym, subst, ℕ, ◌<◌, ◌≤◌, List, [], ◌∷◌, Bool, true, false}
 use Rattle.std.specs.Prelude.{Some, None, Result}
 use Rattle.command_model.specs.Answers.{refusal_answer}

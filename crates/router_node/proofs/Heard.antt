@@ -1,4 +1,4 @@
--- What is heard of a message is a row.
+-- The plan for a message is a transition.
 use Rattle.std.proofs.Common.{Global, ◌≡◌, refl, ap, sym, subst, ◌∙◌, ℕ, List, [], map, Bool, true, false, if◌then◌else◌}
 use Rattle.std.specs.Prelude.{Option, Some, None}
 use Rattle.base_model.specs.Identities.{RequestId, same_request}
@@ -39,7 +39,7 @@ module _ (r : Router) (m : Letter) (p : StepPlan) (time : ℕ) (late : time ≡ 
     follows = follows_so r p r.begun change h.begun h.is follows;
   }
 
-  -- one that keeps something
+  -- a plan that writes records
   pub heard_keeping : (change : Change) (replies : List ToLink) (effect : Effect) → HearsKeeping r time change replies effect.written p → FollowsBy r r.begun change
       → RouterRow r (letter_input m) effect (changed r (heard r m) r.begun r.moment change) → effect.mail ≡ [] → replies ≡ puts_of effect.replies → AreSound effect.written → IsHeard r m p
   heard_keeping change replies effect h follows row none told sound = record {

@@ -1,4 +1,4 @@
--- The table of a collection, once another was told.
+-- The table of a collection, after another arrived.
 use Rattle.std.proofs.Common.{◌≡◌, refl, ap, sym, subst, ◌∙◌, ℕ, List, [], ◌∷◌, Bool, true, false, if◌then◌else◌}
 use Rattle.std.proofs.lemmas.Slice.Eq.{bytes_eq-Decides}
 use Rattle.std.specs.Prelude.{Option, Some, None}
@@ -38,7 +38,7 @@ own : (t : Table) (tables : List Table) → table_of t.namespace (with_table t t
 own t [] = first_is t.namespace t [] (itself t.namespace)
 own t (u ∷ tables) = own_by t u tables (bytes_eq u.namespace t.namespace) refl (own t tables)
 
--- a table of it was told
+-- a table of it arrived
 pub known_own : (n : List ℕ) (t : Table) (tables : List Table) → bytes_eq t.namespace n ≡ true → table_of n (with_table t tables) ≡ Some (longer_in t (table_of n tables))
 known_own n t tables e = subst (λ (m : List ℕ). table_of m (with_table t tables) ≡ Some (longer_in t (table_of m tables))) (same_as t.namespace n e) (own t tables)
 
@@ -49,7 +49,7 @@ other_by n t u tables true is no_one next =
     first_not n (longer t u) tables (either (is_longer t u) n t u false no_one also) ∙ sym (first_not n u tables also)
 other_by n t u tables false is no_one next = ap (λ (o : Option Table). if bytes_eq u.namespace n then Some u else o) next
 
--- a table of another collection was told
+-- a table of another collection arrived
 pub known_other : (n : List ℕ) (t : Table) (tables : List Table) → bytes_eq t.namespace n ≡ false → table_of n (with_table t tables) ≡ table_of n tables
 known_other n t [] e = first_not n t [] e
 known_other n t (u ∷ tables) e = other_by n t u tables (bytes_eq u.namespace t.namespace) refl e (known_other n t tables e)

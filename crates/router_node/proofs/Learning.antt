@@ -1,4 +1,4 @@
--- The row of a table that is told.
+-- The transition for a table that arrives.
 use Rattle.std.proofs.Common.{◌≡◌, refl, sym, subst, ℕ, List, []}
 use Rattle.std.specs.Arc.{arc_value}
 use Rattle.std.specs.List.{flat_map}

@@ -21,7 +21,7 @@ puts_append (x ∷ xs) ys = by_more x.request.more (puts_append xs ys) where
   by_more true next = next
   by_more false next = ap (λ (l : List ToLink). record { link = x.link; bytes = put_by x } ∷ l) next
 
--- a number that was passed is itself
+-- a number that was passed on is unchanged
 pub told_as : (replies : List ToLink) (id : RequestId) (time link : ℕ) (number : ℤ) (request : Request) (document : Fields) → SFits w32 number
     → replies ≡ puts_of (record { id = id; link = link; number = to_z w32 (of_z w32 number); request = request; time = time; document = document } ∷ [])
     → replies ≡ puts_of (record { id = id; link = link; number = number; request = request; time = time; document = document } ∷ [])
@@ -31,7 +31,7 @@ told_as replies id time link number request document fits told =
 pub some_same : {X : Type 0} (a b : X) → Some a ≡ Some b → a ≡ b
 some_same a b e = cc
 
--- one more request is told, of those behind others
+-- one more request is answered, after others
 pub next_told : {X Y : Type 0} (told : Y → List Reply) (meant : X → Y) (requests : List X) (i : ℕ) (q : X) (old new whole : List ToLink) → i < length requests → q ≡ get_or requests i q
     → new ≡ old ++ puts_of (told (meant q)) → old ++ puts_of (flat_map told (map meant (drop i requests))) ≡ whole
     → new ++ puts_of (flat_map told (map meant (drop (i + 1) requests))) ≡ whole

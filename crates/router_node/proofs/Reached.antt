@@ -1,4 +1,4 @@
--- What a read asks for at a time that is reached.
+-- What a read requests at a time that is reached.
 use Rattle.std.proofs.Common.{◌≡◌, ap, sym, subst, ◌∙◌, ℕ, ◌≤◌, List, Bool, true, false, arith, if◌then◌else◌}
 use Rattle.std.specs.Prelude.{Option, nat_lt}
 use Rattle.std.proofs.lemmas.Bool.{le-ltb}
@@ -13,7 +13,7 @@ use Rattle.router_requests.specs.Works.{read_at, read_view}
 use Rattle.router_requests.specs.declared.read.OpenRead.{OpenRead}
 
 module _ (r : Router) (time : ℕ) where
-  -- one that was not ahead is not then
+  -- a read that was not ahead is not ahead then
   not_ahead : (named : Bool) (at : ℕ) → at ≤ time → nat_lt time (if named then at else time) ≡ false
   not_ahead true at come = le-ltb time at come
   not_ahead false at come = le-ltb time time (omega arith)

@@ -1,4 +1,4 @@
--- What a write asks for with more of its statements answered.
+-- What a write requests after more of its statements are answered.
 use Rattle.std.proofs.Common.{◌≡◌, ◌≢◌, refl, ap, sym, ◌∙◌, ℕ, List, Bool, length, map}
 use Rattle.std.proofs.lemmas.List.{length-map}
 use Rattle.std.specs.Prelude.{Option, Some, None}
@@ -28,7 +28,7 @@ module _ (r : Router) (time count : ℕ) (namespace : List ℕ) (kind : WriteKin
       → wait ≡ wait_of r time namespace (writing kind ordered statements answers)
   rest_waits wait known is waits = waits ∙ ap (λ (o : Option Table). wait_by o) (is ∙ sym (enough (table_of namespace r.tables)))
 
--- as many, or not, of what they mean
+-- lists with the same length, or not, as their views
 pub as_many : {X Y : Type 0} (f : X → Y) (xs ys : List X) (zs : List Y) → map f ys ≡ zs → length xs ≡ length ys → length zs ≡ length (map f xs)
 as_many {X} {Y} f xs ys zs is same = ap (λ (l : List Y). length l) (sym is) ∙ length-map ys f ∙ sym same ∙ sym (length-map xs f)
 

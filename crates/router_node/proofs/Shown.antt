@@ -1,4 +1,4 @@
--- The rows of requests about cursors, and of what reads are told.
+-- The transitions of requests about cursors, and of the answers to reads.
 use Rattle.std.proofs.Common.{Global, ◌≡◌, map, refl, sym, subst, ℕ, ℤ, ◌+◌, ◌*◌, List, [], ◌∷◌, ◌++◌, Bool, true, false, append-nil, if◌then◌else◌}
 use Rattle.std.specs.Prelude.{Some, None, nat_lt}
 use Rattle.std.specs.Arc.{arc_value}
@@ -30,7 +30,7 @@ use Rattle.router_node.specs.declared.step_plan.NewCursor.{NewCursor}
 use Rattle.router_node.specs.declared.step_plan.StepPlan.{StepPlan}
 use Rattle.router_node.proofs.Heard.{heard_by, heard_keeping}
 
--- the router that took a request more, and has these cursors
+-- the router after one more request, with these cursors
 abbrev counted : Router → List Open → List Cursor → Router
 counted r requests cursors = record {
   me = r.me;
@@ -55,7 +55,7 @@ module _ (r : Router) (link : ℕ) (number : ℤ) (request : Request) (replies :
   abbrev Tells : Answer → Type 0
   Tells answer = replies ≡ puts_of (record { id = id; link = link; number = number; request = request; time = r.time; document = answer_document answer } ∷ [])
 
-  -- by a row that leaves these cursors
+  -- by a transition that results in these cursors
   took : (answer : Answer) (cursors : List Cursor) → Tells answer
       → RouterRow (started r) (client_input link number request) (answers_at_once (started r) link number request answer) (counted r (r.requests ++ []) cursors)
       → TookRow (started r) (client_input link number request) [] replies (counted r r.requests cursors)
@@ -68,7 +68,7 @@ module _ (r : Router) (link : ℕ) (number : ℤ) (request : Request) (replies :
   }
 
   module _ (more : GetMore) (plan : plan_of (started r) id request.more (command_of request) ≡ needs_batch more) where
-    -- the next batch is told, and its documents are taken out, unless no reply is wanted
+    -- the next batch is returned, and its documents are removed, unless no reply is requested
     batch_told : (c : Cursor) (batch : Batch) (next : List Cursor) (silent : Bool) → request.more ≡ silent → open_cursor id more.cursor more.namespace r.cursors ≡ Some c
         → ShowsNext id more.size r.cursors c batch next → Tells (next_answer batch)
         → TookRow (started r) (client_input link number request) [] replies (counted r r.requests (if silent then r.cursors else next))
@@ -102,9 +102,9 @@ module _ (r : Router) (link : ℕ) (number : ℤ) (request : Request) (replies :
       (took (killed_answer killed missing) (closed_all id killed r.cursors) told
       (router_kill (started r) link number request kill killed missing (closed_all id killed r.cursors) refl plan kills))
 
--- WHAT READS ARE TOLD
+-- ANSWERS TO READS
 
--- the next number is given
+-- the next number is used
 gives_is : (r : Router) (cursors : List Cursor)
     → gives_number r cursors ≡ record { written = block_kept (block_given r.blocks r.gave); cursors = cursors; blocks = blocks_then r.blocks r.gave; gave = next_number r }
 gives_is r cursors = by (nat_lt r.gave (64 * r.blocks)) where

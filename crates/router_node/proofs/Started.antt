@@ -1,4 +1,4 @@
--- A row in front of which the life begins, if it did not begin.
+-- A transition before which the life begins, if it did not begin.
 use Rattle.std.proofs.Common.{◌≡◌, refl, ap, sym, subst, ◌∙◌, ℕ, ℤ, ◌+◌, List, [], ◌∷◌, ◌++◌, Bool, true, false, append-nil, if◌then◌else◌}
 use Rattle.std.specs.Prelude.{max, Result, Ok, Err, IfOk}
 use Rattle.std.specs.List.{flat_map}
@@ -24,7 +24,7 @@ use Rattle.router_node.specs.declared.step_plan.Change.{Change}
 use Rattle.router_node.specs.declared.step_plan.Change.TheVariants.{Stays, Counts, Opens, Closes, Reaches, Notes, Learns, Shelves, Advances, Ends}
 use Rattle.router_node.specs.declared.step_plan.StepPlan.{StepPlan}
 
--- the effect with what is kept of a life that begins
+-- the effect with the record of a life that begins
 abbrev with_life : Router → Effect → Effect
 with_life r f = record { written = life_kept r ++ f.written; mail = f.mail; taken = f.taken; replies = f.replies }
 
@@ -52,7 +52,7 @@ opened_step r quiet = by_begun r.begun refl where
       (router_step r (begins r) opened_input _ tt (router_begin r is))
 
 module _ (r : Router) (p : StepPlan) where
-  -- a row of a client or a moment is a step
+  -- a transition on a request or a moment is a step
   pub starts_step : (quiet : r.begun ≡ false → r.count ≡ 0) (i : Input) (time moment : ℕ) (change : Change) (mail : List Letter) (replies : List ToLink) → IsFor r.me i → BeginsBefore i
       → Starts r time moment change mail replies p → FollowsBy r true change
       → TookRow (started r) i mail replies (changed r time true moment change) → IsPlanned r i p
@@ -82,7 +82,7 @@ module _ (r : Router) (p : StepPlan) where
     follows = follows_so r p true Stays s.begun s.is (λ e. absurd (cc e));
   }
 
-  -- a message that is heard is a step
+  -- a transition on a message is a step
   pub heard_step : (m : Letter) → m.receiver ≡ r.me → IsHeard r m p → IsPlanned r (letter_input m) p
   heard_step m here h = record {
     step = record {
@@ -96,7 +96,7 @@ module _ (r : Router) (p : StepPlan) where
     follows = h.follows;
   }
 
-  -- one to another node
+  -- a message to another node
   pub other_is : (m : Letter) → (m.receiver ≡ r.me → ⊥) → Hears r r.time Stays [] [] p → IsPlanned r (letter_input m) p
   other_is m other h = record {
     step = record {
@@ -110,7 +110,7 @@ module _ (r : Router) (p : StepPlan) where
     follows = follows_so r p r.begun Stays h.begun h.is (λ e. e);
   }
 
-  -- one of another kind
+  -- a message of another kind
   pub skipped : (m : Letter) → TellsNothing m.body → Hears r r.time Stays [] [] p → IsHeard r m p
   skipped m none h = record {
     effect = nothing;
@@ -180,7 +180,7 @@ module _ (r : Router) (o : OpenRequest) (next : o.count ≡ r.count + 1) where
     told = refl;
   }
 
--- what is unanswered is asked again
+-- what is unanswered is requested again
 pub took_moment : (r : Router) (moment time : ℕ) (letters : List Letter) → time ≡ max r.time (time_of_moment moment) → letters ≡ flat_map (λ q. asks_again (started r) time q) r.requests
     → TookRow (started r) (moment_input moment) letters [] (changed r time true moment Stays)
 took_moment r moment time letters is asked = record {
@@ -217,7 +217,7 @@ module _ {E : Type 0} (r : Router) (x : Result StepPlan E) where
     by_result (Ok p) h = starts_step r p quiet i time moment change mail replies for before h follows took
     by_result (Err e) h = tt
 
--- where no life began no request was taken, then too
+-- that no request was taken where no life began holds afterwards too
 pub quiet_then : (r : Router) (begun : Bool) (change : Change) → (r.begun ≡ false → r.count ≡ 0) → FollowsBy r begun change → begun ≡ false → count_then change r.count ≡ 0
 quiet_then r begun Stays quiet follows not_begun = quiet (follows not_begun)
 quiet_then r begun Counts quiet follows not_begun = absurd (cc (sym follows.0 ∙ not_begun))

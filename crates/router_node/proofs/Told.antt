@@ -1,4 +1,4 @@
--- What reads may be told.
+-- The answers that reads may get.
 use Rattle.std.proofs.Common.{◌≡◌, ◌≢◌, ap, sym, subst, ◌∙◌, ℕ, ◌<◌, ◌-◌, ◌^◌, ◌⊎◌, inl, inr, ⊎_elim, List, [], ◌∷◌, ◌++◌, drop, length, Bool, true, false, arith}
 use Rattle.std.specs.Prelude.{codes, min, option_map, Option, Some, None, Ok, Err, pos}
 use Rattle.group_accum.specs.Sizes.{capped}
@@ -19,7 +19,7 @@ use Rattle.bson_model.specs.Tree.{Fields}
 use Rattle.router_cursors.specs.Marks.{is_left}
 use Rattle.router_node.specs.Tellings.{MayTell, MayTellOf}
 
--- an excess that 64 bits count
+-- an excess that fits into 64 bits
 pub not_capped : (excess : Option ℕ) (bytes : ℕ) → option_map capped excess ≡ Some bytes → bytes < 2 ^ 64 - 1 → excess ≡ Some bytes
 not_capped None bytes e low = absurd (cc e)
 not_capped (Some n) bytes e low =
@@ -63,7 +63,7 @@ module _ (r : Router) (m : Letter) (q : Open) (at : ℕ) where
   may_number documents n may is =
       subst (λ (l : List Fields). MayTellOf r m q at as_number (listed l)) is may (count_answer n at) (as_before r) (tells_number n)
 
-  -- that it is too much
+  -- that the result is too large
   pub may_excess : (telling : Telling) (documents : List Fields) (bytes : ℕ) (answer : Answer) → MayTellOf r m q at telling (listed documents) → option_map capped (excess_of_answer documents) ≡ Some bytes
       → bytes < 2 ^ 64 - 1 → answer ≡ refusal_answer (too_much bytes) → MayTell r m q answer (as_before r)
   may_excess telling documents bytes answer may excess low told =

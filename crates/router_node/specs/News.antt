@@ -1,4 +1,4 @@
--- Outcomes that are news to an open write.
+-- Outcomes that are new to an open write.
 use Rattle.std.specs.Prelude.{◌≡◌, ◌≢◌, Bool, List, Some}
 use Rattle.base_model.specs.Identities.{RequestId}
 use Rattle.node_model.specs.Letters.{Letter, Statement, write_done}
@@ -7,7 +7,7 @@ use Rattle.node_model.specs.RouterRows.{noted, open_of}
 use Rattle.node_model.specs.States.{Open, Router, writing}
 use Rattle.command_model.specs.Writes.{WriteKind}
 
--- the letter tells an open write, of these statements, outcomes with which its answers are these, which are more than it had
+-- the message has outcomes for an open write, of these statements; with them its answers are these, which are more than it had
 pub record IsNews (r : Router) (m : Letter) (id : RequestId) (q : Open) (kind : WriteKind) (ordered : Bool)
     (statements : List Statement) (answers : List Done) : Type 0 where
   pub dones : List Done

@@ -1,4 +1,4 @@
--- What becomes of an open request where a table is told.
+-- The effect of a table that arrives on an open request.
 use Rattle.std.specs.Prelude.{ℕ, List}
 use Rattle.std.specs.Arc.{arc_value}
 use Rattle.std.specs.Option.{option_map}
@@ -8,7 +8,7 @@ use Rattle.chunk_model.specs.Tables.{Table}
 use Rattle.protocol_model.specs.Bodies.{at_view}
 use Rattle.protocol_model.specs.declared.tables.TableTold.{TableTold}
 
--- the tables with the one that was told, if one was
+-- the tables with the one that arrived, if there is one
 abbrev pub tables_told : TableTold → List Table → List Table
 tables_told told tables = adopted (option_map (λ t. arc_value t) told.table) tables
 

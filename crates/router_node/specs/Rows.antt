@@ -1,4 +1,4 @@
--- What a row leaves.
+-- The result of a transition.
 use Rattle.std.specs.Prelude.{◌≡◌, List, [], ◌∷◌, true, if◌then◌else◌}
 use Rattle.node_model.specs.Journal.{Kept, kept_life}
 use Rattle.node_model.specs.Letters.{Letter, Input, Effect}
@@ -7,7 +7,7 @@ use Rattle.node_model.specs.States.{Router}
 use Rattle.node_traits.specs.Effects.{puts_of}
 use Rattle.node_traits.specs.declared.outputs.ToLink.{ToLink}
 
--- a row was taken on the input; these letters and the bytes of its replies are given out, and nothing is kept
+-- a transition was taken on the input; these are its messages and the bytes of its replies, and it has no records
 pub record TookRow (old : Router) (i : Input) (mail : List Letter) (replies : List ToLink) (new : Router) : Type 0 where
   pub effect : Effect
   pub row : RouterRow old i effect new
@@ -15,7 +15,7 @@ pub record TookRow (old : Router) (i : Input) (mail : List Letter) (replies : Li
   pub sent : effect.mail ≡ mail
   pub told : replies ≡ puts_of effect.replies
 
--- the router in its life; where that did not begin, no request was taken
+-- the router in its life; where the life did not begin, no request was taken
 abbrev pub started : Router → Router
 started r = record {
   me = r.me;
@@ -31,6 +31,6 @@ started r = record {
   gave = r.gave;
 }
 
--- what is kept of a life that begins
+-- the record of a life that begins
 abbrev pub life_kept : Router → List Kept
 life_kept r = if r.begun then [] else kept_life r.life ∷ []

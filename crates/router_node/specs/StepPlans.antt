@@ -1,4 +1,4 @@
--- What a router will be after a step, and that the step is one of its rows.
+-- The router after a step, and that the step is one of its transitions.
 use Rattle.std.specs.Prelude.{◌≡◌, ◌<◌, ◌≤◌, ◌-◌, ◌^◌, ℕ, ◌+◌, pos, Bool, true, false, List, [], ◌∷◌, ◌++◌, Some, None, IfSome, map}
 use Rattle.std.specs.Arc.{arc_value}
 use Rattle.std.specs.List.{flat_map}
@@ -29,7 +29,7 @@ use Rattle.router_node.specs.declared.step_plan.Change.{Change}
 use Rattle.router_node.specs.declared.step_plan.Change.TheVariants.{Stays, Counts, Opens, Closes, Reaches, Notes, Learns, Shelves, Advances, Ends}
 use Rattle.router_node.specs.declared.step_plan.StepPlan.{StepPlan}
 
--- how many requests were taken then
+-- how many requests were taken afterwards
 abbrev pub count_then : Change → ℕ → ℕ
 count_then Stays count = count
 count_then Counts count = count + 1
@@ -42,7 +42,7 @@ count_then (Shelves told opened) count = count
 count_then (Advances number shown) count = count + 1
 count_then (Ends numbers) count = count + 1
 
--- the tables then
+-- the tables afterwards
 abbrev pub tables_then : Change → List Table → List Table
 tables_then Stays tables = tables
 tables_then Counts tables = tables
@@ -55,7 +55,7 @@ tables_then (Shelves told opened) tables = tables
 tables_then (Advances number shown) tables = tables
 tables_then (Ends numbers) tables = tables
 
--- the open requests then, at a time
+-- the open requests afterwards, at a time
 abbrev pub opens_then : Router → (time : ℕ) → Change → List Open
 opens_then r time Stays = r.requests
 opens_then r time Counts = r.requests
@@ -79,7 +79,7 @@ opens_then r time (Shelves count opened) = without count r.requests
 opens_then r time (Advances number shown) = r.requests
 opens_then r time (Ends numbers) = r.requests
 
--- the cursors then: an opened one has the next number; what a request does that was taken, it does by its own
+-- the cursors afterwards: an opened one has the next number; a change for a request that was just taken is made under that request's id
 abbrev pub cursors_then : Router → Change → List Cursor
 cursors_then r Stays = r.cursors
 cursors_then r Counts = r.cursors
@@ -99,7 +99,7 @@ cursors_then r (Shelves count opened) = r.cursors ++ record {
 cursors_then r (Advances number shown) = advanced (id_of r (r.count + 1)) number shown r.cursors
 cursors_then r (Ends numbers) = closed_all (id_of r (r.count + 1)) numbers.items r.cursors
 
--- how many blocks of numbers were written then, and the last number that was given
+-- how many blocks of numbers were written afterwards, and the last number that was used
 abbrev pub blocks_after : Router → Change → ℕ
 blocks_after r Stays = r.blocks
 blocks_after r Counts = r.blocks
@@ -124,7 +124,7 @@ gave_after r (Shelves count opened) = next_number r
 gave_after r (Advances number shown) = r.gave
 gave_after r (Ends numbers) = r.gave
 
--- the router at that time and moment, in its life or not, and so changed
+-- the router at that time and moment, in its life or not, after the change
 abbrev pub changed : Router → (time : ℕ) → (begun : Bool) → (moment : ℕ) → Change → Router
 changed r time begun moment change = record {
   me = r.me;
@@ -143,7 +143,7 @@ changed r time begun moment change = record {
 abbrev pub router_then : Router → StepPlan → Router
 router_then r plan = changed r plan.time.0 plan.begun plan.moment plan.change
 
--- A plan at a time that keeps nothing: this becomes of the router, and this is asked and told.
+-- A plan at a time that has no records: this is the router after it, and these are its messages and replies.
 pub record Hears (r : Router) (time : ℕ) (change : Change) (mail : List Letter) (replies : List ToLink) (p : StepPlan) : Type 0 where
   pub new : router_then r p ≡ changed r time r.begun r.moment change
   pub sent : map letter_of p.mail ≡ mail
@@ -152,7 +152,7 @@ pub record Hears (r : Router) (time : ℕ) (change : Change) (mail : List Letter
   pub begun : p.begun ≡ r.begun
   pub is : p.change ≡ change
 
--- A plan at a time that keeps this: this becomes of the router, and this is told.
+-- A plan at a time with these records: this is the router after it, and these are its replies.
 pub record HearsKeeping (r : Router) (time : ℕ) (change : Change) (replies : List ToLink) (kept : List Kept) (p : StepPlan) : Type 0 where
   pub new : router_then r p ≡ changed r time r.begun r.moment change
   pub sent : map letter_of p.mail ≡ []
@@ -161,7 +161,7 @@ pub record HearsKeeping (r : Router) (time : ℕ) (change : Change) (replies : L
   pub begun : p.begun ≡ r.begun
   pub is : p.change ≡ change
 
--- A plan in whose front the life begins, if it did not begin.
+-- A plan before which the life begins, if it did not begin.
 pub record Starts (r : Router) (time moment : ℕ) (change : Change) (mail : List Letter) (replies : List ToLink) (p : StepPlan) : Type 0 where
   pub new : router_then r p ≡ changed r time true moment change
   pub sent : map letter_of p.mail ≡ mail
@@ -175,8 +175,7 @@ pub record Starts (r : Router) (time moment : ℕ) (change : Change) (mail : Lis
 abbrev pub IsStep : Router → Input → StepPlan → Type 0
 IsStep r i p = StepPlanned (router_state r) i (map letter_of p.mail) p.replies p.records.items (router_state (router_then r p))
 
--- The change may follow on the router, in its life or not: a request is taken in a life alone, and counted once; one that goes on is
--- open.
+-- The change may follow on the router, in its life or not: a request is taken only in a life, and counted once; one that proceeds is open.
 abbrev pub FollowsBy : Router → (begun : Bool) → Change → Type 0
 FollowsBy r begun Stays = begun ≡ false → r.begun ≡ false
 FollowsBy r begun Counts = (begun ≡ true) × (r.count < 2 ^ 64 - 1)
@@ -194,7 +193,7 @@ FollowsBy r begun (Ends numbers) = (begun ≡ true) × (r.count < 2 ^ 64 - 1)
 abbrev pub Follows : Router → StepPlan → Type 0
 Follows r p = FollowsBy r p.begun p.change
 
--- A message is heard by a row.
+-- The plan for a message is a transition.
 pub record IsHeard (r : Router) (m : Letter) (p : StepPlan) : Type 0 where
   pub effect : Effect
   pub row : RouterRow r (letter_input m) effect (router_then r p)
@@ -222,7 +221,7 @@ HasRoomFor n (Shelves count opened) = cursors.HasRoomFor n.cursors opened.namesp
 HasRoomFor n (Advances number shown) = Unit {0}
 HasRoomFor n (Ends numbers) = Unit {0}
 
--- The router may become what was planned, which takes no memory then.
+-- The router may change as planned, which then takes no memory.
 pub record IsReady (n : RouterNode) (p : StepPlan) : Type 0 where
   pub follows : Follows (router_of n) p
   pub room : HasRoomFor n p.change

@@ -1,4 +1,4 @@
-//! What is kept: a life that begins, and blocks of numbers of cursors.
+//! The records of a router: a life that begins, and blocks of numbers of cursors.
 
 use crate::node::RouterNode;
 use bson_values::{Blob, Memory};
@@ -10,7 +10,7 @@ impl RouterNode {
     ghost use Rattle.router_node.specs.RouterStates.{router_of};
     ghost use Rattle.router_node.specs.Rows.{life_kept};
 
-    // The records of a life that begins, if it did not begin. Fails for want of memory.
+    // Returns the records of a life that begins, if it did not begin. Returns `Memory` if memory runs out.
     pub(crate) fn life_records(&self) -> Result<Vec<Blob>, Memory>
         ensures records { IfOk result (λ records. records.items ≡ spellings (life_kept (router_of self.now))) }
         ensures sound { OnOk result (AreSound (life_kept (router_of self.now))) }

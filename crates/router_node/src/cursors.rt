@@ -24,7 +24,8 @@ impl RouterNode {
     ghost use Rattle.router_node.specs.Rows.{started};
     ghost use Rattle.router_node.specs.StepPlans.{IsPlanned};
 
-    // A request for the next batch of a cursor is told it; one that gets no reply leaves the cursor as it is. Fails for want of memory.
+    // Returns the plan to answer with the next batch of a cursor; a request that gets no reply does not change the cursor. Returns `Memory` if memory runs
+    // out.
     fn plan_next(&self, asked: Asked, more: GetMore, shown: Shown) -> Result<StepPlan, Memory>
         requires few { taken_of self.now.requests < 2 ^ 64 - 1 }
         requires plan { rows.plan_of (started (router_of self.now))
@@ -52,7 +53,7 @@ impl RouterNode {
         }
     }
 
-    // A request for the next batch of a cursor that is not open. Fails for want of memory.
+    // Returns the plan for a request of the next batch of a cursor that is not open, or `Memory` if memory runs out.
     fn plan_not_open(&self, asked: Asked, more: GetMore) -> Result<StepPlan, Memory>
         requires few { taken_of self.now.requests < 2 ^ 64 - 1 }
         requires plan { rows.plan_of (started (router_of self.now))
@@ -69,7 +70,7 @@ impl RouterNode {
         self.starts(self.time, self.moment, Change::Counts, mail, reply)
     }
 
-    // A request for the next batch of a cursor. Fails for want of memory.
+    // Returns the plan for a request of the next batch of a cursor, or `Memory` if memory runs out.
     pub(crate) fn plan_more(&self, asked: Asked, more: GetMore) -> Result<StepPlan, Memory>
         requires few { taken_of self.now.requests < 2 ^ 64 - 1 }
         requires plan { rows.plan_of (started (router_of self.now))
@@ -87,7 +88,7 @@ impl RouterNode {
         }
     }
 
-    // A request to close cursors. Fails for want of memory.
+    // Returns the plan for a request to close cursors, or `Memory` if memory runs out.
     pub(crate) fn plan_end(&self, asked: Asked, kill: KillCursors) -> Result<StepPlan, Memory>
         requires few { taken_of self.now.requests < 2 ^ 64 - 1 }
         requires plan { rows.plan_of (started (router_of self.now))

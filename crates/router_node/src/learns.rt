@@ -1,4 +1,4 @@
-//! What is told of tables.
+//! Tables that arrive.
 
 ghost use Rattle.std.specs.Prelude.{◌≡◌, if◌then◌else◌};
 ghost use Rattle.chunk_model.specs.Tables.{is_longer};
@@ -13,7 +13,7 @@ use protocol_model::{Message, TableTold};
 use router_replies::{empty_answer, reply_to};
 use router_requests::{Next, OpenRequest, next_of};
 
-/// The longer of two tables, else the other.
+/// Returns the first of two tables where it is longer, else the other.
 fn longer_of<'a>(table: &'a Table, other: &'a Table) -> &'a Table
     ensures { result.now ≡ (if is_longer table.now other.now then table.now else other.now) }
 {
@@ -41,7 +41,7 @@ impl RouterNode {
     ghost use Rattle.router_node.specs.RouterStates.{router_of};
     ghost use Rattle.router_node.specs.StepPlans.{IsHeard};
 
-    // The table that is known of a collection once what was told is kept.
+    // Returns the table that is known of a collection after one arrived.
     #[tactic(auto, using(crate::proofs::Known::known_own, crate::proofs::Known::known_other))]
     fn known_after<'a>(&'a self, told: &'a TableTold) -> Option<&'a Table>
         ensures { option_map (λ t. t.now) result ≡ table_of told.now.namespace (tables_told told.now self.now.tables.tables) }
@@ -60,7 +60,7 @@ impl RouterNode {
         }
     }
 
-    // What an open request asks for where a table is told, by the one that is known then. Fails for want of memory.
+    // Returns the message that an open request sends after a table arrived, by the one that is then known. Returns `Memory` if memory runs out.
     fn asks_next(
         &self,
         time: Time,
@@ -89,7 +89,7 @@ impl RouterNode {
         }
     }
 
-    // What an open request is told where a table is told, by the one that is known then. Fails for want of memory.
+    // Returns the reply to an open request after a table arrived, by the one that is then known. Returns `Memory` if memory runs out.
     fn reply_next(
         &self,
         time: Time,
@@ -117,7 +117,7 @@ impl RouterNode {
         }
     }
 
-    // Puts what an open request asks for behind other messages. Fails for want of memory.
+    // Appends the message that an open request sends. Returns `Memory` if memory runs out.
     fn add_next(
         &self,
         mail: &mut MailList<Message>,
@@ -136,7 +136,7 @@ impl RouterNode {
         }
     }
 
-    // Puts what an open request is told behind other replies. Fails for want of memory.
+    // Appends the reply to an open request. Returns `Memory` if memory runs out.
     fn add_reply(
         &self,
         replies: &mut ReplyList,
@@ -155,7 +155,7 @@ impl RouterNode {
         }
     }
 
-    // What these open requests ask for where a table is told. Fails for want of memory.
+    // Returns the messages that these open requests send after a table arrived, or `Memory` if memory runs out.
     fn mail_next(
         &self,
         time: Time,
@@ -174,7 +174,7 @@ impl RouterNode {
         Ok(mail)
     }
 
-    // What these open requests are told where a table is told. Fails for want of memory.
+    // Returns the replies to these open requests after a table arrived, or `Memory` if memory runs out.
     #[tactic(auto, using(crate::proofs::Puts::puts_append))]
     fn replies_next(
         &self,
@@ -194,7 +194,7 @@ impl RouterNode {
         Ok(replies)
     }
 
-    // What a table that is told comes to. Fails for want of memory.
+    // Returns the plan for a table that arrives, or `Memory` if memory runs out.
     pub(crate) fn plan_table(&self, time: Time, told: TableTold) -> Result<StepPlan, Memory>
         ensures { (m : Letter) → m.body ≡ table_told_view told → time.0 ≡ rows.heard (router_of self.now) m →
             IfOk result (λ p. IsHeard (router_of self.now) m p) }

@@ -1,4 +1,4 @@
-//! A router: it takes the requests of clients, asks the catalogue and the shards for what they need, and tells them their answers.
+//! A router: it takes the requests of clients, sends requests to the catalogue and the shards, and replies to the clients.
 #![tactic(auto)]
 
 mod begin;

@@ -1,4 +1,4 @@
-//! Messages that steps give out.
+//! Messages that steps send.
 
 ghost use Rattle.std.specs.Prelude.{◌≡◌, map};
 ghost use Rattle.router_requests.specs.Askers.{letters_of};
@@ -8,7 +8,7 @@ use node_traits::MailList;
 use protocol_model::Message;
 use std::alloc::Global;
 
-/// The message, if there is one.
+/// Returns the list of the message, if there is one.
 pub(crate) fn mail_of(alloc: Global, message: Option<Message>) -> MailList<Message>
     ensures { map (λ m. letter_of m) result ≡ letters_of message }
 {

@@ -18,7 +18,7 @@ impl RouterNode {
     ghost use Rattle.router_node.specs.RouterStates.{router_of};
     ghost use Rattle.router_node.specs.Rows.{started};
 
-    // What an open request waits for, asked again. Fails for want of memory.
+    // Returns the message that an open request sends again for what it waits for, if it sends one. Returns `Memory` if memory runs out.
     #[tactic(auto, using(router_requests::proofs::Askers::shards_alike, router_requests::proofs::Askers::table_alike))]
     fn asks_again(&self, time: Time, request: &OpenRequest) -> Result<Option<Message>, Memory>
         ensures { IfOk result (λ m. letters_of m ≡ rows.asks_again (started (router_of self.now)) time.0 (open_view self.now.me.0 self.now.life request.now)) }
@@ -41,7 +41,7 @@ impl RouterNode {
         }
     }
 
-    // Puts what an open request waits for, asked again, behind other messages. Fails for want of memory.
+    // Appends the message that an open request sends again for what it waits for, if it sends one. Returns `Memory` if memory runs out.
     fn add_asked(
         &self,
         mail: &mut MailList<Message>,
@@ -57,7 +57,7 @@ impl RouterNode {
         }
     }
 
-    // What these open requests wait for, asked again. Fails for want of memory.
+    // Returns the messages that these open requests send again for what they wait for, or `Memory` if memory runs out.
     fn ask_each(&self, time: Time, requests: &[OpenRequest]) -> Result<MailList<Message>, Memory>
         ensures { IfOk result (λ mail. map (λ m. letter_of m) mail
             ≡ flat_map (λ q. rows.asks_again (started (router_of self.now)) time.0 q) (map (λ q. open_view self.now.me.0 self.now.life q) requests.now)) }
@@ -69,7 +69,7 @@ impl RouterNode {
         Ok(mail)
     }
 
-    // What all open requests wait for, asked again. Fails for want of memory.
+    // Returns the messages that all open requests send again for what they wait for, or `Memory` if memory runs out.
     pub(crate) fn ask_again(&self, time: Time) -> Result<MailList<Message>, Memory>
         ensures { IfOk result (λ mail. map (λ m. letter_of m) mail ≡ flat_map (λ q. rows.asks_again (started (router_of self.now)) time.0 q)
             (opens_of self.now.me.0 self.now.life self.now.requests)) }

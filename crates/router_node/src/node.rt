@@ -18,7 +18,7 @@ use router_replies::known_in;
 use router_requests::{Asker, OpenList, OpenRead, OpenRequest, Wait, Work, is_enough};
 use std::alloc::Global;
 
-/// What waits by a table, if it is there: for the shards, or else for the table.
+/// Returns what a request waits for, given its table, if there is one: for the shards, or else for the table.
 pub(crate) fn wait_by(table: Option<&Table>) -> Wait
     ensures { wait_view result ≡ rows.wait_by (option_map (λ t. t.now) table.entry) }
 {
@@ -37,7 +37,7 @@ pub struct RouterNode {
     // The life that it is in, or will begin where `begun` is false.
     pub(crate) life: u64,
     pub(crate) begun: bool,
-    // The last moment that it was given.
+    // The last moment that it got.
     pub(crate) moment: u64,
     pub(crate) tables: TableList,
     pub(crate) requests: OpenList,
@@ -58,7 +58,7 @@ impl RouterNode {
     ghost use Rattle.router_requests.specs.Works.{open_view, read_at, wait_view, work_view};
     ghost use Rattle.router_node.specs.RouterStates.{router_of};
 
-    /// The router of this number, before its first step, with nothing kept.
+    /// Returns the router of this number, before its first step, without records.
     pub fn open(alloc: Global, me: NodeId) -> RouterNode
         ensures state { router_of result ≡ new_router me.0 }
         ensures steps { result.steps ≡ 0 }
@@ -77,7 +77,7 @@ impl RouterNode {
         }
     }
 
-    // Itself, as it asks others.
+    // Returns itself, as the sender of requests.
     pub(crate) fn asker(&self) -> Asker
         ensures { asker_view result ≡ asker_view (record { me = self.now.me; life = self.now.life }) }
     {
@@ -87,7 +87,7 @@ impl RouterNode {
         }
     }
 
-    // The open request with this id, where it is open in this life.
+    // Returns the open request with this id, where it is open in this life.
     pub(crate) fn open_of(&self, id: RequestId) -> Option<&OpenRequest>
         ensures { option_map (λ q. open_view self.now.me.0 self.now.life q.now) result ≡ rows.open_of (router_of self.now) (id_view id) }
     {
@@ -98,14 +98,14 @@ impl RouterNode {
         }
     }
 
-    // The table that is known of a collection, if one is.
+    // Returns the table that is known of a collection, if one is.
     pub(crate) fn table_of(&self, namespace: &Namespace) -> Option<&Table>
         ensures { option_map (λ t. t.now) result ≡ table_of namespace.now self.now.tables.tables }
     {
         known_in(&self.tables, namespace)
     }
 
-    // The table by which a read can go on at a time.
+    // Returns the table by which a read can proceed at a time.
     pub(crate) fn table_at(
         &self,
         namespace: &Namespace,
@@ -122,7 +122,7 @@ impl RouterNode {
         }
     }
 
-    // The table that work can go on with.
+    // Returns the table that work can proceed with.
     pub(crate) fn table_for(&self, namespace: &Namespace, work: &Work) -> Option<&Table>
         ensures { (id : asked.RequestId) → option_map (λ t. t.now) result ≡ rows.table_for self.now.tables.tables namespace.now (work_view id work.now) }
     {
@@ -132,7 +132,7 @@ impl RouterNode {
         }
     }
 
-    // Whether work reads at a time that is not reached.
+    // Returns whether work reads at a time that is not reached.
     fn is_ahead(time: Time, work: &Work) -> bool
         ensures { (id : asked.RequestId) → result ≡ rows.is_ahead time.0 (work_view id work.now) }
     {
@@ -142,7 +142,7 @@ impl RouterNode {
         }
     }
 
-    // What work waits for at a time, and what it asks for. Fails for want of memory.
+    // Returns what work waits for at a time, and the message that it sends. Returns `Memory` if memory runs out.
     pub(crate) fn asks_for(
         &self,
         time: Time,

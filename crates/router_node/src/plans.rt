@@ -1,4 +1,4 @@
-//! What requests are answered at once, or have to do.
+//! The plans of requests.
 
 ghost use Rattle.std.specs.Prelude.{◌≡◌, IfOk, Ok, max};
 ghost use Rattle.std.specs.Option.{option_map, unwrap_or};
@@ -24,7 +24,7 @@ use router_replies::{RequestPlan, is_taken, needs_read, plan_write, telling_of};
 use router_requests::{Parts, Telling};
 
 impl RouterNode {
-    // The time of a read that names none: the router's, which must have come to the one that is to be reached.
+    // Returns the time of a read that names none: the router's, or the time to be reached where that is greater.
     fn time_reached(&self, after: Option<Time>) -> Time
         ensures { result.0 ≡ max self.now.time.0 (unwrap_or (option_map (λ t. t.0) after) 0) }
     {
@@ -34,7 +34,7 @@ impl RouterNode {
         }
     }
 
-    // What a read has to do: it is of the time that it names, or else of the router's. Fails for want of memory.
+    // Returns the plan of a read: of the time that it names, or else of the router's. Returns `Memory` if memory runs out.
     fn plan_read(&self, reading: Reading, telling: Telling) -> Result<RequestPlan, Memory>
         ensures { (id : asked.RequestId) → IfOk result (λ plan. plan_view id plan ≡ rows.plan_read (started (router_of self.now)) (reading_view reading)
             (telling_view telling)) }
@@ -55,7 +55,7 @@ impl RouterNode {
         }
     }
 
-    // What a command is answered, or has to do. Fails for want of memory.
+    // Returns the plan of a command, or `Memory` if memory runs out.
     fn plan_command(&self, silent: bool, command: Command) -> Result<RequestPlan, Memory>
         requires { IsSmallCommand (command_view command) }
         ensures { (id : asked.RequestId) → IfOk result (λ plan. plan_view id plan
@@ -81,7 +81,7 @@ impl RouterNode {
         }
     }
 
-    // What a request of this body is answered, or has to do. Fails for want of memory.
+    // Returns the plan of a request with this body, or `Memory` if memory runs out.
     pub(crate) fn plan_of(
         &self,
         sent: Form,
@@ -92,7 +92,7 @@ impl RouterNode {
             ≡ rows.plan_of (started (router_of self.now)) id silent (command_in (form_view sent) (body_of body))) }
     {
         if !is_taken(&body) {
-            // A framer gives no such request.
+            // A framer returns no such request.
             return Err(Memory);
         }
         match Command::take_body(self.alloc, sent, body) {

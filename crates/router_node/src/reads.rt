@@ -1,4 +1,4 @@
-//! What becomes of open reads.
+//! The steps of open reads.
 
 ghost use Rattle.std.specs.Prelude.{◌≡◌, ◌≢◌, ◌≤◌, ◌<◌, true, false};
 
@@ -11,7 +11,7 @@ use protocol_model::{ReadRows, TimeTold};
 use router_replies::{reply_to, time_ahead};
 use router_requests::{OpenRead, OpenRequest, Wait, Work};
 
-/// Whether a turn is the first, which is the only one so far.
+/// Returns whether a turn is the first, which is currently the only one.
 fn is_first(turn: u32) -> bool
     ensures first { result ≡ true → turn ≡ 1 }
     ensures other { result ≡ false → turn ≢ 1 }
@@ -19,7 +19,7 @@ fn is_first(turn: u32) -> bool
     turn == 1
 }
 
-/// Whether a time has come at another.
+/// Returns whether a time is at most another.
 fn has_come(at: Time, time: Time) -> bool
     ensures come { result ≡ true → at.0 ≤ time.0 }
     ensures ahead { result ≡ false → time.0 < at.0 }
@@ -38,7 +38,7 @@ impl RouterNode {
     ghost use Rattle.router_node.specs.RouterStates.{router_of};
     ghost use Rattle.router_node.specs.StepPlans.{IsHeard};
 
-    // What becomes of a read whose rows are told. Fails for want of memory.
+    // Returns the plan for the rows of a read, or `Memory` if memory runs out.
     pub(crate) fn plan_rows(&self, time: Time, told: ReadRows) -> Result<StepPlan, Memory>
         ensures { (m : Letter) → m.body ≡ read_rows_view told → time.0 ≡ rows.heard (router_of self.now) m →
             IfOk result (λ p. IsHeard (router_of self.now) m p) }
@@ -58,7 +58,7 @@ impl RouterNode {
         }
     }
 
-    // An open read of a time that has come goes on, at a time of the router. Fails for want of memory.
+    // Returns the plan with which an open read of a time that is reached proceeds, at a time of the router. Returns `Memory` if memory runs out.
     fn plan_go(
         &self,
         time: Time,
@@ -82,7 +82,7 @@ impl RouterNode {
         Ok(self.hears(time, Change::Reaches(id.count, wait), message, None))
     }
 
-    // An open read of a time that is ahead is refused, at a time of the router. Fails for want of memory.
+    // Returns the plan to refuse an open read of a time that is ahead, at a time of the router. Returns `Memory` if memory runs out.
     fn plan_ahead(
         &self,
         time: Time,
@@ -108,8 +108,8 @@ impl RouterNode {
         Ok(self.hears(time, Change::Closes(request.count), None, reply))
     }
 
-    // What becomes of an open read of a time that waits for it, where every shard told its time, at a time of the router. Fails for want
-    // of memory.
+    // Returns the plan for an open read that waits for its time, after every shard returned its time, at a time of the router. Returns `Memory` if memory
+    // runs out.
     fn plan_reached(
         &self,
         time: Time,
@@ -130,7 +130,7 @@ impl RouterNode {
         }
     }
 
-    // What becomes of a read where every shard told its time, at a time of the router. Fails for want of memory.
+    // Returns the plan for a read after every shard returned its time, at a time of the router. Returns `Memory` if memory runs out.
     pub(crate) fn plan_time(&self, time: Time, told: &TimeTold) -> Result<StepPlan, Memory>
         ensures { (m : Letter) → m.body ≡ time_told_view told.now → time.0 ≡ rows.heard (router_of self.now) m →
             IfOk result (λ p. IsHeard (router_of self.now) m p) }

@@ -1,4 +1,4 @@
-//! What a step comes to, before it is taken.
+//! The plan of a step, before it is taken.
 
 ghost use Rattle.std.specs.Prelude.{◌≡◌};
 ghost use Rattle.node_traits.specs.Lists.{listed};
@@ -15,29 +15,29 @@ use std::alloc::Global;
 use std::collections::VecDeque;
 use std::sync::Arc;
 
-/// What becomes of the open requests and the cursors.
+/// The change of the open requests and the cursors.
 #[derive(Drop)]
 pub(crate) enum Change {
-    /// Nothing.
+    /// No change.
     Stays,
-    /// One more was taken, and is answered at once.
+    /// One more request was taken, and is answered at once.
     Counts,
-    /// One more was taken, and is open.
+    /// One more request was taken, and is open.
     Opens(OpenRequest),
-    /// The one with this count is told its answer.
+    /// The one with this count is answered.
     Closes(u64),
-    /// The read with this count is of the time that is reached, unless one was named, and waits for this.
+    /// The read with this count reads at the time that is reached, unless it named one, and waits for this.
     Reaches(u64, Wait),
     /// The write with this count has these answers, and waits for this.
     Notes(u64, Wait, DoneList),
-    /// Those that wait for the table of this collection go on with it, or are told that nothing is there where it was told for their
-    /// time. A table that was told is kept.
+    /// Those that wait for the table of this collection proceed with it, or get the reply that nothing exists where it was requested for their time. A table
+    /// that arrived is stored.
     Learns(Namespace, At, Option<Arc<Table, Global>>),
-    /// The one with this count is told its first batch, and a cursor has the other documents.
+    /// The one with this count is answered with its first batch, and a cursor has the other documents.
     Shelves(u64, NewCursor),
-    /// One more was taken, and is told so many documents of the cursor of this number.
+    /// One more request was taken, and is answered with this number of documents of the cursor of this number.
     Advances(i64, usize),
-    /// One more was taken, and closes the cursors of these numbers.
+    /// One more request was taken, and closes the cursors of these numbers.
     Ends(Vec<i64>),
 }
 
@@ -49,8 +49,8 @@ pub(crate) struct NewCursor {
     pub(crate) rest: VecDeque<Arc<Document, Global>>,
 }
 
-/// What a step will write and send, and what the router will then be: at which time and moment, in its life or not, and what becomes
-/// of its open requests and tables.
+/// What a step will write, send and reply, and the router after it: at which time and moment, in its life or not, and the change of its open requests and
+/// tables.
 #[derive(Drop)]
 pub(crate) struct StepPlan {
     pub(crate) time: Time,
@@ -62,7 +62,7 @@ pub(crate) struct StepPlan {
     pub(crate) records: Vec<Blob>,
 }
 
-/// The reply, if there is one.
+/// Returns the list of the reply, if there is one.
 fn replies_of(alloc: Global, reply: Option<ToLink>) -> ReplyList
     ensures { result ≡ listed reply }
 {
@@ -83,7 +83,7 @@ impl RouterNode {
     ghost use Rattle.router_node.specs.StepPlans.{Hears, HearsKeeping, Starts};
     ghost use Rattle.router_node.specs.declared.step_plan.Change.TheVariants.{Stays};
 
-    // A plan at a time: this becomes of the router, and these are asked and told. Takes no memory.
+    // Returns a plan at a time with this change, these messages and these replies. Takes no memory.
     pub(crate) fn hears_all(
         &self,
         time: Time,
@@ -104,7 +104,7 @@ impl RouterNode {
         }
     }
 
-    // A plan at a time: this becomes of the router, and this is asked and told. Takes no memory.
+    // Returns a plan at a time with this change, this message and this reply. Takes no memory.
     pub(crate) fn hears(
         &self,
         time: Time,
@@ -127,7 +127,7 @@ impl RouterNode {
         }
     }
 
-    // A plan at a time that keeps these records: this becomes of the router, and this is told. Takes no memory.
+    // Returns a plan at a time with these records, this change and this reply. Takes no memory.
     pub(crate) fn hears_keeping(
         &self,
         time: Time,
@@ -149,7 +149,7 @@ impl RouterNode {
         }
     }
 
-    // Nothing but the time.
+    // Returns a plan that changes only the time.
     pub(crate) fn late(&self, time: Time) -> StepPlan
         ensures { Hears (router_of self.now) time.0 Stays [] [] result }
     {
@@ -164,7 +164,7 @@ impl RouterNode {
         }
     }
 
-    // A plan in whose front the life begins, if it did not begin. Fails for want of memory.
+    // Returns a plan before which the life begins, if it did not begin. Returns `Memory` if memory runs out.
     pub(crate) fn starts(
         &self,
         time: Time,

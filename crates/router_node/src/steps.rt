@@ -1,4 +1,4 @@
-//! What an input comes to, and a step that is taken.
+//! The plan for an input, and a step that is taken.
 
 use crate::node::RouterNode;
 use crate::step_plan::{Change, StepPlan};
@@ -19,7 +19,7 @@ impl RouterNode {
     ghost use Rattle.router_node.specs.RouterStates.{router_of};
     ghost use Rattle.router_node.specs.StepPlans.{HasRoomFor, IsHeard, IsPlanned, IsReady, router_then};
 
-    // What a message to it comes to, at the time that it brings. Fails for want of memory.
+    // Returns the plan for a message to this router, at the time that it carries. Returns `Memory` if memory runs out.
     fn plan_body(&self, time: Time, body: Body) -> Result<StepPlan, Memory>
         ensures { (m : Letter) → m.body ≡ body_view body → time.0 ≡ rows.heard (router_of self.now) m → IfOk result (λ p. IsHeard (router_of self.now) m p) }
     {
@@ -37,7 +37,7 @@ impl RouterNode {
         }
     }
 
-    // What a message comes to. Fails for want of memory.
+    // Returns the plan for a message, or `Memory` if memory runs out.
     fn plan_message(&self, message: Message) -> Result<StepPlan, Memory>
         ensures { IfOk result (λ p. IsPlanned (router_of self.now) (letter_input (letter_of message)) p) }
     {
@@ -47,7 +47,7 @@ impl RouterNode {
         self.plan_body(self.time.max(message.time), message.body)
     }
 
-    // What a moment comes to. Fails for want of memory.
+    // Returns the plan for a moment, or `Memory` if memory runs out.
     fn plan_moment(&self, moment: u64) -> Result<StepPlan, Memory>
         ensures { IfOk result (λ p. IsPlanned (router_of self.now) (moment_input moment) p) }
     {
@@ -56,7 +56,7 @@ impl RouterNode {
         self.starts(time, moment, Change::Stays, mail, None)
     }
 
-    // What it comes to that the router was opened. Fails for want of memory.
+    // Returns the plan for the opening of the router, or `Memory` if memory runs out.
     fn plan_opened(&self) -> Result<StepPlan, Memory>
         ensures { IfOk result (λ p. IsPlanned (router_of self.now) opened_input p) }
     {
@@ -64,7 +64,7 @@ impl RouterNode {
         self.starts(self.time, self.moment, Change::Stays, mail, None)
     }
 
-    // What an input comes to. Fails for want of memory.
+    // Returns the plan for an input, or `Memory` if memory runs out.
     fn plan_input(&self, input: Input) -> Result<StepPlan, Memory>
         ensures { IfOk result (λ p. IsPlanned (router_of self.now) (input_of input) p) }
     {
@@ -80,7 +80,7 @@ impl RouterNode {
         }
     }
 
-    // Makes room for what was planned. Fails for want of memory. The router is the same either way.
+    // Reserves room for what was planned. Returns `Memory` if memory runs out. The router is the same either way.
     fn make_room(&mut self, change: &Change) -> Result<(), Memory>
         ensures room { OnOk result (HasRoomFor self.new change.now) }
         ensures same { router_of self.new ≡ router_of self.old }
@@ -102,7 +102,7 @@ impl RouterNode {
         Ok(())
     }
 
-    // What an input comes to, with room for it. Else nothing changes. Fails for want of memory.
+    // Returns the plan for an input, with room for it; nothing else changes. Returns `Memory` if memory runs out.
     pub(crate) fn plan(&mut self, input: Input) -> Result<StepPlan, Memory>
         ensures planned { IfOk result (λ p. StepPlanned (router_state (router_of self.old)) (input_of input) (map letter_of p.mail) p.replies p.records.items
             (router_state (router_then (router_of self.old) p))) }

@@ -12,7 +12,7 @@ impl RouterNode {
     ghost use Rattle.router_node.specs.RouterStates.{router_of};
     ghost use Rattle.router_node.specs.StepPlans.{FollowsBy, HasRoomFor, IsReady, changed, router_then};
 
-    // Is at that time and moment, in its life or not, and changed as planned. Takes no memory.
+    // Sets the time and the moment, and whether the life began, and makes the planned change. Takes no memory.
     fn change(&mut self, time: Time, moment: u64, begun: bool, change: Change)
         requires follows { FollowsBy (router_of self.old) begun change }
         requires room { HasRoomFor self.old change }
@@ -52,7 +52,7 @@ impl RouterNode {
         }
     }
 
-    // Becomes what was planned, and gives out its messages and replies. Takes no memory.
+    // Changes the router as planned, and returns its messages and replies. Takes no memory.
     pub(crate) fn take(&mut self, plan: StepPlan) -> Outputs<Message>
         requires ready { IsReady self.old plan }
         ensures state { router_of self.new ≡ router_then (router_of self.old) plan }

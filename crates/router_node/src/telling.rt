@@ -1,4 +1,4 @@
-//! What reads are told.
+//! Answers to reads.
 
 use crate::node::RouterNode;
 use crate::step_plan::{Change, NewCursor, StepPlan};
@@ -38,7 +38,7 @@ impl RouterNode {
     ghost use Rattle.router_node.specs.StepPlans.{IsHeard};
     ghost use Rattle.router_node.specs.Tellings.{MayTell, MayTellOf};
 
-    // An open read is told this, at a time of the router, and opens no cursor. Fails for want of memory.
+    // Returns the plan to answer an open read, at a time of the router, without a cursor. Returns `Memory` if memory runs out.
     fn plan_answer(
         &self,
         time: Time,
@@ -59,8 +59,8 @@ impl RouterNode {
         Ok(self.hears(time, Change::Closes(request.count), None, reply))
     }
 
-    // An open read is told a first batch, at a time of the router, and a cursor has the other documents. Fails for want of memory, and
-    // where the numbers of cursors are at their end.
+    // Returns the plan to answer an open read with a first batch, at a time of the router, where a cursor has the other documents. Returns `Memory` if memory
+    // runs out, and where the numbers of cursors are exhausted.
     fn plan_cursor(
         &self,
         time: Time,
@@ -97,8 +97,8 @@ impl RouterNode {
         Ok(self.hears_keeping(time, change, reply, records))
     }
 
-    // An open read is told its first batch, at a time of the router. Fails for want of memory, and where the numbers of cursors are at
-    // their end.
+    // Returns the plan to answer an open read with its first batch, at a time of the router. Returns `Memory` if memory runs out, and where the numbers of
+    // cursors are exhausted.
     fn plan_batch(
         &self,
         time: Time,
@@ -121,8 +121,8 @@ impl RouterNode {
         }
     }
 
-    // An open read is told the number of its documents, at a time of the router. Fails for want of memory, and where its stages are not
-    // those of a count.
+    // Returns the plan to answer an open read with the number of its documents, at a time of the router. Returns `Memory` if memory runs out, and where its
+    // stages are not those of a count.
     fn plan_number(
         &self,
         time: Time,
@@ -144,7 +144,7 @@ impl RouterNode {
         }
     }
 
-    // An open read has these documents, at a time of the router. Fails for want of memory.
+    // Returns the plan to answer an open read with these documents, at a time of the router. Returns `Memory` if memory runs out.
     fn plan_documents(
         &self,
         time: Time,
@@ -166,8 +166,8 @@ impl RouterNode {
         }
     }
 
-    // An open read would show so many bytes, which is too much, at a time of the router. Fails for want of memory, and where they are more
-    // than 64 bits count.
+    // Returns the plan to refuse an open read whose result has this number of bytes, at a time of the router. Returns `Memory` if memory runs out, and where
+    // the number does not fit into 64 bits.
     fn plan_excess(&self, time: Time, request: &OpenRequest, bytes: u64) -> Result<StepPlan, Memory>
         ensures { (m : Letter) (at : ℕ) (telling : states.Telling) (documents : List Fields) → time.0 ≡ rows.heard (router_of self.now) m →
             option_map capped (excess_of_answer documents) ≡ Some bytes →
@@ -180,7 +180,7 @@ impl RouterNode {
         self.plan_answer(time, request, &excess_answer(bytes))
     }
 
-    // The rows of an open read came, at a time of the router. Fails for want of memory.
+    // Returns the plan for the rows of an open read, at a time of the router. Returns `Memory` if memory runs out.
     fn plan_merged(
         &self,
         time: Time,
@@ -203,7 +203,7 @@ impl RouterNode {
         }
     }
 
-    // An open read has no rows, at a time of the router. Fails for want of memory.
+    // Returns the plan for an open read without rows, at a time of the router. Returns `Memory` if memory runs out.
     fn plan_fault(
         &self,
         time: Time,
@@ -221,7 +221,7 @@ impl RouterNode {
         }
     }
 
-    // What becomes of an open read that is told its rows, or why there are none, at a time of the router. Fails for want of memory.
+    // Returns the plan for an open read whose rows arrived, or the reason that there are none, at a time of the router. Returns `Memory` if memory runs out.
     pub(crate) fn plan_told(
         &self,
         time: Time,

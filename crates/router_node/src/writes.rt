@@ -1,4 +1,4 @@
-//! What writes are told.
+//! Answers to writes.
 
 ghost use Rattle.std.specs.Prelude.{◌≡◌, ◌≢◌, Option, length, map, true, false, IfOk};
 ghost use Rattle.command_replies.specs.AnswerMeanings.{answer_view};
@@ -21,7 +21,7 @@ use router_requests::{OpenRequest, Work};
 use router_writes::{answer_of, is_answered, note};
 use std::alloc::Global;
 
-/// Whether answers are as many as there were.
+/// Returns whether there are as many answers as before.
 fn are_as_many(before: &DoneList, answers: &DoneList) -> bool
     ensures same { result ≡ true → length before.now.items ≡ length answers.now.items }
     ensures other { result ≡ false → length before.now.items ≢ length answers.now.items }
@@ -29,14 +29,14 @@ fn are_as_many(before: &DoneList, answers: &DoneList) -> bool
     before.len() == answers.len()
 }
 
-/// The answers with those that are told next. Fails for want of memory.
+/// Returns the answers with those of the next outcomes that are new. Returns `Memory` if memory runs out.
 fn with_told(alloc: Global, answers: &DoneList, dones: &DoneList) -> Result<DoneList, Memory>
     ensures { IfOk result (λ list. map done_view list.items ≡ rows.noted (map done_view answers.now.items) (map done_view dones.now.items)) }
 {
     note(alloc, answers, dones)
 }
 
-/// Whether all statements are answered, or the last answer ends the command.
+/// Returns whether all statements are answered, or the last answer ends the command.
 fn is_all(ordered: bool, statements: &StatementList, answers: &DoneList) -> bool
     ensures { (given : Option writes.ClientNumber) (id : asked.RequestId) → result
         ≡ rows.is_answered ordered (map (λ s. statement_view given id s) statements.now.items) (map done_view answers.now.items) }
@@ -44,8 +44,8 @@ fn is_all(ordered: bool, statements: &StatementList, answers: &DoneList) -> bool
     is_answered(ordered, statements, answers)
 }
 
-/// What the statements of a write of this kind are told together, where this is the time unless an entry answered. Fails for want of memory,
-/// and where that is longer than can be told.
+/// Returns the joint answer of the statements of a write of this kind, with this time where there is no entry. Returns `Memory` if memory runs out, and where
+/// the answer is longer than allowed.
 fn answer_to(
     alloc: Global,
     kind: WriteKind,
@@ -74,7 +74,7 @@ impl RouterNode {
     ghost use Rattle.router_node.specs.RouterStates.{router_of};
     ghost use Rattle.router_node.specs.StepPlans.{IsHeard};
 
-    // All statements of a write are answered. Fails for want of memory.
+    // Returns the plan where all statements of a write are answered, or `Memory` if memory runs out.
     fn plan_all(
         &self,
         time: Time,
@@ -100,7 +100,8 @@ impl RouterNode {
         Ok(self.hears(time, Change::Closes(request.count), None, reply))
     }
 
-    // What an open write asks for by its table, if it is there, with these answers. Fails for want of memory.
+    // Returns what an open write waits for and the message that it sends, by its table, if there is one, with these answers. Returns `Memory` if memory runs
+    // out.
     fn asks_more(
         &self,
         time: Time,
@@ -126,7 +127,7 @@ impl RouterNode {
         )
     }
 
-    // Some statements of a write are answered, and the next are asked for. Fails for want of memory.
+    // Returns the plan where some statements of a write are answered, and the next are sent. Returns `Memory` if memory runs out.
     fn plan_rest(
         &self,
         time: Time,
@@ -152,7 +153,7 @@ impl RouterNode {
         Ok(self.hears(time, Change::Notes(id.count, wait, noted), message, None))
     }
 
-    // Some statements of a write are answered, or all. Fails for want of memory.
+    // Returns the plan where some statements of a write are answered, or all. Returns `Memory` if memory runs out.
     fn plan_noted(
         &self,
         time: Time,
@@ -177,7 +178,7 @@ impl RouterNode {
         }
     }
 
-    // What becomes of a write whose outcomes are told, at a time of the router. Fails for want of memory.
+    // Returns the plan for the outcomes of a write, at a time of the router. Returns `Memory` if memory runs out.
     pub(crate) fn plan_dones(&self, time: Time, told: &WriteDone) -> Result<StepPlan, Memory>
         ensures { (m : letters.Letter) → m.body ≡ write_done_view told.now → time.0 ≡ rows.heard (router_of self.now) m →
             IfOk result (λ p. IsHeard (router_of self.now) m p) }

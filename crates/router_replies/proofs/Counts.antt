@@ -1,4 +1,4 @@
--- Counts of documents, as documents tell them.
+-- Counts of documents, as documents.
 use Rattle.std.proofs.Common.{◌≡◌, refl, ap, ◌∙◌, ℕ, zero, suc, ℤ, ◌<◌, ◌≤◌, ◌^◌, List, [], ◌∷◌, Bool, true, false, arith, if◌then◌else◌}
 use Rattle.std.specs.Prelude.{codes, pos}
 use Rattle.std.proofs.lemmas.Bool.{lt-ltb, le-ltb}

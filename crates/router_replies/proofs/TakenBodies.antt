@@ -1,4 +1,4 @@
--- The bodies of requests of the program that say something of the definitions, and are small.
+-- The bodies of the program's requests that are bodies of the definitions, and small.
 use Rattle.std.proofs.Common.{◌≡◌, refl, ap, ◌∙◌, sym, subst, ℕ, suc, ◌+◌, ◌<◌, ◌≤◌, List, [], ◌∷◌, drop, length, get_or, true, false, add-one, drop-cons}
 use Rattle.std.specs.Prelude.{is_some, pos, Option, Some, Result, Ok}
 use Rattle.bson_model.specs.Faults.{short_fault, length_fault, type_fault, string_fault, boolean_fault, depth_fault, trailing_fault}
@@ -31,7 +31,7 @@ fault_view (Deep offset) e = (depth_fault, offset, refl, refl)
 fault_view (Trailing offset) e = (trailing_fault, offset, refl, refl)
 fault_view Memory e = absurd (cc e)
 
--- the offset of a fault that stands inside a message
+-- the offset of a fault within a message
 fault_small : (fault : BsonFault) (offset : ℕ) → fault_offset fault ≡ Some offset → offset ≤ most_bytes → IsSmallBody (faulty_body_of fault)
 fault_small (Short place) offset e inside = let same : place ≡ offset = cc in rw same inside
 fault_small (BadLength place) offset e inside = let same : place ≡ offset = cc in rw same inside
@@ -55,12 +55,12 @@ module _ (body : Body) where
         small = fault_small fault inside.0 inside.1 inside.2;
       })
 
--- what a small request asks for is small
+-- the command of a small request is small
 pub taken_small : (sent : wire.Form) (body : Body) (command : Command) → IsTakenBody body → command_in sent (body_of body) ≡ Ok command → IsSmallCommand command
 taken_small sent body command taken told =
     subst (λ (r : Result Command Refusal). IsTaken r) told (command_taken (record { id = pos 0; more = false; form = sent; body = body_of body; bytes = [] }) taken.small)
 
--- sequences, from one on
+-- sequences, from an index on
 pub sequences_on : (sequences : List Sequence) (i : ℕ) (s : Sequence) → i < length sequences → s ≡ get_or sequences i s → AreSmall s.documents
     → AreSmallSequences (pairs_of (drop (i + 1) sequences)) → AreSmallSequences (pairs_of (drop i sequences))
 sequences_on sequences i s inside here small rest =

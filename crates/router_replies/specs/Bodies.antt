@@ -1,4 +1,4 @@
--- Bodies that are as small as a message has them.
+-- Bodies that are as small as those of a message.
 use Rattle.std.specs.Prelude.{ℕ, List}
 use Rattle.std.specs.List.{AllByRecursion}
 use Rattle.opmsg_model.specs.MessageSizes.{IsSmall, IsSmallBody}

@@ -1,4 +1,4 @@
--- What a request that comes is answered, or has to do.
+-- The answer to a request that arrives, or the work that it needs.
 use Rattle.reply_model.specs.Exchanges as asked
 use Rattle.node_model.specs.RouterRows as rows
 use Rattle.node_model.specs.RouterRows.{at_once, needs, needs_batch, needs_end}

@@ -1,4 +1,4 @@
-//! Batches of documents that are told.
+//! Answers with batches of documents.
 
 ghost use Rattle.std.specs.Prelude.{◌≡◌, ◌≤◌, ◌^◌, ◌⊎◌, [], pos, IfOk, map, true, false, if◌then◌else◌};
 ghost use Rattle.std.specs.Arc.{arc_value};
@@ -22,7 +22,7 @@ use std::sync::Arc;
 /// Documents that are shared, in order.
 pub type DocumentList = Vec<Arc<Document, Global>>;
 
-/// What is told of a collection that is not there at a time. Fails for want of memory.
+/// Returns the answer for a collection that does not exist at a time, or `Memory` if memory runs out.
 pub fn empty_answer(
     alloc: Global,
     namespace: &Namespace,
@@ -43,8 +43,8 @@ pub fn empty_answer(
     }
 }
 
-/// A first batch of documents of a namespace, which were read at a time; the number is that of the cursor with the others. Fails for want
-/// of memory.
+/// Returns the answer with a first batch of documents of a namespace, which were read at a time; the number is that of the cursor with the others. Returns
+/// `Memory` if memory runs out.
 pub fn batch_answer(
     namespace: &Namespace,
     number: u64,
@@ -63,7 +63,7 @@ pub fn batch_answer(
     }))
 }
 
-/// Whether a first batch is told without a cursor: no other batch is asked for, or none remain.
+/// Returns whether a first batch is returned without a cursor: no other batch is requested, or no document remains.
 pub fn is_only(single: bool, batch: &FirstBatch) -> bool
     ensures only { result ≡ true → (map arc_value batch.now.rest.items ≡ []) ⊎ (single ≡ true) }
     ensures other { result ≡ false → (is_left (map arc_value batch.now.rest.items) ≡ true) × (single ≡ false) }
@@ -71,14 +71,14 @@ pub fn is_only(single: bool, batch: &FirstBatch) -> bool
     single || batch.rest.is_empty()
 }
 
-/// The number of a cursor that is told with a batch: 0 with the last one.
+/// Returns the number of a cursor that is shown with a batch: 0 with the last one.
 fn number_told(last: bool, number: i64) -> i64
     ensures { result ≡ (if last then pos 0 else number) }
 {
     if last { 0 } else { number }
 }
 
-/// The next batch of the cursor of that number.
+/// Returns the answer with the next batch of the cursor of that number.
 pub fn next_answer(more: GetMore, shown: Shown) -> Answer
     ensures { answer_view result ≡ model.next_answer (batch_of more.cursor more.namespace shown) }
 {

@@ -1,4 +1,4 @@
-//! Bodies of requests, as a framer gives them.
+//! Bodies of requests, as a framer returns them.
 
 ghost use Rattle.std.specs.Prelude.{◌≡◌, ◌≤◌, ℕ, IsTrue, Some};
 ghost use Rattle.bson_values.specs.ReadFaults.{fault_offset};
@@ -10,23 +10,23 @@ ghost use Rattle.router_replies.specs.Bodies.{AreSmallSequences, IsTakenBody};
 use bson_values::{BsonFault, Document};
 use opmsg_frames::{Body, Sequence};
 
-/// The most levels that a document has which is kept.
+/// The greatest number of levels of a document that is stored.
 const MOST_LEVELS: usize = 100;
 
-/// The most bytes that a document has which is read.
+/// The greatest number of bytes of a document that is read.
 const MOST_BYTES: usize = 240_000_000;
 
-/// The most bytes of a message.
+/// The greatest number of bytes of a message.
 const MOST_MESSAGE_BYTES: usize = 48_000_000;
 
-/// Whether a document is as small as those that are read.
+/// Returns whether a document is as small as those that are read.
 fn is_small(document: &Document) -> bool
     ensures { IsTrue result → IsSmall document.now }
 {
     document.levels() <= MOST_LEVELS && document.size() <= MOST_BYTES
 }
 
-/// Tells that the documents of sequences are as small as those that are read: each list says it of its own.
+/// Shows that the documents of sequences are as small as those that are read: each list guarantees it for its own.
 #[tactic(auto, using(crate::proofs::TakenBodies::sequences_on))]
 fn are_small_sequences(sequences: &[Sequence])
     ensures { AreSmallSequences (pairs_of sequences.now) }
@@ -36,7 +36,7 @@ fn are_small_sequences(sequences: &[Sequence])
     }
 }
 
-/// Whether a fault stands where it can in a message.
+/// Returns whether the offset of a fault is within the longest message.
 fn is_inside(fault: &BsonFault) -> bool
     ensures { IsTrue result → (offset : ℕ) × (fault_offset fault.now ≡ Some offset) × (offset ≤ most_bytes) }
 {
@@ -46,7 +46,7 @@ fn is_inside(fault: &BsonFault) -> bool
     }
 }
 
-/// Whether the body of a request is one of the definitions, no larger than a message has it. All are that a framer gives.
+/// Returns whether the body of a request is one of the definitions, no larger than that of a message. All bodies from a framer are.
 #[tactic(auto, using(crate::proofs::TakenBodies::read_taken, crate::proofs::TakenBodies::faulty_taken))]
 pub fn is_taken(body: &Body) -> bool
     ensures { IsTrue result → IsTakenBody body.now }

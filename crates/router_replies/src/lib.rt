@@ -1,4 +1,4 @@
-//! What the requests of a router's clients have to do, what they are told, and what is kept of it.
+//! The plans of clients' requests at a router, their answers, and the records that a router writes.
 #![tactic(auto)]
 
 mod batches;

@@ -1,4 +1,4 @@
-//! The number that a count tells.
+//! The number that a count returns.
 
 ghost use Rattle.std.specs.Prelude.{◌≡◌, ◌<◌, ◌≤◌, ◌^◌, ◌∷◌, [], pos, codes, IfSome, map};
 ghost use Rattle.std.specs.Arc.{arc_value};
@@ -9,7 +9,7 @@ ghost use Rattle.pipeline_model.specs.Groups.{count_value};
 use crate::batches::DocumentList;
 use bson_values::{Document, Value};
 
-/// The number that an int32 is, from 1 on.
+/// Returns the number that an int32 is, from 1 on.
 fn short_number(n: i32) -> Option<u64>
     ensures is { IfSome result (λ k. n ≡ pos k) }
     ensures some { IfSome result (λ k. 0 < k) }
@@ -18,7 +18,7 @@ fn short_number(n: i32) -> Option<u64>
     if n > 0 { Some(n as u64) } else { None }
 }
 
-/// The number that an int64 is which is no int32, from 1 on.
+/// Returns the number that an int64 outside int32 is, from 1 on.
 fn long_number(n: i64) -> Option<u64>
     ensures is { IfSome result (λ k. n ≡ pos k) }
     ensures great { IfSome result (λ k. 2 ^ 31 ≤ k) }
@@ -27,7 +27,7 @@ fn long_number(n: i64) -> Option<u64>
     if n >= 1 << 31 { Some(n as u64) } else { None }
 }
 
-/// The number that a value is as a count of documents: from 1 on, and an int64 only where an int32 is too small.
+/// Returns the number that a value is as a count of documents: from 1 on, and an int64 only where an int32 is too small.
 #[tactic(auto, using(crate::proofs::Counts::count_short, crate::proofs::Counts::count_long))]
 fn number_in(value: &Value) -> Option<u64>
     ensures is { IfSome result (λ n. datum_of value.now ≡ count_value n) }
@@ -41,7 +41,7 @@ fn number_in(value: &Value) -> Option<u64>
     }
 }
 
-/// The number that a document tells, if that is all that it has.
+/// Returns the number in a document, if that is its only field.
 fn number_told(document: &Document) -> Option<u64>
     ensures is { IfSome result (λ n. document.now ∷ [] ≡ count_documents (codes "n") n) }
     ensures small { IfSome result (λ n. n < 2 ^ 63) }
@@ -56,7 +56,8 @@ fn number_told(document: &Document) -> Option<u64>
     }
 }
 
-/// The number that the stages of a count tell: 0 by no document, or by one. None where they are not such.
+/// Returns the number that the stages of a count result in: 0 for no document, or that of one document. Returns none where they are not the stages of a
+/// count.
 pub fn count_told(documents: &DocumentList) -> Option<u64>
     ensures is { IfSome result (λ n. map arc_value documents.now.items ≡ count_documents (codes "n") n) }
     ensures small { IfSome result (λ n. n < 2 ^ 63) }

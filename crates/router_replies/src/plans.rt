@@ -1,4 +1,4 @@
-//! What a request is answered at once, or has to do.
+//! The answer to a request, or the work that it needs.
 
 ghost use Rattle.std.specs.Prelude.{◌≡◌, ◌||◌, [], IfOk, map};
 ghost use Rattle.std.specs.Option.{unwrap_or};
@@ -22,21 +22,21 @@ use protocol_model::DoneList;
 use router_requests::{OpenRead, Parts, Telling, Work};
 use std::alloc::Global;
 
-/// How many documents a first batch has at most where no size is given (MongoDB manual, "Cursor Batches").
+/// The greatest size of a first batch where no size is given (MongoDB manual, "Cursor Batches").
 const USUAL_SIZE: u64 = 101;
 
-/// What a request is answered at once, or has to do.
+/// The answer to a request, or the work that it needs.
 #[derive(Drop)]
 pub enum RequestPlan {
     AtOnce(Answer),
     Needs { namespace: Namespace, work: Work },
-    /// The next batch of a cursor.
+    /// It needs the next batch of a cursor.
     NeedsBatch(GetMore),
-    /// That cursors are closed.
+    /// It needs cursors to be closed.
     NeedsEnd(KillCursors),
 }
 
-/// What a write has to do. Fails for want of memory.
+/// Returns the plan of a write, or `Memory` if memory runs out.
 pub fn plan_write(alloc: Global, write: WriteCommand) -> Result<RequestPlan, Memory>
     requires { IsSmallWrite (write_view write) }
     ensures { (id : asked.RequestId) → IfOk result (λ plan. plan_view id plan
@@ -61,7 +61,7 @@ pub fn plan_write(alloc: Global, write: WriteCommand) -> Result<RequestPlan, Mem
     Ok(RequestPlan::Needs { namespace, work })
 }
 
-/// What a read has to do, of a time that was named or not.
+/// Returns the plan of a read, of a time that was named or not.
 pub fn needs_read(
     namespace: Namespace,
     named: bool,
@@ -83,7 +83,7 @@ pub fn needs_read(
     }
 }
 
-/// How a find is told: in batches, and only the first where no reply is wanted.
+/// Returns how a find is answered: in batches, and only with the first where no reply is requested.
 pub fn telling_of(batches: &Batches, silent: bool) -> Telling
     ensures { telling_view result ≡ states.in_batches (unwrap_or batches.now.size usual_size) (batches.now.single || silent) }
 {

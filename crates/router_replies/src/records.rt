@@ -9,7 +9,7 @@ use bson_values::{Blob, Memory};
 use shard_records::{Record, write_record};
 use std::alloc::Global;
 
-/// The record of a life. Fails for want of memory.
+/// Returns the record of a life, or `Memory` if memory runs out.
 pub fn life_record(alloc: Global, life: u64) -> Result<Blob, Memory>
     ensures record { IfOk result (λ bytes. bytes ∷ [] ≡ spellings (kept_life life ∷ [])) }
     ensures sound { OnOk result (AreSound (kept_life life ∷ [])) }
@@ -19,7 +19,7 @@ pub fn life_record(alloc: Global, life: u64) -> Result<Blob, Memory>
     Blob::of(alloc, &bytes)
 }
 
-/// The record of a block of numbers. Fails for want of memory.
+/// Returns the record of a block of numbers, or `Memory` if memory runs out.
 fn block_record(alloc: Global, block: u64) -> Result<Blob, Memory>
     ensures record { IfOk result (λ bytes. bytes ∷ [] ≡ spellings (kept_block block ∷ [])) }
     ensures sound { OnOk result (AreSound (kept_block block ∷ [])) }
@@ -29,7 +29,7 @@ fn block_record(alloc: Global, block: u64) -> Result<Blob, Memory>
     Blob::of(alloc, &bytes)
 }
 
-/// The records of a block of numbers of cursors, if one is begun. Fails for want of memory.
+/// Returns the records of a block of numbers of cursors, if a new one is needed. Returns `Memory` if memory runs out.
 pub fn block_records(alloc: Global, block: Option<u64>) -> Result<Vec<Blob>, Memory>
     ensures records { IfOk result (λ records. records.items ≡ spellings (block_kept block)) }
     ensures sound { OnOk result (AreSound (block_kept block)) }

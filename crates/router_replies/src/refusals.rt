@@ -11,7 +11,7 @@ ghost use Rattle.node_model.specs.RouterRows as rows;
 use cluster_base::{Code, Time};
 use command_replies::{Answer, Evidence, Refusal};
 
-/// The refusal of a time that is ahead of the router's (MongoDB manual, "Read Concern").
+/// Returns the refusal of a time that is ahead of the router's (MongoDB manual, "Read Concern").
 pub fn time_ahead(greatest: Time) -> Refusal
     ensures { refusal_view result ≡ refusals.time_ahead greatest.0 }
 {
@@ -21,7 +21,7 @@ pub fn time_ahead(greatest: Time) -> Refusal
     }
 }
 
-/// The refusal of a read of which a sum is outside int64.
+/// Returns the refusal of a read with a sum outside int64.
 fn sum_too_great() -> Refusal
     ensures { refusal_view result ≡ refusals.without_evidence overflow }
 {
@@ -31,7 +31,7 @@ fn sum_too_great() -> Refusal
     }
 }
 
-/// The refusal of a read that would show so many bytes.
+/// Returns the refusal of a read whose result has this number of bytes.
 fn too_much(bytes: u64) -> Refusal
     ensures { refusal_view result ≡ rows.too_much bytes }
 {
@@ -41,7 +41,7 @@ fn too_much(bytes: u64) -> Refusal
     }
 }
 
-/// The refusal of a cursor that is not open (MongoDB manual, "getMore").
+/// Returns the refusal of a cursor that is not open (MongoDB manual, "getMore").
 pub fn not_open(cursor: i64) -> Refusal
     ensures { refusal_view result ≡ record { error = cursor_not_found; evidence = refusals.cursor_evidence cursor } }
 {
@@ -51,14 +51,14 @@ pub fn not_open(cursor: i64) -> Refusal
     }
 }
 
-/// A read of which a sum is outside int64 is told so.
+/// Returns the answer to a read with a sum outside int64.
 pub fn overflow_answer() -> Answer
     ensures { answer_view result ≡ model.refusal_answer (refusals.without_evidence overflow) }
 {
     Answer::Refused(sum_too_great())
 }
 
-/// A read that would show so many bytes is told so.
+/// Returns the answer to a read whose result has this number of bytes.
 pub fn excess_answer(bytes: u64) -> Answer
     ensures { answer_view result ≡ model.refusal_answer (rows.too_much bytes) }
 {

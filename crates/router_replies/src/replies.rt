@@ -17,13 +17,13 @@ use opmsg_frames::write_reply;
 use protocol_model::Head;
 use std::alloc::Global;
 
-/// The most levels that a document has which is written.
+/// The greatest number of levels of a document that is written.
 const MOST_LEVELS: usize = 104;
 
-/// The most bytes that a document has which is written.
+/// The greatest number of bytes of a document that is written.
 const MOST_BYTES: usize = 300_000_000;
 
-/// The bytes of the reply of this number to a request. Fails for want of memory, and where the answer is larger than one may be.
+/// Returns the bytes of the reply with this number to a request. Returns `Memory` if memory runs out, and where the answer is larger than allowed.
 fn bytes_of(alloc: Global, head: &Head, number: i32, answer: &Answer) -> Result<Blob, Memory>
     ensures { IfOk result (λ bytes. bytes ≡ wire.reply_bytes (form_view head.now.form) head.now.id number (answer_document (answer_view answer.now))) }
 {
@@ -36,8 +36,8 @@ fn bytes_of(alloc: Global, head: &Head, number: i32, answer: &Answer) -> Result<
     Blob::of(alloc, &bytes)
 }
 
-/// The reply of this number to a request, for its link: none where none is wanted. Fails for want of memory, and where the answer is
-/// larger than one may be.
+/// Returns the reply with this number to a request, for its link, or none where none is requested. Returns `Memory` if memory runs out, and where the answer
+/// is larger than allowed.
 pub fn reply_to(
     alloc: Global,
     link: u32,

@@ -1,4 +1,4 @@
-//! The statements of a write, from the words of its client.
+//! The statements of a write, from the operands that its client sent.
 
 ghost use Rattle.std.specs.Prelude.{◌≡◌, IfOk, Option, map};
 ghost use Rattle.std.specs.List.{AllByRecursion};
@@ -15,7 +15,7 @@ use protocol_model::{NewChange, NewDocument, Operation, Statement, StatementList
 use std::alloc::Global;
 use value_compare::OpWords;
 
-/// The operation of these words, whose documents are moved. Fails for want of memory.
+/// Returns the operation of these operands, whose documents are moved. Returns `Memory` if memory runs out.
 fn operation_of(alloc: Global, words: OpWords) -> Result<Operation, Memory>
     requires { IsKeepable (operation_view words) }
     ensures { IfOk result (λ operation. protocol.operation_view operation ≡ operation_view words) }
@@ -26,8 +26,8 @@ fn operation_of(alloc: Global, words: OpWords) -> Result<Operation, Memory>
     }
 }
 
-/// The statements of these operations, numbered from 0 on. Fails for want of memory, and where they are more than 32 bits count, which no
-/// command reaches.
+/// Returns the statements of these operations, numbered from 0. Returns `Memory` if memory runs out, and where their number exceeds 32 bits, which no command
+/// reaches.
 pub(crate) fn statements_of(
     alloc: Global,
     operations: Vec<OpWords>,

@@ -1,4 +1,4 @@
-//! Tables that are told, and kept.
+//! Tables that arrive, and are stored.
 
 ghost use Rattle.std.specs.Prelude.{◌≡◌, ◌≤◌, ℕ, IfSome};
 ghost use Rattle.std.specs.Arc.{arc_value};
@@ -19,7 +19,7 @@ use router_requests::OpenList;
 use std::alloc::Global;
 use std::sync::Arc;
 
-/// The table that is known of a collection, if one is.
+/// Returns the table that is known of a collection, if one is.
 pub fn known_in<'a>(tables: &'a TableList, namespace: &Namespace) -> Option<&'a Table>
     ensures { option_map (λ t. t.now) result ≡ table_of namespace.now tables.now.tables }
 {
@@ -29,7 +29,7 @@ pub fn known_in<'a>(tables: &'a TableList, namespace: &Namespace) -> Option<&'a 
     }
 }
 
-/// Keeps the table that was told, if one was. Takes no memory.
+/// Stores the table that arrived, if there is one. Takes no memory.
 fn adopt_told(tables: &mut TableList, told: Option<Arc<Table, Global>>)
     requires { IfSome told (λ t. 1 ≤ tables.old.room) }
     ensures { tables.new.tables ≡ adopted (option_map (λ t. arc_value t) told) tables.old.tables }
@@ -40,7 +40,7 @@ fn adopt_told(tables: &mut TableList, told: Option<Arc<Table, Global>>)
     }
 }
 
-/// A table was told for a time: it is kept, and what waited for it goes on. Takes no memory.
+/// A table arrived for a time: it is stored, and the requests that waited for it proceed. Takes no memory.
 pub fn learn(
     tables: &mut TableList,
     requests: &mut OpenList,

@@ -1,4 +1,4 @@
--- Whether a write is answered hangs on how many statements it has.
+-- Whether a write is answered depends on the number of its statements.
 use Rattle.std.proofs.lemmas.List.{append_assoc}
 use Rattle.std.proofs.Common.{◌≡◌, refl, ap, sym, ◌∙◌, ℕ, suc, ◌-◌, List, [], ◌∷◌, ◌++◌, drop, map, length, get_or, Bool, true, if◌then◌else◌, ◌+◌, ◌<◌, add-one, drop-cons, arith}
 use Rattle.std.proofs.Math.Dec.{eqb-suc-zero}
@@ -40,7 +40,7 @@ pub keys_pushed : (keys : List Upserted) (u : Upserted) → upserted_view (keys 
 keys_pushed [] u = refl
 keys_pushed (k ∷ keys) u = ap (λ l. key_view k ∷ l) (keys_pushed keys u)
 
--- the errors and the keys of a list are those of its first and of the others
+-- the errors and the keys of a list are those of its first outcome and of the others
 pub errors_both : (d : Done) (rest : List Done) → errors_of (d ∷ rest) ≡ errors_of (d ∷ []) ++ errors_of rest
 errors_both d rest = by_error (refusal_in d.answer) where
   by_error : (told : Option Refusal) → (elim told as (λ (o : Option Refusal). List writes.WriteError) [ None ↦ errors_of rest | Some r ↦ record { index = d.index; refusal = r } ∷ errors_of rest ])
@@ -66,7 +66,7 @@ pub key_told : (d : Done) (upserted : Option Datum) → upserted ≡ (outcome_in
 key_told d upserted is =
     ap (λ (upserted : Option Datum). elim upserted as (λ (o : Option Datum). List writes.Upserted) [ None ↦ [] | Some k ↦ record { index = d.index; key = k } ∷ [] ]) (sym is)
 
--- one more statement is told, of a list that each adds its own to
+-- one more outcome, of a list that maps each outcome
 pub goes_on : {X : Type 0} (of : List Done → List X) → ((d : Done) (rest : List Done) → of (d ∷ rest) ≡ of (d ∷ []) ++ of rest)
     → (dones : List program.Done) (i : ℕ) (d : program.Done) (told new whole : List X) → i < length dones → d ≡ get_or dones i d
     → new ≡ told ++ of (done_view d ∷ []) → told ++ of (map done_view (drop i dones)) ≡ whole → new ++ of (map done_view (drop (i + 1) dones)) ≡ whole
@@ -78,7 +78,7 @@ goes_on {X} of both dones i d told new whole inside here more inv =
     ∙ ap (λ (l : List program.Done). told ++ of (map done_view l)) (sym cut)
     ∙ inv
 
--- the length of the keys from one on
+-- the length of the keys from an index on
 pub length_on : (keys : List Upserted) (i : ℕ) (u : Upserted) → i < length keys → u ≡ get_or keys i u
     → keys_length (upserted_view (drop i keys)) ≡ length (written_value (arc_value u.key)) + keys_length (upserted_view (drop (i + 1) keys))
 length_on keys i u inside here =

@@ -1,9 +1,9 @@
--- Outcomes are news exactly where the answers become more.
+-- Outcomes are new exactly where there are more answers with them.
 use Rattle.std.proofs.Common.{◌≡◌, ◌≢◌, ap, sym, ◌∙◌, List, [], ◌∷◌, ◌++◌, length, Bool, true, false, ◌==◌, if◌then◌else◌, append-nil, append_assoc, length-append, arith}
 use Rattle.reply_model.specs.Outcomes.{Done}
 use Rattle.node_model.specs.RouterRows.{noted}
 
--- the answers stand first
+-- the answers are a prefix
 noted_more : (answers dones : List Done) → (more : List Done) × (noted answers dones ≡ answers ++ more)
 noted_more answers [] = ([], sym (append-nil answers))
 noted_more answers (d ∷ dones) = by_next (d.index == length answers) (noted_more (answers ++ d ∷ []) dones) (noted_more answers dones) where

@@ -1,4 +1,4 @@
--- The greatest time of entries is that of those so far and of those behind.
+-- The greatest time of entries is the greatest of those visited and of those left.
 use Rattle.std.proofs.Common.{◌≡◌, refl, ap, ℕ, List, ◌∷◌, max, arith}
 use Rattle.std.specs.Prelude.{Option, Some, None}
 use Rattle.std.specs.Option.{option_map, unwrap_or}
@@ -6,7 +6,7 @@ use Rattle.cluster_base.specs.declared.time.Time.{Time}
 use Rattle.reply_model.specs.Outcomes.{Done, StatementOutcome, was_done, was_refused, later, time_of}
 use Rattle.router_writes.specs.Counts.{greatest}
 
--- the greatest of both, as far as they are there
+-- the greatest of both, where they exist
 abbrev pub latest : Option ℕ → Option ℕ → Option ℕ
 latest None behind = behind
 latest (Some time) behind = Some (later time behind)
@@ -25,7 +25,7 @@ by_answer None behind (was_done next outcome) = refl
 by_answer (Some time) behind (was_done next outcome) = ap (λ (t : ℕ). Some t) (later_swapped time next behind)
 by_answer time behind (was_refused refusal) = refl
 
--- one more is told
+-- one more outcome
 pub latest_goes_on : (time : Option ℕ) (d : Done) (dones : List Done) → latest time (time_of (d ∷ dones)) ≡ latest (greatest time d.answer) (time_of dones)
 latest_goes_on time d dones = by_answer time (time_of dones) d.answer
 

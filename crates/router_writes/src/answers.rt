@@ -1,4 +1,4 @@
-//! What writes are told.
+//! Answers to writes.
 
 ghost use Rattle.std.specs.Prelude.{◌≡◌, ◌+◌, IfOk, Option, map};
 ghost use Rattle.std.specs.Option.{option_map};
@@ -20,7 +20,7 @@ use command_replies::{Answer, WriteKind};
 use protocol_model::{Done, DoneList, Statement, StatementOutcome};
 use std::alloc::Global;
 
-/// The same once more. Fails for want of memory.
+/// Returns copies of the outcomes, or `Memory` if memory runs out.
 fn copies_of(alloc: Global, dones: &[Done]) -> Result<DoneList, Memory>
     ensures { IfOk result (λ list. map done_view list.items ≡ map done_view dones.now) }
 {
@@ -31,7 +31,7 @@ fn copies_of(alloc: Global, dones: &[Done]) -> Result<DoneList, Memory>
     Ok(copies)
 }
 
-/// The answers with those that are told next, in the order of the statements. Fails for want of memory.
+/// Returns the answers with those of the next outcomes that are new, in the order of the statements. Returns `Memory` if memory runs out.
 pub fn note(alloc: Global, answers: &[Done], dones: &[Done]) -> Result<DoneList, Memory>
     ensures { IfOk result (λ list. map done_view list.items ≡ rows.noted (map done_view answers.now) (map done_view dones.now)) }
 {
@@ -44,14 +44,14 @@ pub fn note(alloc: Global, answers: &[Done], dones: &[Done]) -> Result<DoneList,
     Ok(noted)
 }
 
-/// Whether a statement ends its command: it is told an error, and the command is ordered.
+/// Returns whether a statement ends its command: it has an error, and the command is ordered.
 fn ends(ordered: bool, done: &Done) -> bool
     ensures { result ≡ right.ends ordered (done_view done.now) }
 {
     ordered && done.answer.fails()
 }
 
-/// Whether so many statements are answered, or the last answer ends the command.
+/// Returns whether `count` statements are answered, or the last answer ends the command.
 fn are_all(ordered: bool, count: usize, answers: &[Done]) -> bool
     ensures { result ≡ counts.are_all ordered count (map done_view answers.now) }
 {
@@ -65,7 +65,7 @@ fn are_all(ordered: bool, count: usize, answers: &[Done]) -> bool
     left == 0
 }
 
-/// Whether all statements are answered, or the last answer ends the command.
+/// Returns whether all statements are answered, or the last answer ends the command.
 #[tactic(auto, using(crate::proofs::Counted::answered_by_count))]
 pub fn is_answered(ordered: bool, statements: &[Statement], answers: &[Done]) -> bool
     ensures { (given : Option ClientNumber) (id : asked.RequestId) → result
@@ -74,7 +74,7 @@ pub fn is_answered(ordered: bool, statements: &[Statement], answers: &[Done]) ->
     are_all(ordered, statements.len(), answers)
 }
 
-/// The sum of two counts. Fails where that is above 32 bits, which no command reaches.
+/// Returns the sum of two counts, or `Memory` where that exceeds 32 bits, which no command reaches.
 fn plus(sum: u32, more: u32) -> Result<u32, Memory>
     ensures { IfOk result (λ whole. whole ≡ sum + more) }
 {
@@ -84,7 +84,7 @@ fn plus(sum: u32, more: u32) -> Result<u32, Memory>
     }
 }
 
-/// How many documents a statement put in, met or took out.
+/// Returns how many documents a statement inserted, matched or deleted.
 fn count_of(answer: &StatementOutcome) -> u32
     ensures { result ≡ (outcomes.outcome_in (told.answer_view answer.now)).count }
 {
@@ -94,7 +94,7 @@ fn count_of(answer: &StatementOutcome) -> u32
     }
 }
 
-/// How many documents a statement changed.
+/// Returns how many documents a statement changed.
 fn changed_by(answer: &StatementOutcome) -> u32
     ensures { result ≡ (outcomes.outcome_in (told.answer_view answer.now)).modified }
 {
@@ -104,7 +104,7 @@ fn changed_by(answer: &StatementOutcome) -> u32
     }
 }
 
-/// How many documents were put in, met or taken out. Fails where that is above 32 bits, which no command reaches.
+/// Returns how many documents were inserted, matched or deleted, or `Memory` where that exceeds 32 bits, which no command reaches.
 fn sum_of(dones: &[Done]) -> Result<u32, Memory>
     ensures { IfOk result (λ sum. sum ≡ outcomes.sum_of (map done_view dones.now)) }
 {
@@ -115,7 +115,7 @@ fn sum_of(dones: &[Done]) -> Result<u32, Memory>
     Ok(sum)
 }
 
-/// How many documents were changed. Fails where that is above 32 bits, which no command reaches.
+/// Returns how many documents were changed, or `Memory` where that exceeds 32 bits, which no command reaches.
 fn modified_by(dones: &[Done]) -> Result<u32, Memory>
     ensures { IfOk result (λ sum. sum ≡ outcomes.modified_by (map done_view dones.now)) }
 {
@@ -126,7 +126,7 @@ fn modified_by(dones: &[Done]) -> Result<u32, Memory>
     Ok(sum)
 }
 
-/// The greatest of the times of these entries, if there are some, and of the one that is told next, if one is.
+/// Returns the greatest of a time, if there is one, and of the time of an outcome's entry, if it has one.
 fn greatest(time: Option<Time>, answer: &StatementOutcome) -> Option<Time>
     ensures { option_map (λ t. t.0) result ≡ counts.greatest (option_map (λ t. t.0) time) (told.answer_view answer.now) }
 {
@@ -139,7 +139,7 @@ fn greatest(time: Option<Time>, answer: &StatementOutcome) -> Option<Time>
     }
 }
 
-/// The greatest time of the entries that answered, if any did.
+/// Returns the greatest time of the entries, if there are any.
 #[tactic(auto, using(crate::proofs::Times::latest_goes_on, crate::proofs::Times::latest_of_all))]
 fn time_of(dones: &[Done]) -> Option<Time>
     ensures { option_map (λ t. t.0) result ≡ outcomes.time_of (map done_view dones.now) }
@@ -151,8 +151,8 @@ fn time_of(dones: &[Done]) -> Option<Time>
     time
 }
 
-/// What the statements of a write of this kind are told together, where this is the time unless an entry answered. Fails for want of
-/// memory, and where they are more than a command can have, or their keys longer than can be told.
+/// Returns the joint answer of the statements of a write of this kind, with this time where there is no entry. Returns `Memory` if memory runs out, and where
+/// there are more statements than a command can have, or their keys are longer than an answer can have.
 #[tactic(auto, using(crate::proofs::Times::time_told))]
 pub fn answer_of(
     alloc: Global,

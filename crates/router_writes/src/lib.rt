@@ -1,4 +1,4 @@
-//! What the statements of a write are told together.
+//! The joint answer of the statements of a write.
 #![tactic(auto)]
 
 mod answers;

@@ -1,4 +1,4 @@
-//! The keys and the errors that statements are told.
+//! The keys and the errors in the answer to a write.
 
 ghost use Rattle.std.specs.Prelude.{◌≡◌, ◌≤◌, ◌++◌, ◌∷◌, [], IfOk, IsTrue, OnOk, map};
 ghost use Rattle.std.specs.Arc.{arc_value};
@@ -19,10 +19,10 @@ use std::alloc::Global;
 use std::sync::Arc;
 use value_compare::Key;
 
-/// The most bytes of the keys that the statements of one command put in.
+/// The greatest number of bytes of the keys that the statements of one command upsert.
 const MOST_BYTES_UPSERTED: usize = 250_000_000;
 
-/// The index of a statement that was done. Fails where it is none that a command can have.
+/// Returns the index of a statement that was answered, or `Memory` where no command can have it.
 fn index_of(done: &Done) -> Result<StatementIndex, Memory>
     ensures { IfOk result (λ index. index ≡ done.now.index) }
 {
@@ -32,7 +32,7 @@ fn index_of(done: &Done) -> Result<StatementIndex, Memory>
     }
 }
 
-/// The key that a statement put in, if it was an upsert that did.
+/// Returns the key that a statement upserted, if it did.
 fn key_of(answer: &StatementOutcome) -> Option<&Arc<Key, Global>>
     ensures { option_map (λ k. arc_value k.now) result ≡ (outcomes.outcome_in (answer_view answer.now)).upserted }
 {
@@ -42,8 +42,7 @@ fn key_of(answer: &StatementOutcome) -> Option<&Arc<Key, Global>>
     }
 }
 
-/// Puts the key that a statement put in, if it was an upsert that did, behind the others. Fails for want of memory, and where its index
-/// is none that a command can have.
+/// Appends the key that a statement upserted, if it did. Returns `Memory` if memory runs out, and where no command can have its index.
 #[tactic(auto, using(crate::proofs::Counted::keys_pushed, crate::proofs::Counted::key_told))]
 fn add_key(keys: &mut Vec<Upserted>, done: &Done) -> Result<(), Memory>
     ensures { OnOk result (upserted_view keys.new.items ≡ upserted_view keys.old.items ++ outcomes.upserted_by (done_view done.now ∷ [])) }
@@ -57,7 +56,7 @@ fn add_key(keys: &mut Vec<Upserted>, done: &Done) -> Result<(), Memory>
     Ok(())
 }
 
-/// The keys that upserts put in, in order; they are shared. Fails for want of memory, and where an index is none that a command can have.
+/// Returns the upserted keys, in order; they are shared. Returns `Memory` if memory runs out, and where no command can have an index.
 fn keys_of(alloc: Global, dones: &[Done]) -> Result<Vec<Upserted>, Memory>
     ensures { IfOk result (λ keys. upserted_view keys.items ≡ outcomes.upserted_by (map done_view dones.now)) }
 {
@@ -68,7 +67,7 @@ fn keys_of(alloc: Global, dones: &[Done]) -> Result<Vec<Upserted>, Memory>
     Ok(keys)
 }
 
-/// Whether keys are short enough to be told together.
+/// Returns whether keys are short enough for one answer.
 #[tactic(auto, using(crate::proofs::Counted::length_on))]
 fn are_short(keys: &[Upserted]) -> bool
     ensures { IsTrue result → keys_length (upserted_view keys.now) ≤ most_bytes_upserted }
@@ -84,8 +83,8 @@ fn are_short(keys: &[Upserted]) -> bool
     true
 }
 
-/// The keys that upserts put in, in order; they are shared. Fails for want of memory, where an index is none that a command can have, and
-/// where the keys are longer together than can be told.
+/// Returns the upserted keys, in order; they are shared. Returns `Memory` if memory runs out, where no command can have an index, and where the keys are
+/// together longer than an answer can have.
 pub(crate) fn upserted_by(alloc: Global, dones: &[Done]) -> Result<Vec<Upserted>, Memory>
     ensures keys { IfOk result (λ keys. upserted_view keys.items ≡ outcomes.upserted_by (map done_view dones.now)) }
     ensures short { IfOk result (λ keys. keys_length (upserted_view keys.items) ≤ most_bytes_upserted) }
@@ -98,7 +97,7 @@ pub(crate) fn upserted_by(alloc: Global, dones: &[Done]) -> Result<Vec<Upserted>
     }
 }
 
-/// The error that a statement is told, if it is told one, with its evidence.
+/// Returns the error of a statement, if it has one, with its evidence.
 fn refusal_of(answer: &StatementOutcome) -> Option<Refusal>
     ensures { option_map refusal_view result ≡ outcomes.refusal_in (answer_view answer.now) }
 {
@@ -117,8 +116,7 @@ fn refusal_of(answer: &StatementOutcome) -> Option<Refusal>
     }
 }
 
-/// Puts the error that a statement is told, if it is told one, behind the others. Fails for want of memory, and where its index is
-/// none that a command can have.
+/// Appends the error of a statement, if it has one. Returns `Memory` if memory runs out, and where no command can have its index.
 #[tactic(auto, using(crate::proofs::Counted::errors_pushed, crate::proofs::Counted::error_told))]
 fn add_error(errors: &mut Vec<WriteError>, done: &Done) -> Result<(), Memory>
     ensures { OnOk result (errors_view errors.new.items ≡ errors_view errors.old.items ++ outcomes.errors_of (done_view done.now ∷ [])) }
@@ -131,7 +129,7 @@ fn add_error(errors: &mut Vec<WriteError>, done: &Done) -> Result<(), Memory>
     Ok(())
 }
 
-/// The errors, in order. Fails for want of memory, and where an index is none that a command can have.
+/// Returns the errors, in order. Returns `Memory` if memory runs out, and where no command can have an index.
 pub(crate) fn errors_of(alloc: Global, dones: &[Done]) -> Result<Vec<WriteError>, Memory>
     ensures { IfOk result (λ errors. errors_view errors.items ≡ outcomes.errors_of (map done_view dones.now)) }
 {

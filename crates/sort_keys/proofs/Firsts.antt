@@ -1,4 +1,4 @@
--- The first part of a list, found a part at a time.
+-- The least part of a list, found one part at a time.
 use Rattle.std.proofs.Common.{◌≡◌, ℕ, ◌<◌, ◌+◌, List, [], ◌∷◌, ◌++◌, length, get_or, drop, refl, sym, ap, ◌∙◌, Ordering, arith, ne_eqb}
 use Rattle.std.specs.Prelude.{Bool, true, false, ◌==◌, Option, Some, None, map, flat_map, unwrap_or, if◌then◌else◌}
 use Rattle.std.specs.Ordering.{is_lt}
@@ -35,7 +35,7 @@ module _ (R : KeyPart → KeyPart → Ordering) where
   first_part_is [] = refl
   first_part_is (p ∷ ps) = first_from_is p (value_part null_value) ps
 
-  -- of the values at a path, and then null where there is a gap
+  -- for the values at a path, and then null where there is a gap
   pub first_found : (best gapped : Option KeyPart) (values wanted : List Datum) (gap has : Bool) → best ≡ best_of R None (flat_map parts_of_value values) →
       values ≡ wanted → gapped ≡ best_of R best (null_if gap) → gap ≡ has →
       unwrap_or gapped (value_part null_value) ≡ first_part R (flat_map parts_of_value wanted ++ null_if has)
@@ -46,7 +46,7 @@ module _ (R : KeyPart → KeyPart → Ordering) where
       ∙ ap (λ (x : List Datum). first_part R (flat_map parts_of_value x ++ null_if gap)) same
       ∙ ap (λ (b : Bool). first_part R (flat_map parts_of_value wanted ++ null_if b)) is
 
-  -- one element more
+  -- one more element
   pub with_element : (best now whole : Option KeyPart) (vs : List Value) (i : ℕ) (v : Value) → i < length vs → v ≡ get_or vs i v →
       now ≡ best_of R best (value_part (datum_of v) ∷ []) →
       best_of R best (map value_part (elements (items_of (drop i vs)))) ≡ whole →
@@ -57,7 +57,7 @@ module _ (R : KeyPart → KeyPart → Ordering) where
       ∙ ap (λ (x : List Value). best_of R best (map value_part (elements (items_of x)))) (sym (next_one vs i v less is))
       ∙ so_far
 
-  -- one value more
+  -- one more value
   pub with_one_value : (best now whole : Option KeyPart) (vs : List (Bor Value)) (i : ℕ) (v : Bor Value) → i < length vs → v ≡ get_or vs i v →
       now ≡ best_of R best (parts_of_value (datum_of v.now)) →
       best_of R best (flat_map parts_of_value (seen (drop i vs))) ≡ whole → best_of R now (flat_map parts_of_value (seen (drop (i + 1) vs))) ≡ whole

@@ -1,4 +1,4 @@
--- How specifications and keys are told from others: a direction by a number, a part by a number and its value.
+-- A code that determines a specification or a key: a direction is a number, a part is a number and its value.
 use Rattle.std.specs.Prelude.{◌≡◌, ℕ, List, refl, ◌==◌, if◌then◌else◌}
 use Rattle.std.specs.Coded.{Coded, code_by, coded_list, coded×, coded_ℕ}
 use Rattle.bson_model.specs.Tree.{Datum, null_value}

@@ -1,4 +1,4 @@
--- The path and direction that one field of a sort is.
+-- The path and direction that one field of a sort reads as.
 use Rattle.std.specs.Prelude.{ℕ, List, Result, Ok}
 use Rattle.bson_model.specs.Tree.{Datum}
 use Rattle.query_model.specs.Queries.{QueryFault}

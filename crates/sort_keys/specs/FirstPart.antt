@@ -1,4 +1,4 @@
--- The first part of a list, with what came first before it.
+-- The first part of a list, given the first of the parts before it.
 use Rattle.std.specs.Prelude.{List, [], ◌∷◌, Option, Some, None, if◌then◌else◌}
 use Rattle.std.specs.declared.cmp.Ordering.{Ordering}
 use Rattle.std.specs.Ordering.{is_lt}

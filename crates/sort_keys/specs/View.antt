@@ -1,4 +1,4 @@
--- What specifications and keys of the program are as plain data.
+-- Specifications and keys of the program as plain data.
 use Rattle.std.specs.Prelude.{List, map, Option, option_map}
 use Rattle.bson_values.specs.View.{datum_of}
 use Rattle.pipeline_model.specs.SortKeys as model
@@ -28,7 +28,7 @@ part_of (kept.Value v) = value_part (datum_of v)
 abbrev pub parts_of : List KeyPart → List model.KeyPart
 parts_of parts = map part_of parts
 
--- a part that is lent
+-- a borrowed part
 abbrev pub part_seen : Part → model.KeyPart
 part_seen lent.EmptyArray = empty_array
 part_seen (lent.Value v) = value_part (datum_of v.now)

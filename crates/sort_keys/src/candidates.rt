@@ -1,4 +1,4 @@
-//! The part that comes first of all that a document has at a path.
+//! The part that comes first of all parts that a document has at a path.
 
 ghost use Rattle.std.specs.Prelude.{◌≡◌, ◌∷◌, [], IfOk, None, Some, flat_map, map, unwrap_or};
 ghost use Rattle.bson_model.specs.Tree.{null_value};
@@ -16,7 +16,7 @@ use field_paths::{gap_at, values_at};
 use std::alloc::Global;
 use std::cmp::Ordering;
 
-// The first of what came first so far, if anything, and one part more.
+// Returns the first of the best part found, if any, and one more part.
 fn with_part<'a>(direction: Direction, best: Option<Part<'a>>, part: Part<'a>) -> Part<'a>
     ensures { Some (part_seen result) ≡ best_of (directed (direction_of direction) order_parts) (best_seen best.entry) (part_seen part.entry ∷ []) }
 {
@@ -29,7 +29,7 @@ fn with_part<'a>(direction: Direction, best: Option<Part<'a>>, part: Part<'a>) -
     }
 }
 
-// The same with the values of an array.
+// The same with the elements of an array.
 fn with_elements<'a>(
     direction: Direction,
     start: Option<Part<'a>>,
@@ -82,7 +82,7 @@ fn with_gap<'a>(
     }
 }
 
-// A part of its own: null where there is none.
+// Returns an owned copy of the part, or null where there is none.
 fn kept(best: Option<Part<'_>>) -> Result<KeyPart, Memory>
     ensures { IfOk result (λ p. part_of p ≡ unwrap_or (best_seen best.entry) (value_part null_value)) }
 {
@@ -93,7 +93,7 @@ fn kept(best: Option<Part<'_>>) -> Result<KeyPart, Memory>
     }
 }
 
-// The part that comes first among the values.
+// Returns the part that comes first among the values.
 fn first_among<'a>(direction: Direction, values: &[&'a Value]) -> Option<Part<'a>>
     ensures { best_seen result ≡ best_of (directed (direction_of direction) order_parts) None (flat_map parts_of_value (seen values.now)) }
 {
@@ -104,8 +104,8 @@ fn first_among<'a>(direction: Direction, values: &[&'a Value]) -> Option<Part<'a
     best
 }
 
-/// What a document sorts by at one path: the first in its direction of the values there, each array replaced by its elements, and of
-/// null where there is a gap; null where there is nothing. Fails for want of memory.
+/// Returns the part of the sort key for one path: the first in its direction of the values at the path, where each array is replaced by its elements, and of
+/// null where there is a gap; null where there is no value. Returns `Memory` if memory runs out.
 pub fn key_part(alloc: Global, field: &SortField, document: &Document) -> Result<KeyPart, Memory>
     ensures { IfOk result (λ p. part_of p ≡ key_part (field_of field.now) document.now) }
 {

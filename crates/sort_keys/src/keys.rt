@@ -1,4 +1,4 @@
-//! Sort keys: what a document sorts by at each path of a specification, and their order.
+//! Sort keys: a part for each path of a specification, and their order.
 
 ghost use Rattle.std.specs.Prelude.{◌≡◌, IfOk, if◌then◌else◌};
 ghost use Rattle.std.specs.declared.cmp.Ordering.TheVariants.{Equal, Less};
@@ -12,7 +12,7 @@ use std::alloc::Global;
 use std::cmp::Ordering;
 use std::marker::Model;
 
-/// The sort key of a document, to be kept beside it: a part for each path, in order. It lends nothing of the document.
+/// The sort key of a document, to be stored with it: a part for each path, in order. It borrows nothing from the document.
 #[derive(Drop)]
 pub struct SortKey {
     parts: Vec<KeyPart>,
@@ -31,7 +31,7 @@ impl Model for SortKey {
     ghost view = { λ k. parts_of k.parts.items };
 }
 
-/// The key of a document: of each path what comes first there in its direction. Fails for want of memory.
+/// Returns the key of a document: for each path the part that comes first in its direction. Returns `Memory` if memory runs out.
 pub fn sort_key(alloc: Global, spec: &SortSpec, document: &Document) -> Result<SortKey, Memory>
     ensures { IfOk result (λ k. k ≡ sort_key spec.now document.now) }
 {
@@ -43,8 +43,8 @@ pub fn sort_key(alloc: Global, spec: &SortSpec, document: &Document) -> Result<S
     Ok(SortKey { parts })
 }
 
-/// Which of two keys comes first: path by path, each in its direction. Keys of the specification have as many parts as it has paths; of
-/// others the shorter is less. Takes no memory.
+/// Compares two keys: path by path, each in its direction. Keys of the specification have as many parts as it has paths; of others the shorter is less. Takes
+/// no memory.
 pub fn compare_keys(spec: &SortSpec, a: &SortKey, b: &SortKey) -> Ordering
     ensures { result ≡ order_keys spec.now a.now b.now }
 {
@@ -65,7 +65,7 @@ pub fn compare_keys(spec: &SortSpec, a: &SortKey, b: &SortKey) -> Ordering
     Ordering::Equal
 }
 
-// A key that ends, against another that may go on.
+// Compares a key that has ended with another that may have more parts.
 fn end_order(goes_on: bool) -> Ordering
     ensures { result ≡ (if goes_on then Less else Equal) }
 {

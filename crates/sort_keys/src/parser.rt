@@ -12,10 +12,10 @@ use field_paths::{ParseFault, Path, parse_path};
 use std::alloc::Global;
 use std::marker::Model;
 
-/// The most fields that a specification has.
+/// The greatest number of fields of a specification.
 pub const MOST_FIELDS: usize = 32;
 
-/// Which way a sort goes.
+/// The direction of a sort.
 #[derive(Clone, Copy, PartialEq, Eq)]
 pub enum Direction {
     Ascending,
@@ -29,7 +29,7 @@ pub struct SortField {
     pub direction: Direction,
 }
 
-/// What documents are sorted by, seen as paths with their directions, the first of which decides first.
+/// What documents are sorted by, seen as paths with their directions, in order of precedence.
 #[derive(Drop)]
 pub struct SortSpec {
     pub(crate) fields: Vec<SortField>,
@@ -48,7 +48,7 @@ impl Model for SortSpec {
     ghost view = { λ s. sort_fields_of s.fields.items };
 }
 
-// The direction that a value is: upwards for the whole number 1, downwards for -1.
+// Returns the direction that a value is: ascending for the whole number 1, descending for -1.
 fn parse_direction(value: &Value) -> Result<Direction, ParseFault>
     ensures gives { Gives direction_of result (read_direction (datum_of value.now)) }
 {
@@ -64,7 +64,7 @@ fn parse_direction(value: &Value) -> Result<Direction, ParseFault>
     }
 }
 
-// The path and direction that a field is.
+// Returns the path and direction that a field is.
 fn parse_field(alloc: Global, field: &Field) -> Result<SortField, ParseFault>
     ensures gives { Gives field_of result (read_sort_field field.now.name (datum_of field.now.value)) }
 {
@@ -73,7 +73,7 @@ fn parse_field(alloc: Global, field: &Field) -> Result<SortField, ParseFault>
     Ok(SortField { path, direction })
 }
 
-// The paths and directions that the fields of a document are.
+// Returns the paths and directions that the fields of a document are.
 fn parse_fields(alloc: Global, document: &Document) -> Result<Vec<SortField>, ParseFault>
     ensures gives { Gives (λ fields. sort_fields_of fields.items) result (read_sort_fields document.now) }
 {
@@ -86,14 +86,13 @@ fn parse_fields(alloc: Global, document: &Document) -> Result<Vec<SortField>, Pa
 }
 
 impl SortSpec {
-    /// The specification that a document is. Fails where it is none: with `BadOperand` where it has more than 32 fields, else with
-    /// the first fault of the fields in order, of each first its path (`Path`) and then its direction (`BadOperand`). Fails with
-    /// `Memory` for want of memory.
+    /// Returns the specification that a document is. Where it is none, returns `BadOperand` if it has more than 32 fields, else the first fault of the fields
+    /// in order, of each first its path (`Path`) and then its direction (`BadOperand`). Returns `Memory` if memory runs out.
     #[tactic(auto, using(crate::proofs::FieldsRead::too_many, crate::proofs::FieldsRead::few_enough))]
     pub fn parse(alloc: Global, document: &Document) -> Result<SortSpec, ParseFault>
-        // A specification is what the document reads as.
+        // A specification is what the definitions read from the document.
         ensures spec { IfOk result (λ s. read_sort document.now ≡ Ok s) }
-        // A fault is the first, unless memory ran out.
+        // A fault is the first, unless memory runs out.
         ensures fault { IfErr result (λ e. Fails e (read_sort document.now)) }
     {
         if document.len() > MOST_FIELDS {

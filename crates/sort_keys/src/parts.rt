@@ -1,4 +1,4 @@
-//! What a document sorts by at one path, and the order of that.
+//! The part of a sort key for one path, and the order of parts.
 
 ghost use Rattle.std.specs.Prelude.{◌≡◌};
 ghost use Rattle.pipeline_model.specs.SortKeys.{directed, order_parts, part_rank, part_value};
@@ -10,7 +10,7 @@ use bson_values::Value;
 use std::cmp::Ordering;
 use value_compare::compare;
 
-/// What a document sorts by at one path.
+/// The part of a sort key for one path.
 #[derive(Drop)]
 pub enum KeyPart {
     /// The mark of an empty array, above MinKey and below all other values.
@@ -18,7 +18,7 @@ pub enum KeyPart {
     Value(Value),
 }
 
-/// The same in a document.
+/// The same, borrowed from a document.
 #[derive(Clone, Copy)]
 pub enum Part<'a> {
     EmptyArray,
@@ -26,7 +26,7 @@ pub enum Part<'a> {
 }
 
 impl KeyPart {
-    // The same, lent.
+    // The same, borrowed.
     pub(crate) fn as_part(&self) -> Part<'_>
         ensures { part_seen result ≡ part_of self.now }
     {
@@ -37,7 +37,7 @@ impl KeyPart {
     }
 }
 
-// MinKey, the mark, all other values.
+// The rank of MinKey, the mark, and all other values.
 fn rank(part: Part<'_>) -> u8
     ensures { result ≡ part_rank (part_seen part.entry) }
 {
@@ -47,7 +47,7 @@ fn rank(part: Part<'_>) -> u8
     }
 }
 
-// Two parts of one rank.
+// Compares two parts of one rank.
 fn compare_within(a: Part<'_>, b: Part<'_>) -> Ordering
     requires { part_rank (part_seen a) ≡ part_rank (part_seen b) }
     ensures { result ≡ order (part_value (part_seen a.entry)) (part_value (part_seen b.entry)) }
@@ -58,7 +58,7 @@ fn compare_within(a: Part<'_>, b: Part<'_>) -> Ordering
     }
 }
 
-// Which of two parts is less.
+// Compares two parts.
 fn compare_parts(a: Part<'_>, b: Part<'_>) -> Ordering
     ensures { result ≡ order_parts (part_seen a.entry) (part_seen b.entry) }
 {
@@ -68,7 +68,7 @@ fn compare_parts(a: Part<'_>, b: Part<'_>) -> Ordering
     }
 }
 
-/// Which of two parts comes first in a direction.
+/// Compares two parts in a direction.
 pub fn compare_directed(direction: Direction, a: Part<'_>, b: Part<'_>) -> Ordering
     ensures { result ≡ directed (direction_of direction) order_parts (part_seen a.entry) (part_seen b.entry) }
 {

@@ -1,4 +1,4 @@
-//! Answers against their documents, spelled by hand: those that no short connection gets.
+//! Answers and their documents, encoded by hand: those that occur on no short connection.
 
 use bson_values::{Aligned, Document, Text, Value, read};
 use cluster_base::{Code, Namespace, Time};
@@ -38,26 +38,26 @@ const IDS: [&[u8]; 2] = [
     b"\x0e\0\0\0\x10_id\0\x02\0\0\0\0",
 ];
 
-/// The document that the bytes begin with.
+/// Returns the document that the bytes begin with.
 fn document_of(alloc: Global, bytes: &[u8]) -> Result<Document, Fail> {
     let (document, _length) = read(alloc, bytes)?;
     Ok(document)
 }
 
-/// Whether the documents are equal and have as many bytes: numbers of two widths differ in these.
+/// Returns whether the documents are equal and have as many bytes: numbers of two widths differ in their bytes.
 fn is_same(told: Document, wanted: Document) -> bool {
     told.size() == wanted.size()
         && compare(&Value::Doc(told), &Value::Doc(wanted)) == Ordering::Equal
 }
 
-/// Whether the answer's document is this one.
+/// Returns whether the answer's document is this one.
 fn is_spelled(alloc: Global, answer: &Answer, digits: &str) -> Result<bool, Fail> {
     let bytes = hex::decode(alloc, digits)?;
     let wanted = document_of(alloc, &bytes)?;
     Ok(is_same(write_answer(alloc, answer)?, wanted))
 }
 
-/// The error of the statement with that number.
+/// Returns the error of the statement with that number.
 fn error(index: u32, code: Code) -> Option<WriteError> {
     let index = StatementIndex::of(index)?;
     let refusal = Refusal {
@@ -67,7 +67,7 @@ fn error(index: u32, code: Code) -> Option<WriteError> {
     Some(WriteError { index, refusal })
 }
 
-/// The answer of an insert.
+/// Returns the answer of an insert.
 fn inserted(alloc: Global, count: u32, errors: Vec<WriteError>) -> Answer {
     Answer::Write {
         kind: WriteKind::Insert,
@@ -79,7 +79,7 @@ fn inserted(alloc: Global, count: u32, errors: Vec<WriteError>) -> Answer {
     }
 }
 
-/// The key that the statement with that number put in.
+/// Returns the key that the statement with that number upserted.
 fn upserted(alloc: Global, index: u32, value: Value) -> Result<Upserted, Fail> {
     let index = StatementIndex::of(index).ok_or("no index")?;
     let key = Key::of(value).map_err(|_| "no key")?;
@@ -130,7 +130,7 @@ fn index_of_a_statement_has_a_limit(rt: HostRuntime) {
     assert!(rt; StatementIndex::of(100_000).is_none());
 }
 
-/// The documents of `IDS`.
+/// Returns the documents of `IDS`.
 fn two_documents(alloc: Global) -> Result<Vec<Arc<Document>>, Fail> {
     let mut documents = Vec::new(alloc);
     documents.push(Arc::new(alloc, document_of(alloc, IDS[0])?)?)?;

@@ -5,7 +5,7 @@ use cluster_top::node_count;
 use std::alloc::Global;
 use std::test::Fail;
 
-/// Whether `first` and `second`, where they are given, start nodes.
+/// Returns whether `first` and `second`, where they are given, start nodes.
 fn starts(alloc: Global, first: Option<&str>, second: Option<&str>) -> Result<bool, Memory> {
     let mut arguments = Vec::new(alloc);
     if let Some(first) = first {

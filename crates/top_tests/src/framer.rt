@@ -1,4 +1,4 @@
-//! What a framer holds back.
+//! The bytes that a framer holds.
 
 use opmsg_frames::{FrameFault, Framer};
 use std::test::Fail;
@@ -6,7 +6,7 @@ use std::test::Fail;
 /// `{}` with id 1.
 const LEAST: &[u8] = b"\x1a\0\0\0\x01\0\0\0\0\0\0\0\xdd\x07\0\0\0\0\0\0\0\x05\0\0\0\0";
 
-/// Whether these are the bytes left once the next request was asked for.
+/// Returns whether these bytes are left after the next request was requested.
 fn leaves(framer: &mut Framer, rest: &[u8]) -> Result<bool, FrameFault> {
     let _request = framer.next()?;
     Ok(framer.rest() == rest)

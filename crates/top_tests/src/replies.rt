@@ -23,7 +23,7 @@ const MESSAGE_REPLY: &[u8] =
 const QUERY_REPLY: &[u8] =
     b"\x31\0\0\0\xfd\xff\xff\xff\x0a\0\0\0\x01\0\0\0\x08\0\0\0\0\0\0\0\0\0\0\0\0\0\0\0\x01\0\0\0\x0d\0\0\0\x10ok\0\x01\0\0\0\0";
 
-/// Whether the reply of number -3 to the request that the bytes are, with `{ok: 1}`, has these bytes.
+/// Returns whether the reply of number -3 to the request that the bytes are, with `{ok: 1}`, has these bytes.
 fn is_reply(alloc: Global, bytes: &[u8], wanted: &[u8]) -> Result<bool, Fail> {
     let mut framer = Framer::new(alloc);
     framer.feed(bytes)?;

@@ -1,4 +1,4 @@
--- Paths are apart where two names of one place are.
+-- Paths are apart where two names at the same position are.
 use Rattle.std.proofs.Common.{◌≡◌, ℕ, List, [], ◌∷◌, refl, sym, ap, ◌∙◌, true≢false}
 use Rattle.std.specs.Prelude.{Bool, true, false}
 use Rattle.std.specs.Str.{bytes_eq}

@@ -1,4 +1,4 @@
--- The fields in front of the first of a name, and those behind it.
+-- The fields before the first of a name, and those after it.
 use Rattle.std.proofs.Common.{◌≡◌, ℕ, ◌<◌, ◌≤◌, ◌+◌, List, [], ◌∷◌, ◌++◌, length, get_or, take, drop, refl, sym, ap, ◌∙◌, add-one}
 use Rattle.std.specs.Prelude.{true, false}
 use Rattle.std.specs.Str.{bytes_eq}
@@ -19,7 +19,7 @@ joined_behind ms m rest = ap (λ (x : Fields). joined x rest) (pushed_fields ms 
 front_grows : (ms : List Field) (i : ℕ) (m : Field) → i < length ms → m ≡ get_or ms i m → take (i + 1) ms ≡ take i ms ++ m ∷ []
 front_grows ms i m less is = rw add-one (take-suc ms i m less ∙ ap (λ (x : Field). take i ms ++ x ∷ []) (sym is))
 
--- a field that is passed stands in front
+-- a field that is passed is one of those before the name
 passed : (ms : List Field) (i : ℕ) (m : Field) (rest : Fields) → i < length ms → m ≡ get_or ms i m →
     joined (fields_of (take i ms)) (field m.name (datum_of m.value) rest) ≡ joined (fields_of (take (i + 1) ms)) rest
 passed ms i m rest less is = sym (joined_behind (take i ms) m rest) ∙ ap (λ (x : List Field). joined (fields_of x) rest) (sym (front_grows ms i m less is))
@@ -83,7 +83,7 @@ pub taken_none : (name : List ℕ) (ms : List Field) (i : ℕ) (whole : Fields) 
     whole ≡ joined (fields_of (take i ms)) (without_field name (fields_of (drop i ms))) → whole ≡ joined (fields_of ms) no_fields
 taken_none name ms i whole past so_far = so_far ∙ rw (take_all i ms past, drop_all i ms past) refl
 
--- fields in front, one more, and fields behind, put one after the other
+-- fields, one more, and fields after it, joined
 pub put_between : (front behind first second third : Fields) (name : List ℕ) (d : Datum) → first ≡ joined no_fields front → second ≡ joined first (field name d no_fields) →
     third ≡ joined second behind → third ≡ joined front (field name d behind)
 put_between front behind first second third name d a b c =

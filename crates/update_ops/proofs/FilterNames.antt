@@ -1,4 +1,4 @@
--- Which operators a filter's names are, and that what an upsert begins with has a key.
+-- Which operators the names in a filter are, and that the document that an upsert begins with has a key.
 use Rattle.std.proofs.Common.{◌≡◌, ℕ, ◌≤◌, List, [], ◌∷◌, length, drop, refl, sym, ap, ◌∙◌}
 use Rattle.std.specs.Prelude.{Bool, true, false, ◌&&◌, Option, Some, None, Result, Ok, Err, codes, is_some, if◌then◌else◌}
 use Rattle.std.specs.List.{AllByRecursion}
@@ -21,7 +21,7 @@ use Rattle.update_ops.specs.Starts.{is_plain_filter, are_plain_operators, is_pla
 use Rattle.update_ops.proofs.Starts.{plain_query, begins_with_equalities}
 
 module _ {X : Type 0} (pick : Option Operator → X) (target : List ℕ → X) (name : List ℕ) where
-  -- where each row of a table answers as the target does, looking a name up does, if it does for a name in none of them
+  -- where each entry of a table agrees with the target, so does a lookup, if the target agrees for each name that is in no entry
   looked_up : (rows : List (List ℕ × Operator)) → AllByRecursion (λ row. pick (Some row.1) ≡ target row.0) rows →
       (AllByRecursion (λ row. bytes_eq row.0 name ≡ false) rows → pick None ≡ target name) → pick (named rows name) ≡ target name
   looked_up [] rows none = none tt
@@ -40,7 +40,7 @@ named_equality name =
 pub equality_named : (name : List ℕ) → bytes_eq (codes "$eq") name ≡ is_equality (named operators name)
 equality_named name = sym (named_equality name)
 
--- an operator's document is looked into by `$elemMatch` and `$not` alone
+-- of the operators that take a document, only `$elemMatch` and `$not` are read further
 abbrev pub plain_inside : List ℕ → Fields → Bool
 plain_inside name ms =
     if bytes_eq (codes "$elemMatch") name then (if is_operator_document ms then are_plain_operators ms else is_plain_filter ms)
@@ -101,12 +101,12 @@ key_there (Some x) e = by_kind (is_key x) e
     by_kind true h = refl
     by_kind false h = absurd cc
 
--- what an upsert begins with has the key that its filter asks for
+-- the document that an upsert begins with has the key that its filter requires
 pub start_keyed : (asked : Query) (start : Fields) → start ≡ start_of asked → is_some (key_equal asked) ≡ true → is_ok (valid_key start) ≡ true
 start_keyed asked start is e =
     ap (λ (x : Fields). is_ok (valid_key x)) is ∙ ap (λ (x : Option Datum). is_ok (keyed x)) (begins_with_key asked) ∙ key_there (key_asked asked) e
 
--- ---- what an update begins with
+-- the document that an upsert begins with
 
 abbrev started : Bool → Bool → Fields → Result (Option Fields) QueryFault
 started plain keyed start = if plain && keyed then Ok (Some start) else Err bad_operand
@@ -120,7 +120,7 @@ without_key : (plain : Bool) (start : Fields) → started plain false start ≡ 
 without_key true start = refl
 without_key false start = refl
 
--- a filter that asks for no key
+-- a filter that requires no key
 pub start_keyless : (asked : Query) → None ≡ key_equal asked → read_start true asked ≡ Err bad_operand
 start_keyless asked none =
     ap (λ (o : Option Datum). started (is_plain_query asked) (is_some o) (start_of asked)) (sym none) ∙ without_key (is_plain_query asked) (start_of asked)
@@ -140,9 +140,9 @@ pub start_has_key : (filter : Fields) (asked : Query) (start : Fields) (key : Da
     Some key ≡ key_equal asked → start ≡ equalities_in filter → is_ok (valid_key start) ≡ true
 start_has_key filter asked start key read plain there is = start_keyed asked start (start_is filter asked start read plain is) (ap is_some (sym there))
 
--- ---- the equalities of a filter, put one behind the other
+-- the equalities of a filter, appended one after the other
 
--- all are put
+-- all are appended
 pub equalities_put : (all start : Fields) (ms : List Field) (i : ℕ) → joined start (equalities_in (fields_of (drop i ms))) ≡ all → length ms ≤ i → start ≡ all
 equalities_put all start ms i whole past =
     sym (joined_none start) ∙ ap (λ (x : List Field). joined start (equalities_in (fields_of x))) (sym (drop_all i ms past)) ∙ whole

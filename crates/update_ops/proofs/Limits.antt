@@ -1,4 +1,4 @@
--- A size that is told up to a cap is past a limit below the cap where it is.
+-- A size that is counted up to a cap exceeds a limit below the cap exactly where the size does.
 use Rattle.std.proofs.Common.{◌≡◌, ℕ, ◌<◌, refl, arith}
 use Rattle.std.specs.Prelude.{Bool, true, false, min, nat_lt}
 use Rattle.std.proofs.lemmas.Bool.{lt-ltb, ltb-true, le-ltb, ltb-false}

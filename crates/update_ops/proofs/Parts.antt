@@ -1,4 +1,4 @@
--- The parts of a name without 00 hold no 00.
+-- The parts of a name without 00 have no 00.
 use Rattle.std.proofs.Common.{◌≡◌, ◌≢◌, ℕ, ◌<◌, List, [], ◌∷◌, length, get_or, arith, ap, subst, suc, zero}
 use Rattle.std.specs.Prelude.{Bool, true, false, Result, Ok, Err, ◌==◌, if◌then◌else◌}
 use Rattle.std.specs.List.{AllByRecursion}

@@ -19,7 +19,7 @@ use Rattle.update_ops.specs.View.{edits_of, path_edit_of}
 abbrev Edits : Type 0
 Edits = List (Path × changes.Edit)
 
--- what goes behind others fails where reading does
+-- appending to a list that was read fails where reading fails
 pub behind_fails : (prefix : Edits) (read : Result Edits QueryFault) (f : QueryFault) → read ≡ Err f → behind prefix read ≡ Err f
 behind_fails prefix read f h = rw h refl
 
@@ -72,7 +72,7 @@ pub edits_fail : (operator : EditOperator) (ms : List Field) (i : ℕ) (m : Fiel
 edits_fail operator ms i m f less is h =
     next_edits operator ms i m less is ∙ edit_fails (read_path_edit operator m.name (datum_of m.value)) (read_edits operator (fields_of (drop (i + 1) ms))) f h
 
--- what fails behind some fails behind others
+-- what fails after some edits fails after all of them
 pub fails_behind : (prefix first : Edits) (read whole : Result Edits QueryFault) (f : QueryFault) → behind prefix read ≡ behind first whole →
     read ≡ Err f → whole ≡ Err f
 fails_behind prefix first (Ok es) whole f same h = absurd cc

@@ -1,4 +1,4 @@
--- Edits put in the order of their paths, and listed again.
+-- Edits sorted by their paths, and listed again.
 use Rattle.std.proofs.Common.{◌≡◌, List, [], ◌∷◌, ◌++◌, refl, sym, ap, ◌∙◌, append_assoc, Ordering, Less, Equal, Greater}
 use Rattle.std.specs.BTreeMap.{insert_entry}
 use Rattle.std.specs.Ordering.{match_ordering}
@@ -22,7 +22,7 @@ pub entries_insert : (es : List (Path × Edit)) (k : Path) (v : Edit) →
 entries_insert [] k v = refl
 entries_insert (e ∷ es) k v = at_first (path_order k e.0) e es (insert_entry path_order es k v) k v (entries_insert es k v)
 
--- one more edit is put among the others
+-- one more edit is inserted
 pub sort_goes_on : (old now : List (Path × Edit)) (left rest : List PathEdit) (e : PathEdit) (whole : List (Path × changes.Edit)) → left ≡ e ∷ rest →
     now ≡ insert_entry path_order old e.path.items e.edit → put_among (entries_of old) (edits_of left) ≡ whole →
     put_among (entries_of now) (edits_of rest) ≡ whole

@@ -1,4 +1,4 @@
--- What is said of a filter's document is what is said of the query that it is.
+-- What holds of a filter's document is what holds of the query that it is.
 use Rattle.std.proofs.Common.{◌≡◌, ℕ, zero, suc, ◌<◌, List, [], ◌∷◌, length, refl, sym, ap, ◌∙◌, arith}
 use Rattle.std.specs.Prelude.{Bool, true, false, ◌&&◌, ◌||◌, not, Option, Some, None, Result, Ok, Err, ok_or, ◌==◌, if◌then◌else◌}
 use Rattle.std.specs.List.{join_with_byte}
@@ -147,7 +147,7 @@ module _ (inner : Fields → Result Query QueryFault) (inner_tests : Fields → 
         ∙ ap (λ (b : Bool). b && is_plain_query others.0) (plain_clause (begins_with_dollar name) name d first.0 first.1)
         ∙ ap (λ (b : Bool). (is_plain_name name && is_plain_asked d) && b) (plain_clauses ms others.0 others.1)
 
-  -- ---- what a plain filter begins with
+  -- the document that begins from a plain filter
 
   equality_alone : (operator : Operator) (d : Datum) (t : Test) (name : List ℕ) (others : Tests) (rest : Fields) → read_test inner inner_tests operator d ≡ Ok t →
       with_equalities name (test t others) rest ≡ (if is_equality (Some operator) then field name d (with_equalities name others rest) else with_equalities name others rest)
@@ -215,7 +215,7 @@ module _ (inner : Fields → Result Query QueryFault) (inner_tests : Fields → 
   both_hold true b h = (refl, h)
   both_hold false b h = absurd cc
 
-  -- a clause of one name begins with its equalities
+  -- the document of a clause of one name begins with its equalities
   clause_begins : (name : List ℕ) (d : Datum) (path : Path) (ts : Tests) (others : Query) → parts_of name ≡ path → is_plain_path path ≡ true →
       read_asked inner inner_tests d ≡ Ok ts → start_of (clause (path_clause path ts) others) ≡ equalities_before name d (start_of others)
   clause_begins name d [] ts others is plain e = absurd cc

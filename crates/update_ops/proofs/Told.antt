@@ -1,4 +1,4 @@
--- What statements are told: how many documents were changed, and the key of one that was put in.
+-- The outcomes of statements: how many documents were changed, and the key of one that was upserted.
 use Rattle.std.proofs.Common.{◌≡◌, ℕ, ◌≤◌, List, length, refl, sym, ap, subst, ◌∙◌, arith}
 use Rattle.std.specs.Prelude.{◌↔◌, IsTrue, Bool, true, false, Some, Result, Ok, Err, if◌then◌else◌}
 use Rattle.std.specs.Result.{is_ok}
@@ -22,7 +22,7 @@ use Rattle.bson_model.proofs.Booleans.{neither}
 small : (after : Fields) → is_too_large after ≡ false → length (written after) ≤ most_bytes_kept
 small after h = ltb-false most_bytes_kept (length (written after)) (neither _ _ h)
 
--- documents of one spelling, one of which is not too large
+-- documents with the same encoding, one of which is not too large
 same_spelling : (before after : Fields) → AreFields before → AreFields after → is_too_large after ≡ false → bytes_eq (written before) (written after) ≡ true →
     after ≡ before
 same_spelling before after first second large same =
@@ -52,7 +52,7 @@ judged : (made : Result Fields WriteFault) (after : Fields) → (made >>= λ x. 
 judged (Ok made) after e = fits (is_too_large made) made after refl e
 judged (Err fault) after e = absurd cc
 
--- what a change makes is not too large
+-- the result of a change is not too large
 pub not_large : (change : Change) (before after : Fields) → changed change before ≡ Ok after → is_too_large after ≡ false
 not_large change before after e = judged (changed_by change before) after e
 
@@ -72,6 +72,6 @@ started : (change : Change) (start after : Fields) (found : Result Datum KeyFaul
 started change start after (Ok key) is ok e = ap is_ok (change_keeps_key change start after key is e).1
 started change start after (Err fault) is ok e = absurd cc
 
--- what a change makes of a document with a key has one
+-- the result of a change of a document with a key has one
 pub stays_keyed : (change : Change) (start after : Fields) → is_ok (valid_key start) ≡ true → changed change start ≡ Ok after → is_ok (valid_key after) ≡ true
 stays_keyed change start after ok e = started change start after (valid_key start) refl ok e

@@ -1,4 +1,4 @@
--- Edits in turn, and faults that later steps pass on.
+-- Edits one after the other, and faults that later steps pass on.
 use Rattle.std.proofs.Common.{◌≡◌, ℕ, ◌<◌, ◌+◌, List, length, get_or, drop, refl, sym, ap, ◌∙◌}
 use Rattle.std.specs.Prelude.{Result, Ok, Err}
 use Rattle.bson_model.specs.Tree.{Fields}
@@ -20,7 +20,7 @@ passes_on NotNumber r s on h = on _ h
 passes_on NotDocument r s on h = on _ h
 passes_on Memory r s on h = tt
 
--- a step behind one that failed
+-- a step after one that failed
 pub fails_first : {A B : Type 0} (r : Result A WriteFault) (step : A → Result B WriteFault) (f : WriteFault) → r ≡ Err f → (r >>= step) ≡ Err f
 fails_first r step f h = rw h refl
 

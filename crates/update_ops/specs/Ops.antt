@@ -1,4 +1,4 @@
--- What statements of the program, and what they leave, are as plain data.
+-- Statements of the program, and their effects, as plain data.
 use Rattle.std.specs.Prelude.{Result}
 use Rattle.value_compare.specs.declared.words.OpWords.{OpWords}
 use Rattle.value_compare.specs.declared.words.OpWords.TheVariants as words
@@ -15,7 +15,7 @@ write_of (Insert document) = insert_write document
 write_of (Update filter change upsert) = update_write filter (change_of change) upsert
 write_of (Delete filter) = delete_write filter
 
--- the write that words are, or the first fault
+-- the write that the operands read as, or the first fault
 abbrev pub read_words : OpWords → Result Write QueryFault
 read_words (words.Insert document) = read_insert document
 read_words (words.Update filter change upsert) = read_update filter change upsert

@@ -1,4 +1,4 @@
--- Reading a change step by step: one field of an operator's document, one operator, and what was read before.
+-- Reading a change step by step: one field of an operator's document, one operator, and the edits already read.
 use Rattle.std.specs.Prelude.{ℕ, List, ◌++◌, Result, Ok, ok_or}
 use Rattle.std.specs.Result.{result_map_both}
 use Rattle.bson_model.specs.Tree.{Datum}

@@ -1,4 +1,4 @@
--- What changes make, step by step: of a document on the way, of one that meets a filter, and of what an upsert begins with.
+-- The steps of changes: for a document on a path, for one that meets a filter, and for one that an upsert begins with.
 use Rattle.std.specs.Prelude.{Option, Result, Ok}
 use Rattle.bson_model.specs.Tree.{Datum, Fields}
 use Rattle.query_model.specs.Paths.{Path}
@@ -6,7 +6,7 @@ use Rattle.query_model.specs.Changes.{Change}
 use Rattle.query_model.specs.Edits.{WriteFault, ◌>>=◌, on_the_way, put_at, changed}
 use Rattle.query_model.specs.Effects.{Effect, updated, upserted_with}
 
--- the value put below what stands on the way
+-- the value set below what is on the path
 abbrev pub put_inside : Path → Datum → Option Datum → Result Fields WriteFault
 put_inside path value found = on_the_way found >>= put_at path value
 

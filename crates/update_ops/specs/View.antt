@@ -1,4 +1,4 @@
--- What changes and operators of the program are as plain data.
+-- Changes and operators of the program as plain data.
 use Rattle.std.specs.Prelude.{List, map}
 use Rattle.bson_values.specs.View.{datum_of}
 use Rattle.bson_model.specs.Tree.{Datum, int32_value, int64_value}

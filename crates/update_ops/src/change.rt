@@ -2,32 +2,32 @@
 
 use bson_values::{Document, Name, Value};
 
-/// A whole number that is added (MongoDB manual, "$inc").
+/// A whole number to be added (MongoDB manual, "$inc").
 #[derive(Clone, Copy, Debug, PartialEq, Eq)]
 pub enum Number {
     Int32(i32),
     Int64(i64),
 }
 
-/// What an operator makes of what stands at its path (MongoDB manual, "Update Operators").
+/// What an operator does to the value at its path (MongoDB manual, "Update Operators").
 #[derive(Drop)]
 pub enum Edit {
-    /// Puts the value there.
+    /// Sets the value.
     Set(Value),
-    /// Takes out what stands there.
+    /// Removes the field.
     Unset,
     /// Adds the number.
     Inc(Number),
-    /// Puts the value there where it is less, or nothing is there.
+    /// Sets the value where it is less than the present one, or there is none.
     Min(Value),
-    /// Puts the value there where it is greater, or nothing is there.
+    /// Sets the value where it is greater than the present one, or there is none.
     Max(Value),
 }
 
 /// An edit at its path.
 #[derive(Drop)]
 pub struct PathEdit {
-    /// The names of the fields to go through, outermost first.
+    /// The names of the fields from the outermost inwards.
     pub path: Vec<Name>,
     pub edit: Edit,
 }
@@ -35,8 +35,8 @@ pub struct PathEdit {
 /// A change of a document.
 #[derive(Drop)]
 pub enum Update {
-    /// Takes the place of all but the key (MongoDB manual, "Replace a Document").
+    /// Replaces all but the key (MongoDB manual, "Replace a Document").
     Replacement(Document),
-    /// Edits, done in this order.
+    /// Edits, applied in this order.
     Edits(Vec<PathEdit>),
 }

@@ -1,5 +1,5 @@
-//! What a change makes of a document: edits in turn, or a replacement. The key is judged at the path `_id`, the size last (MongoDB
-//! manual, "Update Operators", "Replace a Document", "Document Field Order and the _id Field").
+//! The result of a change of a document: edits one after the other, or a replacement. The key is checked at the path `_id`, the size last (MongoDB manual,
+//! "Update Operators", "Replace a Document", "Document Field Order and the _id Field").
 
 ghost use Rattle.std.specs.Prelude.{◌≡◌, IfOk, length, nat_lt};
 ghost use Rattle.bson_model.specs.Limits.{most_bytes_kept, most_depth_kept};
@@ -23,7 +23,7 @@ use std::alloc::Global;
 use std::cmp::Ordering;
 use value_compare::compare;
 
-// A copy of the value put at the path.
+// Sets the path to a copy of the value.
 fn set(
     alloc: Global,
     path: &[Name],
@@ -35,7 +35,7 @@ fn set(
     put_at(alloc, path, value.copy()?, document)
 }
 
-// The number added to what stands at the path.
+// Adds the number to the value at the path.
 fn increment(
     alloc: Global,
     path: &[Name],
@@ -48,7 +48,7 @@ fn increment(
     put_at(alloc, path, sum, document)
 }
 
-// The value put at the path where it is less than what stands there.
+// Sets the value at the path where it is less than the present one, or there is none.
 fn put_lesser(
     alloc: Global,
     path: &[Name],
@@ -61,7 +61,7 @@ fn put_lesser(
     put_at(alloc, path, lesser, document)
 }
 
-// The value put at the path where it is greater than what stands there.
+// Sets the value at the path where it is greater than the present one, or there is none.
 fn put_greater(
     alloc: Global,
     path: &[Name],
@@ -74,7 +74,7 @@ fn put_greater(
     put_at(alloc, path, greater, document)
 }
 
-// One edit, whatever it does to the key.
+// Applies one edit, without checking the key.
 fn edited_at(
     alloc: Global,
     path: &[Name],
@@ -92,7 +92,7 @@ fn edited_at(
     }
 }
 
-// Whether both documents have keys, which compare equal.
+// Returns whether both documents have keys, which compare equal.
 fn same_key(a: &Document, b: &Document) -> bool
     ensures { result ≡ same_key (key_of a.now) (key_of b.now) }
 {
@@ -105,7 +105,7 @@ fn same_key(a: &Document, b: &Document) -> bool
     }
 }
 
-// The document after, where it has the key that it had before.
+// Returns the document after the change, where it has the key that it had before.
 fn if_same_key(before: &Document, after: Document) -> Result<Document, ApplyFault>
     ensures gives { Gives (λ d. d) result (if_same_key before.now after) }
 {
@@ -116,7 +116,7 @@ fn if_same_key(before: &Document, after: Document) -> Result<Document, ApplyFaul
     }
 }
 
-// Whether a path is `_id`.
+// Returns whether a path is `_id`.
 fn is_id(path: &[Name]) -> bool
     ensures { result ≡ is_id path.now }
 {
@@ -126,7 +126,7 @@ fn is_id(path: &[Name]) -> bool
     }
 }
 
-// One edit; the key is judged at the path `_id`.
+// Applies one edit; the key is checked at the path `_id`.
 fn edited(alloc: Global, edit: &PathEdit, document: &Document) -> Result<Document, ApplyFault>
     ensures gives { Gives (λ d. d) result (edited edit.now.path.items (edit_of edit.now.edit) document.now) }
 {
@@ -138,7 +138,7 @@ fn edited(alloc: Global, edit: &PathEdit, document: &Document) -> Result<Documen
     }
 }
 
-// The edits in turn.
+// Applies the edits one after the other.
 fn edited_by(alloc: Global, edits: &[PathEdit], document: &Document) -> Result<Document, ApplyFault>
     ensures gives { Gives (λ d. d) result (edited_by (edits_of edits.now) document.now) }
 {
@@ -149,7 +149,7 @@ fn edited_by(alloc: Global, edits: &[PathEdit], document: &Document) -> Result<D
     Ok(after)
 }
 
-// A replacement, which has the old key in front where it has none of its own.
+// Returns a replacement, which gets the old key as its first field where it has none of its own.
 fn with_old_key(alloc: Global, document: &Document, before: &Document) -> Result<Document, Memory>
     ensures { IfOk result (λ d. d ≡ with_old_key document.now (key_of document.now) (key_of before.now)) }
 {
@@ -165,7 +165,7 @@ fn with_old_key(alloc: Global, document: &Document, before: &Document) -> Result
     Ok(after)
 }
 
-// The document that takes the place of another with the same key.
+// Returns the document that replaces another with the same key.
 fn replaced(alloc: Global, document: &Document, before: &Document) -> Result<Document, ApplyFault>
     ensures gives { Gives (λ d. d) result (changed_by (replacement document.now) before.now) }
 {
@@ -173,7 +173,7 @@ fn replaced(alloc: Global, document: &Document, before: &Document) -> Result<Doc
     if_same_key(before, after)
 }
 
-// What the change makes of a document, of any size.
+// Returns the result of the change of a document, of any size.
 fn changed_by(alloc: Global, change: &Update, before: &Document) -> Result<Document, ApplyFault>
     ensures gives { Gives (λ d. d) result (changed_by (change_of change.now) before.now) }
 {
@@ -183,7 +183,7 @@ fn changed_by(alloc: Global, change: &Update, before: &Document) -> Result<Docum
     }
 }
 
-// Whether a document has more bytes than one that is kept.
+// Returns whether a document has more bytes than a stored one may have.
 #[tactic(auto, using(crate::proofs::Limits::past_capped))]
 fn is_too_long(document: &Document) -> bool
     ensures { result ≡ nat_lt most_bytes_kept (length (written document.now)) }
@@ -191,7 +191,7 @@ fn is_too_long(document: &Document) -> bool
     MOST_BYTES_KEPT < document.size()
 }
 
-// Whether a document has more levels than one that is kept.
+// Returns whether a document has more levels than a stored one may have.
 #[tactic(auto, using(crate::proofs::Limits::past_capped))]
 fn is_too_deep(document: &Document) -> bool
     ensures { result ≡ nat_lt most_depth_kept (document_depth document.now) }
@@ -199,15 +199,15 @@ fn is_too_deep(document: &Document) -> bool
     (MOST_DEPTH_KEPT as usize) < document.levels()
 }
 
-/// Whether a document has more bytes or levels than one that is kept (MongoDB manual, "MongoDB Limits and Thresholds").
+/// Returns whether a document has more bytes or levels than a stored one may have (MongoDB manual, "MongoDB Limits and Thresholds").
 pub fn is_too_large(document: &Document) -> bool
     ensures { result ≡ is_too_large document.now }
 {
     is_too_long(document) || is_too_deep(document)
 }
 
-/// What the change makes of a document. Fails with the first fault of its edits in their order (`NotDocument`, `NotNumber`,
-/// `Overflow`, `Immutable`), with `TooLarge` where what it made is, and for want of memory.
+/// Returns the result of the change of a document. Returns the first fault of its edits in their order (`NotDocument`, `NotNumber`, `Overflow`, `Immutable`),
+/// `TooLarge` where the result is too large, and `Memory` if memory runs out.
 pub fn changed(alloc: Global, change: &Update, before: &Document) -> Result<Document, ApplyFault>
     ensures gives { Gives (λ d. d) result (changed (change_of change.now) before.now) }
 {

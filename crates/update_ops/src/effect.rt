@@ -1,4 +1,4 @@
-//! What a statement makes of the document under its key (MongoDB manual, "insert", "update", "delete", "Upsert Behavior").
+//! The effect of a statement on the document under its key (MongoDB manual, "insert", "update", "delete", "Upsert Behavior").
 
 ghost use Rattle.std.specs.Prelude.{◌≡◌, IfErr, IfOk, Ok, Some, false, option_map, pos, true};
 ghost use Rattle.std.specs.Result.{is_ok};
@@ -20,16 +20,16 @@ use match_expr::{Expr, holds};
 use std::alloc::Global;
 use value_compare::{Key, KeyFault, Reply, key_of};
 
-/// What a statement leaves, and is told.
+/// The effect of a statement, and its outcome.
 #[derive(Drop)]
 pub struct Applied {
-    /// The document that stands afterwards, if any.
+    /// The document that exists after it, if any.
     pub after: Option<Document>,
-    /// What the statement is told.
+    /// The outcome of the statement.
     pub reply: Reply,
 }
 
-// A statement that met so many documents, and changed so many.
+// The outcome of a statement that matched `n` documents, and changed `modified`.
 fn told(after: Option<Document>, n: u32, modified: u32, upserted: Option<Key>) -> Applied
     ensures effect { effect_shown result ≡ record { after = after; count = n; modified = modified; upserted = upserted } }
     ensures code { result.reply.code ≡ pos 0 }
@@ -43,7 +43,7 @@ fn told(after: Option<Document>, n: u32, modified: u32, upserted: Option<Key>) -
     Applied { after, reply }
 }
 
-// What stands is left as it is.
+// The document is unchanged.
 fn untouched(before: Option<&Document>) -> Result<Applied, ApplyFault>
     ensures gives { Gives effect_shown result (Ok (unmet (option_map (λ d. d.now) before.entry))) }
     ensures code { IfOk result (λ a. a.reply.code ≡ pos 0) }
@@ -68,7 +68,7 @@ fn insert(document: &Document, before: Option<&Document>) -> Result<Applied, App
     Ok(told(Some(document.copy()?), 1, 0, None))
 }
 
-// How many of the one document were changed: none where it is the same data.
+// Returns how many of the one document were changed: none where it is the same data.
 #[tactic(auto, using(crate::proofs::Told::changed_count))]
 fn count_changed(before: &Document, after: &Document) -> u32
     requires { is_too_large after.now ≡ false }
@@ -79,7 +79,7 @@ fn count_changed(before: &Document, after: &Document) -> u32
     if after.same_data(before) { 0 } else { 1 }
 }
 
-// The effect of a change of a document that meets the filter.
+// The effect of a change of a document that matches the filter.
 #[tactic(auto, using(crate::proofs::Told::not_large))]
 fn change_met(alloc: Global, change: &Update, before: &Document) -> Result<Applied, ApplyFault>
     ensures gives { Gives effect_shown result (change_of_met (change_of change.now) before.now) }
@@ -90,7 +90,7 @@ fn change_met(alloc: Global, change: &Update, before: &Document) -> Result<Appli
     Ok(told(Some(after), 1, modified, None))
 }
 
-// The effect of an update of a document that does not meet the filter.
+// The effect of an update on a document that does not match the filter.
 fn not_met(upsert: &Option<Start>, before: &Document) -> Result<Applied, ApplyFault>
     ensures gives { Gives effect_shown result (not_met upsert.now before.now) }
     ensures code { IfOk result (λ a. a.reply.code ≡ pos 0) }
@@ -102,7 +102,7 @@ fn not_met(upsert: &Option<Start>, before: &Document) -> Result<Applied, ApplyFa
     }
 }
 
-// The key of a document that has one. Fails for want of memory.
+// Returns the key of a document that has one, or `Memory` if memory runs out.
 #[tactic(auto, using(crate::proofs::Told::key_is, crate::proofs::Told::never_faulty))]
 fn kept_key(alloc: Global, document: &Document) -> Result<Key, Memory>
     requires { is_ok (valid_key document.now) ≡ true }
@@ -116,7 +116,7 @@ fn kept_key(alloc: Global, document: &Document) -> Result<Key, Memory>
     }
 }
 
-// The effect of an upsert where no document is there.
+// The effect of an upsert where there is no document.
 #[tactic(auto, using(crate::proofs::Told::stays_keyed))]
 fn upsert(alloc: Global, change: &Update, start: &Start) -> Result<Applied, ApplyFault>
     ensures gives { Gives effect_shown result (change_of_start (change_of change.now) start.now) }
@@ -168,15 +168,14 @@ fn delete(filter: &Expr, before: Option<&Document>) -> Result<Applied, ApplyFaul
     }
 }
 
-/// What a statement makes of the document under its key, of which `before` says which it is, if any: the document that stands
-/// afterwards, and what the statement is told. Fails with `Duplicate` where a document is there that may not be changed, with the first
-/// fault of the change in the order of its edits (`NotDocument`, `NotNumber`, `Overflow`, `Immutable`), last with `TooLarge`, and for
-/// want of memory.
+/// Applies a statement to the document under its key, which is `before`, if there is one. Returns the document that exists after it, and the outcome of the
+/// statement. Returns `Duplicate` where there is a document that may not be changed, the first fault of the change in the order of its edits (`NotDocument`,
+/// `NotNumber`, `Overflow`, `Immutable`), `TooLarge` where there is no such fault and the result is too large, and `Memory` if memory runs out.
 pub fn apply(alloc: Global, op: &Op, before: Option<&Document>) -> Result<Applied, ApplyFault>
-    // What is left and told is the effect of the statement, without an error.
+    // What is returned is the effect of the statement, without an error.
     ensures effect { IfOk result (λ a. effect_of (write_of op.now) (option_map (λ d. d.now) before.entry) ≡ Ok (effect_shown a)) }
     ensures code { IfOk result (λ a. a.reply.code ≡ pos 0) }
-    // A fault is the statement's, unless memory ran out.
+    // A fault is the statement's, unless memory runs out.
     ensures fault { IfErr result (λ e. Fails e (effect_of (write_of op.now) (option_map (λ d. d.now) before.entry))) }
 {
     match op {

@@ -7,19 +7,19 @@ use bson_values::Memory;
 /// Why a statement changes nothing (MongoDB manual, "Error Codes").
 #[derive(Clone, Copy, Debug, PartialEq, Eq)]
 pub enum ApplyFault {
-    /// A document with this key is there, and may not be changed (DuplicateKey, 11000).
+    /// There is a document with this key, and it may not be changed (DuplicateKey, 11000).
     Duplicate,
-    /// The key would be another (ImmutableField, 66).
+    /// The key would change (ImmutableField, 66).
     Immutable,
-    /// A sum is past int64 (BadValue, 2).
+    /// A sum is outside int64 (BadValue, 2).
     Overflow,
     /// The result has more than 16,777,216 bytes or 100 levels (BSONObjectTooLarge, 10334).
     TooLarge,
-    /// A value to be added to is no number (TypeMismatch, 14).
+    /// The value to be added to is not a number (TypeMismatch, 14).
     NotNumber,
-    /// A value on the way is no document (PathNotViable, 28).
+    /// A value on the path is not a document (PathNotViable, 28).
     NotDocument,
-    /// Want of memory.
+    /// Out of memory.
     Memory,
 }
 

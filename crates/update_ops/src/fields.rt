@@ -1,4 +1,4 @@
-//! Documents with one field put or taken out. All other fields are copied once.
+//! Documents with one field set or removed. All other fields are copied once.
 
 ghost use Rattle.std.specs.Prelude.{◌≡◌, IfOk, OnOk};
 ghost use Rattle.std.specs.Str.{bytes_eq};
@@ -9,7 +9,7 @@ ghost use Rattle.query_model.specs.Edits.{with_field, without_field};
 use bson_values::{Document, Field, Memory, Name, Value};
 use std::alloc::Global;
 
-/// Puts copies of fields behind those of a document. Fails for want of memory.
+/// Appends copies of fields to a document. Returns `Memory` if memory runs out.
 pub fn copy_fields(fields: &[Field], document: &mut Document) -> Result<(), Memory>
     ensures { OnOk result (document.new ≡ joined document.old (fields_of fields.now)) }
 {
@@ -21,14 +21,14 @@ pub fn copy_fields(fields: &[Field], document: &mut Document) -> Result<(), Memo
     Ok(())
 }
 
-// Whether a field has that name.
+// Returns whether a field has that name.
 fn is_named(field: &Field, name: &Name) -> bool
     ensures { result ≡ bytes_eq field.now.name name.now }
 {
     field.name.as_str() == name.as_str()
 }
 
-// The fields in front of the first of that name, and those behind it; all, and none, where there is none.
+// Returns the fields before the first of that name, and those after it; all, and none, where there is no such field.
 fn around<'a>(name: &Name, fields: &'a [Field]) -> (&'a [Field], &'a [Field])
     ensures put { (d : Datum) → with_field name.now d (fields_of fields.now) ≡ joined (fields_of result.0.now) (field name.now d (fields_of result.1.now)) }
     ensures taken { without_field name.now (fields_of fields.now) ≡ joined (fields_of result.0.now) (fields_of result.1.now) }
@@ -41,7 +41,7 @@ fn around<'a>(name: &Name, fields: &'a [Field]) -> (&'a [Field], &'a [Field])
     (fields, &fields[fields.len()..])
 }
 
-/// The document whose first field of that name, or else a last one, has the value. Fails for want of memory.
+/// Returns the document with the value in its first field of that name, or else in a new last one. Returns `Memory` if memory runs out.
 #[tactic(auto, using(crate::proofs::Around::put_between))]
 pub fn with_field(
     alloc: Global,
@@ -59,7 +59,7 @@ pub fn with_field(
     Ok(changed)
 }
 
-/// The document without its first field of that name. Fails for want of memory.
+/// Returns the document without its first field of that name, or `Memory` if memory runs out.
 pub fn without_field(alloc: Global, name: &Name, document: &Document) -> Result<Document, Memory>
     ensures { IfOk result (λ d. d ≡ without_field name.now document.now) }
 {

@@ -1,4 +1,4 @@
-//! What an upsert begins with, as it stands in the document of its filter (MongoDB manual, "Upsert Behavior").
+//! The document that an upsert begins with, by the document of its filter (MongoDB manual, "Upsert Behavior").
 
 ghost use Rattle.std.specs.Prelude.{◌≡◌, IfOk, OnOk, codes, if◌then◌else◌};
 ghost use Rattle.std.specs.Str.{bytes_eq};
@@ -12,7 +12,7 @@ use crate::operators::begins_with_dollar;
 use bson_values::{Document, Memory, Name, Value};
 use std::alloc::Global;
 
-// Whether a name has a dot.
+// Returns whether a name has a dot.
 fn has_dot(name: &str) -> bool
     ensures { result ≡ has_dot name.now }
 {
@@ -24,14 +24,14 @@ fn has_dot(name: &str) -> bool
     false
 }
 
-// Whether a name is no connective's, and has one part.
+// Returns whether a name is not a logical operator's, and has one part.
 fn is_plain_name(name: &str) -> bool
     ensures { result ≡ is_plain_name name.now }
 {
     !begins_with_dollar(name) && !has_dot(name)
 }
 
-// Whether the first name of a document begins with `$`.
+// Returns whether the first name of a document begins with `$`.
 fn is_operator_document(document: &Document) -> bool
     ensures { result ≡ is_operator_document document.now }
 {
@@ -41,7 +41,7 @@ fn is_operator_document(document: &Document) -> bool
     }
 }
 
-/// Whether a document may begin from the filter: it has no dotted path and no connective, at whatever level. Takes no memory.
+/// Returns whether a document may begin from the filter: it has no dotted path and no logical operator, at any level. Takes no memory.
 #[cycle(plain)]
 pub fn is_plain_filter(filter: &Document) -> bool
     ensures { result ≡ is_plain_filter filter.now }
@@ -54,7 +54,7 @@ pub fn is_plain_filter(filter: &Document) -> bool
     true
 }
 
-// Whether what is asked of a path is so.
+// The same for the condition of a path.
 #[cycle(plain)]
 fn is_plain_asked(value: &Value) -> bool
     ensures { result ≡ is_plain_asked (datum_of value.now) }
@@ -65,7 +65,7 @@ fn is_plain_asked(value: &Value) -> bool
     }
 }
 
-// Whether an operator document is so.
+// The same for an operator document.
 #[cycle(plain)]
 fn are_plain_operators(document: &Document) -> bool
     ensures { result ≡ are_plain_operators document.now }
@@ -78,7 +78,7 @@ fn are_plain_operators(document: &Document) -> bool
     true
 }
 
-// Whether an operand is so.
+// The same for an operand.
 #[cycle(plain)]
 #[tactic(auto, using(crate::proofs::FilterNames::operand_scalar))]
 fn is_plain_operand(name: &str, value: &Value) -> bool
@@ -90,7 +90,7 @@ fn is_plain_operand(name: &str, value: &Value) -> bool
     }
 }
 
-// Whether an operand that is a document is so: `$elemMatch` and `$not` alone hold what a filter holds.
+// The same for an operand that is a document: only `$elemMatch` and `$not` contain what a filter contains.
 #[cycle(plain)]
 fn is_plain_inside(name: &str, document: &Document) -> bool
     ensures { result ≡ is_plain_operand (named operators name.now) (document_value document.now) }
@@ -105,7 +105,7 @@ fn is_plain_inside(name: &str, document: &Document) -> bool
     }
 }
 
-// Whether what an element has to meet is so.
+// The same for the condition on an element.
 #[cycle(plain)]
 fn is_plain_element(document: &Document) -> bool
     ensures { result ≡ (if is_operator_document document.now then are_plain_operators document.now else is_plain_filter document.now) }
@@ -117,21 +117,21 @@ fn is_plain_element(document: &Document) -> bool
     }
 }
 
-// Whether a name is that of `$elemMatch`.
+// Returns whether a name is that of `$elemMatch`.
 fn is_element_match(name: &str) -> bool
     ensures { result ≡ bytes_eq (codes "$elemMatch") name.now }
 {
     "$elemMatch" == name
 }
 
-// Whether a name is that of `$not`.
+// Returns whether a name is that of `$not`.
 fn is_negation(name: &str) -> bool
     ensures { result ≡ bytes_eq (codes "$not") name.now }
 {
     "$not" == name
 }
 
-// Whether an operator is that of equality.
+// Returns whether an operator is that of equality.
 #[tactic(auto, using(crate::proofs::FilterNames::equality_named))]
 fn is_equality(operator: &str) -> bool
     ensures { result ≡ is_equality (named operators operator.now) }
@@ -139,7 +139,7 @@ fn is_equality(operator: &str) -> bool
     "$eq" == operator
 }
 
-// Puts a field of that name with the value behind others. Fails for want of memory.
+// Appends a field of that name with the value. Returns `Memory` if memory runs out.
 #[tactic(auto, using(bson_model::proofs::Joined::joined_one))]
 fn push_value(name: &Name, value: &Value, start: &mut Document) -> Result<(), Memory>
     ensures { OnOk result ((rest : Fields) → joined start.new rest ≡ joined start.old (field name.now (datum_of value.now) rest)) }
@@ -147,7 +147,7 @@ fn push_value(name: &Name, value: &Value, start: &mut Document) -> Result<(), Me
     start.push(name.copy()?, value.copy()?)
 }
 
-// Puts a field of that name for each `$eq` behind others. Fails for want of memory.
+// Appends a field of that name for each `$eq`. Returns `Memory` if memory runs out.
 fn push_operands(name: &Name, operators: &Document, start: &mut Document) -> Result<(), Memory>
     ensures { OnOk result ((rest : Fields) → joined start.new rest ≡ joined start.old (operands_before name.now operators.now rest)) }
 {
@@ -159,7 +159,7 @@ fn push_operands(name: &Name, operators: &Document, start: &mut Document) -> Res
     Ok(())
 }
 
-// Puts the equalities of one field behind others. Fails for want of memory.
+// Appends the equalities of one field. Returns `Memory` if memory runs out.
 fn push_equalities(name: &Name, value: &Value, start: &mut Document) -> Result<(), Memory>
     ensures { OnOk result ((rest : Fields) → joined start.new rest ≡ joined start.old (equalities_before name.now (datum_of value.now) rest)) }
 {
@@ -175,7 +175,7 @@ fn push_equalities(name: &Name, value: &Value, start: &mut Document) -> Result<(
     }
 }
 
-/// The equalities at the top of a filter, in its order. Fails for want of memory.
+/// Returns the equalities at the top of a filter, in its order, or `Memory` if memory runs out.
 pub fn equalities(alloc: Global, filter: &Document) -> Result<Document, Memory>
     ensures { IfOk result (λ d. d ≡ equalities_in filter.now) }
 {

@@ -12,7 +12,7 @@ use crate::fault::ApplyFault;
 use bson_values::{Aligned, Memory, Value};
 use value_compare::compare;
 
-// A sum of which one number at least is an int64.
+// The sum of two numbers of which at least one is an int64.
 #[tactic(auto, using(crate::proofs::Sums::long_inside, crate::proofs::Sums::long_past))]
 fn long_sum(a: i64, b: i64) -> Result<Value, ApplyFault>
     ensures gives { Gives (λ v. datum_of v) result (long_sum (a +ℤ b)) }
@@ -23,7 +23,7 @@ fn long_sum(a: i64, b: i64) -> Result<Value, ApplyFault>
     }
 }
 
-// The sum of two int32, which is one where it fits.
+// The sum of two int32, which is an int32 where it fits.
 #[tactic(auto, using(crate::proofs::Sums::short_inside, crate::proofs::Sums::short_past))]
 fn short_sum(a: i32, b: i32) -> Result<Value, ApplyFault>
     ensures gives { Gives (λ v. datum_of v) result (short_sum (a +ℤ b)) }
@@ -34,7 +34,7 @@ fn short_sum(a: i32, b: i32) -> Result<Value, ApplyFault>
     }
 }
 
-// An int32 added to what stands there.
+// An int32 added to the present value.
 fn add_int32(n: i32, found: Option<&Value>) -> Result<Value, ApplyFault>
     ensures gives { Gives (λ v. datum_of v) result (sum_with (int32_value n) (option_map (λ v. datum_of v.now) found.entry)) }
 {
@@ -46,7 +46,7 @@ fn add_int32(n: i32, found: Option<&Value>) -> Result<Value, ApplyFault>
     }
 }
 
-// An int64 added to what stands there.
+// An int64 added to the present value.
 fn add_int64(n: i64, found: Option<&Value>) -> Result<Value, ApplyFault>
     ensures gives { Gives (λ v. datum_of v) result (sum_with (int64_value n) (option_map (λ v. datum_of v.now) found.entry)) }
 {
@@ -58,8 +58,8 @@ fn add_int64(n: i64, found: Option<&Value>) -> Result<Value, ApplyFault>
     }
 }
 
-/// The number added to what stands there, or by itself where nothing does: an int32 where both are and it fits, else an int64. Fails
-/// with `NotNumber` where that is none, and with `Overflow` past int64.
+/// Returns the number added to the present value, or by itself where there is none: an int32 where both are and the sum fits, else an int64. Returns
+/// `NotNumber` where the value is not a number, and `Overflow` where the sum is outside int64.
 pub fn sum_with(number: Number, found: Option<&Value>) -> Result<Value, ApplyFault>
     ensures gives { Gives (λ v. datum_of v) result (sum_with (number_datum number) (option_map (λ v. datum_of v.now) found.entry)) }
 {
@@ -69,7 +69,7 @@ pub fn sum_with(number: Number, found: Option<&Value>) -> Result<Value, ApplyFau
     }
 }
 
-/// A copy of the value where it is less than what stands there, or nothing does; else of that. Fails for want of memory.
+/// Returns a copy of the value where it is less than the present one or there is none, else a copy of that. Returns `Memory` if memory runs out.
 pub fn lesser_of(value: &Value, found: Option<&Value>) -> Result<Value, Memory>
     ensures { IfOk result (λ v. datum_of v ≡ lesser_of (datum_of value.now) (option_map (λ v. datum_of v.now) found.entry)) }
 {
@@ -83,7 +83,7 @@ pub fn lesser_of(value: &Value, found: Option<&Value>) -> Result<Value, Memory>
     }
 }
 
-/// A copy of the value where it is greater than what stands there, or nothing does; else of that. Fails for want of memory.
+/// Returns a copy of the value where it is greater than the present one or there is none, else a copy of that. Returns `Memory` if memory runs out.
 pub fn greater_of(value: &Value, found: Option<&Value>) -> Result<Value, Memory>
     ensures { IfOk result (λ v. datum_of v ≡ greater_of (datum_of value.now) (option_map (λ v. datum_of v.now) found.entry)) }
 {

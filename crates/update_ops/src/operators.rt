@@ -22,7 +22,7 @@ pub enum Operator {
     Max,
 }
 
-/// The operator of that name.
+/// Returns the operator of that name, if there is one.
 pub fn operator_named(name: &str) -> Option<Operator>
     ensures { option_map operator_of result ≡ named edit_operators name.now }
 {
@@ -41,7 +41,7 @@ pub fn operator_named(name: &str) -> Option<Operator>
     }
 }
 
-/// The document that a value is.
+/// Returns the document that a value is, if it is one.
 pub fn as_document(value: &Value) -> Option<&Document>
     ensures { option_map (λ d. d.now) result ≡ as_document (datum_of value.now) }
 {
@@ -51,7 +51,7 @@ pub fn as_document(value: &Value) -> Option<&Document>
     }
 }
 
-// The number that a value is.
+// Returns the number that a value is, if it is one.
 fn parse_number(value: &Value) -> Result<Number, ParseFault>
     ensures gives { Gives (λ n. inc_edit (number_datum n)) result (read_edit inc_operator (datum_of value.now)) }
 {
@@ -62,7 +62,7 @@ fn parse_number(value: &Value) -> Result<Number, ParseFault>
     }
 }
 
-/// The edit that an operator is with its operand. Fails with `BadOperand` where it takes no such operand, and for want of memory.
+/// Returns the edit of an operator with its operand. Returns `BadOperand` where it takes no such operand, and `Memory` if memory runs out.
 pub fn parse_edit(operator: Operator, value: &Value) -> Result<Edit, ParseFault>
     ensures gives { Gives edit_of result (read_edit (operator_of operator) (datum_of value.now)) }
 {
@@ -75,7 +75,7 @@ pub fn parse_edit(operator: Operator, value: &Value) -> Result<Edit, ParseFault>
     }
 }
 
-/// Whether a name begins with `$`.
+/// Returns whether a name begins with `$`.
 pub fn begins_with_dollar(name: &str) -> bool
     ensures { result ≡ begins_with_dollar name.now }
 {
@@ -85,7 +85,7 @@ pub fn begins_with_dollar(name: &str) -> bool
     }
 }
 
-/// Whether an outermost name begins with `$`.
+/// Returns whether an outermost name begins with `$`.
 pub fn has_operator(document: &Document) -> bool
     ensures { result ≡ has_operator document.now }
 {

@@ -1,4 +1,4 @@
-//! The order of paths, in which edits go: part by part, by bytes (own; MongoDB's is that of field names, with numbers by value).
+//! The order of paths, in which edits are applied: part by part, by bytes (own; MongoDB's is that of field names, with numbers by value).
 
 ghost use Rattle.std.specs.Prelude.{◌≡◌, [], IfOk, OnOk};
 ghost use Rattle.std.specs.BTreeMap.{insert_entry};
@@ -23,7 +23,7 @@ use std::cmp::Ordering;
 use std::collections::BTreeMap;
 use std::marker::Model;
 
-// Which of two paths comes first.
+// Compares two paths.
 fn compare_paths(a: &[Name], b: &[Name]) -> Ordering
     ensures { result ≡ path_order a.now b.now }
 {
@@ -44,7 +44,7 @@ fn compare_paths(a: &[Name], b: &[Name]) -> Ordering
     }
 }
 
-// A path, which compares in the order of paths.
+// A path that is compared in the order of paths.
 #[derive(Drop)]
 struct OrderedPath {
     names: Vec<Name>,
@@ -96,14 +96,14 @@ impl Ord for OrderedPath {
     }
 }
 
-// Whether two names are one.
+// Returns whether two names are equal.
 fn is_same(a: &Name, b: &Name) -> bool
     ensures { result ≡ bytes_eq a.now b.now }
 {
     a.as_str() == b.as_str()
 }
 
-// Whether neither path is the other, or stands in front of it.
+// Returns whether neither path is a prefix of the other.
 #[tactic(auto, using(crate::proofs::Apart::apart_here, crate::proofs::Apart::apart_next, crate::proofs::Apart::apart_none))]
 fn is_apart(a: &[Name], b: &[Name]) -> bool
     ensures { result ≡ changes.is_apart a.now b.now }
@@ -121,7 +121,7 @@ fn is_apart(a: &[Name], b: &[Name]) -> bool
     }
 }
 
-// Whether a path is apart from those of all these edits.
+// Returns whether a path is apart from those of all these edits.
 fn is_apart_from_all(path: &[Name], edits: &[PathEdit]) -> bool
     ensures { result ≡ list_all (λ e. changes.is_apart path.now e.0) (edits_of edits.now) }
 {
@@ -133,7 +133,7 @@ fn is_apart_from_all(path: &[Name], edits: &[PathEdit]) -> bool
     true
 }
 
-// Whether no path is given twice or stands in front of another.
+// Returns whether no path occurs twice or is a prefix of another.
 fn are_apart(edits: &[PathEdit]) -> bool
     ensures { result ≡ changes.are_apart (edits_of edits.now) }
 {
@@ -147,7 +147,7 @@ fn are_apart(edits: &[PathEdit]) -> bool
     true
 }
 
-// Edits by their paths, as a list. Fails for want of memory.
+// Returns edits by their paths as a list, or `Memory` if memory runs out.
 fn listed(alloc: Global, by_path: BTreeMap<OrderedPath, Edit>) -> Result<Vec<PathEdit>, Memory>
     ensures { IfOk result (λ es. edits_of es.items ≡ entries_of by_path.entries) }
 {
@@ -162,7 +162,7 @@ fn listed(alloc: Global, by_path: BTreeMap<OrderedPath, Edit>) -> Result<Vec<Pat
     Ok(edits)
 }
 
-// Puts an edit among others by its path. Fails for want of memory.
+// Inserts an edit by its path. Returns `Memory` if memory runs out.
 fn put_entry(by_path: &mut BTreeMap<OrderedPath, Edit>, entry: PathEdit) -> Result<(), Memory>
     ensures { OnOk result (by_path.new.entries ≡ insert_entry path_order by_path.old.entries entry.path.items entry.edit) }
 {
@@ -171,7 +171,7 @@ fn put_entry(by_path: &mut BTreeMap<OrderedPath, Edit>, entry: PathEdit) -> Resu
     Ok(())
 }
 
-// Edits in the order of their paths. Fails for want of memory.
+// Sorts edits by their paths. Returns `Memory` if memory runs out.
 #[tactic(auto, using(crate::proofs::Sorting::entries_insert))]
 fn sorted(alloc: Global, edits: Vec<PathEdit>) -> Result<Vec<PathEdit>, Memory>
     ensures { IfOk result (λ es. edits_of es.items ≡ put_among [] (edits_of edits.items)) }
@@ -183,8 +183,8 @@ fn sorted(alloc: Global, edits: Vec<PathEdit>) -> Result<Vec<PathEdit>, Memory>
     listed(alloc, by_path)
 }
 
-/// The change that edits are, in the order of their paths. Fails with `BadOperand` where a path is given twice or stands in front of
-/// another, and for want of memory.
+/// Returns the change that edits are, in the order of their paths. Returns `BadOperand` where a path occurs twice or is a prefix of another, and `Memory` if
+/// memory runs out.
 pub fn in_order(alloc: Global, edits: Vec<PathEdit>) -> Result<Update, ParseFault>
     ensures gives { Gives view.change_of result (change_of (edits_of edits.items)) }
 {

@@ -1,5 +1,5 @@
-//! Reading documents as changes. Operators are read from the left, and of each field first its name, then its operand; that paths
-//! are apart is judged last.
+//! Reading documents as changes. Operators are read from left to right, and of each field first its name, then its operand; that paths are apart is checked
+//! last.
 
 ghost use Rattle.std.specs.Prelude.{◌≡◌, Ok, OnOk, IfErr, IfOk};
 ghost use Rattle.std.specs.List.{AllByRecursion};
@@ -22,14 +22,14 @@ use field_paths::{ParseFault, Path, parse_path};
 use std::alloc::Global;
 
 impl Update {
-    /// The change that a document is: a replacement where no outermost name begins with `$`, else edits in the order of their paths.
-    /// Fails where it is none, with its first fault: operators from the left, of each its name (`UnknownOperator`), that it has a
-    /// document (`BadOperand`), and then of each field in it its name (`Path`) and its operand (`BadOperand`); last that a path is
-    /// given twice or stands in front of another (`BadOperand`). Fails with `Memory` for want of memory.
+    /// Returns the change that a document is: a replacement where no outermost name begins with `$`, else edits in the order of their paths. Returns the
+    /// first fault where it is none: of the operators from left to right, of each its name (`UnknownOperator`), that its operand is a document
+    /// (`BadOperand`), and then of each field in it its name (`Path`) and its operand (`BadOperand`); last that a path occurs twice or is a prefix of another
+    /// (`BadOperand`). Returns `Memory` if memory runs out.
     pub fn parse(alloc: Global, document: &Document) -> Result<Update, ParseFault>
-        // A change is what the document reads as.
+        // A change is what the definitions read from the document.
         ensures change { IfOk result (λ u. read_change document.now ≡ Ok (change_of u)) }
-        // A fault is the first, unless memory ran out.
+        // A fault is the first, unless memory runs out.
         ensures fault { IfErr result (λ e. Fails e (read_change document.now)) }
     {
         if operators::has_operator(document) {
@@ -41,7 +41,7 @@ impl Update {
     }
 }
 
-// The names of a path's fields. Fails for want of memory.
+// Returns the names of a path's fields, or `Memory` if memory runs out.
 #[tactic(auto, using(crate::proofs::Parts::part_no_zero))]
 fn names_of(alloc: Global, path: &Path) -> Result<Vec<Name>, Memory>
     requires { AllByRecursion (λ part. HasNoZero part) path.now }
@@ -54,7 +54,7 @@ fn names_of(alloc: Global, path: &Path) -> Result<Vec<Name>, Memory>
     Ok(names)
 }
 
-// The names of the fields on the path that a name is.
+// Returns the names of the fields of the path that a name is.
 #[tactic(auto, using(crate::proofs::Parts::read_no_zero))]
 fn parse_names(alloc: Global, name: &Name) -> Result<Vec<Name>, ParseFault>
     ensures gives { Gives (λ p. p.items) result (result_map_both (λ path. path) path_fault (read_path name.now)) }
@@ -63,7 +63,7 @@ fn parse_names(alloc: Global, name: &Name) -> Result<Vec<Name>, ParseFault>
     Ok(names_of(alloc, &path)?)
 }
 
-// One field of an operator's document.
+// Reads one field of an operator's document.
 fn parse_path_edit(
     alloc: Global,
     operator: Operator,
@@ -77,7 +77,7 @@ fn parse_path_edit(
     Ok(PathEdit { path, edit })
 }
 
-// Puts the edits of one operator behind others.
+// Appends the edits of one operator.
 fn push_edits(
     alloc: Global,
     operator: Operator,
@@ -94,7 +94,7 @@ fn push_edits(
     Ok(())
 }
 
-// Puts the edits of one field of a change behind others.
+// Appends the edits of one field of a change.
 fn push_operator(
     alloc: Global,
     name: &Name,
@@ -113,7 +113,7 @@ fn push_operator(
     push_edits(alloc, operator, document, edits)
 }
 
-// The edits of all operators, as they stand.
+// Reads the edits of all operators, in the document's order.
 fn parse_operators(alloc: Global, document: &Document) -> Result<Vec<PathEdit>, ParseFault>
     ensures gives { Gives (λ es. edits_of es.items) result (read_operators document.now) }
 {

@@ -1,4 +1,4 @@
-//! What stands at a path: found, put and taken out (MongoDB manual, "$set", "$unset").
+//! The value at a path: found, set and removed (MongoDB manual, "$set", "$unset").
 
 ghost use Rattle.std.specs.Prelude.{◌≡◌, ◌∷◌, IfOk, option_map};
 ghost use Rattle.bson_values.specs.View.{datum_of};
@@ -11,7 +11,7 @@ use crate::fields::{with_field, without_field};
 use bson_values::{Document, Memory, Name, Value};
 use std::alloc::Global;
 
-// What stands at the path that begins with this name.
+// Returns the value at the path that begins with this name, if there is one.
 fn value_below<'a>(name: &Name, others: &[Name], document: &'a Document) -> Option<&'a Value>
     ensures { option_map (λ v. datum_of v.now) result ≡ value_at (name.now ∷ others.now) document.now }
 {
@@ -25,7 +25,7 @@ fn value_below<'a>(name: &Name, others: &[Name], document: &'a Document) -> Opti
     }
 }
 
-/// What stands at a path.
+/// Returns the value at a path, if there is one.
 pub fn value_at<'a>(path: &[Name], document: &'a Document) -> Option<&'a Value>
     ensures { option_map (λ v. datum_of v.now) result ≡ value_at path.now document.now }
 {
@@ -35,7 +35,7 @@ pub fn value_at<'a>(path: &[Name], document: &'a Document) -> Option<&'a Value>
     }
 }
 
-// The document with the value at the path that begins with this name.
+// Returns the document with the value at the path that begins with this name.
 #[cycle(put)]
 fn put_below(
     alloc: Global,
@@ -53,7 +53,7 @@ fn put_below(
     Ok(with_field(alloc, name, Value::Doc(changed), document)?)
 }
 
-// The same of a document on the way, which is made where nothing stands.
+// The same for a document on the path, which is created where there is no value.
 #[cycle(put)]
 fn put_inside(
     alloc: Global,
@@ -74,8 +74,8 @@ fn put_inside(
     }
 }
 
-/// The document with the value at the path; documents that are missing on the way are made. Fails with `NotDocument` where a value
-/// on the way is none, and for want of memory.
+/// Returns the document with the value at the path; documents that are missing on the path are created. Returns `NotDocument` where a value on the path is
+/// not a document, and `Memory` if memory runs out.
 pub fn put_at(
     alloc: Global,
     path: &[Name],
@@ -90,7 +90,7 @@ pub fn put_at(
     }
 }
 
-// The document without what stands at the path that begins with this name.
+// Returns the document without the value at the path that begins with this name.
 fn take_below(
     alloc: Global,
     name: &Name,
@@ -111,7 +111,7 @@ fn take_below(
     }
 }
 
-/// The document without what stands at the path. Fails for want of memory.
+/// Returns the document without the value at the path, or `Memory` if memory runs out.
 pub fn take_at(alloc: Global, path: &[Name], document: &Document) -> Result<Document, Memory>
     ensures { IfOk result (λ d. d ≡ take_at path.now document.now) }
 {

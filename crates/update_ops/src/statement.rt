@@ -17,7 +17,7 @@ use std::alloc::Global;
 use std::marker::Model;
 use value_compare::{KeyFault, OpWords, key_of};
 
-/// What an upsert begins with: a document with a key to be kept under (MongoDB manual, "Upsert Behavior").
+/// The document that an upsert begins with, which has a key to be stored under (MongoDB manual, "Upsert Behavior").
 #[derive(Drop)]
 pub struct Start {
     document: Document,
@@ -40,7 +40,7 @@ impl Model for Start {
 }
 
 impl Start {
-    /// The document.
+    /// Returns the document.
     pub fn document(&self) -> &Document
         ensures document { result.now ≡ self.now }
         ensures key { is_ok (valid_key self.now) ≡ true }
@@ -52,28 +52,28 @@ impl Start {
 /// One statement.
 #[derive(Drop)]
 pub enum Op {
-    /// Puts a document in.
+    /// Inserts a document.
     Insert(Document),
-    /// Changes the document where the filter holds of it. Where none is there, an upsert changes what it begins with, and puts that in.
+    /// Changes the document where it matches the filter. Where there is none, an upsert changes the document that it begins with, and inserts the result.
     Update {
         filter: Expr,
         change: Update,
         upsert: Option<Start>,
     },
-    /// Takes the document out where the filter holds of it.
+    /// Removes the document where it matches the filter.
     Delete {
         filter: Expr,
     },
 }
 
 impl Op {
-    /// The statement that words are. Fails with the first fault: of an insert that its document has no key to be kept under
-    /// (`BadOperand`); of an update or a delete that of its filter, then that of its change, and last that an upsert can't begin with
-    /// the filter, which has a dotted path or a connective or asks for no key (`BadOperand`). Fails with `Memory` for want of memory.
+    /// Returns the statement that the operands are. Returns the first fault: of an insert that its document has no key to be stored under (`BadOperand`); of
+    /// an update or a delete that of its filter, then that of its change, and last that an upsert can't begin from the filter, which has a dotted path or a
+    /// logical operator or requires no key (`BadOperand`). Returns `Memory` if memory runs out.
     pub fn read(alloc: Global, words: &OpWords) -> Result<Op, ParseFault>
-        // A statement is what the words read as.
+        // A statement is what the definitions read from the operands.
         ensures write { IfOk result (λ op. read_words words.now ≡ Ok (write_of op)) }
-        // A fault is the first, unless memory ran out.
+        // A fault is the first, unless memory runs out.
         ensures fault { IfErr result (λ e. Fails e (read_words words.now)) }
     {
         match words {
@@ -95,7 +95,7 @@ fn insert_of(document: &Document) -> Result<Op, ParseFault>
     Ok(Op::Insert(document.copy()?))
 }
 
-// An insert of a document that has a key to be kept under.
+// Returns the insert of a document that has a key to be stored under.
 fn read_insert(alloc: Global, document: &Document) -> Result<Op, ParseFault>
     ensures gives { Gives write_of result (read_insert document.now) }
 {
@@ -107,7 +107,7 @@ fn read_insert(alloc: Global, document: &Document) -> Result<Op, ParseFault>
     }
 }
 
-// What an update begins with: of an upsert the equalities of its filter, which asks for a key.
+// Returns the document that an update begins with: for an upsert the equalities of its filter, which must require a key.
 #[tactic(auto, using(crate::proofs::FilterNames::start_refused, crate::proofs::FilterNames::start_keyless, crate::proofs::FilterNames::start_read, crate::proofs::FilterNames::start_has_key))]
 fn read_start(
     alloc: Global,
@@ -131,7 +131,7 @@ fn read_start(
     Ok(Some(Start { document }))
 }
 
-// An update, or an upsert.
+// Returns an update, or an upsert.
 fn read_update(
     alloc: Global,
     filter: &Document,

@@ -8,8 +8,8 @@ use bson_values::{Aligned, Array, Blob, Document, Memory, Name, Text, Value, is_
 use fixtures::{RowFault, Rows, bytes_of, field, number};
 use std::alloc::Global;
 
-/// `TYPE | CONTENT | BYTES`: the bytes of the document whose only field is `a`, with a value of that type and content. In a
-/// document and in an array the content is an int32, and it stands there twice.
+/// `TYPE | CONTENT | BYTES`: the bytes of the document whose only field is `a`, with a value of that type and content. In a document and in an array the
+/// content is an int32, which occurs twice.
 #[derive(Drop)]
 pub struct Built;
 
@@ -132,7 +132,7 @@ fn string(alloc: Global, content: &str) -> Result<Value, RowFault>
     Ok(Value::Text(string))
 }
 
-// A binary, of the subtype that its first byte is.
+// A binary, whose subtype is its first byte.
 fn binary(alloc: Global, content: &str) -> Result<Value, RowFault>
     ensures { IfOk result (λ v. value_depth (datum_of v) ≡ 0) }
 {

@@ -1,11 +1,11 @@
-//! What bytes are read as, and how that is written.
+//! What bytes are read as, and how the result is written.
 
 use bson_values::{BsonFault, read, write};
 use fixtures::{RowFault, Rows, bytes_of, field, number};
 use std::alloc::{AllocError, Global};
 
-/// `BYTES | OUTCOME`. The outcome is a fault with its offset, as `short 13`, and of `bad_type` the byte; or `same` where all bytes
-/// are read, and written as they were; or else how many bytes are read, and what is written in their place, as `16 bytes 0500..`.
+/// `BYTES | OUTCOME`. The outcome is a fault with its offset, as `short 13`, and for `bad_type` the byte; or `same` where all bytes are read, and written as
+/// they were; or else how many bytes are read, and what is written in their place, as `16 bytes 0500..`.
 #[derive(Drop)]
 pub struct Documents;
 
@@ -17,7 +17,7 @@ impl Rows for Documents {
     }
 }
 
-/// `BYTES | LENGTH | OUTCOME`: the prefixes up to that length are short at their own end, and the longer ones have the outcome.
+/// `BYTES | LENGTH | OUTCOME`: each prefix up to that length is short at its own end, and the longer ones have the outcome.
 #[derive(Drop)]
 pub struct Prefixes;
 
@@ -63,14 +63,14 @@ fn has_outcome(alloc: Global, bytes: &[u8], wanted: &str) -> Result<bool, RowFau
     Ok(found.as_str() == wanted)
 }
 
-// What is read, as a copy of it is written.
+// What is read, and how a copy of it is written.
 #[derive(Drop)]
 struct Respelled {
     // How many bytes are read.
     length: usize,
-    // How many are to be written.
+    // How many bytes are to be written.
     size: usize,
-    // The byte aa, and behind it those that are written.
+    // The byte aa, and then those that are written.
     out: Vec<u8>,
 }
 

@@ -1,4 +1,4 @@
-//! Whether two documents are the same data.
+//! Rows on whether two documents are the same data.
 
 use bson_values::{Document, read};
 use fixtures::{RowFault, Rows, bytes_of, field};
@@ -30,7 +30,7 @@ fn is_its_copy(document: &Document) -> Result<bool, RowFault> {
     Ok(document.same_data(&copy))
 }
 
-/// The document that these words spell. Fails with `Form` where they spell none, and for want of memory.
+/// Returns the document that these words encode. Returns `Form` where they encode none, and `Memory` if memory runs out.
 pub fn spelled_document(alloc: Global, words: &str) -> Result<Document, RowFault> {
     let bytes = bytes_of(alloc, words)?;
     let (document, length) = read(alloc, &bytes)?;

@@ -6,7 +6,7 @@ use std::alloc::Global;
 use std::cmp::Ordering;
 use value_compare::{Key, KeyFault, compare, key_of};
 
-/// The key that these words spell.
+/// Returns the key that these words encode.
 pub fn spelled_key(alloc: Global, words: &str) -> Result<Key, RowFault> {
     let value = spelled_value(alloc, words)?;
     Key::of(value).map_err(|_value| RowFault::Form)
@@ -45,7 +45,7 @@ fn has_key(alloc: Global, document: &Document, wanted: &str) -> Result<bool, Row
     Ok(found == wanted && copy == wanted)
 }
 
-/// `VALUE | key` or `VALUE | none`: whether it is of a type that keys have.
+/// `VALUE | key` or `VALUE | none`: whether its type is one that keys have.
 #[derive(Drop)]
 pub struct KeyTypes;
 
@@ -58,7 +58,7 @@ impl Rows for KeyTypes {
     }
 }
 
-// Whether the value is taken as a key; what is not, is given back.
+// Returns whether the value is accepted as a key; a value that isn't is handed back.
 fn is_key(value: Value, same: &Value) -> bool {
     match Key::of(value) {
         Ok(key) => compare(key.value(), same) == Ordering::Equal,

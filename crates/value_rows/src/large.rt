@@ -1,4 +1,4 @@
-//! Large and deep values are compared in the time and on the stack that a program has.
+//! Large and deep values are compared within the time and the stack that a program has.
 
 use bson_values::{Aligned, Document, Memory, Name, Value};
 use fixtures::push;
@@ -27,7 +27,7 @@ pub fn compare_deep(rt: &HostRuntime) -> io::Result<()> {
     Ok(())
 }
 
-// Whether the first is less than the second and other data, and equal to itself and the same data.
+// Returns whether the first is less than the second and other data, and equal to itself and the same data.
 fn compare_two(
     first: Result<Value, Memory>,
     second: Result<Value, Memory>,
@@ -50,7 +50,7 @@ fn long(alloc: Global, last: i64) -> Result<Value, Memory> {
     Ok(Value::Doc(document))
 }
 
-// 100 documents, each in the one before, and the number in the innermost.
+// 100 documents, each nested in the one before, and the number in the innermost.
 fn deep(alloc: Global, last: i32) -> Result<Value, Memory> {
     let mut value = Value::Int32(Aligned::of(last));
     for _ in 0..100 {

@@ -4,7 +4,7 @@ use crate::equality::spelled_document;
 use fixtures::{RowFault, Rows, field, number};
 use std::alloc::Global;
 
-/// `DOCUMENT | LEVELS`: how many levels the document has.
+/// `DOCUMENT | LEVELS`: the number of levels of the document.
 #[derive(Drop)]
 pub struct Levels;
 

@@ -1,5 +1,5 @@
-//! Checks rows of data about values: the bytes of documents, which are the same data, their levels, the order of values, keys and
-//! spans. For each file it prints how many rows hold, and each row that does not.
+//! Checks rows of data on values: the bytes of documents, which are the same data, their levels, the order of values, keys and spans. For each file it prints
+//! how many rows hold, and each row that does not.
 #![tactic(auto)]
 
 mod builders;

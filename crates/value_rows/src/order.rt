@@ -19,7 +19,7 @@ impl Rows for Classes {
     }
 }
 
-// A value, and the row that it stands in.
+// A value, and the row that it is in.
 #[derive(Drop)]
 struct Placed {
     row: usize,
@@ -41,7 +41,7 @@ impl Sorted {
         }
     }
 
-    // Puts in the value of these words; gives whether it compares with all before as its row says.
+    // Stores the value of these words. Returns whether it compares with all before as its row says.
     fn place(&mut self, alloc: Global, words: &str) -> Result<bool, RowFault> {
         let value = spelled_value(alloc, words.trim())?;
         let is_placed = self.is_placed(&value);

@@ -42,7 +42,7 @@ impl Bounds {
     }
 }
 
-// Whether there is a range between the two in one direction alone.
+// Returns whether there is a range between the two in one direction only.
 fn is_below(low: &Bound, high: &Bound) -> Result<bool, RowFault> {
     let is_range = has_range(low, high)? && !has_range(high, low)?;
     let is_ordered = low.compare(high) == Ordering::Less && high.compare(low) == Ordering::Greater;
@@ -65,8 +65,7 @@ impl Rows for Bounds {
     }
 }
 
-/// `MIN | MAX | KEY | inside`, or `outside`: whether the key stands between the bounds; `at | KEY | KEY | inside`: whether the
-/// second key stands at the first.
+/// `MIN | MAX | KEY | inside`, or `outside`: whether the key is between the bounds; `at | KEY | KEY | inside`: whether the second key equals the first.
 #[derive(Drop)]
 pub struct Spans;
 
@@ -81,7 +80,7 @@ impl Rows for Spans {
     }
 }
 
-// Whether the key stands in the span; `None` where it is otherwise in the span's copy.
+// Returns whether the key is in the span, or `None` where the span's copy differs.
 fn stands_inside(alloc: Global, span: &Span, words: &str) -> Result<Option<bool>, RowFault> {
     let key = spelled_key(alloc, words)?;
     let is_inside = inside(span, &key);

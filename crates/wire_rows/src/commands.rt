@@ -1,4 +1,4 @@
-//! What requests ask for, in words.
+//! The commands of requests, in words.
 
 use crate::faults::RowFault;
 use bson_values::Document;
@@ -19,7 +19,7 @@ fn put_offset(alloc: Global, line: &mut String, offset: u64) -> Result<(), RowFa
     put(line, format!(in alloc; " at {offset}")?.as_str())
 }
 
-/// Puts the refusal: the number of its code, and the offset that it shows.
+/// Appends the refusal: the number of its code, and the offset that it shows.
 fn put_refusal(alloc: Global, line: &mut String, refusal: &Refusal) -> Result<(), RowFault> {
     let code = refusal.code.number();
     put(line, format!(in alloc; "refused {code}")?.as_str())?;
@@ -30,7 +30,7 @@ fn put_refusal(alloc: Global, line: &mut String, refusal: &Refusal) -> Result<()
     }
 }
 
-/// Puts the sizes of the documents of an operation, and whether it upserts.
+/// Appends the sizes of the documents of an operation, and whether it upserts.
 fn put_operation(alloc: Global, line: &mut String, words: &OpWords) -> Result<(), RowFault> {
     match words {
         OpWords::Insert(document) => put_size(alloc, line, " ", document),
@@ -47,7 +47,7 @@ fn put_operation(alloc: Global, line: &mut String, words: &OpWords) -> Result<()
     }
 }
 
-/// Puts the size of a document behind a mark.
+/// Appends the size of a document after a mark.
 fn put_size(
     alloc: Global,
     line: &mut String,
@@ -84,7 +84,7 @@ fn put_write(alloc: Global, line: &mut String, write: &WriteCommand) -> Result<(
     put_number(alloc, line, write.number)
 }
 
-/// Puts the transaction of a client's number, where it gave one.
+/// Appends the transaction of a client's number, where it gave one.
 fn put_number(
     alloc: Global,
     line: &mut String,
@@ -99,7 +99,7 @@ fn put_number(
     }
 }
 
-/// Puts a word and its number, where there is one.
+/// Appends a word and its number, where there is one.
 fn put_given(
     alloc: Global,
     line: &mut String,
@@ -112,7 +112,7 @@ fn put_given(
     }
 }
 
-/// Puts what is read, and the times that are named.
+/// Appends what is read, and the times that are named.
 fn put_reading(
     alloc: Global,
     line: &mut String,
@@ -159,7 +159,7 @@ fn legacy_words(legacy: &Legacy) -> &'static str {
     }
 }
 
-/// Puts the command, but for what its documents hold.
+/// Appends the command, without the content of its documents.
 fn put_asked(alloc: Global, line: &mut String, command: &Command) -> Result<(), RowFault> {
     match command {
         Command::Hello => put(line, "hello"),
@@ -174,7 +174,7 @@ fn put_asked(alloc: Global, line: &mut String, command: &Command) -> Result<(), 
     }
 }
 
-/// Puts the command of the request, or why it is none. Fails for want of memory.
+/// Appends the command of the request, or why it is none. Returns `Memory` if memory runs out.
 pub fn put_command(alloc: Global, line: &mut String, request: &Request) -> Result<(), RowFault> {
     match &Command::read(alloc, request) {
         Ok(command) => put_asked(alloc, line, command),

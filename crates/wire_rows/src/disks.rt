@@ -1,4 +1,4 @@
-//! What a run left on the disks.
+//! The disks after a run.
 
 use crate::faults::RowFault;
 use crate::plans::DiskPlan;
@@ -11,19 +11,19 @@ use outside_memory::MemDisk;
 use record_reader::{RecordFault, read_record};
 use std::alloc::Global;
 
-/// A disk of these bytes.
+/// Returns a disk of these bytes.
 pub fn disk_of(alloc: Global, bytes: &[u8], failing: &[u64]) -> Result<MemDisk, RowFault> {
     let failing = Vec::from_slice(alloc, failing)?;
     Ok(MemDisk::new(Vec::from_slice(alloc, bytes)?, failing))
 }
 
-/// Whether the disk holds as many bytes as it has to.
+/// Returns whether the disk's file has the length that it must have.
 fn is_sized(plan: &DiskPlan, disk: &MemDisk) -> bool {
     let size = disk.bytes().len() as u64;
     plan.size.unwrap_or(size) == size
 }
 
-/// Whether the disk holds the file that it has to.
+/// Returns whether the disk's file is the one that it must be.
 fn is_kept(plan: &DiskPlan, disk: &MemDisk) -> bool {
     match &plan.kept {
         Some(bytes) => disk.bytes() == bytes.as_slice(),
@@ -31,12 +31,12 @@ fn is_kept(plan: &DiskPlan, disk: &MemDisk) -> bool {
     }
 }
 
-/// Whether the disk holds the file of the start, and no call changed it or made it stay.
+/// Returns whether the disk's file is that of the start, and no call changed or synced it.
 fn is_untouched(plan: &DiskPlan, disk: &MemDisk) -> bool {
     disk.bytes() == plan.file.as_slice() && disk.calls().is_empty()
 }
 
-/// Whether each disk holds what it has to.
+/// Returns whether each disk's file is the one that it must be.
 fn are_kept(row: &Row, disks: &[MemDisk]) -> bool {
     for (plan, disk) in row.disks.iter().zip(disks) {
         let is_right = is_kept(plan, disk) && is_sized(plan, disk);
@@ -47,7 +47,7 @@ fn are_kept(row: &Row, disks: &[MemDisk]) -> bool {
     true
 }
 
-/// The records that an opening of the journal in these bytes finds; none if it is not opened.
+/// Returns the records that an opening of the journal in these bytes finds, or none if it is not opened.
 fn records_in(alloc: Global, file: &[u8]) -> Result<Option<RecordList>, RowFault> {
     let disk = disk_of(alloc, file, &[])?;
     match Journal::open(alloc, disk) {
@@ -57,7 +57,7 @@ fn records_in(alloc: Global, file: &[u8]) -> Result<Option<RecordList>, RowFault
     }
 }
 
-/// The record that the bytes from a gate on begin with, and the bytes from the next gate on, by its length; none behind a gate that is not open.
+/// Returns the record that the bytes from a gate on begin with, and the bytes from the next gate on, by its length; none after a gate that is not open.
 fn split_record(file: &[u8]) -> Option<(&[u8], &[u8])> {
     if file.len() < 9 || file[0] != 1 {
         return None;
@@ -70,7 +70,7 @@ fn split_record(file: &[u8]) -> Option<(&[u8], &[u8])> {
     Some(behind.split_at(length as usize))
 }
 
-/// Whether the bytes, all of them, are read as one record.
+/// Returns whether all of the bytes are read as one record.
 fn is_record(alloc: Global, bytes: &[u8]) -> Result<bool, RowFault> {
     match read_record(alloc, bytes) {
         Ok(_record) => Ok(true),
@@ -79,7 +79,7 @@ fn is_record(alloc: Global, bytes: &[u8]) -> Result<bool, RowFault> {
     }
 }
 
-/// Whether these are just the records that stand in the bytes, by their gates and lengths, and each is read.
+/// Returns whether these are just the records in the bytes, by their gates and lengths, and each is read.
 fn are_read(alloc: Global, found: &[Blob], file: &[u8]) -> Result<bool, RowFault> {
     let mut rest = file;
     for bytes in found {
@@ -94,7 +94,7 @@ fn are_read(alloc: Global, found: &[Blob], file: &[u8]) -> Result<bool, RowFault
     Ok(rest.len() < 2 || rest[0] != 1)
 }
 
-/// Whether an opening of the disk's journal finds just the records of the file that the row tells, and each is read.
+/// Returns whether an opening of the disk's journal finds just the records of the file in the row, and each is read.
 fn is_read(alloc: Global, plan: &DiskPlan, disk: &MemDisk) -> Result<bool, RowFault> {
     if plan.kept.is_none() {
         return Ok(true);
@@ -105,7 +105,7 @@ fn is_read(alloc: Global, plan: &DiskPlan, disk: &MemDisk) -> Result<bool, RowFa
     }
 }
 
-/// Whether these are the first of the records.
+/// Returns whether these are the first of the records.
 fn are_first(found: &[Blob], records: &[Vec<u8>]) -> bool {
     if records.len() < found.len() {
         return false;
@@ -118,7 +118,7 @@ fn are_first(found: &[Blob], records: &[Vec<u8>]) -> bool {
     true
 }
 
-/// Whether an opening of the disk's journal finds the first of the row's records, and as many as the row says.
+/// Returns whether an opening of the disk's journal finds the first of the row's records, and as many as the row says.
 fn is_found(alloc: Global, plan: &DiskPlan, disk: &MemDisk) -> Result<bool, RowFault> {
     let Some((least, most)) = plan.found else {
         return Ok(true);
@@ -130,7 +130,7 @@ fn is_found(alloc: Global, plan: &DiskPlan, disk: &MemDisk) -> Result<bool, RowF
     Ok(least <= count && count <= most && are_first(found.as_slice(), &plan.records))
 }
 
-/// Whether an opening of each disk's journal finds what it has to, and what it finds is read.
+/// Returns whether an opening of each disk's journal finds what it must, and what it finds is read.
 fn are_found(alloc: Global, row: &Row, disks: &[MemDisk]) -> Result<bool, RowFault> {
     for (plan, disk) in row.disks.iter().zip(disks) {
         if !is_read(alloc, plan, disk)? || !is_found(alloc, plan, disk)? {
@@ -140,7 +140,7 @@ fn are_found(alloc: Global, row: &Row, disks: &[MemDisk]) -> Result<bool, RowFau
     Ok(true)
 }
 
-/// Whether the disks hold what the row says.
+/// Returns whether the disks have the content that the row says.
 pub fn are_left(alloc: Global, row: &Row, disks: &[MemDisk]) -> Result<bool, RowFault> {
     Ok(disks.len() == 3 && are_kept(row, disks) && are_found(alloc, row, disks)?)
 }

@@ -7,9 +7,9 @@ use std::io;
 /// Why rows can't be checked.
 #[derive(Clone, Copy, Debug, PartialEq, Eq)]
 pub enum RowFault {
-    /// Want of memory.
+    /// Out of memory.
     Memory,
-    /// A line is none of those that a row has.
+    /// A line is not one that a row may have.
     BadLine,
     /// A file can't be read, or nothing can be printed.
     Failed,

@@ -14,14 +14,14 @@ use std::sync::Wait;
 use std::thread::Threads;
 use std::{fs, mem};
 
-/// How a row ends: the status of its run, and how many bytes stood behind the last whole request.
+/// How a row ends: the status of its run, and how many bytes follow the last whole request.
 #[derive(Clone, Copy, Debug, PartialEq, Eq)]
 struct End {
     status: u64,
     rest: u64,
 }
 
-/// The end that the line tells.
+/// Returns the end that the line states.
 fn end_in(line: &str) -> Result<End, RowFault> {
     let (status, rest) = split(line)?;
     Ok(End {
@@ -30,7 +30,7 @@ fn end_in(line: &str) -> Result<End, RowFault> {
     })
 }
 
-/// Whether the framer and the commands make that of the row's bytes which its lines tell. Of a script they make nothing.
+/// Returns whether the framer and the commands read the row's bytes as its lines say. A script is not checked.
 fn is_told(alloc: Global, row: &Row, cutting: Cutting, as_query: bool) -> Result<bool, RowFault> {
     if row.is_script {
         return Ok(true);
@@ -39,11 +39,11 @@ fn is_told(alloc: Global, row: &Row, cutting: Cutting, as_query: bool) -> Result
     Ok(told.as_str() == row.told.as_str())
 }
 
-/// The status of a run that met bytes which are no request.
+/// The status of a run whose bytes were not a request.
 const BAD_INPUT: u64 = 9;
 
-/// Whether the row's bytes get its replies and its end, and leave what it says. How many bytes are left behind a fault depends on the cutting: those
-/// that were taken when it was met.
+/// Returns whether the row's bytes get its replies and its end, and the disks are afterwards as it says. How many bytes are left after a fault depends on the
+/// cutting: those that were taken before the fault was found.
 fn is_served<R: Threads + Wait + Sync>(
     rt: &R,
     alloc: Global,
@@ -59,7 +59,7 @@ fn is_served<R: Threads + Wait + Sync>(
     Ok(is_end && is_put && is_taken && are_left(alloc, row, &left.disks)?)
 }
 
-/// Whether both hold.
+/// Returns whether both hold.
 fn is_met<R: Threads + Wait + Sync>(
     rt: &R,
     alloc: Global,
@@ -70,7 +70,7 @@ fn is_met<R: Threads + Wait + Sync>(
     Ok(is_told(alloc, row, cutting, false)? && is_served(rt, alloc, row, end, cutting)?)
 }
 
-/// Whether both hold in each cutting in two, and byte by byte.
+/// Returns whether both hold in each cutting in two, and byte by byte.
 fn is_met_cut<R: Threads + Wait + Sync>(
     rt: &R,
     alloc: Global,
@@ -85,7 +85,7 @@ fn is_met_cut<R: Threads + Wait + Sync>(
     is_met(rt, alloc, row, end, Cutting::bytes())
 }
 
-/// Whether the row holds whose end this is.
+/// Returns whether the row with this end holds.
 fn holds<R: Threads + Wait + Sync>(
     rt: &R,
     alloc: Global,
@@ -98,7 +98,7 @@ fn holds<R: Threads + Wait + Sync>(
     is_met(rt, alloc, row, end, Cutting::none())
 }
 
-/// Takes a line. Gives whether the row holds that it ends.
+/// Reads a line. Returns whether the row that it ends holds.
 fn take_line<R: Threads + Wait + Sync>(
     rt: &R,
     alloc: Global,
@@ -116,7 +116,7 @@ fn take_line<R: Threads + Wait + Sync>(
     Ok(None)
 }
 
-/// Ends a row. Gives how many held up to it; names it, if it did not.
+/// Ends a row. Returns how many hold up to it, and prints its name if it does not.
 fn count_row<R: Print>(
     rt: &R,
     alloc: Global,

@@ -1,4 +1,4 @@
-//! What the framer makes of bytes, in lines.
+//! What the framer returns for bytes, in lines.
 
 use crate::commands::put_command;
 use crate::faults::RowFault;
@@ -8,7 +8,7 @@ use bson_values::BsonFault;
 use opmsg_frames::{Body, Form, FrameFault, Framer, Malformed, Request};
 use std::alloc::Global;
 
-/// What the framer gave.
+/// What the framer returned: a request, nothing, or a fault.
 #[derive(Clone, Copy, Debug, PartialEq, Eq)]
 enum Next {
     Request,
@@ -16,14 +16,14 @@ enum Next {
     Fault,
 }
 
-/// What the framer gave: a line for each request, and the requests' bytes, one behind another.
+/// What the framer returned: a line for each request, and the requests' bytes, one after another.
 #[derive(Drop)]
 struct RequestLines {
     lines: String,
     bytes: Vec<u8>,
 }
 
-/// The least request.
+/// The smallest request.
 const LEAST: &[u8] = b"\x1a\0\0\0\x01\0\0\0\0\0\0\0\xdd\x07\0\0\0\0\0\0\0\x05\0\0\0\0";
 
 fn malformed_word(fault: Malformed) -> &'static str {
@@ -53,7 +53,7 @@ fn document_word(fault: &BsonFault) -> &'static str {
     }
 }
 
-/// The type that is none, of a fault that tells one.
+/// Returns the type that is not supported, of a fault that has one.
 fn type_byte(fault: &BsonFault) -> u8 {
     match fault {
         BsonFault::BadType { byte, .. } => *byte,
@@ -61,7 +61,7 @@ fn type_byte(fault: &BsonFault) -> u8 {
     }
 }
 
-/// Puts the fault of a document: its word, its offset and the type that is none, or 0.
+/// Appends the fault of a document: its word, its offset and the type that is not supported, or 0.
 fn put_fault(alloc: Global, line: &mut String, fault: &BsonFault) -> Result<(), RowFault> {
     let word = document_word(fault);
     let offset = fault.place().unwrap_or(0);
@@ -77,7 +77,7 @@ fn form_word(form: Form) -> &'static str {
     }
 }
 
-/// Puts what the request is before its command.
+/// Appends what the line of a request has before its command.
 fn put_head(alloc: Global, line: &mut String, request: &Request) -> Result<(), RowFault> {
     let id = request.id;
     let form = form_word(request.form);
@@ -89,7 +89,7 @@ fn put_head(alloc: Global, line: &mut String, request: &Request) -> Result<(), R
     }
 }
 
-/// Puts the line of a request.
+/// Appends the line of a request.
 fn put_request(alloc: Global, told: &mut String, request: &Request) -> Result<(), RowFault> {
     let mut line = String::new(alloc);
     put_head(alloc, &mut line, request)?;
@@ -98,7 +98,7 @@ fn put_request(alloc: Global, told: &mut String, request: &Request) -> Result<()
     put_line(told, line.as_str())
 }
 
-/// Puts the line of bytes that are no request, if there are any.
+/// Appends the line of bytes that are not a request, if there are any.
 fn put_rest(alloc: Global, told: &mut String, count: usize) -> Result<(), RowFault> {
     if count == 0 {
         return Ok(());
@@ -106,7 +106,7 @@ fn put_rest(alloc: Global, told: &mut String, count: usize) -> Result<(), RowFau
     put_line(told, format!(in alloc; "rest {count}")?.as_str())
 }
 
-/// Puts the line of a fault; another one where the framer forgets it, as more bytes come.
+/// Appends the line of a fault, and another one where the framer does not return it again after more bytes.
 fn put_malformed(
     alloc: Global,
     told: &mut String,
@@ -125,7 +125,7 @@ fn put_malformed(
     Ok(())
 }
 
-/// Puts the line of what the framer gives next, if it gives a request or a fault. Gives whether it was a request.
+/// Appends the line of what the framer returns next, if that is a request or a fault. Returns which of these it was.
 fn put_next(
     alloc: Global,
     told: &mut RequestLines,
@@ -150,7 +150,7 @@ fn put_next(
     }
 }
 
-/// Puts the lines of all that the framer gives once it has the piece. Gives whether no fault was met.
+/// Appends the lines of all that the framer returns after the piece. Returns whether there was no fault.
 fn put_piece(
     alloc: Global,
     told: &mut RequestLines,
@@ -169,7 +169,7 @@ fn put_piece(
     Ok(true)
 }
 
-/// Puts the lines of the bytes, in pieces of at most so many. Gives whether no fault was met.
+/// Appends the lines of the bytes, in pieces of at most this length. Returns whether there was no fault.
 fn put_pieces(
     alloc: Global,
     told: &mut RequestLines,
@@ -186,7 +186,7 @@ fn put_pieces(
     Ok(true)
 }
 
-/// Whether the bytes are the prefix and the rest.
+/// Returns whether the bytes are the prefix and the rest.
 fn are_joined(bytes: &[u8], prefix: &[u8], rest: &[u8]) -> bool {
     match bytes.strip_prefix(prefix) {
         Some(behind) => behind == rest,
@@ -194,7 +194,7 @@ fn are_joined(bytes: &[u8], prefix: &[u8], rest: &[u8]) -> bool {
     }
 }
 
-/// Puts what stands behind the requests; another line where their bytes and the rest are not those that came in.
+/// Appends what follows the requests, and another line where their bytes and the rest are not those that arrived.
 fn put_end(
     alloc: Global,
     told: &mut RequestLines,
@@ -208,8 +208,8 @@ fn put_end(
     Ok(())
 }
 
-/// What the framer and the commands make of the bytes in these pieces, a line for each request and for what stands behind
-/// them; `as_query`: as if each request came in an OP_QUERY.
+/// Returns what the framer and the commands return for the bytes in these pieces, a line for each request and for what follows them; `as_query`: as if each
+/// request arrived in an OP_QUERY.
 pub fn told_of(
     alloc: Global,
     bytes: &[u8],

@@ -1,26 +1,25 @@
-//! Connections of the wire, from the bytes that come in to the bytes of the replies: what the framer makes of them, what
-//! commands they are or why they are refused, and what a run answers. Their rows stand in the files of data/, whose lines
-//! begin with a word:
+//! Connections of the wire, from the bytes that arrive to the bytes of the replies: what the framer returns for them, which commands they are or why they are
+//! refused, and the replies of a run. Their rows are in the files of data/, whose lines begin with a word:
 //!
 //! - `#` and the name of the row that begins; `note` and a remark;
 //! - `clock` and the moments at which the first requests are served, in milliseconds; each later one is served at 1000000;
-//! - `ask` and bytes that come in, in hexadecimal; `3*05` stands for `050505`;
-//! - `is` and what the framer and the commands make of them: a request, a fault with its offset, or the number of bytes left;
+//! - `ask` and bytes that arrive, in hexadecimal; `3*05` means `050505`;
+//! - `is` and what the framer and the commands return for them: a request, a fault with its offset, or the number of bytes left;
 //! - `gets` and bytes of replies;
-//! - `sim`: the bytes are a script, and the run's argument is `sim`, where else it is `pipe`;
-//! - `cut`: in each cutting in two and byte by byte the same comes of it;
+//! - `sim`: the bytes are a script, and the run's argument is `sim`; without this line it is `pipe`;
+//! - `cut`: the result is the same in each cutting in two and byte by byte;
 //! - `fail` and `take`, `put` or a disk (0 the catalogue's, 1 the shard's, 2 the router's), and the number of a call that fails;
-//! - `narrow` and the most bytes that a put takes;
-//! - `file`, a disk and its bytes at the start; `keeps`, a disk and its bytes at the end: an opening of its journal finds just the records that
-//!   stand in these by their gates and lengths, and all bytes of each are read as one record; `size`, a disk and the number of its bytes at the end;
-//!   `untouched`: the bytes of the start, and no call that changed the disk or made it stay;
+//! - `narrow` and the greatest number of bytes that one write takes;
+//! - `file`, a disk and its bytes at the start; `keeps`, a disk and its bytes at the end: an opening of its journal finds just the records in these by their
+//!   gates and lengths, and all bytes of each are read as one record; `size`, a disk and the number of its bytes at the end; `untouched`: the bytes of the
+//!   start, and no call that changed or synced the disk;
 //! - `untaken` and how many bytes were left to take;
-//! - `record`, a disk and a record, and `finds`, a disk and two numbers: an opening of that disk's journal finds the first of its records, as
-//!   many as the first number or more, and at most as many as the second;
-//! - `unserved`: asked as if it came in an OP_QUERY, and the row ends;
-//! - `ends`, the status of the run and how many bytes stood behind the last whole request, and the row ends.
+//! - `record`, a disk and a record, and `finds`, a disk and two numbers: an opening of that disk's journal finds the first of its records, at least as many
+//!   as the first number, and at most as many as the second;
+//! - `unserved`: the bytes are read as if they arrived in an OP_QUERY, and the row ends;
+//! - `ends`, the status of the run and how many bytes follow the last whole request, and the row ends.
 //!
-//! For each file a line tells how many rows held; a row that did not is named before it.
+//! For each file a line says how many rows hold; a row that does not is named before it.
 #![tactic(auto)]
 
 mod commands;

@@ -3,23 +3,23 @@
 use crate::faults::RowFault;
 use std::alloc::Global;
 
-/// The number that the digits spell.
+/// Returns the number that the digits encode.
 pub fn number(digits: &str) -> Result<u64, RowFault> {
     digits.parse::<u64>().map_err(|_| RowFault::BadLine)
 }
 
-/// Puts the number that the digits spell behind the others.
+/// Appends the number that the digits encode.
 pub fn put_number(numbers: &mut Vec<u64>, digits: &str) -> Result<(), RowFault> {
     numbers.push(number(digits)?)?;
     Ok(())
 }
 
-/// What stands before the first space, and behind it.
+/// Returns what precedes the first space, and what follows it.
 pub fn split(line: &str) -> Result<(&str, &str), RowFault> {
     line.split_once(' ').ok_or(RowFault::BadLine)
 }
 
-/// Puts bytes in hexadecimal; `3*05` stands for `050505`.
+/// Appends bytes in hexadecimal; `3*05` means `050505`.
 pub fn put_pieces(alloc: Global, bytes: &mut Vec<u8>, pieces: &str) -> Result<(), RowFault> {
     for piece in pieces.split(' ') {
         put_piece(alloc, bytes, piece)?;

@@ -1,11 +1,11 @@
-//! Bytes that come in pieces.
+//! Bytes that arrive in pieces.
 ghost use Rattle.std.specs.Prelude.{false};
 
 use outside::streams::{Failed, Sink, Source};
 use outside::witness::Witness;
 use outside_memory::{MemDisk, MemSink, MemSource};
 
-/// At most how many bytes come at the first take, and at each later one.
+/// The greatest number of bytes that arrive at the first take, and at each later one.
 #[derive(Clone, Copy, Debug, PartialEq, Eq)]
 pub struct Cutting {
     pub first: usize,
@@ -13,7 +13,7 @@ pub struct Cutting {
 }
 
 impl Cutting {
-    /// All at once, as far as there is room.
+    /// All bytes at once, as far as there is room.
     pub fn none() -> Cutting {
         Cutting {
             first: usize::MAX,
@@ -21,7 +21,7 @@ impl Cutting {
         }
     }
 
-    /// So many, and then all.
+    /// This number of bytes, and then all.
     pub fn at(first: usize) -> Cutting {
         Cutting {
             first,
@@ -56,7 +56,7 @@ impl Source for PieceSource {
     }
 }
 
-/// A sink that takes at most so many bytes at each put, and at least one.
+/// A sink that takes at most this number of bytes with each write, and at least one.
 #[derive(Drop)]
 pub struct NarrowSink {
     pub sink: MemSink,

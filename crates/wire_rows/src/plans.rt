@@ -4,8 +4,8 @@ use crate::faults::RowFault;
 use crate::numbers::{number, put_pieces, split};
 use std::alloc::Global;
 
-/// A disk: its file at the start and the numbers of its calls that fail; and, where the row says so, its file at the end
-/// or the size of that, and the records of which an opening of its journal finds the first, how many at least and at most.
+/// A disk: its file at the start and the numbers of its calls that fail; and, where the row says so, its file at the end or the length of that, and the
+/// records of which an opening of its journal finds the first ones, at least and at most how many.
 #[derive(Drop)]
 pub struct DiskPlan {
     pub file: Vec<u8>,
@@ -16,7 +16,7 @@ pub struct DiskPlan {
     pub found: Option<(u64, u64)>,
 }
 
-/// The bytes that the pieces spell.
+/// Returns the bytes that the pieces encode.
 fn bytes_of(alloc: Global, pieces: &str) -> Result<Vec<u8>, RowFault> {
     let mut bytes = Vec::new(alloc);
     put_pieces(alloc, &mut bytes, pieces)?;
@@ -36,7 +36,7 @@ impl DiskPlan {
         }
     }
 
-    /// Takes a line: its first word, and what stands behind that. Fails for want of memory, and where no line begins so.
+    /// Reads a line: its first word, and what follows it. Returns `Memory` if memory runs out, and an error where no line begins with the word.
     pub fn take(&mut self, alloc: Global, word: &str, rest: &str) -> Result<(), RowFault> {
         if word == "size" {
             self.size = Some(number(rest)?);
@@ -50,7 +50,7 @@ impl DiskPlan {
         self.take_bytes(alloc, word, rest)
     }
 
-    /// Takes a line of bytes.
+    /// Reads a line of bytes.
     fn take_bytes(&mut self, alloc: Global, word: &str, pieces: &str) -> Result<(), RowFault> {
         let bytes = bytes_of(alloc, pieces)?;
         if word == "file" {

@@ -5,36 +5,36 @@ use crate::numbers::{number, put_number, put_pieces, split};
 use crate::plans::DiskPlan;
 use std::alloc::Global;
 
-/// A connection, and what has to come of it.
+/// A connection, and what it must result in.
 #[derive(Drop)]
 pub struct Row {
     pub name: String,
     /// The moments at which the first requests are served.
     pub moments: Vec<u64>,
-    /// The bytes that come in.
+    /// The bytes that arrive.
     pub asked: Vec<u8>,
-    /// The numbers of the takes and of the puts that fail.
+    /// The numbers of the takes and of the writes that fail.
     pub failing_takes: Vec<u64>,
     pub failing_puts: Vec<u64>,
-    /// The most bytes that a put takes.
+    /// The greatest number of bytes that one write takes.
     pub most_put: u64,
     /// The disks of the catalogue, the shard and the router.
     pub disks: Vec<DiskPlan>,
-    /// What the framer and the commands make of the bytes, a line for each request and for what stands behind them.
+    /// What the framer and the commands return for the bytes, a line for each request and for what follows them.
     pub told: String,
     /// The bytes of the replies.
     pub replies: Vec<u8>,
     /// How many bytes were not taken, if the row says so.
     pub untaken: Option<u64>,
-    /// Whether no disk was changed or made to stay.
+    /// Whether no disk was changed or synced.
     pub is_untouched: bool,
-    /// Whether it is tried in each cutting.
+    /// Whether it is checked in each cutting.
     pub is_cut: bool,
     /// Whether its bytes are a script.
     pub is_script: bool,
 }
 
-/// Three disks of which the row says nothing.
+/// Returns three disks about which the row says nothing.
 fn fresh_plans(alloc: Global) -> Result<Vec<DiskPlan>, RowFault> {
     let mut disks = Vec::new(alloc);
     for _ in 0..3_u8 {
@@ -44,7 +44,7 @@ fn fresh_plans(alloc: Global) -> Result<Vec<DiskPlan>, RowFault> {
 }
 
 impl Row {
-    /// A row without lines. Fails for want of memory.
+    /// Returns a row without lines, or `Memory` if memory runs out.
     pub fn new(alloc: Global) -> Result<Row, RowFault> {
         let disks = fresh_plans(alloc)?;
         Ok(Row {
@@ -64,7 +64,7 @@ impl Row {
         })
     }
 
-    /// Takes a line: its first word, and what stands behind that. Fails for want of memory, and where no line begins so.
+    /// Reads a line: its first word, and what follows it. Returns `Memory` if memory runs out, and an error where no line begins with the word.
     pub fn take(&mut self, alloc: Global, word: &str, rest: &str) -> Result<(), RowFault> {
         if word == "#" {
             put_line(&mut self.name, rest)
@@ -81,7 +81,7 @@ impl Row {
         }
     }
 
-    /// Takes a line of how the row is tried.
+    /// Reads a line on how the row is checked.
     fn take_plan(&mut self, alloc: Global, word: &str, rest: &str) -> Result<(), RowFault> {
         if word == "clock" {
             put_moments(&mut self.moments, rest)
@@ -101,7 +101,7 @@ impl Row {
         }
     }
 
-    /// Takes the number of a call that fails: of a take, a put or a call of a disk.
+    /// Reads the number of a call that fails: of a take, a write or a call of a disk.
     fn take_failing(&mut self, rest: &str) -> Result<(), RowFault> {
         let (device, call) = split(rest)?;
         if device == "take" {
@@ -113,7 +113,7 @@ impl Row {
         }
     }
 
-    /// Takes a line of what is left at the end, or of a disk.
+    /// Reads a line on what is left at the end, or on a disk.
     fn take_disk(&mut self, alloc: Global, word: &str, rest: &str) -> Result<(), RowFault> {
         if word == "untaken" {
             self.untaken = Some(number(rest)?);
@@ -128,13 +128,13 @@ impl Row {
     }
 }
 
-/// The disk of that number.
+/// Returns the disk of that number.
 fn disk_of<'a>(disks: &'a mut Vec<DiskPlan>, digits: &str) -> Result<&'a mut DiskPlan, RowFault> {
     let index = number(digits)?;
     disks.get_mut(index as usize).ok_or(RowFault::BadLine)
 }
 
-/// Puts a line behind the others.
+/// Appends a line.
 pub fn put_line(lines: &mut String, line: &str) -> Result<(), RowFault> {
     lines.push_str(line)?;
     lines.push('\n')?;

@@ -1,4 +1,4 @@
-//! What a run answers.
+//! The results of a run.
 
 ghost use Rattle.std.specs.Prelude.{⊤};
 
@@ -16,7 +16,7 @@ use std::sync::Wait;
 use std::sync::atomic::{AtomicU64, Ordering};
 use std::thread::Threads;
 
-/// The moment of those that the row does not name.
+/// The moment where the row names none.
 const MOMENT: u64 = 1_000_000;
 
 /// A clock that gives these moments in turn, and then `MOMENT`.
@@ -35,8 +35,7 @@ impl Clock for RowClock<'_> {
     }
 }
 
-/// What a run left: its status, how many bytes stood behind the last whole request, the bytes that it put, the disks, and
-/// how many bytes it did not take.
+/// The result of a run: its status, how many bytes follow the last whole request, the bytes that it wrote, the disks, and how many bytes it did not take.
 #[derive(Drop)]
 pub struct Left {
     pub status: u8,
@@ -46,7 +45,7 @@ pub struct Left {
     pub untaken: u64,
 }
 
-/// The disks of the row.
+/// Returns the disks of the row.
 fn disks_of(alloc: Global, row: &Row) -> Result<Vec<MemDisk>, RowFault> {
     let mut disks = Vec::new(alloc);
     for plan in &row.disks {
@@ -55,14 +54,14 @@ fn disks_of(alloc: Global, row: &Row) -> Result<Vec<MemDisk>, RowFault> {
     Ok(disks)
 }
 
-/// The source of the row's bytes, which come in these pieces.
+/// Returns the source of the row's bytes, which arrive in these pieces.
 fn source_of(alloc: Global, row: &Row, cutting: Cutting) -> Result<PieceSource, RowFault> {
     let failing = Vec::from_slice(alloc, &row.failing_takes)?;
     let source = MemSource::new(Vec::from_slice(alloc, &row.asked)?, failing);
     Ok(PieceSource { source, cutting })
 }
 
-/// The sink of the row.
+/// Returns the sink of the row.
 fn sink_of(alloc: Global, row: &Row) -> Result<NarrowSink, RowFault> {
     Ok(NarrowSink {
         sink: MemSink::new(Vec::from_slice(alloc, &row.failing_puts)?),
@@ -70,7 +69,7 @@ fn sink_of(alloc: Global, row: &Row) -> Result<NarrowSink, RowFault> {
     })
 }
 
-/// The arguments of the row's run.
+/// Returns the arguments of the row's run.
 fn arguments_of(alloc: Global, row: &Row) -> Result<Vec<Text>, RowFault> {
     let word = if row.is_script { "sim" } else { "pipe" };
     let mut arguments = Vec::new(alloc);
@@ -105,7 +104,7 @@ fn run_over<R: Threads + Wait + Sync>(
     ))
 }
 
-/// Serves the row's bytes, which come in these pieces.
+/// Serves the row's bytes, which arrive in these pieces.
 pub fn served<R: Threads + Wait + Sync>(
     rt: &R,
     alloc: Global,

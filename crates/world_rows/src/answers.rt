@@ -1,10 +1,10 @@
-//! Answers of devices in words.
+//! Results of calls of devices, in words.
 
 use fixtures::{RowFault, number};
 use outside::streams::Failed;
 use std::alloc::{AllocError, Global};
 
-/// Puts an answer behind others, with a comma between.
+/// Appends a result to others, with a comma between.
 pub fn push_answer(answers: &mut String, answer: &str) -> Result<(), AllocError> {
     if !answers.is_empty() {
         answers.push_str(", ")?;
@@ -12,7 +12,7 @@ pub fn push_answer(answers: &mut String, answer: &str) -> Result<(), AllocError>
     answers.push_str(answer)
 }
 
-/// The first word, and what stands behind it.
+/// Returns the first word, and what follows it.
 pub fn first_word(words: &str) -> (&str, &str) {
     match words.split_once(' ') {
         Some(parts) => parts,
@@ -20,7 +20,7 @@ pub fn first_word(words: &str) -> (&str, &str) {
     }
 }
 
-/// Whether a call was done.
+/// Returns whether a call succeeded, in a word.
 pub fn done_word(done: Result<(), Failed>) -> &'static str {
     match done {
         Ok(()) => "ok",
@@ -28,7 +28,7 @@ pub fn done_word(done: Result<(), Failed>) -> &'static str {
     }
 }
 
-/// How many bytes a call read or put.
+/// Returns how many bytes a call read or wrote, in words.
 pub fn count_words(alloc: Global, count: Result<u64, Failed>) -> Result<String, AllocError> {
     match count {
         Ok(count) => format!(in alloc; "{count}"),
@@ -36,7 +36,7 @@ pub fn count_words(alloc: Global, count: Result<u64, Failed>) -> Result<String, 
     }
 }
 
-/// How many bytes a call read, and the whole buffer behind it.
+/// Returns how many bytes a call read, and the whole buffer after it.
 pub fn read_words(
     alloc: Global,
     count: Result<usize, Failed>,
@@ -49,13 +49,13 @@ pub fn read_words(
     format!(in alloc; "{count} {digits}")
 }
 
-/// A buffer with room for so many bytes, each of which is 07.
+/// Returns a buffer of this number of bytes, each of which is 07.
 pub fn buffer_of(alloc: Global, room: &str) -> Result<Vec<u8>, RowFault> {
     let room: usize = number(room)?;
     Ok(vec![in alloc; 7; room]?)
 }
 
-/// The number of the call that fails, in a list; or `none`.
+/// Returns the number of the call that fails, in a list; or no number for `none`.
 pub fn failing_calls(alloc: Global, words: &str) -> Result<Vec<u64>, RowFault> {
     match words {
         "none" => Ok(Vec::new(alloc)),

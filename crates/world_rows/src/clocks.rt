@@ -9,7 +9,7 @@ use std::io;
 // The first of January 2020.
 const LATE: u64 = 1_577_836_800_000;
 
-/// Prints what a fixed clock tells, and whether the system's tells a moment after 2019; a gate that is open is passed before.
+/// Prints the moment of a fixed clock, and whether the system's gives a moment after 2019; before that an open gate is passed.
 pub fn tell_clocks(rt: HostRuntime) -> io::Result<()> {
     OpenGate.pass(Place::Half);
     let fixed = FixedClock(1_700_000_000_000).now();

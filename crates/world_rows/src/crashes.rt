@@ -8,21 +8,21 @@ use outside::disk::Disk;
 use outside_memory::{Call, MemDisk};
 use std::alloc::Global;
 
-/// What a crash does to the last call, where no sync follows it.
+/// The effect of a crash on the last call, where no sync follows it.
 #[derive(Clone, Copy)]
 enum Crash {
-    /// Nothing of it was done.
+    /// Nothing of it was written.
     Undone,
-    /// The front half of a write was done.
+    /// The first half of a write was written.
     Half,
-    /// The range of a write holds this byte.
+    /// Each byte in the range of a write is this one.
     Torn(u8),
-    /// All of it was done.
+    /// All of it was written.
     Done,
 }
 
-/// `STEP | CRASH`: whether at each moment of a step of a journal such a crash leaves records that an opening finds: those that were
-/// acknowledged; and one more, or of records that were appended at once all.
+/// `STEP | CRASH`: whether at each moment of a step of a journal such a crash results in records that an opening finds: those that were acknowledged, or
+/// these with one more, or with all records that were appended at once.
 #[derive(Drop)]
 pub struct Crashes;
 
@@ -71,7 +71,7 @@ fn are_right(step: &str, moment: usize, count: usize) -> bool {
     acknowledged <= count && count <= acknowledged.saturating_add(1)
 }
 
-// The disk that a crash behind these calls leaves. Each change is synced before the next, so that only the last can be torn.
+// Returns the disk after a crash after these calls. Each change is synced before the next, so only the last can be torn.
 fn image(alloc: Global, calls: &[Call], crash: Crash) -> Result<MemDisk, RowFault> {
     let mut disk = disk_of(alloc, b"")?;
     if let Some((last, before)) = calls.split_last() {
@@ -103,7 +103,7 @@ fn crash_call<D: Disk>(
     }
 }
 
-// Writes a piece as the crash leaves it.
+// Writes a piece as it is after the crash.
 fn crash_write<D: Disk>(
     alloc: Global,
     disk: &mut D,

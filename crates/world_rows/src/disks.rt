@@ -9,8 +9,8 @@ use outside::streams::Failed;
 use outside_memory::{Call, MemDisk};
 use std::alloc::{AllocError, Global};
 
-/// `BYTES | FAILING | CALLS | ANSWERS | BYTES | LISTED`: what calls of a disk of these bytes give, where one of them may fail; the bytes
-/// then, and the calls that are listed. These, made once more on the bytes at the front, give the same.
+/// `BYTES | FAILING | CALLS | ANSWERS | BYTES | LISTED`: the results of calls of a disk of these bytes, where one of them may fail; the bytes afterwards, and
+/// the calls that are listed. Making these calls again on the first bytes results in the same bytes.
 #[derive(Drop)]
 pub struct Disks;
 
@@ -24,13 +24,13 @@ impl Rows for Disks {
     }
 }
 
-/// A disk of the bytes that these words spell, whose call of that number fails.
+/// Returns a disk of the bytes that these words encode, whose call of that number fails.
 pub fn spelled_disk(alloc: Global, words: &str, failing: &str) -> Result<MemDisk, RowFault> {
     let bytes = bytes_of(alloc, words)?;
     Ok(MemDisk::new(bytes, failing_calls(alloc, failing)?))
 }
 
-/// A disk of these bytes, no call of which fails.
+/// Returns a disk of these bytes, no call of which fails.
 pub fn disk_of(alloc: Global, bytes: &[u8]) -> Result<MemDisk, AllocError> {
     let bytes = Vec::from_slice(alloc, bytes)?;
     Ok(MemDisk::new(bytes, Vec::new(alloc)))
@@ -49,7 +49,7 @@ fn is_left(alloc: Global, disk: &MemDisk, row: &str) -> Result<bool, RowFault> {
     Ok(disk.bytes() == bytes.as_slice() && lists(alloc, disk, listed)?)
 }
 
-// Whether the listed calls, made once more, give the bytes of the disk.
+// Returns whether making the listed calls again results in the bytes of the disk.
 fn is_replayed(alloc: Global, start: &str, disk: &MemDisk) -> Result<bool, RowFault> {
     let mut again = spelled_disk(alloc, start, "none")?;
     for call in disk.calls() {
@@ -69,7 +69,7 @@ pub fn call_again<D: Disk>(disk: &mut D, call: &Call) -> Result<(), Failed> {
     }
 }
 
-/// Whether the calls that are listed are those.
+/// Returns whether these are the calls that are listed.
 pub fn lists(alloc: Global, disk: &MemDisk, wanted: &str) -> Result<bool, AllocError> {
     let mut names = String::new(alloc);
     for call in disk.calls() {
@@ -93,7 +93,7 @@ fn write_name(alloc: Global, at: u64, piece: &[u8]) -> Result<String, AllocError
     format!(in alloc; "write {at} {digits}")
 }
 
-/// What these calls of a disk give.
+/// Returns the results of these calls of a disk.
 pub fn answers<D: Disk>(alloc: Global, disk: &mut D, calls: &str) -> Result<String, RowFault> {
     let mut answers = String::new(alloc);
     for call in calls.split(", ") {
@@ -124,7 +124,7 @@ fn read<D: Disk>(alloc: Global, disk: &mut D, words: &str) -> Result<String, Row
     Ok(read_words(alloc, count, buffer.as_slice())?)
 }
 
-// No clause of a disk is of use above it.
+// Callers need no clause about the disk.
 fn read_into<D: Disk>(disk: &mut D, at: u64, buffer: &mut [u8]) -> Result<usize, Failed> {
     disk.read(at, buffer)
 }

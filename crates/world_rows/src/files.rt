@@ -8,8 +8,8 @@ use outside::standard::FileDisk;
 use std::alloc::{AllocError, Global};
 use std::{env, fs, io, process};
 
-/// `disk | NAME | CALLS | ANSWERS`: what calls of a disk over the file of this name give; `journal | NAME | STEP | ANSWER`: what a step
-/// of a journal there tells. Each row has a new disk; the files stay.
+/// `disk | NAME | CALLS | ANSWERS`: the results of calls of a disk over the file of this name; `journal | NAME | STEP | ANSWER`: the result of a step of a
+/// journal there. Each row has a new disk; the files remain.
 #[derive(Drop)]
 struct Files<'a> {
     rt: HostRuntime,
@@ -56,7 +56,7 @@ fn is_told(
     tells(told, wanted)
 }
 
-/// Checks the rows about files, in a new folder that is removed behind them.
+/// Checks the rows about files, in a new folder that is removed after them.
 pub fn check_files(rt: HostRuntime) -> io::Result<()> {
     let folder = folder_name(rt)?;
     fs::create_dir(&rt, folder.as_str())?;
@@ -72,7 +72,7 @@ pub fn check_files(rt: HostRuntime) -> io::Result<()> {
     fs::remove_dir_all(&rt, folder.as_str())
 }
 
-// The name of a folder of this process.
+// Returns the name of a folder of this process.
 fn folder_name(rt: HostRuntime) -> io::Result<String> {
     let parent = env::temp_dir(&rt)?;
     Ok(format!(in rt.alloc(); "{}/world-{}", parent.display(), process::id(rt.process()))?)

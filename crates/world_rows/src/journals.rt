@@ -10,8 +10,8 @@ use std::alloc::Global;
 // A file with all three records.
 const WHOLE: &str = "01 0200000000000000 'ab' 01 0000000000000000 01 0100000000000000 'c' 00";
 
-/// `FILE | FAILING | STEP | ANSWER | FAULTS | FOUND | CALLS`: what a step of a journal on an empty or a whole file tells, where one
-/// call of the disk fails; how many faults the disk met; how many records stand there then; and its listed calls, or `any`.
+/// `FILE | FAILING | STEP | ANSWER | FAULTS | FOUND | CALLS`: the result of a step of a journal on an empty or a whole file, where one call of the disk
+/// fails; how many faults the disk met; how many records are there afterwards; and its listed calls, or `any`.
 #[derive(Drop)]
 pub struct Journals;
 
@@ -41,7 +41,7 @@ fn is_told(alloc: Global, told: Told, disk: &MemDisk, row: &str) -> Result<bool,
     Ok(tells(told, answer)? && disk.faults() == faults && stands(alloc, disk, rest)?)
 }
 
-/// Whether this is told: a count, and `ok` or a fault.
+/// Returns whether this is the result: a count, and `ok` or a fault.
 pub fn tells(told: Told, answer: &str) -> Result<bool, RowFault> {
     let Some((count, word)) = answer.split_once(' ') else {
         return Err(RowFault::Form);
@@ -50,7 +50,7 @@ pub fn tells(told: Told, answer: &str) -> Result<bool, RowFault> {
     Ok(told.count == count && told.word == word)
 }
 
-// Whether so many records stand on the disk, which lists these calls. With all records it is whole.
+// Returns whether the disk has this number of records and lists these calls. With all records it is whole.
 fn stands(alloc: Global, disk: &MemDisk, row: &str) -> Result<bool, RowFault> {
     let (count, calls) = field(row);
     let count: usize = number(count)?;
@@ -68,7 +68,7 @@ fn is_whole(alloc: Global, bytes: &[u8]) -> Result<bool, RowFault> {
     Ok(bytes == whole.as_slice())
 }
 
-/// What an opening of these bytes on a new disk finds.
+/// Returns what an opening of these bytes on a new disk finds.
 pub fn found_in(alloc: Global, bytes: &[u8]) -> Result<Told, RowFault> {
     let disk = disk_of(alloc, bytes)?;
     let (told, _disk) = run(alloc, disk, "open");

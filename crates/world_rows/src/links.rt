@@ -8,8 +8,8 @@ use outside::streams::{Acceptor, Failed};
 use outside_memory::{MemAcceptor, MemLink};
 use std::alloc::Global;
 
-/// `FAILING | ANSWERS`: what an acceptor of one link gives, one of whose calls may fail: whether it listens, and twice whether it
-/// gives a link that `talks`.
+/// `FAILING | ANSWERS`: the results of an acceptor of one link, one of whose calls may fail: whether it listens, and twice whether it returns a link that
+/// `talks`.
 #[derive(Drop)]
 pub struct Links;
 
@@ -22,7 +22,7 @@ impl Rows for Links {
     }
 }
 
-// A link of the bytes 01 02 03, of which the second take and the first put fail.
+// Returns a link of the bytes 01 02 03, of which the second take and the first write fail.
 fn link_of(alloc: Global) -> Result<MemLink, RowFault> {
     let bytes = Vec::from_slice(alloc, &[1, 2, 3])?;
     let takes = failing_calls(alloc, "1")?;
@@ -30,7 +30,7 @@ fn link_of(alloc: Global) -> Result<MemLink, RowFault> {
     Ok(MemLink::new(bytes, takes, puts))
 }
 
-// An acceptor of one such link.
+// Returns an acceptor of one such link.
 fn acceptor_of(alloc: Global, failing: &str) -> Result<MemAcceptor, RowFault> {
     let mut links = Vec::new(alloc);
     links.push(link_of(alloc)?)?;
@@ -61,13 +61,13 @@ fn talk_word(alloc: Global, link: MemLink) -> Result<&'static str, RowFault> {
     }
 }
 
-// The link gives its bytes, around a take that fails.
+// Returns whether the link gives its bytes, before and after a take that fails.
 fn gives(alloc: Global, link: &mut MemLink) -> Result<bool, RowFault> {
     let taken = takes(alloc, link, "2 2 2")?;
     Ok(taken.as_str() == "2 0102, failed, 1 0307")
 }
 
-// The link takes a piece, behind a put that fails.
+// Returns whether the link takes a piece, after a write that fails.
 fn holds(alloc: Global, link: &mut MemLink) -> Result<bool, RowFault> {
     let put = puts(alloc, link, "'ab', 'ab'")?;
     Ok(put.as_str() == "failed, 2" && link.bytes() == b"ab".as_slice())

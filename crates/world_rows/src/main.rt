@@ -1,5 +1,5 @@
-//! Checks rows of data about the devices and the journal: streams, links, disks in memory and over files, a journal's calls, and
-//! what a crash at each moment leaves. For each file it prints how many rows hold, and each row that does not.
+//! Checks rows of data on the devices and the journal: streams, links, disks in memory and over files, a journal's calls, and the file after a crash at each
+//! moment. For each file it prints how many rows hold, and each row that does not.
 #![tactic(auto)]
 
 mod answers;

@@ -1,23 +1,23 @@
-//! What opening finds in the files of journals. A row is `records N:` or `damage N:`, the number of records or the offset of the damage,
-//! and then the file's bytes in hexadecimal.
+//! What opening finds in the files of journals. A row is `records N:` or `damage N:`, the number of records or the offset of the damage, and then the file's
+//! bytes in hexadecimal.
 
 use fixtures::{RowFault, Rows};
 use journal_frames::{Journal, OpenFault};
 use outside_memory::MemDisk;
 use std::alloc::{AllocError, Global};
 
-/// What stands in a file.
+/// The content of a file.
 #[derive(Drop)]
 enum Found {
-    /// So many records.
+    /// This number of records.
     Records(usize),
-    /// Damage at this offset, and the file stayed as it was.
+    /// Damage at this offset, and the file is unchanged.
     Damage(u64),
     /// Neither.
     Neither,
 }
 
-/// Damage at an offset, where the file stayed as it was.
+/// Returns damage at an offset, where the file is unchanged.
 fn damage_at(offset: u64, stayed: bool) -> Found {
     if stayed {
         Found::Damage(offset)
@@ -26,7 +26,7 @@ fn damage_at(offset: u64, stayed: bool) -> Found {
     }
 }
 
-/// What an opening finds in a file.
+/// Returns what an opening finds in a file.
 fn found_in(alloc: Global, file: &[u8]) -> Result<Found, AllocError> {
     let disk = MemDisk::new(Vec::from_slice(alloc, file)?, Vec::new(alloc));
     match Journal::open(alloc, disk) {
@@ -36,7 +36,7 @@ fn found_in(alloc: Global, file: &[u8]) -> Result<Found, AllocError> {
     }
 }
 
-/// What was found, in words.
+/// Returns what was found, in words.
 fn words_of(alloc: Global, found: &Found) -> Result<String, AllocError> {
     match found {
         Found::Records(count) => format!(in alloc; "records {count}"),
@@ -45,14 +45,14 @@ fn words_of(alloc: Global, found: &Found) -> Result<String, AllocError> {
     }
 }
 
-/// Whether what an opening finds in a file is what the words say.
+/// Returns whether what an opening finds in a file is what the words say.
 fn is_found(alloc: Global, wanted: &str, file: &[u8]) -> Result<bool, AllocError> {
     let found = found_in(alloc, file)?;
     let words = words_of(alloc, &found)?;
     Ok(words.as_str() == wanted)
 }
 
-/// Whether a row says what an opening finds.
+/// Returns whether a row says what an opening finds.
 fn is_right(alloc: Global, row: &str) -> Result<bool, AllocError> {
     let Some((wanted, digits)) = row.split_once(':') else {
         return Ok(false);

@@ -1,4 +1,4 @@
-//! Records of a journal, and what is done with them.
+//! Records of a journal, and steps with them.
 ghost use Rattle.std.specs.Prelude.{IsTrue};
 
 use bson_values::{Blob, Memory};
@@ -7,7 +7,7 @@ use outside::disk::Disk;
 use outside::log::{Log, LogFault, RecordList};
 use std::alloc::Global;
 
-/// How many records are acknowledged or found, and `ok` or which fault.
+/// How many records are acknowledged or found, and `ok` or the fault.
 #[derive(Clone, Copy, PartialEq, Eq)]
 pub struct Told {
     pub count: usize,
@@ -23,8 +23,8 @@ pub fn record(i: usize) -> &'static [u8] {
     }
 }
 
-/// Opens a journal on a disk and does a step there: `each` appends the three records one after another, `once` all at once, `none`
-/// no record at once, and `open` nothing. What it tells, and the disk.
+/// Opens a journal on a disk and makes a step there: `each` appends the three records one after another, `once` all at once, `none` no record, and `open`
+/// does nothing more. Returns the result, and the disk.
 pub fn run<D: Disk>(alloc: Global, disk: D, step: &str) -> (Told, D) {
     match Journal::open(alloc, disk) {
         Ok((journal, records)) => done(alloc, journal, told_of(&records), step),
@@ -91,7 +91,7 @@ fn failed(fault: LogFault, count: usize) -> Told {
     Told { count, word }
 }
 
-// What an opening that failed tells, and its disk.
+// Returns the result of an opening that failed, and its disk.
 fn refused<D: Disk>(fault: OpenFault<D>) -> (Told, D) {
     let (word, disk) = match fault {
         OpenFault::Disk(disk) => ("not opened", disk),
@@ -101,7 +101,7 @@ fn refused<D: Disk>(fault: OpenFault<D>) -> (Told, D) {
     (Told { count: 0, word }, disk)
 }
 
-// What the records tell, which are to be the first of the table.
+// Returns the result for the records, which must be the first of the table.
 fn told_of(records: &RecordList) -> Told {
     let found = records.as_slice();
     let count = found.len();

@@ -8,8 +8,8 @@ use outside::streams::{Failed, Sink};
 use outside_memory::MemSink;
 use std::alloc::{AllocError, Global};
 
-/// `SINK | FAILING | PIECES | ANSWERS`: what puts of these pieces give, where one call may fail: `failed`, or how many bytes; and
-/// behind `:` what the sink then holds. It is in memory, or of the standard library over a vector; or it is `flaky`.
+/// `SINK | FAILING | PIECES | ANSWERS`: the results of writing these pieces, where one call may fail: `failed`, or the number of bytes; and after `:` the
+/// sink's content afterwards. It is in memory, or of the standard library over a vector; or it is `flaky`.
 #[derive(Drop)]
 pub struct Sinks;
 
@@ -54,7 +54,7 @@ fn with_held(alloc: Global, answers: &str, held: &[u8]) -> Result<String, AllocE
     format!(in alloc; "{answers}: {digits}")
 }
 
-/// What puts of these pieces give.
+/// Returns the results of writing these pieces.
 pub fn puts<K: Sink>(alloc: Global, sink: &mut K, pieces: &str) -> Result<String, RowFault> {
     let mut answers = String::new(alloc);
     for piece in pieces.split(", ") {

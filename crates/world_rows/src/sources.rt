@@ -9,8 +9,8 @@ use outside_memory::MemSource;
 use std::alloc::Global;
 use std::io::{self, ErrorKind, Read, Write};
 
-/// `SOURCE | FAILING | ROOMS | ANSWERS`: what takes into buffers of these rooms give, where one call may fail: `failed`, or how many
-/// bytes, with the buffer. The source has the bytes 01 02 03, in memory or of the standard library; or it is `flaky`.
+/// `SOURCE | FAILING | ROOMS | ANSWERS`: the results of takes into buffers of these sizes, where one call may fail: `failed`, or the number of bytes, with
+/// the buffer. The source has the bytes 01 02 03, in memory or of the standard library; or it is `flaky`.
 #[derive(Drop)]
 pub struct Sources;
 
@@ -44,7 +44,7 @@ fn memory_takes(alloc: Global, failing: &str, rooms: &str) -> Result<String, Row
     takes(alloc, &mut source, rooms)
 }
 
-/// What takes into buffers of these rooms give.
+/// Returns the results of takes into buffers of these sizes.
 pub fn takes<S: Source>(alloc: Global, source: &mut S, rooms: &str) -> Result<String, RowFault> {
     let mut answers = String::new(alloc);
     for room in rooms.split(' ') {
@@ -60,7 +60,7 @@ fn take<S: Source>(alloc: Global, source: &mut S, room: &str) -> Result<String, 
     Ok(read_words(alloc, count, buffer.as_slice())?)
 }
 
-/// Gives or takes one byte a call, and fails at the second.
+/// Gives or takes one byte with each call, and fails at the second.
 #[derive(Drop)]
 pub struct Flaky {
     pub calls: u8,

@@ -9,8 +9,8 @@ use std::io;
 use std::io::{Read, Seek, SeekFrom, Write};
 use std::path::Path;
 
-/// A disk over a file, which is opened at the disk's first call, and made if it is not there. It counts the errors that
-/// it meets, and tells no bytes. A file that can't be opened is an error of each call.
+/// A disk over a file, which is opened at the disk's first call, and created if it does not exist. It counts the errors that it meets; its content is not
+/// observable. Where the file can't be opened each call is an error.
 #[derive(Drop)]
 pub struct FileDisk<R: Files + Drop> {
     runtime: R,
@@ -20,7 +20,7 @@ pub struct FileDisk<R: Files + Drop> {
 }
 
 impl<R: Files + Drop> FileDisk<R> {
-    /// A disk over the file of this path, with no error met.
+    /// Returns a disk over the file of this path, with no error met.
     pub fn new(rt: R, path: String) -> FileDisk<R>
         ensures place { string_bytes result.path ≡ string_bytes path }
         ensures faults { result.faults ≡ 0 }
@@ -33,7 +33,7 @@ impl<R: Files + Drop> FileDisk<R> {
         }
     }
 
-    /// The answer of a call, whose error is counted.
+    /// The result of a call, whose error is counted.
     fn counted<T: Drop>(&mut self, answer: io::Result<T>) -> Result<T, Failed>
         ensures same { IfOk result (λ x. answer ≡ Ok x) }
         ensures fault { OnErr result (self.new.faults ≡ next_count self.old.faults) }
@@ -146,15 +146,14 @@ impl<R: Files + Drop> Disk for FileDisk<R> {
     }
 }
 
-/// A file that is opened where it is first used.
+/// A file that is opened at its first use.
 #[derive(Drop)]
 struct LazyFile<R: Files + Drop> {
     file: Option<R::File>,
 }
 
 impl<R: Files + Drop> LazyFile<R> {
-    /// The open file. Where it was not open, the file of this path is opened, or made, and its folder is synced, so that its
-    /// name stays.
+    /// Returns the open file. Where it was not open, the file of this path is opened, or created, and its folder is synced, so that its name is durable.
     fn open(&mut self, runtime: &R, path: &str) -> io::Result<&mut R::File> {
         if self.file.is_none() {
             let file = OpenOptions::new()
@@ -171,12 +170,12 @@ impl<R: Files + Drop> LazyFile<R> {
         }
     }
 
-    /// The file's length in bytes.
+    /// Returns the file's length in bytes.
     fn len(&mut self, runtime: &R, path: &str) -> io::Result<u64> {
         Ok(self.open(runtime, path)?.metadata()?.len())
     }
 
-    /// Reads bytes from the offset `at` on into the front of `buf`, and gives their number.
+    /// Reads bytes from the offset `at` on into the front of `buf`, and returns their number.
     fn read(&mut self, runtime: &R, path: &str, at: u64, buf: &mut [u8]) -> io::Result<usize>
         ensures count { IfOk result (λ n. n ≤ length buf.old) }
         ensures len { length buf.new ≡ length buf.old }
@@ -202,13 +201,13 @@ impl<R: Files + Drop> LazyFile<R> {
         Ok(())
     }
 
-    /// Makes the file stay as it is.
+    /// Makes the file's content durable.
     fn sync(&mut self, runtime: &R, path: &str) -> io::Result<()> {
         self.open(runtime, path)?.sync_all()
     }
 }
 
-/// The folder that the file of this path stands in.
+/// Returns the folder that the file of this path is in.
 fn folder_of(path: &str) -> Path<'_> {
     match Path::new(path).parent() {
         Some(folder) if !folder.as_str().is_empty() => folder,

@@ -1,4 +1,4 @@
--- Each part of a spelling ends where the bytes before say.
+-- The bytes before a part of an encoding determine where the part ends.
 use Rattle.bson_model.proofs.OneDocument.{one_document}
 use Rattle.bson_model.proofs.laws.one_document.Goals as goal
 

@@ -1,4 +1,4 @@
--- A byte that was joined is at most what they join to.
+-- Each byte is at most the bitwise or of all bytes.
 use Rattle.std.proofs.Common.{ℕ, ◌<◌, ◌≤◌, slice_index}
 use Rattle.bson_values.proofs.scan.is_ascii.Given as goal
 

@@ -1,4 +1,4 @@
--- What is left of both is the same exactly where the whole is.
+-- The rests of both are equal exactly where both are.
 use Rattle.std.proofs.Common.{◌≡◌, ◌↔◌, drop}
 use Rattle.std.specs.Slice.Iter.{iter_rest}
 use Rattle.bson_values.specs.View.{items_of, fields_of}

@@ -1,4 +1,4 @@
--- The documents so far may be a batch, and these are their bytes.
+-- The documents that were counted may be a batch, and these are their bytes.
 use Rattle.std.proofs.Common.{◌≡◌, ◌-◌, ◌^◌, map, take}
 use Rattle.std.specs.Prelude.{min}
 use Rattle.std.specs.Arc.{arc_value}

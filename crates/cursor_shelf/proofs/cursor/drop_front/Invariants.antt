@@ -1,4 +1,4 @@
--- As many documents as were passed are out.
+-- As many documents as were counted are removed.
 use Rattle.std.proofs.Common.{◌≡◌, drop}
 use Rattle.cursor_shelf.proofs.cursor.drop_front.Given as goal
 

@@ -1,6 +1,5 @@
 use Rattle.std.proofs.Common.{rules}
 use Rattle.cursor_shelf.proofs.cursor.is_reached.Goals as goal
 
--- src/cursor.rt:112:1
 pub returns-in-Some : goal.returns-in-Some
 returns-in-Some c = search rules

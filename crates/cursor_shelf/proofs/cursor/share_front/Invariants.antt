@@ -1,4 +1,4 @@
--- As many documents as were passed are shared.
+-- As many documents as were counted are shared.
 use Rattle.std.proofs.Common.{◌≡◌, map, take}
 use Rattle.std.specs.Arc.{arc_value}
 use Rattle.cursor_shelf.proofs.cursor.share_front.Given as goal

@@ -1,4 +1,4 @@
--- What was taken out, and what remains, is what there was.
+-- The documents taken, and those that remain, are all.
 use Rattle.std.proofs.Common.{◌≡◌, ◌≤◌, ◌+◌, ◌++◌, length}
 use Rattle.std.specs.Vec.{vec_capacity, vec_len}
 use Rattle.cursor_shelf.proofs.cursor.take_front.Given as goal

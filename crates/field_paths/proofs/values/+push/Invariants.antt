@@ -1,4 +1,4 @@
--- The parts that are left fall. What was put, and what is left of the array, is what the whole gives.
+-- The parts that are left get fewer. The values appended, and those of what is left of the array, are those of the whole.
 use Rattle.std.proofs.Common.{◌≡◌, ◌∷◌, ◌++◌, ◌+◌, ◌*◌, length, drop}
 use Rattle.bson_values.specs.View.{items_of}
 use Rattle.field_paths.specs.References.{seen}

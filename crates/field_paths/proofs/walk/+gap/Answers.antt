@@ -1,6 +1,5 @@
 use Rattle.std.proofs.Common.{rules}
 use Rattle.field_paths.proofs.walk.+gap.Goals as goal
 
--- src/walk.rt:89:1
 pub gap_from-returns-in_default-value : goal.gap_from-returns-in_default-value
 gap_from-returns-in_default-value t c = search rules

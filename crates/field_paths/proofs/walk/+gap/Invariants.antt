@@ -1,4 +1,4 @@
--- The parts that are left fall. What is left of the array has a gap where the whole does.
+-- The parts that are left get fewer. What is left of the array has a gap where the whole does.
 use Rattle.std.proofs.Common.{◌≡◌, ◌∷◌, ◌+◌, ◌*◌, length, drop}
 use Rattle.bson_values.specs.View.{items_of}
 use Rattle.query_model.specs.Paths.{gap_from}

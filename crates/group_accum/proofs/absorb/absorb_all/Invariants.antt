@@ -1,4 +1,4 @@
--- What there is, and what the fields that are left have, is what all have.
+-- The cells that are done, and those of the fields that are left, are those of all fields.
 use Rattle.std.proofs.Common.{◌≡◌, ◌++◌, drop, map}
 use Rattle.pipeline_model.proofs.Absorbed.{absorb_row}
 use Rattle.group_accum.specs.View.{cell_of, group_field_of}

@@ -1,4 +1,4 @@
--- What there is, and what the cells that are left show, is what all show.
+-- The fields that are done, and those of the cells that are left, are those of all cells.
 use Rattle.std.proofs.Common.{◌≡◌, drop, map}
 use Rattle.std.specs.Prelude.{option_map}
 use Rattle.bson_model.specs.Tree.{joined}

@@ -1,4 +1,4 @@
--- What was read, and what is left, is what the whole gives.
+-- The parts already read, and those of what is left, are those of the whole.
 use Rattle.std.proofs.Common.{◌≡◌, drop}
 use Rattle.bson_values.specs.View.{fields_of}
 use Rattle.pipeline_model.specs.GroupSpecs.{read_group_fields}

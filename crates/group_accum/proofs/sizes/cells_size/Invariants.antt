@@ -1,4 +1,4 @@
--- The sum so far, and what is left, are the sum of all.
+-- The sum of those that were counted, and that of what is left, are the sum of all.
 use Rattle.std.proofs.Common.{◌≡◌, ◌<◌, ◌+◌, ◌^◌, drop, map}
 use Rattle.std.specs.Prelude.{sum_by}
 use Rattle.pipeline_model.specs.Lengths.{cell_length}

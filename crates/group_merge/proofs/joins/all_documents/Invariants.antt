@@ -1,4 +1,4 @@
--- The documents so far and those of the parts that are left are all documents.
+-- The documents that are done, and those of the parts that are left, are all documents.
 use Rattle.std.proofs.Common.{◌≡◌, ◌++◌, map}
 use Rattle.std.specs.Prelude.{flat_map}
 use Rattle.std.specs.Arc.{arc_value}

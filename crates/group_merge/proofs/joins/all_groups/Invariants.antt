@@ -1,4 +1,4 @@
--- The rows are those of the parts so far, joined.
+-- The rows are those of the parts that were visited, joined.
 use Rattle.std.proofs.Common.{◌≡◌, map}
 use Rattle.std.specs.Prelude.{flat_map}
 use Rattle.std.specs.Arc.{arc_value}

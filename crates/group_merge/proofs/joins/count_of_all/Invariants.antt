@@ -1,4 +1,4 @@
--- The number so far, and what the parts that are left tell, are the whole sum.
+-- The sum of the parts that were visited, and that of the parts that are left, are the whole sum.
 use Rattle.std.proofs.Common.{◌≡◌, ◌<◌, ◌+◌, ◌^◌, drop, map}
 use Rattle.std.specs.Prelude.{sum_by}
 use Rattle.pipeline_eval.specs.Rows.{rows_of}

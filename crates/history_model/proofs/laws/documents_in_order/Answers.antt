@@ -1,4 +1,4 @@
--- Entry by entry; and two lists in order that find the same are one.
+-- Entry by entry; and two ordered lists that find the same documents are equal.
 use Rattle.history_model.proofs.Collections.{lists_collection, one_listing}
 use Rattle.history_model.proofs.laws.documents_in_order.Goals as goal
 

@@ -1,4 +1,4 @@
--- By whether the note is of the session, its transaction is greater, and it is of the number.
+-- By whether the note belongs to the session, its transaction is greater, and it has the number.
 use Rattle.history_model.proofs.Noted.{one_more_note, noted_again}
 use Rattle.history_model.proofs.laws.one_more_note.Goals as goal
 

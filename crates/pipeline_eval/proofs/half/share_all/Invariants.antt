@@ -1,4 +1,4 @@
--- The documents so far and those that are left are all.
+-- The documents that are done, and those that are left, are all.
 use Rattle.std.proofs.Common.{◌≡◌, ◌++◌, drop, map}
 use Rattle.std.specs.Arc.{arc_value}
 use Rattle.pipeline_eval.proofs.half.share_all.Given as goal

@@ -1,4 +1,4 @@
--- None is too long so far.
+-- None of those that were visited is too long.
 use Rattle.std.proofs.Common.{◌≡◌, drop, map}
 use Rattle.std.specs.Arc.{arc_value}
 use Rattle.pipeline_model.specs.Lengths.{excess_of_documents}

@@ -1,4 +1,4 @@
--- The sum so far and what is left are the sum of all.
+-- The sum of those that were counted, and that of what is left, are the sum of all.
 use Rattle.std.proofs.Common.{◌≡◌, ◌<◌, ◌+◌, ◌^◌, drop, map}
 use Rattle.std.specs.Arc.{arc_value}
 use Rattle.pipeline_model.specs.Lengths.{documents_length}

@@ -1,4 +1,4 @@
--- What the stages that are left make of the documents, all make.
+-- The stages that are left, on the present documents, have the result of all stages.
 use Rattle.std.proofs.Common.{length, map}
 use Rattle.std.specs.Arc.{arc_value}
 use Rattle.pipeline_model.specs.Runs.{Outcome, Runs}

@@ -1,4 +1,4 @@
--- The rows so far and the documents that are left are all documents; each row has its key.
+-- The rows that are done, and the documents that are left, are all documents; each row has its key.
 use Rattle.std.proofs.Common.{◌≡◌, ◌++◌, map}
 use Rattle.std.specs.Arc.{arc_value}
 use Rattle.std.specs.List.{AllByRecursion}

@@ -1,4 +1,4 @@
--- The documents so far and those of the rows that are left are all.
+-- The documents that are done, and those of the rows that are left, are all.
 use Rattle.std.proofs.Common.{◌≡◌, ◌++◌, map}
 use Rattle.std.specs.Arc.{arc_value}
 use Rattle.std.specs.VecDeque.{deque_len}

@@ -1,4 +1,4 @@
--- The rows are those of the documents so far.
+-- The rows are those of the documents that were added.
 use Rattle.std.proofs.Common.{◌≡◌, map, take}
 use Rattle.std.specs.Arc.{arc_value}
 use Rattle.group_accum.specs.GroupParts.{rows_in, spec_in}

@@ -1,4 +1,4 @@
--- What there is, and what is left of the others, is what is left of all.
+-- The projections that are done, and those of the documents that are left, are those of all.
 use Rattle.std.proofs.Common.{◌≡◌, ◌++◌, drop, map}
 use Rattle.std.specs.Arc.{arc_value}
 use Rattle.pipeline_model.specs.Projections.{project}

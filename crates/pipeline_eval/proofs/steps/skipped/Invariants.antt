@@ -1,4 +1,4 @@
--- What is left without those that are still to be skipped.
+-- The result is what is left without those that are still to be skipped.
 use Rattle.std.proofs.Common.{◌≡◌, ◌-◌, drop}
 use Rattle.pipeline_eval.proofs.steps.skipped.Given as goal
 

@@ -1,4 +1,4 @@
--- The rows are kept of those that were seen; the documents of these, and those that are left, are all.
+-- The rows are kept from those that were read; the documents read, and those that are left, are all.
 use Rattle.std.proofs.Common.{◌≡◌, ◌≤◌, ◌++◌, List, length, map}
 use Rattle.std.specs.Prelude.{cond}
 use Rattle.std.specs.Arc.{arc_value}

@@ -1,4 +1,4 @@
--- What was read, and what is left, is what the whole gives.
+-- The stages already read, and those of what is left, are those of the whole.
 use Rattle.std.proofs.Common.{◌≡◌, drop, map}
 use Rattle.bson_values.specs.View.{items_of}
 use Rattle.field_paths.proofs.FieldLists.{with_front}

@@ -1,4 +1,4 @@
--- What is left may stand where the whole may.
+-- The rules that are left are allowed together where the whole is.
 use Rattle.std.proofs.Common.{◌≡◌, drop}
 use Rattle.std.specs.List.{list_all}
 use Rattle.pipeline_model.specs.Projections.{may_stand}

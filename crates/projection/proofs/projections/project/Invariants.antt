@@ -1,4 +1,4 @@
--- What was put, and what the rules that are left compute, is the whole.
+-- The fields appended, and those that the rules that are left compute, are the whole.
 use Rattle.std.proofs.Common.{◌≡◌, drop}
 use Rattle.bson_model.specs.Tree.{joined}
 use Rattle.pipeline_model.specs.Projections.{computed_fields, project}

@@ -1,4 +1,4 @@
--- What was put, and what stays of the fields that are left, is what stays of the whole.
+-- The fields appended, and the kept ones of those that are left, are the kept ones of the whole.
 use Rattle.std.proofs.Common.{◌≡◌, drop}
 use Rattle.bson_model.specs.Tree.{joined}
 use Rattle.bson_values.specs.View.{fields_of}

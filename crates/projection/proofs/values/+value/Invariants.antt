@@ -1,4 +1,4 @@
--- The parts that are left fall. What was found, and what is left of the array, is what the whole has.
+-- The parts that are left get fewer. The values found, and those of what is left of the array, are those of the whole.
 use Rattle.std.proofs.Common.{◌≡◌, ◌∷◌, ◌+◌, ◌*◌, length, drop}
 use Rattle.bson_model.specs.Tree.{joined_items}
 use Rattle.bson_values.specs.View.{items_of}

@@ -1,10 +1,8 @@
 use Rattle.std.proofs.Common.{rules}
 use Rattle.router_cursors.proofs.number.number_behind.Goals as goal
 
--- src/number.rt:43:9
 pub returns-then-gave-blocks-clause-number : goal.returns-then-gave-blocks-clause-number
 returns-then-gave-blocks-clause-number c = search rules
 
--- src/number.rt:43:9
 pub returns-then-gave-blocks-clause-behind : goal.returns-then-gave-blocks-clause-behind
 returns-then-gave-blocks-clause-behind c = search rules

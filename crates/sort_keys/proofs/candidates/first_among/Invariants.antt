@@ -1,4 +1,4 @@
--- The first of what came and of what is left is that of the whole.
+-- The first of the best part found and of what is left is that of the whole.
 use Rattle.std.proofs.Common.{◌≡◌, drop}
 use Rattle.std.specs.Prelude.{flat_map, None}
 use Rattle.field_paths.specs.References.{seen}

@@ -1,4 +1,4 @@
--- What is left of both keys compares as the whole does.
+-- The rests of both keys compare as the whole keys do.
 use Rattle.std.proofs.Common.{◌≡◌, drop}
 use Rattle.std.specs.Slice.Iter.{iter_rest}
 use Rattle.pipeline_model.specs.SortKeys.{order_keys}

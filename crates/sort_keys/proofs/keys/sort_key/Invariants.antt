@@ -1,4 +1,4 @@
--- What was found, and what the fields that are left give, is the whole key.
+-- The parts found, and those of the fields that are left, are the whole key.
 use Rattle.std.proofs.Common.{◌≡◌, ◌++◌, drop}
 use Rattle.pipeline_model.specs.SortKeys.{sort_key}
 use Rattle.sort_keys.specs.View.{parts_of, sort_fields_of}

@@ -1,4 +1,4 @@
--- What was read, and what is left, is what the whole gives.
+-- The fields already read, and those of what is left, are those of the whole.
 use Rattle.std.proofs.Common.{◌≡◌, drop}
 use Rattle.bson_values.specs.View.{fields_of}
 use Rattle.field_paths.proofs.FieldLists.{read_each, with_front}

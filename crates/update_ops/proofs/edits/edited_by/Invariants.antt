@@ -1,4 +1,4 @@
--- The edits that are left make of what was made what all make of the document.
+-- Applying the edits that are left to the present document results in what applying all to the first one results in.
 use Rattle.std.proofs.Common.{◌≡◌, drop}
 use Rattle.query_model.specs.Edits.{edited_by}
 use Rattle.update_ops.specs.View.{edits_of}

@@ -1,4 +1,4 @@
--- What was put, and the fields that are left, are the whole.
+-- The fields appended, and those that are left, are the whole.
 use Rattle.std.proofs.Common.{◌≡◌, drop}
 use Rattle.bson_model.specs.Tree.{joined}
 use Rattle.bson_values.specs.View.{fields_of}

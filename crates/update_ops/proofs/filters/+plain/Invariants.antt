@@ -1,4 +1,4 @@
--- What is inside a filter is smaller. What is left of it is plain where the whole is.
+-- What is nested in a filter is smaller. What is left of it is plain where the whole is.
 use Rattle.std.proofs.Common.{◌≡◌, ◌+◌, ◌*◌, drop}
 use Rattle.bson_values.specs.Sizes.{datum_size, fields_size}
 use Rattle.bson_values.specs.View.{datum_of, fields_of}

@@ -1,4 +1,4 @@
--- What was put, and what is left of the filter, are all.
+-- The equalities appended, and those of what is left of the filter, are all.
 use Rattle.std.proofs.Common.{◌≡◌, drop}
 use Rattle.bson_model.specs.Tree.{joined}
 use Rattle.bson_values.specs.View.{fields_of}

@@ -1,4 +1,4 @@
--- What was put, and what is left of the operators, are all.
+-- The operands appended, and those of the operators that are left, are all.
 use Rattle.std.proofs.Common.{◌≡◌, drop}
 use Rattle.bson_model.specs.Tree.{Fields, joined}
 use Rattle.bson_values.specs.View.{fields_of}

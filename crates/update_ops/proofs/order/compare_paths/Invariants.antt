@@ -1,4 +1,4 @@
--- What is left of both still compares as the whole does.
+-- The rests of both compare as the whole paths do.
 use Rattle.std.proofs.Common.{◌≡◌, drop}
 use Rattle.std.specs.Slice.Iter.{iter_rest}
 use Rattle.query_model.specs.Changes.{path_order}

@@ -1,4 +1,4 @@
--- What is left, put among what is there, gives what all give.
+-- Inserting what is left into what is there results in what all result in.
 use Rattle.std.proofs.Common.{◌≡◌, []}
 use Rattle.std.specs.Vec.Iter.{into_iter_items}
 use Rattle.query_model.specs.Changes.{put_among}

@@ -1,4 +1,4 @@
--- What was put, and what is left of the document, is what the whole gives.
+-- The edits appended, and those of what is left of the document, are those of the whole.
 use Rattle.std.proofs.Common.{◌≡◌, drop}
 use Rattle.bson_values.specs.View.{fields_of}
 use Rattle.query_model.specs.Changes.{read_edits}

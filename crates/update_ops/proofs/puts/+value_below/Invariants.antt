@@ -1,4 +1,4 @@
--- The names that are left fall.
+-- The names that are left get fewer.
 use Rattle.std.proofs.Common.{length}
 use Rattle.update_ops.proofs.puts.+value_below.Given as goal
 

@@ -1,4 +1,4 @@
--- The bytes that are held are those of the text, short or long.
+-- The bytes that are stored are those of the text, whether short or long.
 use Rattle.std.proofs.Common.{◌≡◌, ap, ◌∙◌}
 use Rattle.std.specs.Prelude.{string_bytes}
 use Rattle.bson_values.specs.Texts.{name_bytes}

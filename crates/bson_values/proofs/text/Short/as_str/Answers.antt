@@ -1,4 +1,4 @@
--- The bytes that count are those of a text.
+-- The bytes that are used are those of a text.
 use Rattle.std.proofs.lemmas.Str.{IsUtf8-had}
 use Rattle.bson_values.proofs.text.Short.as_str.Goals as goal
 

@@ -1,6 +1,5 @@
 use Rattle.std.proofs.Common.{rules}
 use Rattle.cursor_shelf.proofs.cursor.Cursor.is_of.Goals as goal
 
--- src/cursor.rt:71:5
 pub returns : goal.returns
 returns c = search rules

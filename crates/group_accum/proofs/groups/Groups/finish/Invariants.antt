@@ -1,4 +1,4 @@
--- What is shown, and what the rows that are left show, is what all show.
+-- The documents that are done, and those of the rows that are left, are those of all rows.
 use Rattle.std.proofs.Common.{◌≡◌, ◌++◌, map}
 use Rattle.std.specs.Prelude.{option_map}
 use Rattle.std.specs.Arc.{arc_value}

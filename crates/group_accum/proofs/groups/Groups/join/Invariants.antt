@@ -1,4 +1,4 @@
--- The rows that were taken in so far, and those that are left, are all of them.
+-- The rows that were absorbed, and those that are left, are all of them.
 use Rattle.std.proofs.Common.{◌≡◌, ◌++◌, List}
 use Rattle.std.specs.BTreeMap.{btree_map_len}
 use Rattle.pipeline_model.specs.Groups.{IsJoined, PartialRow}

@@ -1,6 +1,5 @@
 use Rattle.std.proofs.Common.{rules}
 use Rattle.opmsg_frames.proofs.request.Request.bytes.Goals as goal
 
--- src/request.rt:46:5
 pub returns : goal.returns
 returns c = search rules

@@ -1,6 +1,5 @@
 use Rattle.std.proofs.Common.{rules}
 use Rattle.router_cursors.proofs.list.CursorList.is_given.Goals as goal
 
--- src/list.rt:114:5
 pub returns : goal.returns
 returns c = search rules

@@ -1,0 +1,336 @@
+#!/usr/bin/env -S python3 -B
+"""Plays random scripts on the built program, and looks whether its journals tell one history that explains every reply.
+
+Scripts have clients of one to four routers, moments, messages held back by kind, delivered late or again, links that are closed by bytes that are no
+request, and retries of numbered writes by other routers. Of what the program printed and of what its journals hold, read by the account of the formats
+in rows/, it checks:
+
+- the shard's entries rise in time, no two have one number, and each has the outcome of its operation on what the entries before it left;
+- each write's reply shows the entry of each statement, or 225 where its session has a greater transaction; after the first error of an ordered write
+  under a number of the router's own nothing was applied;
+- each read at T is the answer of its pipeline on the entries up to T, and T is not before what its router returned earlier;
+- each request has one reply at most, and has one at the end, where its link is still open.
+
+    bench/random_scripts.py PROGRAM [SCRIPTS] [SEED]
+"""
+import pathlib
+import random
+import struct
+import subprocess
+import sys
+import tempfile
+
+sys.path.insert(0, str(pathlib.Path(__file__).resolve().parent / "rows"))
+
+from bson import DOCUMENT, STRING, doc, field, read_fields, shown, time  # noqa: E402
+from changing import applied, key_of  # noqa: E402
+from cluster import write_error  # noqa: E402
+from commands import stages_of  # noqa: E402
+from inserts import records  # noqa: E402
+from order import order_of  # noqa: E402
+from pipelines import answer  # noqa: E402
+from wire import Request, message  # noqa: E402
+
+KINDS = ["TableAsk", "TableTold", "WriteAsk", "ReadAsk", "TimeAsk", "HalfAsk", "WriteDone", "ReadRows", "TimeTold", "Refused", "Batch", "SplitAsk"]
+FIRST_ROUTER = 2
+
+
+class Wrong(Exception):
+    pass
+
+
+def want(holds, text):
+    if not holds:
+        raise Wrong(text)
+
+
+class Asked:
+    """A request: the router and the link that it came on, its number among the router's requests, and the time that the router had returned before."""
+
+    def __init__(self, router, link, count, bytes_, known):
+        self.router, self.link, self.count, self.known = router, link, count, known
+        self.request = Request(bytes_)
+        self.reply = None
+
+
+class Script:
+    """A random script, and what its requests are."""
+
+    def __init__(self, rng):
+        self.rng, self.routers = rng, rng.choice([1, 1, 2, 3, 4])
+        self.lines, self.requests, self.moment = [], [], [0] * (FIRST_ROUTER + self.routers)
+        self.links, self.counts, self.numbered, self.settled = [0] * self.routers, [0] * self.routers, [], 0
+        self.transactions = {}
+
+    def number(self):
+        """A session and a transaction of it, mostly the next one."""
+        session = self.rng.randrange(3)
+        step = self.rng.choice([0, 1, 1, 1, 2])
+        self.transactions[session] = max(1, self.transactions.get(session, 0) + step)
+        return f', lsid: {{id: UUID("{session:032x}")}}, txnNumber: {self.transactions[session]}L'
+
+    def key(self):
+        return self.rng.randrange(6)
+
+    def write(self):
+        kind, rng = self.rng.choice(["insert", "update", "delete"]), self.rng
+        ordered = rng.choice(["", ", ordered: false", ", ordered: true"])
+        count, end = rng.choice([1, 1, 2, 3]), ordered + (self.number() if rng.random() < 0.6 else "")
+        if kind == "insert":
+            listed = ", ".join(f"{{_id: {self.key()}, x: {rng.randrange(5)}}}" for _ in range(count))
+            return f'{{insert: "c", documents: [{listed}], $db: "d"{end}}}'
+        if kind == "delete":
+            listed = ", ".join(f"{{q: {{_id: {self.key()}}}, limit: 1}}" for _ in range(count))
+            return f'{{delete: "c", deletes: [{listed}], $db: "d"{end}}}'
+        changes = ["{$inc: {x: 1}}", "{$set: {y: 7}}", "{x: 9}", "{$unset: {x: 1}}"]
+        listed = ", ".join(f"{{q: {{_id: {self.key()}}}, u: {rng.choice(changes)}, upsert: {rng.choice(['true', 'false'])}}}" for _ in range(count))
+        return f'{{update: "c", updates: [{listed}], $db: "d"{end}}}'
+
+    def read(self):
+        key = self.key()
+        return self.rng.choice([
+            '{find: "c", $db: "d"}', '{find: "c", sort: {x: 1, _id: -1}, $db: "d"}', f'{{find: "c", filter: {{_id: {key}}}, $db: "d"}}',
+            f'{{find: "c", filter: {{_id: {{$in: [{key}, {self.key()}]}}}}, $db: "d"}}', f'{{find: "c", filter: {{_id: {{$gte: {key}}}}}, limit: 2, $db: "d"}}',
+            '{count: "c", $db: "d"}', f'{{count: "c", query: {{x: {{$gt: 1}}}}, $db: "d"}}', '{find: "none", $db: "d"}',
+            '{aggregate: "c", pipeline: [{$group: {_id: null, total: {$sum: "$x"}}}], cursor: {}, $db: "d"}',
+        ])
+
+    def client(self, router, source):
+        self.counts[router] += 1
+        bytes_ = message(len(self.requests) + 1, source)
+        self.lines.append((f"client {router} {bytes_.hex()}", Asked(router, self.links[router], self.counts[router], bytes_, None)))
+        self.requests.append(self.lines[-1][1])
+        if "txnNumber" in source:
+            self.numbered.append(source)
+
+    def ask(self):
+        router, rng = self.rng.randrange(self.routers), self.rng
+        if self.numbered and rng.random() < 0.25:
+            return self.client(router, rng.choice(self.numbered))
+        self.client(router, self.write() if rng.random() < 0.6 else self.read())
+
+    def line(self):
+        choice, rng = self.rng.random(), self.rng
+        if choice < 0.5:
+            self.ask()
+        elif choice < 0.6:
+            node = rng.randrange(FIRST_ROUTER + self.routers)
+            self.moment[node] += rng.choice([0, 1, 999, 1000, 5000])
+            self.add(f"moment {node} {self.moment[node]}")
+        elif choice < 0.75:
+            self.add("settle")
+            self.settled = sum(field(asked.request.body, "find") != (STRING, "none") for asked in self.requests)
+        elif choice < 0.9:
+            self.add(f"settle except {rng.choice(KINDS)}")
+        elif choice < 0.94 and self.settled:
+            self.add(f"deliver 1 {rng.randrange(self.settled)}")
+        elif choice < 0.97 and self.settled:
+            # the answer of a write is held back, and comes by itself
+            self.client(0, self.write())
+            self.add("settle")
+            self.client(0, self.write())
+            self.add("settle except WriteDone")
+            self.add("next WriteDone")
+        else:
+            router = rng.randrange(self.routers)
+            self.add(f"client {router} {'00' * 16}")
+            self.links[router] += 1
+
+    def add(self, line):
+        self.lines.append((line, None))
+
+    def whole(self, length):
+        self.client(0, '{insert: "c", documents: [{_id: 0, x: 1}], $db: "d"}')
+        self.add("settle")
+        self.settled = 1
+        for _ in range(length):
+            self.line()
+        for moment in (10**6, 2 * 10**6):
+            self.add("settle")
+            for node in range(FIRST_ROUTER + self.routers):
+                self.add(f"moment {node} {moment}")
+        self.add("settle")
+        return self
+
+
+# the journals
+
+
+class Entry:
+    """An entry of the shard's journal."""
+
+    def __init__(self, record):
+        self.time, length = struct.unpack_from("<QI", record, 2)
+        self.namespace, at = record[14 : 14 + length].decode(), 14 + length
+        width = 17 if record[at] == 0 else 21
+        self.session = record[at + 1 : at + 17] if record[at] == 0 else struct.unpack_from("<IQQ", record, at + 1)
+        self.transaction, self.index = struct.unpack_from("<qI", record, at + width)
+        self.kind, at = {1: "insert", 2: "update", 3: "delete"}[record[at + width + 12]], at + width + 13
+        first, at = read_fields(record, at)
+        self.statement = {"d": first} if self.kind == "insert" else {"q": first, "upsert": False}
+        if self.kind == "update":
+            self.statement["u"], at = read_fields(record, at)
+            self.statement["upsert"], at = record[at] == 1, at + 1
+        count, modified = struct.unpack_from("<II", record, at)
+        upserted, at = None, at + 8
+        if record[at] == 1:
+            fields, at = read_fields(record, at + 1)
+            upserted = field(fields, "_id")
+        else:
+            at += 1
+        self.reply = (count, modified, upserted, struct.unpack_from("<i", record, at)[0])
+        want(at + 4 == len(record), "an entry has bytes left")
+
+
+class History:
+    """The entries of a shard, which must be legal, and what they leave."""
+
+    def __init__(self, path):
+        self.entries = [Entry(record) for record in records(path) if record[:2] == b"\1\2"]
+        self.by_number, self.versions, last = {}, {}, 0
+        for entry in self.entries:
+            want(entry.time > last, "the times of entries do not rise")
+            last = entry.time
+            number = (entry.session, entry.transaction, entry.index)
+            want(number not in self.by_number, f"two entries of one number {number}")
+            self.by_number[number] = entry
+            versions = self.versions.setdefault(entry.namespace, {}).setdefault(order_of(key_of(entry.kind, entry.statement)), [])
+            after, reply = applied(entry.kind, entry.statement, versions[-1][1] if versions else None)
+            want(reply == entry.reply, f"the entry at {entry.time} has the outcome {entry.reply}, not {reply}")
+            versions.append((entry.time, after))
+
+    def documents_at(self, namespace, at):
+        kept = self.versions.get(namespace, {})
+        newest = [[document for when, document in kept[key] if when <= at][-1:] for key in sorted(kept)]
+        return [found[0] for found in newest if found and found[0] is not None]
+
+    def greater(self, session, transaction):
+        return {number[1] for number in self.by_number if number[0] == session and number[1] > transaction}
+
+
+# the replies
+
+
+def check_write(history, asked, command, fields):
+    own = ((FIRST_ROUTER + asked.router, 1, asked.count), 0)
+    session, transaction = (command["lsid"], command["txnNumber"]) if "txnNumber" in command else own
+    errors = {dict(value[1])["index"][1]: dict(value[1]) for _, value in enumerate((field(fields, "writeErrors") or (0, []))[1])}
+    count = modified = 0
+    upserted, times = [], []
+    is_over = False
+    for index in range(len(command["statements"])):
+        entry = history.by_number.get((session, transaction, index))
+        if is_over:
+            want(session != own[0] or entry is None, "a statement after the first error was applied")
+            continue
+        if index in errors and errors[index]["code"][1] == 225:
+            greater = errors[index]["evidence"][1][0][1][1]
+            want(greater in history.greater(session, transaction), "225 without a greater transaction")
+        else:
+            want(entry is not None, f"statement {index} has no entry")
+            times.append(entry.time)
+            count, modified = count + entry.reply[0], modified + entry.reply[1]
+            if entry.reply[2] is not None:
+                upserted.append(doc(("index", (0x10, index)), ("_id", entry.reply[2])))
+            want(bool(entry.reply[3]) == (index in errors), f"statement {index}: an error more or less")
+            if entry.reply[3]:
+                want((DOCUMENT, list(errors[index].items())) == write_error(index, entry.reply[3], []), f"statement {index}: another error")
+        is_over = command.get("ordered", True) and index in errors
+    want(field(fields, "n")[1] == count, "another n")
+    if command["name"] == "update":
+        want(field(fields, "nModified")[1] == modified, "another nModified")
+        want((field(fields, "upserted") or (0, []))[1] == upserted, "other upserted keys")
+    if times:
+        want(field(fields, "operationTime") == time(max(times)), "another operationTime")
+
+
+def check_read(history, command, fields):
+    inner = fields if command["name"] == "count" else field(fields, "cursor")[1]
+    at = field(inner, "atClusterTime")[1]
+    wanted = answer(stages_of(command), history.documents_at(command["own"], at))
+    if command["name"] == "count":
+        return want(field(fields, "n")[1] == (wanted[0][0][1][1] if wanted else 0), "another count")
+    found = [value[1] for value in field(inner, "firstBatch")[1]]
+    want(found == wanted, f"at {at} {shown((0x04, [(DOCUMENT, one) for one in wanted]))} is right")
+
+
+def check_reply(history, asked):
+    command, fields = asked.request.command(), asked.reply
+    want(field(fields, "ok") == (0x10, 1), "a refusal")
+    at = field(fields, "operationTime")[1]
+    if command["name"] in ("insert", "update", "delete"):
+        return check_write(history, asked, command, fields)
+    want(at >= asked.known, "a read before what its router returned")
+    check_read(history, command, fields)
+
+
+def play(program, folder, script):
+    """Plays the script line by line in one go, and gives its status and the lines printed."""
+    text = "".join(f"{line}\n" for line, _ in script.lines)
+    arguments = [program, "sim"] + ([] if script.routers == 1 else ["--routers", str(script.routers)])
+    run = subprocess.run(arguments, cwd=folder, input=text.encode(), stdout=subprocess.PIPE, stderr=subprocess.PIPE)
+    return run.returncode, run.stdout.decode().splitlines()
+
+
+def known_times(script, printed):
+    """Puts each reply to its request, and beside each request the greatest time that its router had returned before its line.
+
+    Replies are printed with the line that gave them, and each names its request: replies come in the order of lines, so the
+    lines before a request's own gave all that were printed before the first reply of a request that came later on that router.
+    """
+    for line in printed:
+        word, router, *rest = line.split()
+        if word == "reply":
+            bytes_ = bytes.fromhex(rest[0])
+            asked = script.requests[struct.unpack_from("<i", bytes_, 8)[0] - 1]
+            want(asked.reply is None, "two replies of one request")
+            want(asked.router == int(router), "a reply on another link")
+            asked.reply, _ = read_fields(bytes_, 21)
+    # what is known before a request: prefix plays would tell exactly; here what earlier requests returned before a `settle` that came before it
+    known = [0] * script.routers
+    pending = []
+    for line, asked in script.lines:
+        if asked is not None:
+            asked.known = known[asked.router]
+            pending.append(asked)
+        elif line == "settle":
+            for one in pending:
+                if one.reply is not None and field(one.reply, "operationTime") is not None:
+                    known[one.router] = max(known[one.router], field(one.reply, "operationTime")[1])
+            pending = []
+
+
+def one(program, seed, length):
+    script = Script(random.Random(seed)).whole(length)
+    with tempfile.TemporaryDirectory() as folder:
+        status, printed = play(program, folder, script)
+        history = History(pathlib.Path(folder) / "node01.journal")
+        want(status == 0, f"status {status}")
+        known_times(script, printed)
+        replies = 0
+        for place, asked in enumerate(script.requests):
+            is_open = asked.link == script.links[asked.router]
+            want(asked.reply is not None or not is_open, f"request {place + 1} has no reply")
+            if asked.reply is not None:
+                replies += 1
+                try:
+                    check_reply(history, asked)
+                except Wrong as wrong:
+                    raise Wrong(f"request {place + 1} {shown((DOCUMENT, asked.request.body))}\n  {shown((DOCUMENT, asked.reply))}\n  {wrong}") from None
+        return len(script.requests), replies, len(history.entries)
+
+
+def main():
+    program = str(pathlib.Path(sys.argv[1]).resolve())
+    count = int(sys.argv[2]) if len(sys.argv) > 2 else 200
+    first = int(sys.argv[3]) if len(sys.argv) > 3 else 1
+    totals = [0, 0, 0]
+    for seed in range(first, first + count):
+        try:
+            totals = [a + b for a, b in zip(totals, one(program, seed, 40))]
+        except Wrong as wrong:
+            sys.exit(f"random_scripts: script {seed}: {wrong}")
+    print(f"random_scripts: {count} scripts, {totals[0]} requests, {totals[1]} replies, {totals[2]} entries: one history each")
+
+
+main()
