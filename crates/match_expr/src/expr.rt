@@ -107,7 +107,7 @@ pub fn key_equal(e: &Expr) -> Option<&Key>
     e.key.as_ref()
 }
 
-/// The ranges and points outside which the filter holds of no document. Fails for want of memory.
+/// The ranges and points outside which the filter matches no document. Returns `Memory` if memory runs out.
 pub fn key_span(alloc: Global, e: &Expr) -> Result<SpanList, Memory>
     ensures { IfOk result (λ s. s ≡ span_of e.now) }
 {

@@ -1,4 +1,4 @@
-//! Where the keys are of the documents of which filters hold (MongoDB manual, "Targeted Operations vs. Broadcast Operations").
+//! Where the keys of the documents that filters match are (MongoDB manual, "Targeted Operations vs. Broadcast Operations").
 
 ghost use Rattle.std.specs.Prelude.{◌≡◌, ◌∷◌, ◌++◌, ◌&&◌, [], IfOk, OnOk, filter, if◌then◌else◌, map};
 ghost use Rattle.std.specs.Ordering.{is_le};
@@ -20,7 +20,7 @@ use std::marker::Model;
 use std::mem;
 use value_compare::{Bound, Key, KeyRange, Span, SpanList};
 
-/// What is known of the keys of documents: two bounds, and of which keys they are, where some are named.
+/// What is known of the keys of documents: two bounds, and a set of keys that they are among, if a filter lists some.
 #[derive(Drop)]
 pub struct KeyLimits {
     alloc: Global,
@@ -49,7 +49,7 @@ impl Model for KeyLimits {
     } };
 }
 
-// What may be a key joins the keys; one of them that compares equal stays. Fails for want of memory.
+// Adds the value to the keys if it may be a key; a key that compares equal stays. Returns `Memory` if memory runs out.
 fn add_key(keys: &mut BTreeSet<Key>, value: &Value) -> Result<(), Memory>
     ensures { OnOk result (keys.new.keys ≡ with_key keys.old.keys (datum_of value.now)) }
 {
@@ -59,7 +59,7 @@ fn add_key(keys: &mut BTreeSet<Key>, value: &Value) -> Result<(), Memory>
     Ok(())
 }
 
-// Of the values of an array those that may be keys, in order and each once. Fails for want of memory.
+// The values of an array that may be keys, in order and each once. Returns `Memory` if memory runs out.
 fn keys_among(alloc: Global, array: &Array) -> Result<BTreeSet<Key>, Memory>
     ensures { IfOk result (λ s. s.keys ≡ with_keys [] (elements array.now)) }
 {
@@ -70,7 +70,7 @@ fn keys_among(alloc: Global, array: &Array) -> Result<BTreeSet<Key>, Memory>
     Ok(keys)
 }
 
-// The key alone, if the value may be one. Fails for want of memory.
+// The key alone, if the value may be one. Returns `Memory` if memory runs out.
 fn key_alone(alloc: Global, value: &Value) -> Result<BTreeSet<Key>, Memory>
     ensures { IfOk result (λ s. s.keys ≡ with_key [] (datum_of value.now)) }
 {
@@ -79,7 +79,7 @@ fn key_alone(alloc: Global, value: &Value) -> Result<BTreeSet<Key>, Memory>
     Ok(keys)
 }
 
-// Whether a key is not outside the bounds.
+// Returns whether a key is within the bounds.
 fn is_within(least: &Bound, greatest: &Bound, with_greatest: bool, key: &Key) -> bool
     ensures { result ≡ is_within (bound_of least.now) (bound_of greatest.now) with_greatest key.now }
 {
@@ -88,7 +88,7 @@ fn is_within(least: &Bound, greatest: &Bound, with_greatest: bool, key: &Key) ->
     from_least && (to_greatest.is_gt() || (with_greatest && to_greatest.is_eq()))
 }
 
-// The keys that are not outside the bounds, as points. Fails for want of memory.
+// The keys within the bounds, as points. Returns `Memory` if memory runs out.
 fn points_within(
     alloc: Global,
     least: &Bound,
@@ -107,7 +107,7 @@ fn points_within(
     Ok(SpanList::of(spans))
 }
 
-// The range between the bounds, if one is below the other. Fails for want of memory.
+// The range between the bounds, if the least is below the greatest. Returns `Memory` if memory runs out.
 fn range_between(alloc: Global, least: Bound, greatest: Bound) -> Result<Vec<Span>, Memory>
     ensures { IfOk result (λ s. map span_of s.items ≡ range_between (bound_of least) (bound_of greatest)) }
 {
@@ -119,7 +119,7 @@ fn range_between(alloc: Global, least: Bound, greatest: Bound) -> Result<Vec<Spa
     Ok(spans)
 }
 
-// The spans, and behind them the point at a bound, if it is wanted and at a key. Fails for want of memory.
+// The spans, followed by the point at a bound, if it is wanted and the bound is a key. Returns `Memory` if memory runs out.
 fn with_end(spans: Vec<Span>, end: Bound, is_wanted: bool) -> Result<Vec<Span>, Memory>
     ensures { IfOk result (λ s. map span_of s.items ≡ map span_of spans.items ++ (if is_wanted then point_at (bound_of end) else [])) }
 {
@@ -133,14 +133,14 @@ fn with_end(spans: Vec<Span>, end: Bound, is_wanted: bool) -> Result<Vec<Span>, 
     Ok(all)
 }
 
-// Whether the greatest bound may be a key, and is not below the least.
+// Returns whether the greatest bound is included, and is not below the least.
 fn reaches_end(least: &Bound, greatest: &Bound, with_greatest: bool) -> bool
     ensures { result ≡ (with_greatest && is_le (order_bounds (bound_of least.now) (bound_of greatest.now))) }
 {
     with_greatest && least.compare(greatest).is_le()
 }
 
-// The range between the bounds, and the point at the greatest, as far as there are such. Fails for want of memory.
+// The range between the bounds and the point at the greatest, as far as these exist. Returns `Memory` if memory runs out.
 fn range_within(
     alloc: Global,
     least: Bound,
@@ -170,7 +170,7 @@ impl KeyLimits {
         }
     }
 
-    /// What is known where the filter holds too. Fails for want of memory.
+    /// Adds what is known of the keys of documents that match the filter too. Returns `Memory` if memory runs out.
     pub fn narrow(&mut self, filter: &Expr) -> Result<(), Memory>
         ensures { OnOk result (self.new ≡ narrowed_by filter.now self.old) }
     {
@@ -250,7 +250,7 @@ impl KeyLimits {
         }
     }
 
-    // The key is this value, unless some are named already.
+    // The key is this value, unless a filter listed some before.
     fn name_one(&mut self, value: &Value) -> Result<(), Memory>
         ensures { OnOk result (self.new ≡ among_values (datum_of value.now ∷ []) self.old) }
     {
@@ -261,7 +261,7 @@ impl KeyLimits {
         Ok(())
     }
 
-    // The keys are among these values, unless some are named already.
+    // The keys are among these values, unless a filter listed some before.
     fn name_all(&mut self, values: &Array) -> Result<(), Memory>
         ensures { OnOk result (self.new ≡ among_values (elements values.now) self.old) }
     {
@@ -284,7 +284,7 @@ impl KeyLimits {
         Ok(())
     }
 
-    // No key is above the value, if it may be a key, and perhaps none is equal.
+    // No key is above the value, if it may be a key, nor equal to it unless it is included.
     fn end_at(&mut self, value: &Value, with_it: bool) -> Result<(), Memory>
         ensures { OnOk result (self.new ≡ up_to_value (datum_of value.now) with_it self.old) }
     {
@@ -297,7 +297,7 @@ impl KeyLimits {
         Ok(())
     }
 
-    /// Where the keys are. Fails for want of memory.
+    /// The ranges and points where the keys are. Returns `Memory` if memory runs out.
     pub fn into_spans(self) -> Result<SpanList, Memory>
         ensures { IfOk result (λ s. s ≡ spans_of self) }
     {

@@ -95,7 +95,7 @@ impl Collection {
         self.document_at(*place as usize, time)
     }
 
-    /// The documents that stand under the keys of ranges and points at the time, in the order of keys. Fails for want of memory.
+    /// The documents with keys in the ranges and points at the time, in key order. Returns `Memory` if memory runs out.
     pub fn scan_at<'a>(
         &'a self,
         spans: &SpanList,
@@ -111,8 +111,7 @@ impl Collection {
         Ok(documents)
     }
 
-    // The documents that stand under the keys of one range or point at the time join the others, in the order of keys. Fails for want of
-    // memory.
+    // Appends the documents with keys in one range or point at the time, in key order. Returns `Memory` if memory runs out.
     fn scan_span<'a>(
         &'a self,
         span: &Span,

@@ -23,7 +23,7 @@ pub enum HalfEnd {
 /// The half of a pipeline that runs on each part of the documents.
 #[derive(Drop)]
 pub struct Half {
-    /// Ranges and points; no document with a key outside adds anything.
+    /// Ranges and points; no document with a key outside them adds anything.
     pub span: SpanList,
     /// The stages, one after the other.
     pub stages: Pipeline,

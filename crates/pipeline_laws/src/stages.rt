@@ -90,7 +90,7 @@ pub fn split()
     ensures reach { (reach 2 3 ≡ 5) × (reach (2 ^ 64 - 1) 2 ≡ 2 ^ 64 - 1) }
 {}
 
-/// The span of all leading `$match` stages together; a `$match` after another stage has none.
+/// The span of all leading `$match` stages together; a `$match` after another stage adds none.
 pub fn spans()
     ensures together { result_map_both (λ s. s.0.span) (λ e. e)
         (split_of (one "$match" (inner "a" (number 1)) ∷ one "$match" (inner "_id" (inner "$in" (array (number 6 ∷ number 5 ∷ []))))

@@ -36,7 +36,7 @@ pub(crate) fn front_length(stages: &[Stage]) -> usize
     stages.len()
 }
 
-/// Where the keys of the documents are that pass the filters in front of the first other stage. Fails for want of memory.
+/// The ranges and points where the keys of the documents are that pass the leading filters. Returns `Memory` if memory runs out.
 pub(crate) fn span_of_stages(alloc: Global, stages: &[Stage]) -> Result<SpanList, Memory>
     ensures { IfOk result (λ s. s ≡ span_of_stages (map stage_of stages.now)) }
 {

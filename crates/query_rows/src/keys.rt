@@ -1,4 +1,4 @@
-//! The keys that filters ask for, and where the keys of their documents are.
+//! The keys that filters require, and where the keys of their documents are.
 
 use crate::filter_documents::filter_of;
 use bson_values::Value;
@@ -53,7 +53,7 @@ impl Rows for Spans {
     }
 }
 
-// Whether a span is the one that two fields spell.
+// Returns whether a span is the one that two fields encode.
 fn is_span(alloc: Global, span: &Span, first: &str, second: &str) -> Result<bool, RowFault> {
     match span {
         Span::Point(point) => {
@@ -71,7 +71,7 @@ fn is_span(alloc: Global, span: &Span, first: &str, second: &str) -> Result<bool
     }
 }
 
-// Whether a bound is the one that a field spells.
+// Returns whether a bound is the one that a field encodes.
 fn is_bound(alloc: Global, bound: &Bound, words: &str) -> Result<bool, RowFault> {
     match bound {
         Bound::MinKey => Ok(words == "min"),

@@ -51,7 +51,7 @@ impl Collections {
         self.by_name.get(namespace)?.get_at(key, time)
     }
 
-    /// The documents that stand in the namespace under the keys of ranges and points at the time, in the order of keys. Fails for want of memory.
+    /// The documents in the namespace with keys in the ranges and points at the time, in key order. Returns `Memory` if memory runs out.
     pub fn scan_at<'a>(
         &'a self,
         namespace: &str,

@@ -106,8 +106,8 @@ impl ShardStore {
         self.collections.get_at(namespace.as_str(), key, self.last)
     }
 
-    /// The documents that stood in the namespace at a time and may stand in the ranges and points, in the order of keys. Fails for want of
-    /// memory.
+    /// The documents that were in the namespace at a time and may be in the ranges and points, in key order. Returns `Memory` if memory
+    /// runs out.
     pub fn documents_at<'a>(
         &'a self,
         namespace: &Namespace,
