@@ -104,8 +104,8 @@ abbrev mutual
 
   pub narrowed_by_clause : Clause → KeyLimits → KeyLimits
   narrowed_by_clause (path_clause path tests) limits = if is_id path then narrowed_by_tests tests limits else limits
-  narrowed_by_clause (connective_clause and_connective queries) limits = narrowed_by_all queries limits
-  narrowed_by_clause (connective_clause other queries) limits = limits
+  narrowed_by_clause (connective_clause and_connective inner) limits = narrowed_by_all inner limits
+  narrowed_by_clause (connective_clause other inner) limits = limits
 
   pub narrowed_by_all : Queries → KeyLimits → KeyLimits
   narrowed_by_all no_queries limits = limits
