@@ -4,3 +4,6 @@ pub mod Splits
 pub mod Moves
 pub mod Majors
 pub mod Folds
+pub mod Placed
+pub mod Later
+pub mod SameVersion

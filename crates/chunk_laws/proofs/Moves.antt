@@ -1,8 +1,7 @@
 -- A commit changes the owner of just the keys of its range, and keeps the chunks a cover.
-use Rattle.std.proofs.Common.{◌≡◌, ◌≢◌, ℕ, List, [], ◌∷◌, refl, sym, ap, subst, ◌∙◌, Less}
-use Rattle.std.specs.Prelude.{Bool, true, false, ◌&&◌, Option, Some, None, map, if◌then◌else◌}
-use Rattle.std.specs.Ordering.{is_le, is_lt, is_eq}
-use Rattle.std.specs.List.{AllByRecursion}
+use Rattle.std.proofs.Common.{◌≡◌, ℕ, List, [], ◌∷◌, refl, sym, ap, ◌∙◌, Less}
+use Rattle.std.specs.Prelude.{Bool, true, false, Some, map, if◌then◌else◌}
+use Rattle.std.specs.Ordering.{is_le, is_lt}
 use Rattle.bson_model.specs.Tree.{Datum}
 use Rattle.bson_model.proofs.Booleans.{both}
 use Rattle.value_model.specs.Order.{order}
@@ -12,8 +11,8 @@ use Rattle.chunk_model.specs.Tables.{Owned, Chunk, is_owner}
 use Rattle.chunk_model.specs.Changes.{same_range, chunk_with, moved_chunk, with_lowest}
 use Rattle.chunk_model.specs.Placement.{CoverFrom}
 use Rattle.chunk_model.specs.Targets.{overlap}
-use Rattle.chunk_laws.proofs.Orders.{eq_le, lt_le, le_trans, le_lt_trans, not_lt, not_le, eq_turned}
-use Rattle.chunk_laws.proofs.Owners.{owners_of, same_keys, Below, below_trans, next_below, begins, AllBegin, all_begin}
+use Rattle.chunk_laws.proofs.Orders.{eq_le, le_trans, not_lt}
+use Rattle.chunk_laws.proofs.Owners.{owners_of, same_keys, Below, below_trans, begins}
 
 -- ranges stay
 pub moved_cover : (r : Range) (v : Version) (o : Owned) (start : Bound) (chunks : List Chunk) → CoverFrom start chunks → CoverFrom start (map (moved_chunk r v o) chunks)

@@ -1,18 +1,17 @@
 -- The owners of the chunk that has a key, and what covering gives.
-use Rattle.std.proofs.Common.{◌≡◌, ℕ, List, [], ◌∷◌, refl, sym, ap, ◌∙◌, Less}
-use Rattle.std.specs.Prelude.{Bool, true, false, ◌&&◌, Option, Some, None, if◌then◌else◌}
-use Rattle.std.specs.Ordering.{is_le, is_lt, is_eq}
+use Rattle.std.proofs.Common.{◌≡◌, ℕ, List, [], ◌∷◌, refl, ap, ◌∙◌, Less}
+use Rattle.std.specs.Prelude.{Bool, true, false, Option, Some, None, if◌then◌else◌}
+use Rattle.std.specs.Ordering.{is_le, is_eq}
 use Rattle.std.specs.List.{AllByRecursion}
 use Rattle.bson_model.specs.Tree.{Datum}
 use Rattle.bson_model.proofs.Booleans.{both}
-use Rattle.value_model.specs.Order.{order}
 use Rattle.value_model.specs.Keys.{Bound, Range, value_of_bound, order_bounds, range_span, inside}
 use Rattle.value_model.proofs.Flat.{order_total}
 use Rattle.std.proofs.lemmas.Cmp.{alike_right}
 use Rattle.chunk_model.specs.Tables.{Owned, Chunk, Table, chunk_of, newest, owner_among, owner_now, owner_at}
 use Rattle.chunk_model.specs.Changes.{same_range, chunk_with}
 use Rattle.chunk_model.specs.Placement.{CoverFrom}
-use Rattle.chunk_laws.proofs.Orders.{less_is, equal_is, eq_le, lt_le, le_trans, le_lt_trans, lt_le_trans, eq_turned}
+use Rattle.chunk_laws.proofs.Orders.{equal_is, eq_le, le_trans}
 
 abbrev pub owners_of : Datum → List Chunk → List Owned
 owners_of key [] = []

@@ -1,16 +1,16 @@
 -- A split changes no owner, and keeps the chunks a cover.
-use Rattle.std.proofs.Common.{◌≡◌, ℕ, ◌+◌, List, [], ◌∷◌, refl, sym, ap, subst, ◌∙◌, Ordering, Less, Equal, Greater}
-use Rattle.std.specs.Prelude.{Bool, true, false, ◌&&◌, Option, Some, None, if◌then◌else◌}
-use Rattle.std.specs.Ordering.{is_le, is_lt, is_eq, ordering_reverse}
+use Rattle.std.proofs.Common.{◌≡◌, ℕ, ◌+◌, List, [], ◌∷◌, refl, sym, ap, ◌∙◌, Ordering, Less, Equal, Greater}
+use Rattle.std.specs.Prelude.{Bool, true, false, ◌&&◌, if◌then◌else◌}
+use Rattle.std.specs.Ordering.{is_le, is_lt, ordering_reverse}
 use Rattle.bson_model.specs.Tree.{Datum}
 use Rattle.bson_model.proofs.Booleans.{both}
 use Rattle.value_model.specs.Order.{order}
-use Rattle.value_model.specs.Keys.{Bound, Range, value_of_bound, order_bounds, range_span, key_bound, inside}
+use Rattle.value_model.specs.Keys.{Bound, value_of_bound}
 use Rattle.value_model.proofs.Flat.{order_total}
 use Rattle.chunk_model.specs.Tables.{Owned, Chunk, Table, owner_now, owner_at, newest, owner_among}
-use Rattle.chunk_model.specs.Changes.{strictly_inside, can_split, greatest_minor, lower_half, upper_half, split_chunks, split_table}
+use Rattle.chunk_model.specs.Changes.{strictly_inside, greatest_minor, lower_half, upper_half, split_chunks, split_table}
 use Rattle.chunk_model.specs.Placement.{CoverFrom}
-use Rattle.chunk_laws.proofs.Orders.{less_is, lt_le, le_trans, le_lt_trans, lt_le_trans, itself}
+use Rattle.chunk_laws.proofs.Orders.{less_is, lt_le, le_trans, le_lt_trans, itself}
 use Rattle.chunk_laws.proofs.Owners.{owners_of, now_is, at_is}
 
 -- a key is in one of the halves just where it is in the chunk

@@ -7,7 +7,7 @@ use Rattle.std.specs.Str.{bytes_eq}
 use Rattle.bson_model.specs.Tree.{Datum}
 use Rattle.value_model.specs.Keys.{is_key, Bound, min_bound, max_bound, IsRange, order_bounds, range_span, inside}
 use Rattle.chunk_model.specs.Catalogue.{Creation, Split, Commit}
-use Rattle.chunk_model.specs.Tables.{Chunk, Table, first_shard, newest}
+use Rattle.chunk_model.specs.Tables.{Chunk, Table, first_shard, newest, owner_at, owner_now}
 use Rattle.chunk_model.specs.Changes.{Change, create_change, split_change, commit_change, time_of, known_table, creations, is_committed, can_split, chunk_with}
 
 -- The shard that owns a key at a time: the recipient of the newest commit, not later than that, of a range that has the key; else
@@ -66,3 +66,9 @@ CoverFrom start (c ∷ chunks) = (is_eq (order_bounds start c.range.min) ≡ tru
 -- the chunks cover all keys, in order and without overlap
 abbrev pub Covers : List Chunk → Type 0
 Covers chunks = CoverFrom min_bound chunks
+
+-- two tables give a shard the same keys now, and what the first one gives it at a time the second one gives it too
+pub record SameKeys (shard : ℕ) (a b : Table) : Type 0 where
+  pub on : (key : Datum) → is_key key ≡ true → owner_now a key ≡ Some shard → owner_now b key ≡ Some shard
+  pub back : (key : Datum) → is_key key ≡ true → owner_now b key ≡ Some shard → owner_now a key ≡ Some shard
+  pub at : (key : Datum) (time : ℕ) → is_key key ≡ true → owner_at a key time ≡ Some shard → owner_at b key time ≡ Some shard
