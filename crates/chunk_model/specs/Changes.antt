@@ -101,20 +101,23 @@ with_lowest shard version (c ∷ chunks) =
     if is_owner shard c.owners then record { range = c.range; version = version; owners = c.owners } ∷ chunks
     else c ∷ with_lowest shard version chunks
 
--- the table after a commit: the chunk gets the next major number, and so does the lowest that the donor still has
-abbrev pub commit_table : Commit → Table → Table
-commit_table c t =
+-- the table after a range was moved: its chunk gets the next major number and a new owner, and the lowest chunk that the donor still
+-- has, if any, the same major number
+abbrev pub move_table : Range → ℕ → Owned → Table → Table
+move_table range donor owned t =
     let major = (collection_version t).major + 1 in
-    let owned : Owned = record { since = c.at; shard = c.to } in
     record {
       namespace = t.namespace;
       epoch = t.epoch;
       changes = t.changes + 1;
       oldest = t.oldest;
       chunks =
-          with_lowest c.from (record { epoch = t.epoch; major = major; minor = 1 })
-          (map (moved_chunk c.range (record { epoch = t.epoch; major = major; minor = 0 }) owned) t.chunks);
+          with_lowest donor (record { epoch = t.epoch; major = major; minor = 1 })
+          (map (moved_chunk range (record { epoch = t.epoch; major = major; minor = 0 }) owned) t.chunks);
     }
+
+abbrev pub commit_table : Commit → Table → Table
+commit_table c t = move_table c.range c.from (record { since = c.at; shard = c.to }) t
 
 -- the table of a change's collection after it, from the one before it, if there was one
 abbrev pub table_after : Change → Option Table → Option Table

@@ -2,6 +2,8 @@
 //! Partitioning with Chunks" and "Sharded Cluster Query Routing").
 #![tactic(auto)]
 
+mod changed;
+mod changes;
 mod chunk;
 mod table;
 mod verdict;
