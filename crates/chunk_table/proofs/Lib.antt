@@ -3,3 +3,4 @@ pub mod Covers
 pub mod Halves
 pub mod Copies
 pub mod AfterChanges
+pub mod ShardPlaces

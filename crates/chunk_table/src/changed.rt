@@ -2,10 +2,8 @@
 
 ghost use Rattle.std.specs.Prelude.{◌≡◌, ◌↔◌, false, IfOk, IfSome, None, Some, map};
 ghost use Rattle.std.specs.Option.{option_map};
-ghost use Rattle.value_compare.specs.Spans.{span_of};
 ghost use Rattle.value_model.specs.Keys.{key_bound};
 ghost use Rattle.chunk_model.specs.Changes.{can_split, chunk_with, move_table, split_table};
-ghost use Rattle.chunk_model.specs.Targets.{targets};
 ghost use Rattle.chunk_table.specs.Meanings.{chunk_view, owned_view};
 ghost use Rattle.chunk_table.specs.Whole.{IsWritableBound};
 

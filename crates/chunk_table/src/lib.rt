@@ -6,6 +6,7 @@ mod changed;
 mod changes;
 mod chunk;
 mod table;
+mod span_targets;
 mod verdict;
 mod version;
 
