@@ -1,13 +1,13 @@
 -- Each key still has an owner, and each chunk can be encoded, after a change.
 use Rattle.std.proofs.Common.{◌≡◌, ℕ, ◌^◌, ◌<◌, List, [], ◌∷◌, length, refl, sym, ap, subst, ◌∙◌, arith}
 use Rattle.std.proofs.lemmas.List.{length-map}
-use Rattle.std.specs.Prelude.{Bool, true, false, ◌&&◌, Option, Some, None, is_some, map, if◌then◌else◌}
+use Rattle.std.specs.Prelude.{Bool, true, false, is_some, map, if◌then◌else◌}
 use Rattle.std.specs.List.{AllByRecursion}
 use Rattle.bson_model.specs.Tree.{Datum}
 use Rattle.value_model.specs.Keys.{is_key, Range, key_bound, range_span, inside}
 use Rattle.chunk_model.specs.Versions.{Version}
 use Rattle.chunk_model.specs.Tables.{Owned, Chunk, Table, newest, owner_now}
-use Rattle.chunk_model.specs.Changes.{same_range, moved_chunk, with_lowest, split_chunks, move_table}
+use Rattle.chunk_model.specs.Changes.{same_range, moved_chunk, with_lowest, split_chunks}
 use Rattle.chunk_table.specs.Whole.{IsWritableBound, IsWritableChunk, IsWhole}
 use Rattle.chunk_table.specs.declared.chunk.Chunk as code
 use Rattle.chunk_table.specs.Meanings.{chunk_view}

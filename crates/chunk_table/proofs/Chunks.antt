@@ -1,5 +1,5 @@
 -- The chunk that a search comes to first.
-use Rattle.std.proofs.Common.{◌≡◌, ℕ, ◌<◌, List, length, get_or, drop, map, refl, sym, drop-cons}
+use Rattle.std.proofs.Common.{◌≡◌, ℕ, ◌<◌, List, length, get_or, drop, map, refl, drop-cons}
 use Rattle.std.specs.Prelude.{true, Some}
 use Rattle.bson_model.specs.Tree.{Datum}
 use Rattle.value_model.specs.Keys.{range_span, inside}

@@ -1,6 +1,6 @@
 -- Where a shard goes among others that rise.
-use Rattle.std.proofs.Common.{◌≡◌, ◌≢◌, ℕ, zero, suc, ◌+◌, ◌<◌, ◌≤◌, List, [], ◌∷◌, ◌++◌, length, get_or, take, drop, map, refl, sym, ap, ◌∙◌, subst, arith}
-use Rattle.std.specs.Prelude.{Bool, true, false, ◌==◌, nat_lt, if◌then◌else◌}
+use Rattle.std.proofs.Common.{◌≡◌, ℕ, zero, suc, ◌<◌, ◌≤◌, List, [], ◌∷◌, length, get_or, map, refl, sym, ap, ◌∙◌, subst, arith}
+use Rattle.std.specs.Prelude.{true, false, ◌==◌, nat_lt}
 use Rattle.std.specs.List.{insert}
 use Rattle.std.proofs.lemmas.Bool.Decides.{nat_tests}
 use Rattle.std.proofs.lemmas.List.{length-map}
@@ -67,10 +67,11 @@ some_at s n xs l within less =
 
 pub end_at : (s n : ℕ) (xs : List NodeId) → Less s n (map shard_number xs) → n ≡ length xs → (length xs ≤ length (map shard_number xs)) × (with_shard s (map shard_number xs) ≡ insert (map shard_number xs) (length xs) s)
 end_at s n xs l e =
-    let k : length (map shard_number xs) ≡ length xs = length-map xs shard_number in
-    (omega arith,
-     subst (λ (m : ℕ). with_shard s (map shard_number xs) ≡ insert (map shard_number xs) m s) k
-     (at_end s (map shard_number xs) (subst (λ (m : ℕ). Less s m (map shard_number xs)) (e ∙ sym k) l)))
+    let k : length (map shard_number xs) ≡ length xs = length-map xs shard_number in (
+      omega arith,
+      subst (λ (m : ℕ). with_shard s (map shard_number xs) ≡ insert (map shard_number xs) m s) k
+          (at_end s (map shard_number xs) (subst (λ (m : ℕ). Less s m (map shard_number xs)) (e ∙ sym k) l)),
+    )
 
 pub go_on : (s n : ℕ) (xs : List NodeId) → Less s n (map shard_number xs) → n < length xs → (get_or xs n (record { 0 = 0 })).0 ≤ s → ((get_or xs n (record { 0 = 0 })).0 ≡ s → ⊥) → Less s (suc n) (map shard_number xs)
 go_on s n xs l within most other =

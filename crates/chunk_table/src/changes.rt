@@ -88,12 +88,7 @@ fn range_between(min: Bound, max: Bound) -> KeyRange
 
 // The halves of a chunk that can be split at the key. Fails out of memory, and where a minor number would pass 2^64 - 1.
 #[tactic(auto, using(crate::proofs::Halves::above_least, crate::proofs::Halves::below_greatest))]
-fn halves(
-    alloc: Global,
-    chunk: &Chunk,
-    middle: &Key,
-    minor: u64,
-) -> Result<(Chunk, Chunk), Memory>
+fn halves(alloc: Global, chunk: &Chunk, middle: &Key, minor: u64) -> Result<(Chunk, Chunk), Memory>
     requires inside { strictly_inside middle.now chunk.now.range ≡ true }
     ensures lower { IfOk result (λ x. chunk_view x.0 ≡ lower_half middle.now minor (chunk_view chunk.now)) }
     ensures upper { IfOk result (λ x. chunk_view x.1 ≡ upper_half middle.now minor (chunk_view chunk.now)) }

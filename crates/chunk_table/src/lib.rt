@@ -5,8 +5,8 @@
 mod changed;
 mod changes;
 mod chunk;
-mod table;
 mod span_targets;
+mod table;
 mod verdict;
 mod version;
 

@@ -1,4 +1,4 @@
-use Rattle.std.proofs.Common.{◌≡◌, ◌∷◌, ◌<◌, ◌^◌, length, arith, add-one, ap, sym, ◌∙◌, map, rules}
+use Rattle.std.proofs.Common.{◌∷◌, ◌<◌, length, arith, add-one, ap, sym, ◌∙◌, map, rules}
 use Rattle.chunk_model.specs.Tables as tables
 use Rattle.chunk_model.specs.Changes.{moved_chunk, with_lowest}
 use Rattle.chunk_table.specs.Copies.{left_to_move}

@@ -1,4 +1,4 @@
-use Rattle.std.proofs.Common.{◌≡◌, ◌++◌, drop, map, length, if◌then◌else◌}
+use Rattle.std.proofs.Common.{◌≡◌, ◌++◌, drop, map, length}
 use Rattle.std.specs.List.{AllByRecursion}
 use Rattle.chunk_model.specs.Changes.{moved_chunk, with_lowest}
 use Rattle.chunk_table.specs.Meanings.{chunk_view, owned_view, version_view}
