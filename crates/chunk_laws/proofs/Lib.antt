@@ -7,3 +7,4 @@ pub mod Folds
 pub mod Placed
 pub mod Later
 pub mod SameVersion
+pub mod Requests

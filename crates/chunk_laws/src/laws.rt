@@ -5,8 +5,9 @@ ghost use Rattle.std.specs.List.{AllByRecursion};
 ghost use Rattle.bson_model.specs.Tree.{Datum};
 ghost use Rattle.value_model.specs.Keys.{is_key};
 ghost use Rattle.chunk_model.specs.Catalogue.{Commit};
-ghost use Rattle.chunk_model.specs.Changes.{Change, chunk_with, commit_change, commit_table, known_table, split_table};
-ghost use Rattle.chunk_model.specs.Placement.{AreFitting, Covers, SameKeys, owner};
+ghost use Rattle.chunk_model.specs.Changes.{Change, chunk_with, commit_change, commit_table, known_table, split_table, time_of};
+ghost use Rattle.chunk_model.specs.Placement.{AreFitting, Covers, Follows, SameKeys, owner};
+ghost use Rattle.chunk_model.specs.Requests.{CommitWords, changed, commit_answer, create_answer, split_answer};
 ghost use Rattle.chunk_model.specs.Tables.{Chunk, Table, collection_version, owner_at, owner_now, shard_version};
 ghost use Rattle.chunk_model.specs.Targets.{overlap};
 ghost use Rattle.chunk_model.specs.Versions.{agrees};
@@ -51,4 +52,13 @@ pub fn committed_versions_are_passed()
 #[tactic(auto, using(crate::proofs::SameVersion::same_version))]
 pub fn same_version_same_keys()
     ensures { (namespace : List ℕ) (shard : ℕ) (more older : List Change) (a b : Table) → AreFitting (more ++ older) → known_table namespace older ≡ Some a → known_table namespace (more ++ older) ≡ Some b → agrees (shard_version a shard) (shard_version b shard) ≡ true → SameKeys shard a b }
+{}
+
+/// Each change that the catalogue answers a request with, at a time above those of all changes before it, follows these: so what it
+/// admits is a list of changes that fit.
+#[tactic(auto, using(crate::proofs::Requests::create_follows))]
+pub fn answers_follow()
+    ensures create { (namespace : List ℕ) (at : ℕ) (changes : List Change) (x : Change) → AllByRecursion (λ y. time_of y < at) changes → create_answer namespace at changes ≡ changed x → Follows x changes }
+    ensures split { (namespace : List ℕ) (middle : Datum) (at : ℕ) (changes : List Change) (x : Change) → AllByRecursion (λ y. time_of y < at) changes → is_key middle ≡ true → split_answer namespace middle at changes ≡ changed x → Follows x changes }
+    ensures commit { (words : CommitWords) (at : ℕ) (changes : List Change) (x : Change) → AllByRecursion (λ y. time_of y < at) changes → commit_answer words at changes ≡ changed x → Follows x changes }
 {}

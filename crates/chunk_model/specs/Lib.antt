@@ -5,6 +5,7 @@ pub mod Verdicts
 pub mod Changes
 pub mod Placement
 pub mod Targets
+pub mod Requests
 pub mod SampleCollections
 pub mod SampleTables
 pub mod SampleChanges

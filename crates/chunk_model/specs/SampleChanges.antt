@@ -4,6 +4,7 @@ use Rattle.bson_model.specs.Tree.{int32_value, int64_value}
 use Rattle.value_model.specs.Keys.{Bound, min_bound, key_bound, max_bound}
 use Rattle.chunk_model.specs.Catalogue.{Commit}
 use Rattle.chunk_model.specs.Tables.{Owned, Chunk, Table}
+use Rattle.chunk_model.specs.Requests.{CommitWords}
 use Rattle.chunk_model.specs.Changes.{Change, create_change, split_change}
 
 abbrev pub created_first : Change
@@ -44,6 +45,17 @@ move_away = record {
   from = 1;
   to = 2;
   at = 30;
+}
+
+-- as its donor asks for it
+abbrev pub asked_move : CommitWords
+asked_move = record {
+  id = move_away.id;
+  namespace = move_away.namespace;
+  range = move_away.range;
+  version = record { epoch = 1; major = 1; minor = 5 };
+  from = 1;
+  to = 2;
 }
 
 abbrev pub moved_chunks : List Chunk

@@ -3,9 +3,10 @@
 ghost use Rattle.std.specs.Prelude.{◌≡◌, [], ◌∷◌, codes, pos, true, false, Some, None};
 ghost use Rattle.bson_model.specs.Tree.{int32_value, int64_value};
 ghost use Rattle.value_model.specs.Keys.{key_bound, max_bound, min_bound, point_span, range_span};
-ghost use Rattle.chunk_model.specs.SampleChanges.{bound_at, created_first, four_chunks, move_away, move_back, moved_chunks, returned_chunks, split_of, table_with, three_splits};
+ghost use Rattle.chunk_model.specs.SampleChanges.{asked_move, bound_at, created_first, four_chunks, move_away, move_back, moved_chunks, returned_chunks, split_of, table_with, three_splits};
 ghost use Rattle.chunk_model.specs.Changes.{can_split, chunk_with, commit_change, creations, is_committed, known_table, same_range, split_table};
 ghost use Rattle.chunk_model.specs.Placement.{owner};
+ghost use Rattle.chunk_model.specs.Requests.{changed, commit_answer, create_answer, no_collection, not_a_bound, not_owner, same_shard, settled, split_answer, unchanged, version_differs};
 ghost use Rattle.chunk_model.specs.Targets.{overlap, owned_spans, targets};
 ghost use Rattle.chunk_model.specs.Tables.{owner_at};
 
@@ -42,4 +43,16 @@ pub fn targets_of_spans()
     ensures points { (targets (table_with 5 moved_chunks) (point_span (int64_value (pos 10)) ∷ []) 30 ≡ 2 ∷ []) × (targets (table_with 5 moved_chunks) (point_span (int32_value (pos 12)) ∷ point_span (int32_value (pos 1)) ∷ []) 30 ≡ 1 ∷ 2 ∷ []) × (targets (table_with 5 moved_chunks) [] 30 ≡ []) }
     ensures owned { owned_spans (table_with 5 moved_chunks) 1 30 (range_span (record { min = bound_at 1; max = max_bound })) ≡ range_span (record { min = bound_at 1; max = bound_at 10 }) ∷ range_span (record { min = bound_at 20; max = max_bound }) ∷ [] }
     ensures owned_other { (owned_spans (table_with 5 moved_chunks) 2 30 (range_span (record { min = min_bound; max = bound_at 12 })) ≡ range_span (record { min = bound_at 10; max = bound_at 12 }) ∷ []) × (owned_spans (table_with 5 moved_chunks) 2 30 (point_span (int32_value (pos 10))) ≡ point_span (int32_value (pos 10)) ∷ []) }
+{}
+
+/// What the catalogue answers: to a repeated commit what it answered before, to a commit in the order of its tests.
+pub fn answers()
+    ensures repeated { commit_answer asked_move 31 (commit_change move_away ∷ three_splits) ≡ settled true }
+    ensures accepted { commit_answer asked_move 30 three_splits ≡ changed (commit_change move_away) }
+    ensures ranges { (commit_answer (record { id = asked_move.id; namespace = asked_move.namespace; range = record { min = bound_at 5; max = bound_at 20 }; version = asked_move.version; from = 1; to = 2 }) 30 three_splits ≡ not_a_bound) × (commit_answer (record { id = asked_move.id; namespace = codes "d.d"; range = asked_move.range; version = asked_move.version; from = 1; to = 2 }) 30 three_splits ≡ no_collection) }
+    ensures version { commit_answer (record { id = asked_move.id; namespace = asked_move.namespace; range = asked_move.range; version = record { epoch = 1; major = 1; minor = 2 }; from = 3; to = 3 }) 30 three_splits ≡ version_differs asked_move.version }
+    ensures owner { commit_answer (record { id = asked_move.id; namespace = asked_move.namespace; range = asked_move.range; version = asked_move.version; from = 2; to = 2 }) 30 three_splits ≡ not_owner }
+    ensures shard { commit_answer (record { id = asked_move.id; namespace = asked_move.namespace; range = asked_move.range; version = asked_move.version; from = 1; to = 1 }) 30 three_splits ≡ same_shard }
+    ensures splits { (split_answer (codes "d.c") (int64_value (pos 10)) 14 three_splits ≡ unchanged) × (split_answer (codes "d.d") (int64_value (pos 10)) 14 three_splits ≡ no_collection) × (split_answer (codes "d.c") (int32_value (pos 20)) 13 (split_of 5 12 ∷ split_of 10 11 ∷ created_first ∷ []) ≡ changed (split_of 20 13)) }
+    ensures creates { (create_answer (codes "d.c") 10 [] ≡ changed created_first) × (create_answer (codes "d.c") 14 three_splits ≡ unchanged) }
 {}
