@@ -33,11 +33,13 @@ latest namespace key (x ∷ older) = elim x [
 ]
 
 -- the range of the chunk that was found goes up
-pub range_up : (r : Range) (e : Chunk) (start : Bound) (chunks : List Chunk) → CoverFrom start chunks → chunk_with r chunks ≡ Some e → order_bounds r.min r.max ≡ Less
+pub range_up : (r : Range) (e : Chunk) (start : Bound) (chunks : List Chunk) → CoverFrom start chunks → chunk_with r chunks ≡ Some e
+    → order_bounds r.min r.max ≡ Less
 range_up r e start [] cover f = absurd cc
 range_up r e start (c ∷ chunks) cover f = by_test (same_range c.range r) refl f (range_up r e c.range.max chunks cover.2)
   where
-    by_test : (b : Bool) → same_range c.range r ≡ b → (if b then Some c else chunk_with r chunks) ≡ Some e → (chunk_with r chunks ≡ Some e → order_bounds r.min r.max ≡ Less) → order_bounds r.min r.max ≡ Less
+    by_test : (b : Bool) → same_range c.range r ≡ b → (if b then Some c else chunk_with r chunks) ≡ Some e → (chunk_with r chunks ≡ Some e
+        → order_bounds r.min r.max ≡ Less) → order_bounds r.min r.max ≡ Less
     by_test true same g rest =
         let s = both _ _ same in
         sym (order_total.congr (value_of_bound c.range.min) (value_of_bound r.min) (value_of_bound r.max) (equal_is _ s.0))
@@ -50,7 +52,8 @@ pub record Sole (r : Range) (e d : Chunk) : Type 0 where
   pub same : same_range d.range r ≡ true → d ≡ e
   pub other : same_range d.range r ≡ false → overlap d.range r ≡ false
 
-all_late : (r : Range) (e : Chunk) (start : Bound) (chunks : List Chunk) → order_bounds r.min r.max ≡ Less → Below r.max start → AllBegin start chunks → AllByRecursion (Sole r e) chunks
+all_late : (r : Range) (e : Chunk) (start : Bound) (chunks : List Chunk) → order_bounds r.min r.max ≡ Less → Below r.max start
+    → AllBegin start chunks → AllByRecursion (Sole r e) chunks
 all_late r e start [] up end all = tt
 all_late r e start (d ∷ chunks) up end all =
     let out = late_out r start d end up all.0 in
@@ -59,7 +62,8 @@ all_late r e start (d ∷ chunks) up end all =
 sole_here : (r : Range) (e c : Chunk) → same_range c.range r ≡ true → Some c ≡ Some e → Sole r e c
 sole_here r e c is g = record { same = λ h. cc; other = λ h. absurd cc }
 
-pub sole : (r : Range) (e : Chunk) (start : Bound) (chunks : List Chunk) → order_bounds r.min r.max ≡ Less → CoverFrom start chunks → chunk_with r chunks ≡ Some e → AllByRecursion (Sole r e) chunks
+pub sole : (r : Range) (e : Chunk) (start : Bound) (chunks : List Chunk) → order_bounds r.min r.max ≡ Less → CoverFrom start chunks
+    → chunk_with r chunks ≡ Some e → AllByRecursion (Sole r e) chunks
 sole r e start [] up cover f = tt
 sole r e start (c ∷ chunks) up cover f = by_test (same_range c.range r) refl f (sole r e c.range.max chunks up cover.2)
   where
@@ -67,9 +71,11 @@ sole r e start (c ∷ chunks) up cover f = by_test (same_range c.range r) refl f
     no_overlap true over low = sym (both _ _ over).1 ∙ not_lt (value_of_bound r.min) (value_of_bound c.range.max) low
     no_overlap false over low = refl
 
-    by_test : (b : Bool) → same_range c.range r ≡ b → (if b then Some c else chunk_with r chunks) ≡ Some e → (chunk_with r chunks ≡ Some e → AllByRecursion (Sole r e) chunks) → Sole r e c × AllByRecursion (Sole r e) chunks
+    by_test : (b : Bool) → same_range c.range r ≡ b → (if b then Some c else chunk_with r chunks) ≡ Some e → (chunk_with r chunks ≡ Some e
+        → AllByRecursion (Sole r e) chunks) → Sole r e c × AllByRecursion (Sole r e) chunks
     by_test true is g rest =
-        let end : Below r.max c.range.max = eq_le (order (value_of_bound r.max) (value_of_bound c.range.max)) (eq_turned (value_of_bound c.range.max) (value_of_bound r.max) (both _ _ is).1) in
+        let end : Below r.max c.range.max = eq_le (order (value_of_bound r.max) (value_of_bound c.range.max)) (eq_turned (value_of_bound c.range.max)
+            (value_of_bound r.max) (both _ _ is).1) in
         (sole_here r e c is g, all_late r e c.range.max chunks up end (all_begin c.range.max chunks cover.2))
     by_test false is g rest =
         let low : Below c.range.max r.min = begins r e c.range.max chunks cover.2 g in
@@ -94,7 +100,8 @@ abbrev pub IsSound : List ℕ → List Change → Option Table → Type 0
 IsSound namespace changes None = IsAbsent namespace changes
 IsSound namespace changes (Some t) = IsPlaced namespace changes t
 
-create_placed : (ns : List ℕ) (older : List Change) (c : Creation) → bytes_eq c.namespace ns ≡ true → IsAbsent ns older → IsPlaced ns (create_change c ∷ older) (first_table c)
+create_placed : (ns : List ℕ) (older : List Change) (c : Creation) → bytes_eq c.namespace ns ≡ true → IsAbsent ns older
+    → IsPlaced ns (create_change c ∷ older) (first_table c)
 create_placed ns older c same none = record {
   covers = (refl, refl, refl);
   owners = λ key time valid. rw (whole_inside key valid, same, none.owners key time) refl;
@@ -104,7 +111,8 @@ create_placed ns older c same none = record {
 }
 
 split_placed : (ns : List ℕ) (older : List Change) (s : Split) (t : Table) → (b : Bool) → IsPlaced ns older t
-    → IsPlaced ns (split_change s ∷ older) (if b then (record { namespace = t.namespace; epoch = t.epoch; changes = t.changes + 1; oldest = t.oldest; chunks = split_chunks s.middle t.chunks t.chunks }) else t)
+    → IsPlaced ns (split_change s ∷ older) (if b then
+    (record { namespace = t.namespace; epoch = t.epoch; changes = t.changes + 1; oldest = t.oldest; chunks = split_chunks s.middle t.chunks t.chunks }) else t)
 split_placed ns older s t true p = record {
   covers = split_cover s.middle t.chunks min_bound t.chunks p.covers;
   owners = λ key time valid. ap (owner_among time) (split_owners s.middle key t.chunks t.chunks) ∙ p.owners key time valid;
@@ -135,31 +143,38 @@ owned_by c = record { since = c.at; shard = c.to }
 abbrev moved_of : Commit → Table → List Chunk
 moved_of c t = map (moved_chunk c.range (moved_version t) (owned_by c)) t.chunks
 
-commit_owners_in : (c : Commit) (t : Table) (e : Chunk) (key : Datum) → Covers t.chunks → Commits c t e → inside (range_span c.range) key ≡ true → owners_of key (commit_table c t).chunks ≡ owned_by c ∷ owners_of key t.chunks
+commit_owners_in : (c : Commit) (t : Table) (e : Chunk) (key : Datum) → Covers t.chunks → Commits c t e → inside (range_span c.range) key ≡ true
+    → owners_of key (commit_table c t).chunks ≡ owned_by c ∷ owners_of key t.chunks
 commit_owners_in c t e key cover fits has =
     lowest_owners c.from (lowest_version t) key (moved_of c t)
     ∙ moved_keys c.range (moved_version t) (owned_by c) e key min_bound t.chunks cover fits.range has
 
-commit_owners_out : (c : Commit) (t : Table) (key : Datum) → inside (range_span c.range) key ≡ false → owners_of key (commit_table c t).chunks ≡ owners_of key t.chunks
+commit_owners_out : (c : Commit) (t : Table) (key : Datum) → inside (range_span c.range) key ≡ false
+    → owners_of key (commit_table c t).chunks ≡ owners_of key t.chunks
 commit_owners_out c t key out =
     lowest_owners c.from (lowest_version t) key (moved_of c t)
     ∙ moved_others c.range (moved_version t) (owned_by c) key t.chunks out
 
-commit_placed : (ns : List ℕ) (older : List Change) (c : Commit) (t : Table) (e : Chunk) → bytes_eq c.namespace ns ≡ true → Commits c t e → IsPlaced ns older t → IsPlaced ns (commit_change c ∷ older) (commit_table c t)
+commit_placed : (ns : List ℕ) (older : List Change) (c : Commit) (t : Table) (e : Chunk) → bytes_eq c.namespace ns ≡ true → Commits c t e
+    → IsPlaced ns older t → IsPlaced ns (commit_change c ∷ older) (commit_table c t)
 commit_placed ns older c t e same fits p = record {
   covers = lowest_cover c.from (lowest_version t) min_bound (moved_of c t) (moved_cover c.range (moved_version t) (owned_by c) min_bound t.chunks p.covers);
   owners = λ key time valid. by_owner key time valid (inside (range_span c.range) key) refl;
   last = λ key valid. by_last key valid (inside (range_span c.range) key) refl;
   epochs = lowest_all (λ d. d.version.epoch ≡ t.epoch) c.from (lowest_version t) (moved_of c t) (λ d h. refl)
-      (moved_all (λ d. d.version.epoch ≡ t.epoch) (λ d. d.version.epoch ≡ t.epoch) c.range (moved_version t) (owned_by c) t.chunks (λ d s h. refl) (λ d s h. h) p.epochs);
+      (moved_all (λ d. d.version.epoch ≡ t.epoch) (λ d. d.version.epoch ≡ t.epoch) c.range (moved_version t) (owned_by c) t.chunks (λ d s h. refl)
+      (λ d s h. h) p.epochs);
   majors = lowest_all (λ d. 1 ≤ d.version.major) c.from (lowest_version t) (moved_of c t) (λ d h. omega arith)
-      (moved_all (λ d. 1 ≤ d.version.major) (λ d. 1 ≤ d.version.major) c.range (moved_version t) (owned_by c) t.chunks (λ d s h. omega arith) (λ d s h. h) p.majors);
+      (moved_all (λ d. 1 ≤ d.version.major) (λ d. 1 ≤ d.version.major) c.range (moved_version t) (owned_by c) t.chunks (λ d s h. omega arith)
+      (λ d s h. h) p.majors);
 }
   where
-    by_owner : (key : Datum) (time : ℕ) → is_key key ≡ true → (b : Bool) → inside (range_span c.range) key ≡ b → owner_among time (owners_of key (commit_table c t).chunks) ≡ owner ns key time (commit_change c ∷ older)
+    by_owner : (key : Datum) (time : ℕ) → is_key key ≡ true → (b : Bool) → inside (range_span c.range) key ≡ b
+        → owner_among time (owners_of key (commit_table c t).chunks) ≡ owner ns key time (commit_change c ∷ older)
     by_owner key time valid true has = rw (commit_owners_in c t e key p.covers fits has, same, has) (by_time (nat_le c.at time))
       where
-        by_time : (b : Bool) → (if b then Some c.to else owner_among time (owners_of key t.chunks)) ≡ (if b && true then Some c.to else owner ns key time older)
+        by_time : (b : Bool) → (if b then Some c.to else owner_among time (owners_of key t.chunks)) ≡
+            (if b && true then Some c.to else owner ns key time older)
         by_time true = refl
         by_time false = p.owners key time valid
     by_owner key time valid false out = rw (commit_owners_out c t key out, same, out) (by_time (nat_le c.at time))
@@ -168,11 +183,13 @@ commit_placed ns older c t e same fits p = record {
         by_time true = p.owners key time valid
         by_time false = p.owners key time valid
 
-    by_last : (key : Datum) → is_key key ≡ true → (b : Bool) → inside (range_span c.range) key ≡ b → newest (owners_of key (commit_table c t).chunks) ≡ latest ns key (commit_change c ∷ older)
+    by_last : (key : Datum) → is_key key ≡ true → (b : Bool) → inside (range_span c.range) key ≡ b
+        → newest (owners_of key (commit_table c t).chunks) ≡ latest ns key (commit_change c ∷ older)
     by_last key valid true has = rw (commit_owners_in c t e key p.covers fits has, same, has) refl
     by_last key valid false out = rw (commit_owners_out c t key out, same, out) (p.last key valid)
 
-skipped : (ns : List ℕ) (x : Change) (older : List Change) (o : Option Table) → bytes_eq (namespace_of x) ns ≡ false → IsSound ns older o → IsSound ns (x ∷ older) o
+skipped : (ns : List ℕ) (x : Change) (older : List Change) (o : Option Table) → bytes_eq (namespace_of x) ns ≡ false → IsSound ns older o
+    → IsSound ns (x ∷ older) o
 skipped ns x older o other s = by_table o s
   where
     owner_stays : (y : Change) → bytes_eq (namespace_of y) ns ≡ false → (key : Datum) (time : ℕ) → owner ns key time (y ∷ older) ≡ owner ns key time older
@@ -199,13 +216,15 @@ pub some_is : (t u : Table) → Some t ≡ Some u → t ≡ u
 some_is t u e = cc
 
 -- what a commit needs, of the table that is known
-pub commits_here : (ns : List ℕ) (older : List Change) (c : Commit) (t : Table) → bytes_eq c.namespace ns ≡ true → known_table ns older ≡ Some t → CommitFits c older → (e : Chunk) × Commits c t e
+pub commits_here : (ns : List ℕ) (older : List Change) (c : Commit) (t : Table) → bytes_eq c.namespace ns ≡ true → known_table ns older ≡ Some t
+    → CommitFits c older → (e : Chunk) × Commits c t e
 commits_here ns older c t same is fits =
     let name : c.namespace ≡ ns = same_name _ _ same in
     let one : fits.table ≡ t = some_is _ _ (sym fits.known ∙ ap (λ n. known_table n older) name ∙ is) in
     (fits.chunk, record { range = ap (λ (u : Table). chunk_with c.range u.chunks) (sym one) ∙ fits.range; owner = fits.owner; apart = fits.apart })
 
-here : (ns : List ℕ) (x : Change) (older : List Change) (o : Option Table) → ChangeFits x older → bytes_eq (namespace_of x) ns ≡ true → known_table ns older ≡ o → IsSound ns older o → IsSound ns (x ∷ older) (table_after x o)
+here : (ns : List ℕ) (x : Change) (older : List Change) (o : Option Table) → ChangeFits x older → bytes_eq (namespace_of x) ns ≡ true
+    → known_table ns older ≡ o → IsSound ns older o → IsSound ns (x ∷ older) (table_after x o)
 here ns (create_change c) older None fits same is s = create_placed ns older c same s
 here ns (create_change c) older (Some t) fits same is s =
     let name : c.namespace ≡ ns = same_name _ _ same in
@@ -223,7 +242,8 @@ pub sound : (ns : List ℕ) (changes : List Change) → AreFitting changes → I
 sound ns [] fits = record { owners = λ key time. refl; last = λ key. refl }
 sound ns (x ∷ older) fits = by_name (bytes_eq (namespace_of x) ns) refl (sound ns older fits.1)
   where
-    by_name : (b : Bool) → bytes_eq (namespace_of x) ns ≡ b → IsSound ns older (known_table ns older) → IsSound ns (x ∷ older) (if b then table_after x (known_table ns older) else known_table ns older)
+    by_name : (b : Bool) → bytes_eq (namespace_of x) ns ≡ b → IsSound ns older (known_table ns older)
+        → IsSound ns (x ∷ older) (if b then table_after x (known_table ns older) else known_table ns older)
     by_name true same s = here ns x older (known_table ns older) fits.0.fits same refl s
     by_name false other s = skipped ns x older (known_table ns older) other s
 

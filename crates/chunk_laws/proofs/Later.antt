@@ -19,7 +19,8 @@ use Rattle.chunk_laws.proofs.Majors.{top, OfEpoch, AtMost, split_all, moved_all,
 use Rattle.chunk_laws.proofs.Folds.{Sole, sole, range_up, placed, Commits, commits_here, same_name, some_is}
 
 -- the greatest major number rises by one
-pub commit_top : (c : Commit) (t : Table) (e : Chunk) → OfEpoch t.epoch t.chunks → chunk_with c.range t.chunks ≡ Some e → top (commit_table c t).chunks ≡ top t.chunks + 1
+pub commit_top : (c : Commit) (t : Table) (e : Chunk) → OfEpoch t.epoch t.chunks → chunk_with c.range t.chunks ≡ Some e
+    → top (commit_table c t).chunks ≡ top t.chunks + 1
 commit_top c t e epochs f = let a = is in let b = most in let d = least in omega arith
   where
     n : ℕ
@@ -49,31 +50,38 @@ commit_top c t e epochs f = let a = is in let b = most in let d = least in omega
 
 -- what stays true through each change of the collection, and through those of others
 pub record Stays (ns : List ℕ) (P : List Change → Table → Type 0) : Type 0 where
-  pub other : (x : Change) (older : List Change) (t : Table) → AreFitting (x ∷ older) → known_table ns older ≡ Some t → bytes_eq (namespace_of x) ns ≡ false → P older t → P (x ∷ older) t
-  pub by_split : (s : Split) (older : List Change) (t : Table) → AreFitting (split_change s ∷ older) → known_table ns older ≡ Some t → P older t → P (split_change s ∷ older) (split_table s.middle t)
-  pub by_commit : (c : Commit) (older : List Change) (t : Table) (e : Chunk) → AreFitting (commit_change c ∷ older) → known_table ns older ≡ Some t → bytes_eq c.namespace ns ≡ true → Commits c t e → P older t → P (commit_change c ∷ older) (commit_table c t)
+  pub other : (x : Change) (older : List Change) (t : Table) → AreFitting (x ∷ older) → known_table ns older ≡ Some t
+      → bytes_eq (namespace_of x) ns ≡ false → P older t → P (x ∷ older) t
+  pub by_split : (s : Split) (older : List Change) (t : Table) → AreFitting (split_change s ∷ older) → known_table ns older ≡ Some t → P older t
+      → P (split_change s ∷ older) (split_table s.middle t)
+  pub by_commit : (c : Commit) (older : List Change) (t : Table) (e : Chunk) → AreFitting (commit_change c ∷ older) → known_table ns older ≡ Some t
+      → bytes_eq c.namespace ns ≡ true → Commits c t e → P older t → P (commit_change c ∷ older) (commit_table c t)
 
 pub record Later (ns : List ℕ) (P : List Change → Table → Type 0) (changes : List Change) : Type 0 where
   pub table : Table
   pub known : known_table ns changes ≡ Some table
   pub holds : P changes table
 
-by_change : (ns : List ℕ) (P : List Change → Table → Type 0) → Stays ns P → (x : Change) (older : List Change) (t : Table) → AreFitting (x ∷ older) → known_table ns older ≡ Some t → bytes_eq (namespace_of x) ns ≡ true → P older t → Later ns P (x ∷ older)
+by_change : (ns : List ℕ) (P : List Change → Table → Type 0) → Stays ns P → (x : Change) (older : List Change) (t : Table) → AreFitting (x ∷ older)
+    → known_table ns older ≡ Some t → bytes_eq (namespace_of x) ns ≡ true → P older t → Later ns P (x ∷ older)
 by_change ns P stays (create_change c) older t fits is same p =
     let name : c.namespace ≡ ns = same_name _ _ same in
     absurd (let two = sym fits.0.fits.absent ∙ ap (λ n. known_table n older) name ∙ is in cc)
-by_change ns P stays (split_change s) older t fits is same p = record { table = split_table s.middle t; known = rw (same, is) refl; holds = stays.by_split s older t fits is p }
+by_change ns P stays (split_change s) older t fits is same p = record { table = split_table s.middle t; known = rw
+    (same, is) refl; holds = stays.by_split s older t fits is p }
 by_change ns P stays (commit_change c) older t fits is same p =
     let k = commits_here ns older c t same is fits.0.fits in
     record { table = commit_table c t; known = rw (same, is) refl; holds = stays.by_commit c older t k.0 fits is same k.1 p }
 
-pub later : (ns : List ℕ) (P : List Change → Table → Type 0) → Stays ns P → (more older : List Change) (t : Table) → AreFitting (more ++ older) → known_table ns older ≡ Some t → P older t → Later ns P (more ++ older)
+pub later : (ns : List ℕ) (P : List Change → Table → Type 0) → Stays ns P → (more older : List Change) (t : Table) → AreFitting (more ++ older)
+    → known_table ns older ≡ Some t → P older t → Later ns P (more ++ older)
 later ns P stays [] older t fits is p = record { table = t; known = is; holds = p }
 later ns P stays (x ∷ more) older t fits is p = by_name (bytes_eq (namespace_of x) ns) refl (later ns P stays more older t fits.1 is p)
   where
     by_name : (b : Bool) → bytes_eq (namespace_of x) ns ≡ b → Later ns P (more ++ older) → Later ns P (x ∷ (more ++ older))
     by_name true same l = by_change ns P stays x (more ++ older) l.table fits l.known same l.holds
-    by_name false differs l = record { table = l.table; known = rw differs l.known; holds = stays.other x (more ++ older) l.table fits l.known differs l.holds }
+    by_name false differs l = record { table = l.table; known = rw differs l.known; holds = stays.other x
+        (more ++ older) l.table fits l.known differs l.holds }
 
 -- the chunks that overlap the range have greater major numbers
 pub record Passed (r : Range) (n : ℕ) (t : Table) : Type 0 where
@@ -86,7 +94,8 @@ lt_both a b c p q = lt_le_trans (value_of_bound a) (value_of_bound b) (value_of_
 and_true : (a b : Bool) → a ≡ true → b ≡ true → (a && b) ≡ true
 and_true a b p q = rw (p, q) refl
 
-halves_passed : (r : Range) (n : ℕ) (middle : Datum) (c : Chunk) (minor : ℕ) → strictly_inside middle c.range ≡ true → (overlap c.range r ≡ true → n < c.version.major)
+halves_passed : (r : Range) (n : ℕ) (middle : Datum) (c : Chunk) (minor : ℕ) → strictly_inside middle c.range ≡ true → (overlap c.range r ≡ true
+    → n < c.version.major)
     → (overlap (lower_half middle minor c).range r ≡ true → n < c.version.major) × (overlap (upper_half middle minor c).range r ≡ true → n < c.version.major)
 halves_passed r n middle c minor within k =
     let w = both _ _ within in (
@@ -95,25 +104,31 @@ halves_passed r n middle c minor within k =
     )
 
 split_passed : (r : Range) (n : ℕ) (middle : Datum) (t : Table) (b : Bool) → Passed r n t
-    → Passed r n (if b then (record { namespace = t.namespace; epoch = t.epoch; changes = t.changes + 1; oldest = t.oldest; chunks = split_chunks middle t.chunks t.chunks }) else t)
+    → Passed r n (if b then
+    (record { namespace = t.namespace; epoch = t.epoch; changes = t.changes + 1; oldest = t.oldest; chunks = split_chunks middle t.chunks t.chunks }) else t)
 split_passed r n middle t true p = record {
   high = let k = p.high in let e = split_top middle t.chunks t.chunks in omega arith;
-  beyond = split_all (λ d. overlap d.range r ≡ true → n < d.version.major) middle t.chunks t.chunks (λ c minor within h. halves_passed r n middle c minor within h) p.beyond;
+  beyond = split_all (λ d. overlap d.range r ≡ true → n < d.version.major) middle t.chunks t.chunks
+      (λ c minor within h. halves_passed r n middle c minor within h) p.beyond;
 }
 split_passed r n middle t false p = record { high = p.high; beyond = p.beyond }
 
-commit_passed : (r : Range) (n : ℕ) (c : Commit) (t : Table) (e : Chunk) → OfEpoch t.epoch t.chunks → Commits c t e → Passed r n t → Passed r n (commit_table c t)
+commit_passed : (r : Range) (n : ℕ) (c : Commit) (t : Table) (e : Chunk) → OfEpoch t.epoch t.chunks → Commits c t e → Passed r n t
+    → Passed r n (commit_table c t)
 commit_passed r n c t e epochs k p =
     let is : (collection_version t).major ≡ top t.chunks = collection_major t epochs in
     let m : ℕ = (collection_version t).major + 1 in
     let up : n < (collection_version t).major + 1 = (let h = p.high in omega arith) in
     record {
       high = let h = p.high in let g = commit_top c t e epochs k.range in omega arith;
-      beyond = lowest_all (λ d. overlap d.range r ≡ true → n < d.version.major) c.from (record { epoch = t.epoch; major = (collection_version t).major + 1; minor = 1 })
-          (map (moved_chunk c.range (record { epoch = t.epoch; major = (collection_version t).major + 1; minor = 0 }) (record { since = c.at; shard = c.to })) t.chunks)
+      beyond = lowest_all (λ d. overlap d.range r ≡ true → n < d.version.major) c.from (record { epoch = t.epoch; major =
+          (collection_version t).major + 1; minor = 1 })
+          (map (moved_chunk c.range (record { epoch = t.epoch; major = (collection_version t).major + 1; minor = 0 })
+          (record { since = c.at; shard = c.to })) t.chunks)
           (λ d h over. up)
           (moved_all (λ d. overlap d.range r ≡ true → n < d.version.major) (λ d. overlap d.range r ≡ true → n < d.version.major) c.range
-          (record { epoch = t.epoch; major = (collection_version t).major + 1; minor = 0 }) (record { since = c.at; shard = c.to }) t.chunks (λ d s h over. up) (λ d s h. h) p.beyond);
+          (record { epoch = t.epoch; major = (collection_version t).major + 1; minor = 0 }) (record { since = c.at; shard = c.to }) t.chunks
+          (λ d s h over. up) (λ d s h. h) p.beyond);
     }
 
 passed_stays : (ns : List ℕ) (r : Range) (n : ℕ) → Stays ns (λ changes t. Passed r n t)
@@ -133,19 +148,24 @@ found_most n r e (c ∷ chunks) all f = by_test (same_range c.range r) f (found_
     by_test false g more = more g
 
 -- of a commit's range, the version before it is passed by it
-passed_by : (c : Commit) (t : Table) (e : Chunk) → Covers t.chunks → OfEpoch t.epoch t.chunks → Commits c t e → Passed c.range e.version.major (commit_table c t)
+passed_by : (c : Commit) (t : Table) (e : Chunk) → Covers t.chunks → OfEpoch t.epoch t.chunks → Commits c t e
+    → Passed c.range e.version.major (commit_table c t)
 passed_by c t e covers epochs k =
     let is : (collection_version t).major ≡ top t.chunks = collection_major t epochs in
     let most : e.version.major ≤ top t.chunks = found_most (top t.chunks) c.range e t.chunks (most_top t.chunks) k.range in
     let up : e.version.major < (collection_version t).major + 1 = omega arith in
     record {
       high = let g = commit_top c t e epochs k.range in omega arith;
-      beyond = lowest_all (λ d. overlap d.range c.range ≡ true → e.version.major < d.version.major) c.from (record { epoch = t.epoch; major = (collection_version t).major + 1; minor = 1 })
-          (map (moved_chunk c.range (record { epoch = t.epoch; major = (collection_version t).major + 1; minor = 0 }) (record { since = c.at; shard = c.to })) t.chunks)
+      beyond = lowest_all (λ d. overlap d.range c.range ≡ true → e.version.major < d.version.major) c.from (record { epoch = t.epoch; major =
+          (collection_version t).major + 1; minor = 1 })
+          (map (moved_chunk c.range (record { epoch = t.epoch; major = (collection_version t).major + 1; minor = 0 })
+          (record { since = c.at; shard = c.to })) t.chunks)
           (λ d h over. up)
           (moved_all (Sole c.range e) (λ d. overlap d.range c.range ≡ true → e.version.major < d.version.major) c.range
-          (record { epoch = t.epoch; major = (collection_version t).major + 1; minor = 0 }) (record { since = c.at; shard = c.to }) t.chunks (λ d s h over. up)
-          (λ d s h over. absurd (let no = h.other s in cc)) (sole c.range e min_bound t.chunks (range_up c.range e min_bound t.chunks covers k.range) covers k.range));
+          (record { epoch = t.epoch; major = (collection_version t).major + 1; minor = 0 }) (record { since = c.at; shard = c.to }) t.chunks
+          (λ d s h over. up)
+          (λ d s h over. absurd (let no = h.other s in cc)) (sole c.range e min_bound t.chunks
+          (range_up c.range e min_bound t.chunks covers k.range) covers k.range));
     }
 
 pub older_fit : (more older : List Change) → AreFitting (more ++ older) → AreFitting older
@@ -158,8 +178,10 @@ itself_bytes ns = search (rules, bytes_eq-Decides)
 later_is : (o : Option Table) (t u : Table) → o ≡ Some t → o ≡ Some u → Some t ≡ Some u
 later_is o t u a b = sym a ∙ b
 
-pub passed_for_good : (c : Commit) (older more : List Change) (t u : Table) (e : Chunk) → AreFitting (more ++ commit_change c ∷ older) → known_table c.namespace older ≡ Some t → chunk_with c.range t.chunks ≡ Some e
-    → known_table c.namespace (more ++ commit_change c ∷ older) ≡ Some u → AllByRecursion (λ d. overlap d.range c.range ≡ true → e.version.major < d.version.major) u.chunks
+pub passed_for_good : (c : Commit) (older more : List Change) (t u : Table) (e : Chunk) → AreFitting (more ++ commit_change c ∷ older)
+    → known_table c.namespace older ≡ Some t → chunk_with c.range t.chunks ≡ Some e
+    → known_table c.namespace (more ++ commit_change c ∷ older) ≡ Some u → AllByRecursion (λ d. overlap d.range c.range ≡ true
+    → e.version.major < d.version.major) u.chunks
 passed_for_good c older more t u e fits is f known =
     let first : AreFitting (commit_change c ∷ older) = older_fit more (commit_change c ∷ older) fits in
     let same : bytes_eq c.namespace c.namespace ≡ true = itself_bytes c.namespace in
@@ -167,12 +189,14 @@ passed_for_good c older more t u e fits is f known =
     let one : k.0 ≡ e = (let g = k.1.range in cc) in
     let p = placed c.namespace older t first.1 is in
     let now : known_table c.namespace (commit_change c ∷ older) ≡ Some (commit_table c t) = rw (same, is) refl in
-    let l = later c.namespace (λ changes v. Passed c.range e.version.major v) (passed_stays c.namespace c.range e.version.major) more (commit_change c ∷ older) (commit_table c t) fits now
+    let l = later c.namespace (λ changes v. Passed c.range e.version.major v) (passed_stays c.namespace c.range e.version.major) more
+        (commit_change c ∷ older) (commit_table c t) fits now
     (passed_by c t e p.covers p.epochs (subst (Commits c t) one k.1)) in
     let end : l.table ≡ u = some_is l.table u (later_is (known_table c.namespace (more ++ commit_change c ∷ older)) l.table u l.known known) in
     subst (λ (v : Table). AllByRecursion (λ d. overlap d.range c.range ≡ true → e.version.major < d.version.major) v.chunks) end l.holds.beyond
 
-pub raised : (c : Commit) (older : List Change) (t : Table) → AreFitting (commit_change c ∷ older) → known_table c.namespace older ≡ Some t → (collection_version (commit_table c t)).major ≡ (collection_version t).major + 1
+pub raised : (c : Commit) (older : List Change) (t : Table) → AreFitting (commit_change c ∷ older) → known_table c.namespace older ≡ Some t
+    → (collection_version (commit_table c t)).major ≡ (collection_version t).major + 1
 raised c older t fits is =
     let same : bytes_eq c.namespace c.namespace ≡ true = itself_bytes c.namespace in
     let k = commits_here c.namespace older c t same is fits.0.fits in

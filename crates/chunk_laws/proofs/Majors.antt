@@ -79,7 +79,8 @@ pub on_top : (shard : ℕ) (chunks : List Chunk) → top (chunks_on shard chunks
 on_top shard chunks = top_most (top chunks) (chunks_on shard chunks) (on_all (λ c. c.version.major ≤ top chunks) shard chunks (most_top chunks))
 
 -- what is so of each chunk, and so of the chunks that a change makes of it
-pub split_all : (P : Chunk → Type 0) (middle : Datum) (all chunks : List Chunk) → ((c : Chunk) (minor : ℕ) → strictly_inside middle c.range ≡ true → P c → P (lower_half middle minor c) × P (upper_half middle minor c))
+pub split_all : (P : Chunk → Type 0) (middle : Datum) (all chunks : List Chunk) → ((c : Chunk) (minor : ℕ) → strictly_inside middle c.range ≡ true
+    → P c → P (lower_half middle minor c) × P (upper_half middle minor c))
     → AllByRecursion P chunks → AllByRecursion P (split_chunks middle all chunks)
 split_all P middle all [] half each = tt
 split_all P middle all (c ∷ chunks) half each = by_test (strictly_inside middle c.range) refl (split_all P middle all chunks half each.1)
@@ -93,7 +94,8 @@ split_all P middle all (c ∷ chunks) half each = by_test (strictly_inside middl
     by_test false out rest = (each.0, rest)
 
 pub moved_all : (P Q : Chunk → Type 0) (r : Range) (v : Version) (o : Owned) (chunks : List Chunk)
-    → ((c : Chunk) → same_range c.range r ≡ true → P c → Q (record { range = c.range; version = v; owners = o ∷ c.owners })) → ((c : Chunk) → same_range c.range r ≡ false → P c → Q c)
+    → ((c : Chunk) → same_range c.range r ≡ true → P c → Q (record { range = c.range; version = v; owners = o ∷ c.owners })) → ((c : Chunk)
+    → same_range c.range r ≡ false → P c → Q c)
     → AllByRecursion P chunks → AllByRecursion Q (map (moved_chunk r v o) chunks)
 moved_all P Q r v o [] here there each = tt
 moved_all P Q r v o (c ∷ chunks) here there each = (by_test (same_range c.range r) refl, moved_all P Q r v o chunks here there each.1)
@@ -102,11 +104,13 @@ moved_all P Q r v o (c ∷ chunks) here there each = (by_test (same_range c.rang
     by_test true same = here c same each.0
     by_test false other = there c other each.0
 
-pub lowest_all : (P : Chunk → Type 0) (shard : ℕ) (v : Version) (chunks : List Chunk) → ((c : Chunk) → P c → P (record { range = c.range; version = v; owners = c.owners })) → AllByRecursion P chunks → AllByRecursion P (with_lowest shard v chunks)
+pub lowest_all : (P : Chunk → Type 0) (shard : ℕ) (v : Version) (chunks : List Chunk) → ((c : Chunk) → P c
+    → P (record { range = c.range; version = v; owners = c.owners })) → AllByRecursion P chunks → AllByRecursion P (with_lowest shard v chunks)
 lowest_all P shard v [] here each = tt
 lowest_all P shard v (c ∷ chunks) here each = by_test (is_owner shard c.owners) (lowest_all P shard v chunks here each.1)
   where
-    by_test : (b : Bool) → AllByRecursion P (with_lowest shard v chunks) → AllByRecursion P (if b then (record { range = c.range; version = v; owners = c.owners }) ∷ chunks else c ∷ with_lowest shard v chunks)
+    by_test : (b : Bool) → AllByRecursion P (with_lowest shard v chunks)
+        → AllByRecursion P (if b then (record { range = c.range; version = v; owners = c.owners }) ∷ chunks else c ∷ with_lowest shard v chunks)
     by_test true rest = (here c each.0, each.1)
     by_test false rest = (each.0, rest)
 
@@ -131,18 +135,21 @@ split_on middle shard all (c ∷ chunks) = by_test (strictly_inside middle c.ran
     minor = greatest_minor 0 c.version.major all
 
     by_test : (b own : Bool) → is_owner shard c.owners ≡ own → top (chunks_on shard (split_chunks middle all chunks)) ≡ top (chunks_on shard chunks)
-        → top (chunks_on shard (if b then lower_half middle minor c ∷ upper_half middle minor c ∷ split_chunks middle all chunks else c ∷ split_chunks middle all chunks)) ≡ top (if own then c ∷ chunks_on shard chunks else chunks_on shard chunks)
+        → top (chunks_on shard
+        (if b then lower_half middle minor c ∷ upper_half middle minor c ∷ split_chunks middle all chunks else c ∷ split_chunks middle all chunks)) ≡ top (if own then c ∷ chunks_on shard chunks else chunks_on shard chunks)
     by_test true true own rest = rw own (omega arith)
     by_test true false own rest = rw own rest
     by_test false true own rest = rw own (omega arith)
     by_test false false own rest = rw own rest
 
 -- a commit gives its chunk the version
-pub moved_top : (r : Range) (v : Version) (o : Owned) (e : Chunk) (chunks : List Chunk) → chunk_with r chunks ≡ Some e → v.major ≤ top (map (moved_chunk r v o) chunks)
+pub moved_top : (r : Range) (v : Version) (o : Owned) (e : Chunk) (chunks : List Chunk) → chunk_with r chunks ≡ Some e
+    → v.major ≤ top (map (moved_chunk r v o) chunks)
 moved_top r v o e [] f = absurd cc
 moved_top r v o e (c ∷ chunks) f = by_test (same_range c.range r) f (moved_top r v o e chunks)
   where
-    by_test : (b : Bool) → (if b then Some c else chunk_with r chunks) ≡ Some e → (chunk_with r chunks ≡ Some e → v.major ≤ top (map (moved_chunk r v o) chunks))
+    by_test : (b : Bool) → (if b then Some c else chunk_with r chunks) ≡ Some e → (chunk_with r chunks ≡ Some e
+        → v.major ≤ top (map (moved_chunk r v o) chunks))
         → v.major ≤ top ((if b then (record { range = c.range; version = v; owners = o ∷ c.owners }) else c) ∷ map (moved_chunk r v o) chunks)
     by_test true g rest = omega arith
     by_test false g rest = let k = rest g in omega arith
@@ -154,7 +161,8 @@ pub lowest_top : (n shard : ℕ) (v : Version) (chunks : List Chunk) → n ≤ v
 lowest_top n shard v [] high k = k
 lowest_top n shard v (c ∷ chunks) high k = by_test (is_owner shard c.owners) (lowest_top n shard v chunks high)
   where
-    by_test : (b : Bool) → (n ≤ top chunks → n ≤ top (with_lowest shard v chunks)) → n ≤ top (if b then (record { range = c.range; version = v; owners = c.owners }) ∷ chunks else c ∷ with_lowest shard v chunks)
+    by_test : (b : Bool) → (n ≤ top chunks → n ≤ top (with_lowest shard v chunks))
+        → n ≤ top (if b then (record { range = c.range; version = v; owners = c.owners }) ∷ chunks else c ∷ with_lowest shard v chunks)
     by_test true rest = omega arith
     by_test false rest = max_grows c.version.major (top chunks) (top (with_lowest shard v chunks)) n k rest
 
@@ -163,22 +171,26 @@ other_owner : (a b : ℕ) (owners : List Owned) → is_owner a owners ≡ true �
 other_owner a b [] own apart = absurd cc
 other_owner a b (o ∷ owners) own apart = let e : o.shard ≡ a = eqb-true _ _ own in ap (λ (x : ℕ). x == b) e ∙ apart
 
-pub lowest_on : (donor shard : ℕ) (v : Version) (chunks : List Chunk) → (donor == shard) ≡ false → chunks_on shard (with_lowest donor v chunks) ≡ chunks_on shard chunks
+pub lowest_on : (donor shard : ℕ) (v : Version) (chunks : List Chunk) → (donor == shard) ≡ false
+    → chunks_on shard (with_lowest donor v chunks) ≡ chunks_on shard chunks
 lowest_on donor shard v [] apart = refl
 lowest_on donor shard v (c ∷ chunks) apart = by_test (is_owner donor c.owners) refl (lowest_on donor shard v chunks apart)
   where
     by_test : (b : Bool) → is_owner donor c.owners ≡ b → chunks_on shard (with_lowest donor v chunks) ≡ chunks_on shard chunks
-        → chunks_on shard (if b then (record { range = c.range; version = v; owners = c.owners }) ∷ chunks else c ∷ with_lowest donor v chunks) ≡ chunks_on shard (c ∷ chunks)
+        → chunks_on shard (if b then
+        (record { range = c.range; version = v; owners = c.owners }) ∷ chunks else c ∷ with_lowest donor v chunks) ≡ chunks_on shard (c ∷ chunks)
     by_test true own rest = let no = other_owner donor shard c.owners own apart in rw no refl
     by_test false own rest = rw rest refl
 
-pub moved_on : (r : Range) (v : Version) (o : Owned) (shard : ℕ) (chunks : List Chunk) → AllByRecursion (λ d. same_range d.range r ≡ true → is_owner shard d.owners ≡ false) chunks → (o.shard == shard) ≡ false
+pub moved_on : (r : Range) (v : Version) (o : Owned) (shard : ℕ) (chunks : List Chunk) → AllByRecursion (λ d. same_range d.range r ≡ true
+    → is_owner shard d.owners ≡ false) chunks → (o.shard == shard) ≡ false
     → chunks_on shard (map (moved_chunk r v o) chunks) ≡ chunks_on shard chunks
 moved_on r v o shard [] all apart = refl
 moved_on r v o shard (c ∷ chunks) all apart = by_test (same_range c.range r) refl (moved_on r v o shard chunks all.1 apart)
   where
     by_test : (b : Bool) → same_range c.range r ≡ b → chunks_on shard (map (moved_chunk r v o) chunks) ≡ chunks_on shard chunks
-        → chunks_on shard ((if b then (record { range = c.range; version = v; owners = o ∷ c.owners }) else c) ∷ map (moved_chunk r v o) chunks) ≡ chunks_on shard (c ∷ chunks)
+        → chunks_on shard ((if b then (record { range = c.range; version = v; owners = o ∷ c.owners }) else c) ∷ map
+        (moved_chunk r v o) chunks) ≡ chunks_on shard (c ∷ chunks)
     by_test true same rest = let no = all.0 same in rw (apart, no) rest
     by_test false other rest = rw rest refl
 
@@ -187,20 +199,27 @@ on_more : (b : Bool) (n : ℕ) (c : Chunk) (chunks : List Chunk) → n ≤ top c
 on_more true n c chunks k = omega arith
 on_more false n c chunks k = k
 
-pub recipient_top : (r : Range) (v : Version) (o : Owned) (e : Chunk) (chunks : List Chunk) → (o.shard == o.shard) ≡ true → chunk_with r chunks ≡ Some e → v.major ≤ top (chunks_on o.shard (map (moved_chunk r v o) chunks))
+pub recipient_top : (r : Range) (v : Version) (o : Owned) (e : Chunk) (chunks : List Chunk) → (o.shard == o.shard) ≡ true
+    → chunk_with r chunks ≡ Some e → v.major ≤ top (chunks_on o.shard (map (moved_chunk r v o) chunks))
 recipient_top r v o e [] itself f = absurd cc
 recipient_top r v o e (c ∷ chunks) itself f = by_test (same_range c.range r) f (recipient_top r v o e chunks itself)
   where
-    by_test : (b : Bool) → (if b then Some c else chunk_with r chunks) ≡ Some e → (chunk_with r chunks ≡ Some e → v.major ≤ top (chunks_on o.shard (map (moved_chunk r v o) chunks)))
-        → v.major ≤ top (chunks_on o.shard ((if b then (record { range = c.range; version = v; owners = o ∷ c.owners }) else c) ∷ map (moved_chunk r v o) chunks))
+    by_test : (b : Bool) → (if b then Some c else chunk_with r chunks) ≡ Some e → (chunk_with r chunks ≡ Some e
+        → v.major ≤ top (chunks_on o.shard (map (moved_chunk r v o) chunks)))
+        → v.major ≤ top (chunks_on o.shard ((if b then (record { range = c.range; version = v; owners = o ∷ c.owners }) else c) ∷ map
+        (moved_chunk r v o) chunks))
     by_test true g rest = rw itself (omega arith)
     by_test false g rest = on_more (is_owner o.shard c.owners) v.major c (chunks_on o.shard (map (moved_chunk r v o) chunks)) (rest g)
 
-pub donor_top : (shard : ℕ) (v : Version) (chunks : List Chunk) → (top (chunks_on shard (with_lowest shard v chunks)) ≡ 0) ⊎ (v.major ≤ top (chunks_on shard (with_lowest shard v chunks)))
+pub donor_top : (shard : ℕ) (v : Version) (chunks : List Chunk)
+    → (top (chunks_on shard (with_lowest shard v chunks)) ≡ 0) ⊎ (v.major ≤ top (chunks_on shard (with_lowest shard v chunks)))
 donor_top shard v [] = inl refl
 donor_top shard v (c ∷ chunks) = by_test (is_owner shard c.owners) refl (donor_top shard v chunks)
   where
-    by_test : (b : Bool) → is_owner shard c.owners ≡ b → (top (chunks_on shard (with_lowest shard v chunks)) ≡ 0) ⊎ (v.major ≤ top (chunks_on shard (with_lowest shard v chunks)))
-        → (top (chunks_on shard (if b then (record { range = c.range; version = v; owners = c.owners }) ∷ chunks else c ∷ with_lowest shard v chunks)) ≡ 0) ⊎ (v.major ≤ top (chunks_on shard (if b then (record { range = c.range; version = v; owners = c.owners }) ∷ chunks else c ∷ with_lowest shard v chunks)))
+    by_test : (b : Bool) → is_owner shard c.owners ≡ b → (top (chunks_on shard (with_lowest shard v chunks)) ≡ 0) ⊎ (v.major ≤ top (chunks_on shard
+        (with_lowest shard v chunks)))
+        → (top (chunks_on shard (if b then
+        (record { range = c.range; version = v; owners = c.owners }) ∷ chunks else c ∷ with_lowest shard v chunks)) ≡ 0) ⊎ (v.major ≤ top
+        (chunks_on shard (if b then (record { range = c.range; version = v; owners = c.owners }) ∷ chunks else c ∷ with_lowest shard v chunks)))
     by_test true own rest = inr (rw own (omega arith))
     by_test false own rest = rw own rest

@@ -20,7 +20,8 @@ owners_of key (c ∷ chunks) = if inside (range_span c.range) key then c.owners 
 abbrev found : Option Chunk → List Owned
 found o = elim o [ None ↦ [] | Some c ↦ c.owners ]
 
-found_by : (has : Bool) (c : Chunk) (o : Option Chunk) (owners : List Owned) → found o ≡ owners → found (if has then Some c else o) ≡ (if has then c.owners else owners)
+found_by : (has : Bool) (c : Chunk) (o : Option Chunk) (owners : List Owned) → found o ≡ owners
+    → found (if has then Some c else o) ≡ (if has then c.owners else owners)
 found_by true c o owners e = refl
 found_by false c o owners e = e
 
@@ -32,7 +33,8 @@ now_found : (o : Option Chunk) → elim o as (λ (p : Option Chunk). Option ℕ)
 now_found None = refl
 now_found (Some c) = refl
 
-at_found : (time : ℕ) (o : Option Chunk) → elim o as (λ (p : Option Chunk). Option ℕ) [ None ↦ None | Some c ↦ owner_among time c.owners ] ≡ owner_among time (found o)
+at_found : (time : ℕ) (o : Option Chunk) → elim o as (λ
+    (p : Option Chunk). Option ℕ) [ None ↦ None | Some c ↦ owner_among time c.owners ] ≡ owner_among time (found o)
 at_found time None = refl
 at_found time (Some c) = refl
 
@@ -46,7 +48,8 @@ at_is t key time = at_found time (chunk_of key t.chunks) ∙ ap (owner_among tim
 pub same_keys : (a b : Range) (key : Datum) → same_range a b ≡ true → inside (range_span a) key ≡ inside (range_span b) key
 same_keys a b key e =
     let s = both _ _ e in
-    rw (order_total.congr (value_of_bound a.min) (value_of_bound b.min) key (equal_is _ s.0), alike_right order_total (value_of_bound a.max) (value_of_bound b.max) key (equal_is _ s.1)) refl
+    rw (order_total.congr (value_of_bound a.min) (value_of_bound b.min) key (equal_is _ s.0), alike_right order_total (value_of_bound a.max)
+        (value_of_bound b.max) key (equal_is _ s.1)) refl
 
 -- the first bound is not above the second
 abbrev pub Below : Bound → Bound → Type 0
@@ -64,7 +67,8 @@ pub begins : (r : Range) (e : Chunk) (start : Bound) (chunks : List Chunk) → C
 begins r e start [] cover with_r = absurd cc
 begins r e start (c ∷ chunks) cover with_r = by_test (same_range c.range r) refl with_r (begins r e c.range.max chunks cover.2)
   where
-    by_test : (b : Bool) → same_range c.range r ≡ b → (if b then Some c else chunk_with r chunks) ≡ Some e → (chunk_with r chunks ≡ Some e → Below c.range.max r.min) → Below start r.min
+    by_test : (b : Bool) → same_range c.range r ≡ b → (if b then Some c else chunk_with r chunks) ≡ Some e → (chunk_with r chunks ≡ Some e
+        → Below c.range.max r.min) → Below start r.min
     by_test true same f more = below_trans start c.range.min r.min (eq_le _ cover.0) (eq_le _ (both _ _ same).0)
     by_test false other f more = below_trans start c.range.max r.min (next_below start c.range cover.0 cover.1) (more f)
 

@@ -35,50 +35,61 @@ pub record Grown (ns : List ℕ) (s : ℕ) (old : List Change) (a : Table) (new 
   pub how : (top (chunks_on s t.chunks) ≡ 0) ⊎ ((top a.chunks < top (chunks_on s t.chunks)) ⊎ Unmoved ns s old new)
 
 -- a change that is about none of the keys of the shard
-same_owner : (ns : List ℕ) (s : ℕ) (old new new2 : List Change) → ((key : Datum) → is_key key ≡ true → latest ns key new2 ≡ latest ns key new) → ((key : Datum) (time : ℕ) → owner ns key time new2 ≡ owner ns key time new) → Unmoved ns s old new → Unmoved ns s old new2
+same_owner : (ns : List ℕ) (s : ℕ) (old new new2 : List Change) → ((key : Datum) → is_key key ≡ true → latest ns key new2 ≡ latest ns key new)
+    → ((key : Datum) (time : ℕ) → owner ns key time new2 ≡ owner ns key time new) → Unmoved ns s old new → Unmoved ns s old new2
 same_owner ns s old new new2 last owns u = record {
   on = λ key valid h. last key valid ∙ u.on key valid h;
   back = λ key valid h. u.back key valid (sym (last key valid) ∙ h);
   always = λ key time valid h. owns key time ∙ u.always key time valid h;
 }
 
-other_last : (ns : List ℕ) (x : Change) (older : List Change) → bytes_eq (namespace_of x) ns ≡ false → (key : Datum) → latest ns key (x ∷ older) ≡ latest ns key older
+other_last : (ns : List ℕ) (x : Change) (older : List Change) → bytes_eq (namespace_of x) ns ≡ false → (key : Datum)
+    → latest ns key (x ∷ older) ≡ latest ns key older
 other_last ns (create_change c) older h key = rw h refl
 other_last ns (split_change c) older h key = refl
 other_last ns (commit_change c) older h key = rw h refl
 
-other_owner : (ns : List ℕ) (x : Change) (older : List Change) → bytes_eq (namespace_of x) ns ≡ false → (key : Datum) (time : ℕ) → owner ns key time (x ∷ older) ≡ owner ns key time older
+other_owner : (ns : List ℕ) (x : Change) (older : List Change) → bytes_eq (namespace_of x) ns ≡ false → (key : Datum) (time : ℕ)
+    → owner ns key time (x ∷ older) ≡ owner ns key time older
 other_owner ns (create_change c) older h key time = rw h refl
 other_owner ns (split_change c) older h key time = refl
 other_owner ns (commit_change c) older h key time = rw h refl
 
-grown_other : (ns : List ℕ) (s : ℕ) (old : List Change) (a : Table) (x : Change) (older : List Change) (t : Table) → bytes_eq (namespace_of x) ns ≡ false → Grown ns s old a older t → Grown ns s old a (x ∷ older) t
+grown_other : (ns : List ℕ) (s : ℕ) (old : List Change) (a : Table) (x : Change) (older : List Change) (t : Table)
+    → bytes_eq (namespace_of x) ns ≡ false → Grown ns s old a older t → Grown ns s old a (x ∷ older) t
 grown_other ns s old a x older t differs g = record { high = g.high; how = by_how g.how }
   where
-    by_how : (top (chunks_on s t.chunks) ≡ 0) ⊎ ((top a.chunks < top (chunks_on s t.chunks)) ⊎ Unmoved ns s old older) → (top (chunks_on s t.chunks) ≡ 0) ⊎ ((top a.chunks < top (chunks_on s t.chunks)) ⊎ Unmoved ns s old (x ∷ older))
+    by_how : (top (chunks_on s t.chunks) ≡ 0) ⊎ ((top a.chunks < top (chunks_on s t.chunks)) ⊎ Unmoved ns s old older)
+        → (top (chunks_on s t.chunks) ≡ 0) ⊎ ((top a.chunks < top (chunks_on s t.chunks)) ⊎ Unmoved ns s old (x ∷ older))
     by_how (inl e) = inl e
     by_how (inr (inl e)) = inr (inl e)
-    by_how (inr (inr u)) = inr (inr (same_owner ns s old older (x ∷ older) (λ key valid. other_last ns x older differs key) (λ key time. other_owner ns x older differs key time) u))
+    by_how (inr (inr u)) = inr (inr (same_owner ns s old older (x ∷ older) (λ key valid. other_last ns x older differs key)
+        (λ key time. other_owner ns x older differs key time) u))
 
 grown_split : (ns : List ℕ) (s : ℕ) (old : List Change) (a : Table) (c : Split) (older : List Change) (t : Table) (b : Bool) → Grown ns s old a older t
-    → Grown ns s old a (split_change c ∷ older) (if b then (record { namespace = t.namespace; epoch = t.epoch; changes = t.changes + 1; oldest = t.oldest; chunks = split_chunks c.middle t.chunks t.chunks }) else t)
+    → Grown ns s old a (split_change c ∷ older) (if b then
+    (record { namespace = t.namespace; epoch = t.epoch; changes = t.changes + 1; oldest = t.oldest; chunks = split_chunks c.middle t.chunks t.chunks }) else t)
 grown_split ns s old a c older t false g = record { high = g.high; how = by_how g.how }
   where
-    by_how : (top (chunks_on s t.chunks) ≡ 0) ⊎ ((top a.chunks < top (chunks_on s t.chunks)) ⊎ Unmoved ns s old older) → (top (chunks_on s t.chunks) ≡ 0) ⊎ ((top a.chunks < top (chunks_on s t.chunks)) ⊎ Unmoved ns s old (split_change c ∷ older))
+    by_how : (top (chunks_on s t.chunks) ≡ 0) ⊎ ((top a.chunks < top (chunks_on s t.chunks)) ⊎ Unmoved ns s old older)
+        → (top (chunks_on s t.chunks) ≡ 0) ⊎ ((top a.chunks < top (chunks_on s t.chunks)) ⊎ Unmoved ns s old (split_change c ∷ older))
     by_how (inl e) = inl e
     by_how (inr (inl e)) = inr (inl e)
     by_how (inr (inr u)) = inr (inr (same_owner ns s old older (split_change c ∷ older) (λ key valid. refl) (λ key time. refl) u))
-grown_split ns s old a c older t true g = record { high = let k = g.high in let e = split_top c.middle t.chunks t.chunks in omega arith; how = by_how (split_on c.middle s t.chunks t.chunks) g.how }
+grown_split ns s old a c older t true g = record { high = let k = g.high in let e = split_top c.middle t.chunks t.chunks in
+    omega arith; how = by_how (split_on c.middle s t.chunks t.chunks) g.how }
   where
     by_how : top (chunks_on s (split_chunks c.middle t.chunks t.chunks)) ≡ top (chunks_on s t.chunks)
         → (top (chunks_on s t.chunks) ≡ 0) ⊎ ((top a.chunks < top (chunks_on s t.chunks)) ⊎ Unmoved ns s old older)
-        → (top (chunks_on s (split_chunks c.middle t.chunks t.chunks)) ≡ 0) ⊎ ((top a.chunks < top (chunks_on s (split_chunks c.middle t.chunks t.chunks))) ⊎ Unmoved ns s old (split_change c ∷ older))
+        → (top (chunks_on s (split_chunks c.middle t.chunks t.chunks)) ≡ 0) ⊎ ((top a.chunks < top (chunks_on s
+        (split_chunks c.middle t.chunks t.chunks))) ⊎ Unmoved ns s old (split_change c ∷ older))
     by_how e (inl z) = inl (e ∙ z)
     by_how e (inr (inl z)) = inr (inl (omega arith))
     by_how e (inr (inr u)) = inr (inr (same_owner ns s old older (split_change c ∷ older) (λ key valid. refl) (λ key time. refl) u))
 
 -- a commit that is neither from the shard nor to it
-spared : (ns : List ℕ) (s : ℕ) (old older : List Change) (c : Commit) (t : Table) (e : Chunk) → bytes_eq c.namespace ns ≡ true → Commits c t e → IsPlaced ns older t → c.from ≢ s → c.to ≢ s → Unmoved ns s old older → Unmoved ns s old (commit_change c ∷ older)
+spared : (ns : List ℕ) (s : ℕ) (old older : List Change) (c : Commit) (t : Table) (e : Chunk) → bytes_eq c.namespace ns ≡ true → Commits c t e
+    → IsPlaced ns older t → c.from ≢ s → c.to ≢ s → Unmoved ns s old older → Unmoved ns s old (commit_change c ∷ older)
 spared ns s old older c t e same k p no_donor no_recipient u = record {
   on = λ key valid h. by_on key (u.on key valid h) valid (inside (range_span c.range) key) refl;
   back = λ key valid h. u.back key valid (by_back key (inside (range_span c.range) key) refl h);
@@ -91,15 +102,18 @@ spared ns s old older c t e same k p no_donor no_recipient u = record {
     never : (key : Datum) → is_key key ≡ true → inside (range_span c.range) key ≡ true → latest ns key older ≡ Some s → ⊥
     never key valid has h = let d = donor key valid has in no_donor (some_nat c.from s (sym d ∙ h))
 
-    by_on : (key : Datum) → latest ns key older ≡ Some s → is_key key ≡ true → (b : Bool) → inside (range_span c.range) key ≡ b → latest ns key (commit_change c ∷ older) ≡ Some s
+    by_on : (key : Datum) → latest ns key older ≡ Some s → is_key key ≡ true → (b : Bool) → inside (range_span c.range) key ≡ b
+        → latest ns key (commit_change c ∷ older) ≡ Some s
     by_on key own valid true has = absurd (never key valid has own)
     by_on key own valid false out = rw (same, out) own
 
-    by_back : (key : Datum) → (b : Bool) → inside (range_span c.range) key ≡ b → latest ns key (commit_change c ∷ older) ≡ Some s → latest ns key older ≡ Some s
+    by_back : (key : Datum) → (b : Bool) → inside (range_span c.range) key ≡ b → latest ns key (commit_change c ∷ older) ≡ Some s
+        → latest ns key older ≡ Some s
     by_back key true has own = absurd (no_recipient (some_nat c.to s (rw (same, has) at own)))
     by_back key false out own = rw (same, out) at own
 
-    by_owner : (key : Datum) (time : ℕ) → latest ns key older ≡ Some s → is_key key ≡ true → (b : Bool) → inside (range_span c.range) key ≡ b → owner ns key time (commit_change c ∷ older) ≡ owner ns key time older
+    by_owner : (key : Datum) (time : ℕ) → latest ns key older ≡ Some s → is_key key ≡ true → (b : Bool) → inside (range_span c.range) key ≡ b
+        → owner ns key time (commit_change c ∷ older) ≡ owner ns key time older
     by_owner key time own valid true has = absurd (never key valid has own)
     by_owner key time own valid false out = rw (same, out) (by_time (nat_le c.at time))
       where
@@ -115,11 +129,14 @@ not_owner e from s own apart = by_owners e.owners own
     by_owners [] h = refl
     by_owners (o ∷ owners) h = let i : o.shard ≡ from = some_nat _ _ h in ap (λ (n : ℕ). n == s) i ∙ apart
 
-none_on : (r : Range) (e : Chunk) (s : ℕ) (chunks : List Chunk) → is_owner s e.owners ≡ false → AllByRecursion (Sole r e) chunks → AllByRecursion (λ d. same_range d.range r ≡ true → is_owner s d.owners ≡ false) chunks
+none_on : (r : Range) (e : Chunk) (s : ℕ) (chunks : List Chunk) → is_owner s e.owners ≡ false → AllByRecursion (Sole r e) chunks
+    → AllByRecursion (λ d. same_range d.range r ≡ true → is_owner s d.owners ≡ false) chunks
 none_on r e s [] others all = tt
-none_on r e s (d ∷ chunks) others all = (λ same. let i : d ≡ e = all.0.same same in ap (λ (x : Chunk). is_owner s x.owners) i ∙ others, none_on r e s chunks others all.1)
+none_on r e s (d ∷ chunks) others all = (λ same. let i : d ≡ e = all.0.same same in ap (λ (x : Chunk). is_owner s x.owners) i
+    ∙ others, none_on r e s chunks others all.1)
 
-grown_commit : (ns : List ℕ) (s : ℕ) (old : List Change) (a : Table) (c : Commit) (older : List Change) (t : Table) (e : Chunk) → bytes_eq c.namespace ns ≡ true → Commits c t e → IsPlaced ns older t → Grown ns s old a older t
+grown_commit : (ns : List ℕ) (s : ℕ) (old : List Change) (a : Table) (c : Commit) (older : List Change) (t : Table) (e : Chunk)
+    → bytes_eq c.namespace ns ≡ true → Commits c t e → IsPlaced ns older t → Grown ns s old a older t
     → Grown ns s old a (commit_change c ∷ older) (commit_table c t)
 grown_commit ns s old a c older t e same k p g =
     let up = commit_top c t e p.epochs k.range in
@@ -142,16 +159,20 @@ grown_commit ns s old a c older t e same k p g =
     moved = map (moved_chunk c.range v o) t.chunks
 
     Outcome : Type 0
-    Outcome = (top (chunks_on s (commit_table c t).chunks) ≡ 0) ⊎ ((top a.chunks < top (chunks_on s (commit_table c t).chunks)) ⊎ Unmoved ns s old (commit_change c ∷ older))
+    Outcome = (top (chunks_on s (commit_table c t).chunks) ≡ 0) ⊎ ((top a.chunks < top (chunks_on s (commit_table c t).chunks)) ⊎ Unmoved ns s old
+        (commit_change c ∷ older))
 
-    from_donor : (top (chunks_on c.from (with_lowest c.from w moved)) ≡ 0) ⊎ ((collection_version t).major + 1 ≤ top (chunks_on c.from (with_lowest c.from w moved))) → c.from ≡ s → Outcome
+    from_donor : (top (chunks_on c.from (with_lowest c.from w moved)) ≡ 0) ⊎ ((collection_version t).major + 1 ≤ top (chunks_on c.from
+        (with_lowest c.from w moved))) → c.from ≡ s → Outcome
     from_donor (inl z) i = inl (ap (λ n. top (chunks_on n (with_lowest c.from w moved))) (sym i) ∙ z)
     from_donor (inr z) i =
-        let j : top (chunks_on c.from (with_lowest c.from w moved)) ≡ top (chunks_on s (with_lowest c.from w moved)) = ap (λ n. top (chunks_on n (with_lowest c.from w moved))) i in
+        let j : top (chunks_on c.from (with_lowest c.from w moved)) ≡ top (chunks_on s (with_lowest c.from w moved)) = ap (λ n. top (chunks_on n
+            (with_lowest c.from w moved))) i in
         let h = g.high in let m = is in
         inr (inl (omega arith))
 
-    by_test : (donor recipient : Bool) → (c.from == s) ≡ donor → (c.to == s) ≡ recipient → (top (chunks_on s t.chunks) ≡ 0) ⊎ ((top a.chunks < top (chunks_on s t.chunks)) ⊎ Unmoved ns s old older) → Outcome
+    by_test : (donor recipient : Bool) → (c.from == s) ≡ donor → (c.to == s) ≡ recipient
+        → (top (chunks_on s t.chunks) ≡ 0) ⊎ ((top a.chunks < top (chunks_on s t.chunks)) ⊎ Unmoved ns s old older) → Outcome
     by_test true recipient d r how = from_donor (donor_top c.from w moved) (eqb-true _ _ d)
     by_test false true d r how =
         let i : c.to ≡ s = eqb-true _ _ r in
@@ -163,11 +184,14 @@ grown_commit ns s old a c older t e same k p g =
         inr (inl (omega arith))
     by_test false false d r how =
         let apart : is_owner s e.owners ≡ false = not_owner e c.from s k.owner d in
-        let all = none_on c.range e s t.chunks apart (sole c.range e min_bound t.chunks (range_up c.range e min_bound t.chunks p.covers k.range) p.covers k.range) in
-        let kept : top (chunks_on s (with_lowest c.from w moved)) ≡ top (chunks_on s t.chunks) = ap top (lowest_on c.from s w moved d ∙ moved_on c.range v o s t.chunks all r) in
+        let all = none_on c.range e s t.chunks apart (sole c.range e min_bound t.chunks
+            (range_up c.range e min_bound t.chunks p.covers k.range) p.covers k.range) in
+        let kept : top (chunks_on s (with_lowest c.from w moved)) ≡ top (chunks_on s t.chunks) = ap top (lowest_on c.from s w moved d
+            ∙ moved_on c.range v o s t.chunks all r) in
         by_how kept how
       where
-        by_how : top (chunks_on s (with_lowest c.from w moved)) ≡ top (chunks_on s t.chunks) → (top (chunks_on s t.chunks) ≡ 0) ⊎ ((top a.chunks < top (chunks_on s t.chunks)) ⊎ Unmoved ns s old older) → Outcome
+        by_how : top (chunks_on s (with_lowest c.from w moved)) ≡ top (chunks_on s t.chunks)
+            → (top (chunks_on s t.chunks) ≡ 0) ⊎ ((top a.chunks < top (chunks_on s t.chunks)) ⊎ Unmoved ns s old older) → Outcome
         by_how kept (inl z) = inl (kept ∙ z)
         by_how kept (inr (inl z)) = inr (inl (omega arith))
         by_how kept (inr (inr u)) = inr (inr (spared ns s old older c t e same k p (eqb-false _ _ d) (eqb-false _ _ r) u))
@@ -180,7 +204,8 @@ grown_stays ns s old a = record {
 }
 
 -- a shard that owns a key has a version
-owned_top : (s : ℕ) (key : Datum) (chunks : List Chunk) → AllByRecursion (λ c. 1 ≤ c.version.major) chunks → newest (owners_of key chunks) ≡ Some s → 1 ≤ top (chunks_on s chunks)
+owned_top : (s : ℕ) (key : Datum) (chunks : List Chunk) → AllByRecursion (λ c. 1 ≤ c.version.major) chunks → newest (owners_of key chunks) ≡ Some s
+    → 1 ≤ top (chunks_on s chunks)
 owned_top s key [] all own = absurd cc
 owned_top s key (c ∷ chunks) all own = by_test (inside (range_span c.range) key) own (owned_top s key chunks all.1)
   where
@@ -192,7 +217,8 @@ owned_top s key (c ∷ chunks) all own = by_test (inside (range_span c.range) ke
     by_more true k = omega arith
     by_more false k = k
 
-    by_test : (b : Bool) → newest (if b then c.owners else owners_of key chunks) ≡ Some s → (newest (owners_of key chunks) ≡ Some s → 1 ≤ top (chunks_on s chunks)) → 1 ≤ top (chunks_on s (c ∷ chunks))
+    by_test : (b : Bool) → newest (if b then c.owners else owners_of key chunks) ≡ Some s → (newest (owners_of key chunks) ≡ Some s
+        → 1 ≤ top (chunks_on s chunks)) → 1 ≤ top (chunks_on s (c ∷ chunks))
     by_test true h more = let k = all.0 in rw (owns c.owners h) (omega arith)
     by_test false h more = by_more (is_owner s c.owners) (more h)
 
@@ -200,23 +226,28 @@ leb-le : (a b : ℕ) → a ≤ b → nat_le a b ≡ true
 leb-le a b less = grind (arith, nat_tests)
 
 -- after all its changes a key's owner is the present one
-owner_late : (ns : List ℕ) (key : Datum) (time : ℕ) (changes : List Change) → AllByRecursion (λ y. time_of y ≤ time) changes → owner ns key time changes ≡ latest ns key changes
+owner_late : (ns : List ℕ) (key : Datum) (time : ℕ) (changes : List Change) → AllByRecursion (λ y. time_of y ≤ time) changes
+    → owner ns key time changes ≡ latest ns key changes
 owner_late ns key time [] all = refl
 owner_late ns key time (create_change c ∷ older) all = rw (leb-le c.at time all.0) (by_name (bytes_eq c.namespace ns) (owner_late ns key time older all.1))
   where
-    by_name : (b : Bool) → owner ns key time older ≡ latest ns key older → (if b && true then Some first_shard else owner ns key time older) ≡ (if b then Some first_shard else latest ns key older)
+    by_name : (b : Bool) → owner ns key time older ≡ latest ns key older
+        → (if b && true then Some first_shard else owner ns key time older) ≡ (if b then Some first_shard else latest ns key older)
     by_name true e = refl
     by_name false e = e
 owner_late ns key time (split_change c ∷ older) all = owner_late ns key time older all.1
-owner_late ns key time (commit_change c ∷ older) all = rw (leb-le c.at time all.0) (by_name (bytes_eq c.namespace ns) (inside (range_span c.range) key) (owner_late ns key time older all.1))
+owner_late ns key time (commit_change c ∷ older) all = rw (leb-le c.at time all.0) (by_name (bytes_eq c.namespace ns) (inside
+    (range_span c.range) key) (owner_late ns key time older all.1))
   where
-    by_name : (b has : Bool) → owner ns key time older ≡ latest ns key older → (if b && (true && has) then Some c.to else owner ns key time older) ≡ (if b && has then Some c.to else latest ns key older)
+    by_name : (b has : Bool) → owner ns key time older ≡ latest ns key older
+        → (if b && (true && has) then Some c.to else owner ns key time older) ≡ (if b && has then Some c.to else latest ns key older)
     by_name true true e = refl
     by_name true false e = e
     by_name false has e = e
 
 -- a later change says nothing of a time
-owner_before : (ns : List ℕ) (key : Datum) (time : ℕ) (x : Change) (older : List Change) → nat_le (time_of x) time ≡ false → owner ns key time (x ∷ older) ≡ owner ns key time older
+owner_before : (ns : List ℕ) (key : Datum) (time : ℕ) (x : Change) (older : List Change) → nat_le (time_of x) time ≡ false
+    → owner ns key time (x ∷ older) ≡ owner ns key time older
 owner_before ns key time (create_change c) older e = rw e (by_name (bytes_eq c.namespace ns))
   where
     by_name : (b : Bool) → (if b && false then Some first_shard else owner ns key time older) ≡ owner ns key time older
@@ -235,7 +266,8 @@ all_before n m [] (y ∷ older) less all = (let k = all.0 in omega arith, all_be
 all_before n m (x ∷ more) older less all = all_before n m more older less all.1
 
 -- a key that the shard owned at a time and gave away: all later changes are later than the time
-owner_on : (ns : List ℕ) (key : Datum) (time s : ℕ) (more older : List Change) → AreFitting (more ++ older) → owner ns key time older ≡ Some s → (latest ns key older ≡ Some s → ⊥) → owner ns key time (more ++ older) ≡ Some s
+owner_on : (ns : List ℕ) (key : Datum) (time s : ℕ) (more older : List Change) → AreFitting (more ++ older) → owner ns key time older ≡ Some s
+    → (latest ns key older ≡ Some s → ⊥) → owner ns key time (more ++ older) ≡ Some s
 owner_on ns key time s [] older fits own gone = own
 owner_on ns key time s (x ∷ more) older fits own gone = by_time (nat_le (time_of x) time) refl (owner_on ns key time s more older fits.1 own gone)
   where
@@ -248,7 +280,8 @@ owner_on ns key time s (x ∷ more) older fits own gone = by_time (nat_le (time_
 unmoved_start : (ns : List ℕ) (s : ℕ) (old : List Change) → Unmoved ns s old old
 unmoved_start ns s old = record { on = λ key valid h. h; back = λ key valid h. h; always = λ key time valid h. refl }
 
-module _ (ns : List ℕ) (s : ℕ) (more older : List Change) (a b : Table) (fits : AreFitting (more ++ older)) (p : IsPlaced ns older a) (q : IsPlaced ns (more ++ older) b) where
+module _ (ns : List ℕ) (s : ℕ) (more older : List Change) (a b : Table) (fits : AreFitting (more ++ older)) (p : IsPlaced ns older a)
+    (q : IsPlaced ns (more ++ older) b) where
   now_old : (key : Datum) → is_key key ≡ true → owner_now a key ≡ latest ns key older
   now_old key valid = now_is a key ∙ p.last key valid
 
@@ -292,11 +325,13 @@ module _ (ns : List ℕ) (s : ℕ) (more older : List Change) (a b : Table) (fit
     at = λ key time valid h. by_own key time valid h (owned_or_not (latest ns key older));
   }
     where
-      by_own : (key : Datum) (time : ℕ) → is_key key ≡ true → owner_at a key time ≡ Some s → (latest ns key older ≡ Some s) ⊎ (latest ns key older ≡ Some s → ⊥) → owner_at b key time ≡ Some s
+      by_own : (key : Datum) (time : ℕ) → is_key key ≡ true → owner_at a key time ≡ Some s
+          → (latest ns key older ≡ Some s) ⊎ (latest ns key older ≡ Some s → ⊥) → owner_at b key time ≡ Some s
       by_own key time valid h (inl own) = at_new key time valid ∙ u.always key time valid own ∙ sym (at_old key time valid) ∙ h
       by_own key time valid h (inr gone) = gone_at key time valid gone h
 
-pub same_version : (ns : List ℕ) (s : ℕ) (more older : List Change) (a b : Table) → AreFitting (more ++ older) → known_table ns older ≡ Some a → known_table ns (more ++ older) ≡ Some b → agrees (shard_version a s) (shard_version b s) ≡ true → SameKeys s a b
+pub same_version : (ns : List ℕ) (s : ℕ) (more older : List Change) (a b : Table) → AreFitting (more ++ older) → known_table ns older ≡ Some a
+    → known_table ns (more ++ older) ≡ Some b → agrees (shard_version a s) (shard_version b s) ≡ true → SameKeys s a b
 same_version ns s more older a b fits is known same = by_how majors (subst (λ (t : Table). Grown ns s older a (more ++ older) t) end l.holds).how
   where
     p : IsPlaced ns older a
@@ -306,15 +341,18 @@ same_version ns s more older a b fits is known same = by_how majors (subst (λ (
     q = placed ns (more ++ older) b fits known
 
     l : Later ns (Grown ns s older a) (more ++ older)
-    l = later ns (Grown ns s older a) (grown_stays ns s older a) more older a fits is (record { high = omega arith; how = inr (inr (unmoved_start ns s older)) })
+    l = later ns (Grown ns s older a) (grown_stays ns s older a) more older a fits is (record { high = omega arith; how = inr (inr
+        (unmoved_start ns s older)) })
 
     end : l.table ≡ b
     end = some_is _ _ (sym l.known ∙ known)
 
     majors : top (chunks_on s a.chunks) ≡ top (chunks_on s b.chunks)
-    majors = sym (shard_major a s p.epochs) ∙ eqb-true (shard_version a s).major (shard_version b s).major (both ((shard_version a s).epoch == (shard_version b s).epoch) ((shard_version a s).major == (shard_version b s).major) same).1 ∙ shard_major b s q.epochs
+    majors = sym (shard_major a s p.epochs) ∙ eqb-true (shard_version a s).major (shard_version b s).major (both ((shard_version a s).epoch ==
+        (shard_version b s).epoch) ((shard_version a s).major == (shard_version b s).major) same).1 ∙ shard_major b s q.epochs
 
-    by_how : top (chunks_on s a.chunks) ≡ top (chunks_on s b.chunks) → (top (chunks_on s b.chunks) ≡ 0) ⊎ ((top a.chunks < top (chunks_on s b.chunks)) ⊎ Unmoved ns s older (more ++ older)) → SameKeys s a b
+    by_how : top (chunks_on s a.chunks) ≡ top (chunks_on s b.chunks)
+        → (top (chunks_on s b.chunks) ≡ 0) ⊎ ((top a.chunks < top (chunks_on s b.chunks)) ⊎ Unmoved ns s older (more ++ older)) → SameKeys s a b
     by_how m (inl z) = without ns s more older a b fits p q (m ∙ z) z
     by_how m (inr (inl z)) = absurd (let k = on_top s a.chunks in omega arith)
     by_how m (inr (inr u)) = unmoved ns s more older a b fits p q u

@@ -35,12 +35,14 @@ split_owners middle key all (c ∷ chunks) = by_test (strictly_inside middle c.r
     by_test true within rest =
         let w = both _ _ within in
         rw (rest, order_total.antisymm middle key)
-        (halves (order key middle) (is_le (order (value_of_bound c.range.min) key)) (is_lt (order key (value_of_bound c.range.max))) c.owners (owners_of key chunks)
+        (halves (order key middle) (is_le (order (value_of_bound c.range.min) key)) (is_lt (order key (value_of_bound c.range.max))) c.owners
+        (owners_of key chunks)
         (λ under. le_lt_trans key middle (value_of_bound c.range.max) (lt_le _ under) w.1)
         (λ above. le_trans (value_of_bound c.range.min) middle key (lt_le _ w.0) (ap is_le (order_total.antisymm middle key) ∙ above)))
     by_test false out rest = rw rest refl
 
-pub split_cover : (middle : Datum) (all : List Chunk) (start : Bound) (chunks : List Chunk) → CoverFrom start chunks → CoverFrom start (split_chunks middle all chunks)
+pub split_cover : (middle : Datum) (all : List Chunk) (start : Bound) (chunks : List Chunk) → CoverFrom start chunks
+    → CoverFrom start (split_chunks middle all chunks)
 split_cover middle all start [] cover = cover
 split_cover middle all start (c ∷ chunks) cover = by_test (strictly_inside middle c.range) refl (split_cover middle all c.range.max chunks cover.2)
   where
@@ -55,7 +57,8 @@ split_cover middle all start (c ∷ chunks) cover = by_test (strictly_inside mid
     by_test false out rest = (cover.0, cover.1, rest)
 
 by_can : (can : Bool) (middle : Datum) (t : Table) (key : Datum)
-    → owners_of key (if can then (record { namespace = t.namespace; epoch = t.epoch; changes = t.changes + 1; oldest = t.oldest; chunks = split_chunks middle t.chunks t.chunks }) else t).chunks ≡ owners_of key t.chunks
+    → owners_of key (if can then
+    (record { namespace = t.namespace; epoch = t.epoch; changes = t.changes + 1; oldest = t.oldest; chunks = split_chunks middle t.chunks t.chunks }) else t).chunks ≡ owners_of key t.chunks
 by_can true middle t key = split_owners middle key t.chunks t.chunks
 by_can false middle t key = refl
 
