@@ -56,7 +56,8 @@ number_at [] n = refl
 number_at (x ∷ xs) zero = refl
 number_at (x ∷ xs) (suc n) = number_at xs n
 
-pub none_at : (s n : ℕ) (xs : List NodeId) → Less s n (map shard_number xs) → n < length xs → (get_or xs n (record { 0 = 0 })).0 ≡ s → with_shard s (map shard_number xs) ≡ map shard_number xs
+pub none_at : (s n : ℕ) (xs : List NodeId) → Less s n (map shard_number xs) → n < length xs → (get_or xs n (record { 0 = 0 })).0 ≡ s
+    → with_shard s (map shard_number xs) ≡ map shard_number xs
 none_at s n xs l within is = there s n (map shard_number xs) l (let k = length-map xs shard_number in omega arith) (number_at xs n ∙ is)
 
 pub some_at : (s n : ℕ) (xs : List NodeId) → Less s n (map shard_number xs) → n < length xs → s < (get_or xs n (record { 0 = 0 })).0
@@ -65,7 +66,8 @@ some_at s n xs l within less =
     let k = length-map xs shard_number in
     (omega arith, here s n (get_or xs n (record { 0 = 0 })).0 (map shard_number xs) l (omega arith) (number_at xs n) less)
 
-pub end_at : (s n : ℕ) (xs : List NodeId) → Less s n (map shard_number xs) → n ≡ length xs → (length xs ≤ length (map shard_number xs)) × (with_shard s (map shard_number xs) ≡ insert (map shard_number xs) (length xs) s)
+pub end_at : (s n : ℕ) (xs : List NodeId) → Less s n (map shard_number xs) → n ≡ length xs
+    → (length xs ≤ length (map shard_number xs)) × (with_shard s (map shard_number xs) ≡ insert (map shard_number xs) (length xs) s)
 end_at s n xs l e =
     let k : length (map shard_number xs) ≡ length xs = length-map xs shard_number in (
       omega arith,
@@ -73,7 +75,8 @@ end_at s n xs l e =
           (at_end s (map shard_number xs) (subst (λ (m : ℕ). Less s m (map shard_number xs)) (e ∙ sym k) l)),
     )
 
-pub go_on : (s n : ℕ) (xs : List NodeId) → Less s n (map shard_number xs) → n < length xs → (get_or xs n (record { 0 = 0 })).0 ≤ s → ((get_or xs n (record { 0 = 0 })).0 ≡ s → ⊥) → Less s (suc n) (map shard_number xs)
+pub go_on : (s n : ℕ) (xs : List NodeId) → Less s n (map shard_number xs) → n < length xs → (get_or xs n (record { 0 = 0 })).0 ≤ s
+    → ((get_or xs n (record { 0 = 0 })).0 ≡ s → ⊥) → Less s (suc n) (map shard_number xs)
 go_on s n xs l within most other =
     let k = length-map xs shard_number in
     let e = number_at xs n in
@@ -88,7 +91,9 @@ map_insert [] (suc i) x = refl
 map_insert (y ∷ xs) zero x = refl
 map_insert (y ∷ xs) (suc i) x = ap (λ l. y.0 ∷ l) (map_insert xs i x)
 
-pub added : (items zs new : List NodeId) (place : ℕ) (x : NodeId) → zs ≡ items → with_shard x.0 (map shard_number zs) ≡ insert (map shard_number zs) place x.0 → new ≡ insert items place x
+pub added : (items zs new : List NodeId) (place : ℕ) (x : NodeId) → zs ≡ items
+    → with_shard x.0 (map shard_number zs) ≡ insert (map shard_number zs) place x.0 → new ≡ insert items place x
     → map shard_number new ≡ with_shard x.0 (map shard_number items)
 added items zs new place x same placed is =
-    ap (λ l. map shard_number l) is ∙ map_insert items place x ∙ ap (λ l. insert (map shard_number l) place x.0) (sym same) ∙ sym placed ∙ ap (λ l. with_shard x.0 (map shard_number l)) same
+    ap (λ l. map shard_number l) is ∙ map_insert items place x ∙ ap (λ l. insert (map shard_number l) place x.0) (sym same) ∙ sym placed
+        ∙ ap (λ l. with_shard x.0 (map shard_number l)) same
