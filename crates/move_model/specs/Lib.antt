@@ -1,0 +1,4 @@
+pub mod Sources
+pub mod Batches
+pub mod Recipients
+pub mod Copies
