@@ -78,3 +78,8 @@ source_after s b = record {
   changed = filter (λ key. not (has_key key (keys_of_members b.members))) s.changed;
   unanswered = true;
 }
+
+-- the bytes of the documents of members
+abbrev pub members_bytes : List Member → ℕ
+members_bytes [] = 0
+members_bytes (m ∷ ms) = document_bytes m.1 + members_bytes ms
