@@ -1,17 +1,18 @@
 -- Which keys are up to a cursor.
-use Rattle.std.proofs.Common.{◌≡◌, ◌≢◌, List, [], ◌∷◌, ◌++◌, refl, sym, ap, ◌∙◌, subst, Ordering, Less, Equal, Greater}
-use Rattle.std.specs.Prelude.{Bool, true, false, not, ◌&&◌}
+use Rattle.std.proofs.Common.{◌≡◌, List, [], ◌∷◌, ◌++◌, refl, sym, ap, ◌∙◌, Ordering, Less, Equal, Greater}
+use Rattle.std.specs.Prelude.{Bool, true, false}
 use Rattle.std.specs.List.{AllByRecursion}
-use Rattle.std.specs.Ordering.{is_eq, is_le, is_lt, ordering_reverse}
+use Rattle.std.specs.Ordering.{is_le, is_lt, ordering_reverse}
 use Rattle.std.proofs.lemmas.Cmp.{alike_right, tied_itself}
 use Rattle.query_model.proofs.Entries.{equal_is}
 use Rattle.bson_model.specs.Tree.{Datum, min_key_value}
-use Rattle.value_model.specs.Keys.{Bound, min_bound, key_bound, max_bound, value_of_bound, order_bounds, Range, range_span, inside, is_key}
+use Rattle.value_model.specs.Keys.{Bound, min_bound, key_bound, value_of_bound, order_bounds, Range, range_span, inside, is_key}
 use Rattle.value_model.specs.Order.{order, same_value}
 use Rattle.value_model.proofs.Flat.{order_total}
 use Rattle.bson_model.proofs.Booleans.{both}
 use Rattle.move_model.specs.Sources.{is_up_to}
-use Rattle.move_model.specs.Batches.{Member, last_bound}
+use Rattle.record_model.specs.Moves.{MovedDocument}
+use Rattle.move_model.specs.Batches.{last_bound}
 
 pub differ : true ≡ false → ⊥
 differ e = cc
@@ -91,32 +92,32 @@ at_end_up_to cursor range key end in_range =
         ap is_le (order_total.trans key (value_of_bound range.max) (value_of_bound cursor) low (order_total.antisymm (value_of_bound range.max) (value_of_bound cursor) ∙ ap ordering_reverse is))
 
 -- members of rising keys after a cursor
-abbrev pub AreAfter : Bound → List Member → Type 0
+abbrev pub AreAfter : Bound → List MovedDocument → Type 0
 AreAfter low [] = Unit {0}
-AreAfter low (m ∷ ms) = (is_up_to low m.0 ≡ false) × AreAfter (key_bound m.0) ms
+AreAfter low (m ∷ ms) = (is_up_to low m.key ≡ false) × AreAfter (key_bound m.key) ms
 
-pub after_last : (low : Bound) (ms rest : List Member) → AreAfter low (ms ++ rest) → AreAfter (last_bound low ms) rest
+pub after_last : (low : Bound) (ms rest : List MovedDocument) → AreAfter low (ms ++ rest) → AreAfter (last_bound low ms) rest
 after_last low [] rest after = after
-after_last low (m ∷ ms) rest after = after_last (key_bound m.0) ms rest after.1
+after_last low (m ∷ ms) rest after = after_last (key_bound m.key) ms rest after.1
 
-pub after_first : (low : Bound) (ms rest : List Member) → AreAfter low (ms ++ rest) → AreAfter low ms
+pub after_first : (low : Bound) (ms rest : List MovedDocument) → AreAfter low (ms ++ rest) → AreAfter low ms
 after_first low [] rest after = tt
-after_first low (m ∷ ms) rest after = (after.0, after_first (key_bound m.0) ms rest after.1)
+after_first low (m ∷ ms) rest after = (after.0, after_first (key_bound m.key) ms rest after.1)
 
 -- all of them are past the cursor
-pub after_all : (low : Bound) (ms : List Member) → AreAfter low ms → AllByRecursion (λ m. is_up_to low m.0 ≡ false) ms
+pub after_all : (low : Bound) (ms : List MovedDocument) → AreAfter low ms → AllByRecursion (λ m. is_up_to low m.key ≡ false) ms
 after_all low [] after = tt
-after_all low (m ∷ ms) after = (after.0, weaken ms (after_all (key_bound m.0) ms after.1))
+after_all low (m ∷ ms) after = (after.0, weaken ms (after_all (key_bound m.key) ms after.1))
   where
-    weaken : (rest : List Member) → AllByRecursion (λ r. is_up_to (key_bound m.0) r.0 ≡ false) rest → AllByRecursion (λ r. is_up_to low r.0 ≡ false) rest
+    weaken : (rest : List MovedDocument) → AllByRecursion (λ r. is_up_to (key_bound m.key) r.key ≡ false) rest → AllByRecursion (λ r. is_up_to low r.key ≡ false) rest
     weaken [] all = tt
-    weaken (r ∷ rest) all = (past_more low m.0 r.0 after.0 all.0, weaken rest all.1)
+    weaken (r ∷ rest) all = (past_more low m.key r.key after.0 all.0, weaken rest all.1)
 
 -- what is up to the cursor before them is up to the last of them
-pub up_to_last : (low : Bound) (ms : List Member) (q : Datum) → AreAfter low ms → is_up_to low q ≡ true → is_up_to (last_bound low ms) q ≡ true
+pub up_to_last : (low : Bound) (ms : List MovedDocument) (q : Datum) → AreAfter low ms → is_up_to low q ≡ true → is_up_to (last_bound low ms) q ≡ true
 up_to_last low [] q after here = here
-up_to_last low (m ∷ ms) q after here = up_to_last (key_bound m.0) ms q after.1 (up_to_more low m.0 q after.0 here)
+up_to_last low (m ∷ ms) q after here = up_to_last (key_bound m.key) ms q after.1 (up_to_more low m.key q after.0 here)
 
-pub members_up_to_last : (low : Bound) (ms : List Member) → AreAfter low ms → AllByRecursion (λ m. is_up_to (last_bound low ms) m.0 ≡ true) ms
+pub members_up_to_last : (low : Bound) (ms : List MovedDocument) → AreAfter low ms → AllByRecursion (λ m. is_up_to (last_bound low ms) m.key ≡ true) ms
 members_up_to_last low [] after = tt
-members_up_to_last low (m ∷ ms) after = (up_to_last (key_bound m.0) ms m.0 after.1 (up_to_itself m.0), members_up_to_last (key_bound m.0) ms after.1)
+members_up_to_last low (m ∷ ms) after = (up_to_last (key_bound m.key) ms m.key after.1 (up_to_itself m.key), members_up_to_last (key_bound m.key) ms after.1)

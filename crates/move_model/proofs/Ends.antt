@@ -1,15 +1,16 @@
 -- At the end of a range with nothing left both sides agree, and stay so without a write.
-use Rattle.std.proofs.Common.{◌≡◌, ◌⊎◌, inl, inr, ℕ, ◌+◌, ◌≤◌, List, [], ◌∷◌, ◌++◌, length, refl, sym, ap, ◌∙◌, subst, arith}
-use Rattle.std.specs.Prelude.{Bool, true, false, not, ◌&&◌, Option, Some, map, filter, nat_le, if◌then◌else◌}
+use Rattle.std.proofs.Common.{◌≡◌, inl, inr, ℕ, ◌≤◌, List, [], ◌∷◌, ◌++◌, length, refl, sym, ap, ◌∙◌}
+use Rattle.std.specs.Prelude.{Bool, true, false, not, Some, map, filter, nat_le, if◌then◌else◌}
 use Rattle.std.specs.Ordering.{is_lt}
 use Rattle.std.proofs.lemmas.Cmp.{tied_itself}
-use Rattle.bson_model.specs.Tree.{Datum, Fields}
-use Rattle.value_model.specs.Keys.{Bound, order_bounds, value_of_bound, Range, range_span, inside, is_key}
+use Rattle.bson_model.specs.Tree.{Datum}
+use Rattle.value_model.specs.Keys.{Bound, order_bounds, value_of_bound, range_span, inside, is_key}
 use Rattle.value_model.proofs.Flat.{order_total}
 use Rattle.history_model.specs.Documents.{Rows, document_under}
 use Rattle.history_model.specs.History.{IsIn}
-use Rattle.move_model.specs.Sources.{Source, has_key, is_up_to, Stage, unanswered_stage, ready_stage, at_end_stage, has_some, stage_of}
-use Rattle.move_model.specs.Batches.{Member, Batch, fitting, batch_of, source_after, documents_after, members_left, members_next, cursor_after, last_bound, keys_of_members}
+use Rattle.move_model.specs.Sources.{Source, has_key, is_up_to, unanswered_stage, ready_stage, at_end_stage, has_some, stage_of}
+use Rattle.record_model.specs.Moves.{MovedDocument, Batch}
+use Rattle.move_model.specs.Batches.{fitting, documents_after, members_next, cursor_after, last_bound, keys_of_members, moved}
 use Rattle.move_model.specs.Recipients.{Fit, next_fit, known_fit, strange_fit, fit_of}
 use Rattle.move_model.specs.Copies.{Copy, copy_handed_out, copy_received, copy_answered, copy_applied, copy_by_fit, will_have, IsCopied, IsCopy, AreEqual, QuietStep, hands_out, receives, answers, QuietRun, quiet_start, quiet_more}
 use Rattle.move_model.proofs.Cursors.{differ, at_end_up_to}
@@ -79,15 +80,15 @@ itself_not_less b = ap is_lt (tied_itself order_total (value_of_bound b))
 module _ (c : Copy) (h : HasEnded c) where
   nothing_left : members_next c.source c.documents ≡ []
   nothing_left =
-      ap (λ (ms : List Member). fitting 0 0 ms)
-      (ap (λ (rows : Rows). map (λ row. (row.0, Some row.1)) rows ++ map (λ key. (key, document_under key c.documents)) c.source.changed) (no_documents c.source c.documents h.end)
-      ∙ ap (λ (keys : List Datum). map (λ key. (key, document_under key c.documents)) keys) h.none)
+      ap (λ (ms : List MovedDocument). fitting 0 0 ms)
+      (ap (λ (rows : Rows). map (λ row. moved row.0 (Some row.1)) rows ++ map (λ key. moved key (document_under key c.documents)) c.source.changed) (no_documents c.source c.documents h.end)
+      ∙ ap (λ (keys : List Datum). map (λ key. moved key (document_under key c.documents)) keys) h.none)
 
   cursor_same : cursor_after c.source c.documents (members_next c.source c.documents) ≡ c.source.range.max
   cursor_same =
       ap (λ (rows : Rows). if nat_le (length rows) (length (members_next c.source c.documents)) then c.source.range.max else last_bound c.source.cursor (members_next c.source c.documents))
       (no_documents c.source c.documents h.end)
-      ∙ ap (λ (ms : List Member). if nat_le 0 (length ms) then c.source.range.max else last_bound c.source.cursor ms) nothing_left
+      ∙ ap (λ (ms : List MovedDocument). if nat_le 0 (length ms) then c.source.range.max else last_bound c.source.cursor ms) nothing_left
 
   handed_ended : c.source.unanswered ≡ false → HasEnded (copy_handed_out c)
   handed_ended free = record {

@@ -1,28 +1,25 @@
 -- Keys in lists, and what members of a batch have.
-use Rattle.std.proofs.Common.{◌≡◌, ◌≢◌, List, [], ◌∷◌, ◌++◌, refl, sym, ap, ◌∙◌, subst, Ordering, Less, Equal, Greater}
+use Rattle.std.proofs.Common.{◌≡◌, List, [], ◌∷◌, ◌++◌, refl, sym, ap, ◌∙◌, Ordering, Less}
 use Rattle.std.specs.Prelude.{Bool, true, false, cond, not, ◌&&◌, ◌||◌, Option, Some, None, map, filter, if◌then◌else◌}
 use Rattle.std.specs.BTreeMap.{is_at}
-use Rattle.std.specs.List.{AllByRecursion, list_any}
-use Rattle.std.specs.List.Sorted.{IsStrictlySortedBy}
-use Rattle.std.specs.Map.{lookup}
+use Rattle.std.specs.List.{AllByRecursion}
 use Rattle.std.specs.Ordering.{is_eq}
 use Rattle.std.proofs.lemmas.Cmp.{tied_itself}
-use Rattle.std.proofs.lemmas.List.Folds.{list_any-append}
 use Rattle.std.proofs.lemmas.Map.Entries.{lookup-filter-keys}
 use Rattle.std.proofs.lemmas.Map.Views.{any-filter_same}
 use Rattle.query_model.proofs.Entries.{equal_is, equal_turned, same_find}
 use Rattle.bson_model.specs.Tree.{Datum, Fields}
-use Rattle.bson_model.proofs.Booleans.{both}
-use Rattle.value_model.specs.Keys.{Bound, key_bound, Range, range_span, inside}
+use Rattle.value_model.specs.Keys.{Bound, key_bound}
 use Rattle.value_model.specs.Order.{order, same_value}
 use Rattle.value_model.proofs.Flat.{order_total}
-use Rattle.value_model.proofs.Spans.{same_inside, same_value_equivalence}
+use Rattle.value_model.proofs.Spans.{same_value_equivalence}
 use Rattle.history_model.specs.Documents.{Rows, AreInOrder, document_under}
 use Rattle.history_model.proofs.Collections.{above_row, later_rows}
-use Rattle.move_model.specs.Sources.{Source, has_key, is_up_to}
-use Rattle.move_model.specs.Batches.{Member, keys_of_members, documents_after, members_left}
+use Rattle.move_model.specs.Sources.{has_key, is_up_to}
+use Rattle.record_model.specs.Moves.{MovedDocument}
+use Rattle.move_model.specs.Batches.{keys_of_members, moved}
 use Rattle.move_model.specs.Recipients.{overlay}
-use Rattle.move_model.proofs.Cursors.{differ, up_to_alike, past_less, AreAfter}
+use Rattle.move_model.proofs.Cursors.{differ, past_less, AreAfter}
 
 -- keys that compare equal are in the same lists
 pub has_alike : (a b : Datum) (keys : List Datum) → same_value a b ≡ true → has_key a keys ≡ has_key b keys
@@ -37,40 +34,40 @@ has_without key gone keys =
     any-filter_same (λ k. same_value k key) (λ k. not (has_key k gone)) (not (has_key key gone)) (λ k same. ap not (has_alike k key gone same)) keys
 
 -- what is true of each member is true of a key among them
-pub at_member : (P : Datum → Type 0) (ms : List Member) (key : Datum) → ((a : Datum) → same_value a key ≡ true → P a → P key) →
-    AllByRecursion (λ m. P m.0) ms → has_key key (keys_of_members ms) ≡ true → P key
+pub at_member : (P : Datum → Type 0) (ms : List MovedDocument) (key : Datum) → ((a : Datum) → same_value a key ≡ true → P a → P key) →
+    AllByRecursion (λ m. P m.key) ms → has_key key (keys_of_members ms) ≡ true → P key
 at_member P [] key alike all has = absurd (cc has)
-at_member P (m ∷ ms) key alike all has = by (same_value m.0 key) refl has (λ e. at_member P ms key alike all.1 e)
+at_member P (m ∷ ms) key alike all has = by (same_value m.key key) refl has (λ e. at_member P ms key alike all.1 e)
   where
-    by : (b : Bool) → same_value m.0 key ≡ b → (b || has_key key (keys_of_members ms)) ≡ true → (has_key key (keys_of_members ms) ≡ true → P key) → P key
-    by true is e rest = alike m.0 is all.0
+    by : (b : Bool) → same_value m.key key ≡ b → (b || has_key key (keys_of_members ms)) ≡ true → (has_key key (keys_of_members ms) ≡ true → P key) → P key
+    by true is e rest = alike m.key is all.0
     by false is e rest = rest e
 
 -- a member has the present document of its key
-abbrev pub IsPresent : Rows → Member → Type 0
-IsPresent rows m = m.1 ≡ document_under m.0 rows
+abbrev pub IsPresent : Rows → MovedDocument → Type 0
+IsPresent rows m = m.document ≡ document_under m.key rows
 
-pub overlay_present : (rows : Rows) (ms : List Member) (key : Datum) (before : Option Fields) → AllByRecursion (IsPresent rows) ms →
+pub overlay_present : (rows : Rows) (ms : List MovedDocument) (key : Datum) (before : Option Fields) → AllByRecursion (IsPresent rows) ms →
     overlay ms key before ≡ cond (has_key key (keys_of_members ms)) (document_under key rows) before
 overlay_present rows [] key before all = refl
-overlay_present rows (m ∷ ms) key before all = by (same_value m.0 key) refl (overlay_present rows ms key (if same_value m.0 key then m.1 else before) all.1)
+overlay_present rows (m ∷ ms) key before all = by (same_value m.key key) refl (overlay_present rows ms key (if same_value m.key key then m.document else before) all.1)
   where
     either : (b : Bool) → cond b (document_under key rows) (document_under key rows) ≡ document_under key rows
     either true = refl
     either false = refl
 
-    by : (b : Bool) → same_value m.0 key ≡ b →
-        overlay ms key (if same_value m.0 key then m.1 else before) ≡ cond (has_key key (keys_of_members ms)) (document_under key rows) (if same_value m.0 key then m.1 else before) →
-        overlay ms key (if same_value m.0 key then m.1 else before) ≡ cond (b || has_key key (keys_of_members ms)) (document_under key rows) before
+    by : (b : Bool) → same_value m.key key ≡ b →
+        overlay ms key (if same_value m.key key then m.document else before) ≡ cond (has_key key (keys_of_members ms)) (document_under key rows) (if same_value m.key key then m.document else before) →
+        overlay ms key (if same_value m.key key then m.document else before) ≡ cond (b || has_key key (keys_of_members ms)) (document_under key rows) before
     by true is rest =
-        rest ∙ ap (λ (t : Bool). cond (has_key key (keys_of_members ms)) (document_under key rows) (if t then m.1 else before)) is
-        ∙ ap (λ (d : Option Fields). cond (has_key key (keys_of_members ms)) (document_under key rows) d) (all.0 ∙ same_find order_total m.0 key rows (equal_is (order m.0 key) is))
+        rest ∙ ap (λ (t : Bool). cond (has_key key (keys_of_members ms)) (document_under key rows) (if t then m.document else before)) is
+        ∙ ap (λ (d : Option Fields). cond (has_key key (keys_of_members ms)) (document_under key rows) d) (all.0 ∙ same_find order_total m.key key rows (equal_is (order m.key key) is))
         ∙ either (has_key key (keys_of_members ms))
-    by false is rest = rest ∙ ap (λ (t : Bool). cond (has_key key (keys_of_members ms)) (document_under key rows) (if t then m.1 else before)) is
+    by false is rest = rest ∙ ap (λ (t : Bool). cond (has_key key (keys_of_members ms)) (document_under key rows) (if t then m.document else before)) is
 
 -- rows as members
-abbrev pub members_of : Rows → List Member
-members_of rows = map (λ row. (row.0, Some row.1)) rows
+abbrev pub members_of : Rows → List MovedDocument
+members_of rows = map (λ row. moved row.0 (Some row.1)) rows
 
 -- what a filtered row passes, and where it is
 above_own : (low : Datum) (rows : Rows) → AllByRecursion (λ y. order low y ≡ Less) (map (λ row. row.0) rows) → AllByRecursion (λ row. order low row.0 ≡ Less) rows
@@ -127,23 +124,23 @@ pub found_after : (p : Datum → Bool) (rows : Rows) (key : Datum) → ((a b : D
     document_under key (filter (λ r. p r.0) rows) ≡ document_under key rows
 found_after p rows key alike pass = lookup-filter-keys (is_at (order key)) p true (λ k at. sym (alike key k at) ∙ pass) rows
 
-pub has_append : (key : Datum) (ms ns : List Member) →
+pub has_append : (key : Datum) (ms ns : List MovedDocument) →
     has_key key (keys_of_members (ms ++ ns)) ≡ (has_key key (keys_of_members ms) || has_key key (keys_of_members ns))
 has_append key [] ns = refl
-has_append key (m ∷ ms) ns = ap (λ (t : Bool). same_value m.0 key || t) (has_append key ms ns) ∙ sym (or_assoc (same_value m.0 key) _ _)
+has_append key (m ∷ ms) ns = ap (λ (t : Bool). same_value m.key key || t) (has_append key ms ns) ∙ sym (or_assoc (same_value m.key key) _ _)
   where
     or_assoc : (a b c : Bool) → ((a || b) || c) ≡ (a || (b || c))
     or_assoc true b c = refl
     or_assoc false b c = refl
 
 -- a key that some test tells from each member is not among them
-pub not_among : (p : Datum → Bool) (ms : List Member) (key : Datum) → ((a b : Datum) → same_value a b ≡ true → p a ≡ p b) →
-    AllByRecursion (λ m. p m.0 ≡ false) ms → p key ≡ true → has_key key (keys_of_members ms) ≡ false
+pub not_among : (p : Datum → Bool) (ms : List MovedDocument) (key : Datum) → ((a b : Datum) → same_value a b ≡ true → p a ≡ p b) →
+    AllByRecursion (λ m. p m.key ≡ false) ms → p key ≡ true → has_key key (keys_of_members ms) ≡ false
 not_among p [] key alike all pass = refl
-not_among p (m ∷ ms) key alike all pass = by (same_value m.0 key) refl (not_among p ms key alike all.1 pass)
+not_among p (m ∷ ms) key alike all pass = by (same_value m.key key) refl (not_among p ms key alike all.1 pass)
   where
-    by : (b : Bool) → same_value m.0 key ≡ b → has_key key (keys_of_members ms) ≡ false → (b || has_key key (keys_of_members ms)) ≡ false
-    by true is rest = absurd (differ (sym pass ∙ sym (alike m.0 key is) ∙ all.0))
+    by : (b : Bool) → same_value m.key key ≡ b → has_key key (keys_of_members ms) ≡ false → (b || has_key key (keys_of_members ms)) ≡ false
+    by true is rest = absurd (differ (sym pass ∙ sym (alike m.key key is) ∙ all.0))
     by false is rest = rest
 
 pub all_map : {X Y : Type 0} (P : Y → Type 0) (f : X → Y) (xs : List X) → AllByRecursion (λ x. P (f x)) xs → AllByRecursion P (map f xs)

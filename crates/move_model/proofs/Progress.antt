@@ -1,20 +1,18 @@
 -- Each batch leaves fewer keys to hand out, where any is left.
-use Rattle.std.proofs.Common.{◌≡◌, ◌⊎◌, inl, inr, ℕ, ◌+◌, ◌≤◌, ◌<◌, List, [], ◌∷◌, ◌++◌, length, length-append, refl, sym, ap, ◌∙◌, subst, arith}
-use Rattle.std.specs.Prelude.{Bool, true, false, cond, not, ◌&&◌, ◌||◌, Option, Some, map, filter, if◌then◌else◌}
-use Rattle.std.specs.Ordering.{is_lt}
+use Rattle.std.proofs.Common.{◌≡◌, ◌+◌, ◌≤◌, ◌<◌, List, [], ◌∷◌, ◌++◌, length, length-append, refl, sym, ap, ◌∙◌, arith}
+use Rattle.std.specs.Prelude.{Bool, true, false, cond, not, ◌&&◌, ◌||◌, Some, map, filter}
 use Rattle.std.proofs.lemmas.Bool.{not-true}
 use Rattle.bson_model.specs.Tree.{Datum, Fields}
 use Rattle.bson_model.proofs.Booleans.{both}
-use Rattle.value_model.specs.Keys.{Bound, order_bounds, range_span, inside}
-use Rattle.value_model.specs.Order.{same_value}
+use Rattle.value_model.specs.Keys.{range_span, inside}
 use Rattle.value_model.proofs.Spans.{same_value_equivalence}
 use Rattle.history_model.specs.Documents.{Rows, AreInOrder, document_under}
 use Rattle.move_model.specs.Sources.{Source, has_key, is_up_to}
-use Rattle.move_model.specs.Batches.{Member, batch_of, source_after, documents_after, members_left, members_next, cursor_after, document_bytes, keys_of_members, fitting}
+use Rattle.record_model.specs.Moves.{MovedDocument}
+use Rattle.move_model.specs.Batches.{batch_of, source_after, documents_after, members_left, members_next, cursor_after, document_bytes, keys_of_members, fitting, moved}
 use Rattle.move_model.proofs.Cursors.{differ}
 use Rattle.move_model.proofs.Keys.{members_of}
-use Rattle.move_model.proofs.Batches.{IsNext, next_facts, fitting_prefix, prefix_cases, cursor_ends, length_members, is_after}
-use Rattle.move_model.proofs.Ends.{no_documents, itself_not_less}
+use Rattle.move_model.proofs.Batches.{IsNext, next_facts, length_members, is_after}
 
 -- fewer pass a narrower test
 fewer_pass : (wide narrow : Datum → Bool) → ((k : Datum) → narrow k ≡ true → wide k ≡ true) → (rows : Rows) →
@@ -61,15 +59,15 @@ stay_fewer p (k ∷ keys) = by (p k) (stay_fewer p keys)
 
 pub length_left : (s : Source) (rows : Rows) → length (members_left s rows) ≡ length (documents_after s rows) + length s.changed
 length_left s rows =
-    length-append (members_of (documents_after s rows)) (map (λ key. (key, document_under key rows)) s.changed)
+    length-append (members_of (documents_after s rows)) (map (λ key. moved key (document_under key rows)) s.changed)
     ∙ omega (arith, length_members (documents_after s rows), length_changed s.changed)
   where
-    length_changed : (keys : List Datum) → length {A = Member} (map (λ (key : Datum). (key, document_under key rows)) keys) ≡ length keys
+    length_changed : (keys : List Datum) → length {A = MovedDocument} (map (λ (key : Datum). moved key (document_under key rows)) keys) ≡ length keys
     length_changed [] = refl
     length_changed (k ∷ keys) = omega (arith, length_changed keys)
 
 module _ (s : Source) (rows : Rows) (ordered : AreInOrder rows) where
-  abbrev ms : List Member
+  abbrev ms : List MovedDocument
   ms = members_next s rows
 
   abbrev next : Source
@@ -87,10 +85,10 @@ module _ (s : Source) (rows : Rows) (ordered : AreInOrder rows) where
       by (near, past) false up = rw (near, up) refl
 
   -- the first key is among the members
-  has_first : (m : Member) (more : List Member) → members_left s rows ≡ m ∷ more → has_key m.0 (keys_of_members ms) ≡ true
+  has_first : (m : MovedDocument) (more : List MovedDocument) → members_left s rows ≡ m ∷ more → has_key m.key (keys_of_members ms) ≡ true
   has_first m more is =
-      ap (λ (l : List Member). has_key m.0 (keys_of_members (fitting 0 0 l))) is
-      ∙ ap (λ (t : Bool). t || has_key m.0 (keys_of_members (fitting (0 + 1) (0 + document_bytes m.1) more))) (same_value_equivalence.refl m.0)
+      ap (λ (l : List MovedDocument). has_key m.key (keys_of_members (fitting 0 0 l))) is
+      ∙ ap (λ (t : Bool). t || has_key m.key (keys_of_members (fitting (0 + 1) (0 + document_bytes m.document) more))) (same_value_equivalence.refl m.key)
 
   -- a document that is handed out is no longer after the cursor
   not_after : (k : Datum) → has_key k (keys_of_members ms) ≡ true → is_after next k ≡ false
@@ -103,8 +101,8 @@ module _ (s : Source) (rows : Rows) (ordered : AreInOrder rows) where
   by_documents : (docs : Rows) → documents_after s rows ≡ docs → (keys : List Datum) → s.changed ≡ keys → 0 < length (members_left s rows) →
       length (documents_after next rows) + length next.changed < length (documents_after s rows) + length s.changed
   by_documents (r ∷ docs) is keys e some =
-      let has = has_first (r.0, Some r.1) (members_of docs ++ map (λ key. (key, document_under key rows)) s.changed)
-      (ap (λ (l : Rows). members_of l ++ map (λ key. (key, document_under key rows)) s.changed) is) in
+      let has = has_first (moved r.0 (Some r.1)) (members_of docs ++ map (λ key. moved key (document_under key rows)) s.changed)
+      (ap (λ (l : Rows). members_of l ++ map (λ key. moved key (document_under key rows)) s.changed) is) in
       let less : length (documents_after next rows) < length (documents_after s rows) =
       strictly_fewer (is_after s) (is_after next) within rows r docs is (not_after r.0 has) in
       let stay : length next.changed ≤ length s.changed = stay_fewer (λ key. not (has_key key (keys_of_members ms))) s.changed in
@@ -112,8 +110,8 @@ module _ (s : Source) (rows : Rows) (ordered : AreInOrder rows) where
   by_documents [] is [] e some =
       absurd (let n = length_left s rows in let d : length (documents_after s rows) ≡ 0 = ap length is in let c : length s.changed ≡ 0 = ap length e in omega (arith, some, n, d, c))
   by_documents [] is (k ∷ keys) e some =
-      let has = has_first (k, document_under k rows) (map (λ key. (key, document_under key rows)) keys)
-      (ap (λ (l : Rows). members_of l ++ map (λ key. (key, document_under key rows)) s.changed) is ∙ ap (λ (l : List Datum). map (λ key. (key, document_under key rows)) l) e) in
+      let has = has_first (moved k (document_under k rows)) (map (λ key. moved key (document_under key rows)) keys)
+      (ap (λ (l : Rows). members_of l ++ map (λ key. moved key (document_under key rows)) s.changed) is ∙ ap (λ (l : List Datum). map (λ key. moved key (document_under key rows)) l) e) in
       let less : length (documents_after next rows) ≤ length (documents_after s rows) = fewer_pass (is_after s) (is_after next) within rows in
       let gone : length next.changed ≡ length (filter (λ key. not (has_key key (keys_of_members ms))) keys) =
       ap (λ (l : List Datum). length (filter (λ key. not (has_key key (keys_of_members ms))) l)) e

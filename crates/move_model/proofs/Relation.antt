@@ -1,13 +1,12 @@
 -- Each step of a copy keeps its relation.
-use Rattle.std.proofs.Common.{◌≡◌, ◌≢◌, ◌⊎◌, inl, inr, ℕ, ◌+◌, ◌≤◌, ◌<◌, List, [], ◌∷◌, ◌++◌, length, refl, sym, ap, ◌∙◌, subst, arith, eq-eqb}
-use Rattle.std.specs.Prelude.{Bool, true, false, cond, not, ◌&&◌, ◌||◌, Option, Some, None, filter, nat_eq, nat_le, ◌==◌, if◌then◌else◌}
-use Rattle.std.specs.Ordering.{is_lt}
+use Rattle.std.proofs.Common.{◌≡◌, ◌⊎◌, inl, inr, ℕ, ◌+◌, ◌≤◌, List, [], ◌∷◌, length, refl, sym, ap, ◌∙◌, subst, arith, eq-eqb}
+use Rattle.std.specs.Prelude.{Bool, true, false, cond, not, ◌&&◌, ◌||◌, Option, Some, None, filter, nat_le, ◌==◌, if◌then◌else◌}
 use Rattle.std.proofs.lemmas.Bool.{ne_eqb, eqb-true}
 use Rattle.std.proofs.lemmas.List.Kept.{IsStrictlySortedBy-filter}
 use Rattle.query_model.proofs.Entries.{sorted_insert, sorted_remove, find_insert, find_remove, equal_turned}
 use Rattle.std.specs.Ordering.{is_eq}
 use Rattle.bson_model.specs.Tree.{Datum, Fields}
-use Rattle.value_model.specs.Keys.{Bound, Range, range_span, inside, is_key}
+use Rattle.value_model.specs.Keys.{Bound, Range, range_span, inside}
 use Rattle.value_model.specs.Order.{order, same_value}
 use Rattle.value_model.proofs.Flat.{order_total}
 use Rattle.value_model.proofs.Spans.{same_inside}
@@ -15,8 +14,9 @@ use Rattle.history_model.specs.Documents.{Rows, AreInOrder, document_under, put_
 use Rattle.history_model.specs.History.{IsIn}
 use Rattle.history_model.proofs.Collections.{none_in_order}
 use Rattle.history_model.proofs.Lists.{in_cons, in_none}
-use Rattle.move_model.specs.Sources.{Source, source_start, source_answered, is_handed_out, has_key, is_up_to, Marks, AreRising}
-use Rattle.move_model.specs.Batches.{Member, Batch, batch_of, source_after, keys_of_members, members_next, cursor_after}
+use Rattle.move_model.specs.Sources.{Source, is_handed_out, has_key, is_up_to, Marks, AreRising}
+use Rattle.record_model.specs.Moves.{MovedDocument, Batch}
+use Rattle.move_model.specs.Batches.{batch_of, keys_of_members, members_next, cursor_after}
 use Rattle.move_model.specs.Recipients.{Fit, next_fit, known_fit, strange_fit, fit_of, overlay}
 use Rattle.move_model.specs.Copies.{Copy, copy_start, copy_handed_out, copy_written, copy_applied, copy_by_fit, copy_received, copy_answered, last_members, will_have, IsCopied, AreNumbered, IsCopy, HasNone, QuietStep, hands_out, receives, answers, CopyStep, quiet, writes, CopyRun, copy_stays, copy_goes_on}
 use Rattle.move_model.proofs.Cursors.{differ, none_up_to_least, up_to_alike}
@@ -52,7 +52,7 @@ applied_all c h free = by h.in_flight
     by (inr (waits, e)) = absurd (differ (sym waits ∙ free))
 
 module _ (c : Copy) (h : IsCopy c) (free : c.source.unanswered ≡ false) (key : Datum) (in_range : inside (range_span c.source.range) key ≡ true) where
-  abbrev ms : List Member
+  abbrev ms : List MovedDocument
   ms = members_next c.source c.documents
 
   abbrev upto : Bound
@@ -117,22 +117,22 @@ next_is applied number e = by (number == applied + 1) refl e
     by false is e = absurd (other (nat_le 1 number && nat_le number applied) e)
 
 -- the number of a batch among these
-in_numbered : (b : Batch) (sent : List Batch) → AreNumbered sent → IsIn b sent → (b.number ≤ length sent) × (b.number ≡ length sent → last_members sent ≡ b.members)
+in_numbered : (b : Batch) (sent : List Batch) → AreNumbered sent → IsIn b sent → (b.number ≤ length sent) × (b.number ≡ length sent → last_members sent ≡ b.docs)
 in_numbered b [] numbered i = absurd (in_none b i)
 in_numbered b (a ∷ sent) numbered i = by (in_cons b a sent i) (λ j. in_numbered b sent numbered.1 j)
   where
-    by : (b ≡ a) ⊎ IsIn b sent → (IsIn b sent → (b.number ≤ length sent) × (b.number ≡ length sent → last_members sent ≡ b.members)) →
-        (b.number ≤ length (a ∷ sent)) × (b.number ≡ length (a ∷ sent) → a.members ≡ b.members)
+    by : (b ≡ a) ⊎ IsIn b sent → (IsIn b sent → (b.number ≤ length sent) × (b.number ≡ length sent → last_members sent ≡ b.docs)) →
+        (b.number ≤ length (a ∷ sent)) × (b.number ≡ length (a ∷ sent) → a.docs ≡ b.docs)
     by (inl e) rest =
         let n : b.number ≡ length sent + 1 = ap (λ (x : Batch). x.number) e ∙ numbered.0 in
-        (omega (arith, n), λ same. ap (λ (x : Batch). x.members) (sym e))
+        (omega (arith, n), λ same. ap (λ (x : Batch). x.docs) (sym e))
     by (inr j) rest = let less : b.number ≤ length sent = (rest j).0 in (omega (arith, less), λ same. absurd (omega (arith, less, same)))
 
 module _ (c : Copy) (b : Batch) (h : IsCopy c) (i : IsIn b c.sent) where
   same_will : (key : Datum) → b.number ≡ c.source.number → c.applied + 1 ≡ c.source.number → will_have (copy_applied b c) key ≡ will_have c key
   same_will key number flies =
       will_now (copy_applied b c) key number
-      ∙ ap (λ (ms : List Member). overlay ms key (c.copied key)) (sym ((in_numbered b c.sent h.numbered i).1 (number ∙ h.count)))
+      ∙ ap (λ (ms : List MovedDocument). overlay ms key (c.copied key)) (sym ((in_numbered b c.sent h.numbered i).1 (number ∙ h.count)))
       ∙ sym (will_fly c key flies)
 
   same_copied : (key : Datum) → will_have (copy_applied b c) key ≡ will_have c key → IsCopied c key → IsCopied (copy_applied b c) key

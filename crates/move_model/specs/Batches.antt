@@ -5,22 +5,16 @@ use Rattle.bson_model.specs.Spelling.{written}
 use Rattle.bson_model.specs.Tree.{Datum, Fields}
 use Rattle.value_model.specs.Keys.{Bound, key_bound, range_span, inside}
 use Rattle.history_model.specs.Documents.{Rows, document_under}
+use Rattle.record_model.specs.Moves.{MovedDocument, Batch}
 use Rattle.move_model.specs.Sources.{Source, is_up_to, has_key}
 
 -- a key with its document, or with none where the key has none any more
-abbrev pub Member : Type 0
-Member = Datum × Option Fields
-
-pub record Batch : Type 0 where
-  -- batches count from 1
-  pub number : ℕ
-  -- the cursor after it
-  pub upto : Bound
-  pub members : List Member
+abbrev pub moved : Datum → Option Fields → MovedDocument
+moved key document = record { key = key; document = document }
 
 -- the keys of members
-abbrev pub keys_of_members : List Member → List Datum
-keys_of_members members = map (λ m. m.0) members
+abbrev pub keys_of_members : List MovedDocument → List Datum
+keys_of_members members = map (λ m. m.key) members
 
 -- the documents of the range after the cursor, in key order
 abbrev pub documents_after : Source → Rows → Rows
@@ -28,8 +22,8 @@ documents_after s rows = filter (λ row. inside (range_span s.range) row.0 && no
 
 -- What is left to hand out, in the order in which it goes: the documents after the cursor, then the changed keys, each with
 -- its present document.
-abbrev pub members_left : Source → Rows → List Member
-members_left s rows = map (λ row. (row.0, Some row.1)) (documents_after s rows) ++ map (λ key. (key, document_under key rows)) s.changed
+abbrev pub members_left : Source → Rows → List MovedDocument
+members_left s rows = map (λ row. moved row.0 (Some row.1)) (documents_after s rows) ++ map (λ key. moved key (document_under key rows)) s.changed
 
 -- the most keys, and the most bytes of documents, of a batch of more than one key
 abbrev pub most_keys : ℕ
@@ -47,27 +41,27 @@ abbrev pub has_room : (keys bytes more : ℕ) → Bool
 has_room keys bytes more = (keys == 0) || (nat_lt keys most_keys && nat_le (bytes + more) most_bytes)
 
 -- the first members that find room, up to the first that does not, after so many keys and bytes
-abbrev pub fitting : (keys bytes : ℕ) → List Member → List Member
+abbrev pub fitting : (keys bytes : ℕ) → List MovedDocument → List MovedDocument
 fitting keys bytes [] = []
 fitting keys bytes (m ∷ ms) =
-    if has_room keys bytes (document_bytes m.1) then m ∷ fitting (keys + 1) (bytes + document_bytes m.1) ms else []
+    if has_room keys bytes (document_bytes m.document) then m ∷ fitting (keys + 1) (bytes + document_bytes m.document) ms else []
 
 -- the members of the next batch
-abbrev pub members_next : Source → Rows → List Member
+abbrev pub members_next : Source → Rows → List MovedDocument
 members_next s rows = fitting 0 0 (members_left s rows)
 
 -- just after the last of the members
-abbrev pub last_bound : Bound → List Member → Bound
+abbrev pub last_bound : Bound → List MovedDocument → Bound
 last_bound bound [] = bound
-last_bound bound (m ∷ ms) = last_bound (key_bound m.0) ms
+last_bound bound (m ∷ ms) = last_bound (key_bound m.key) ms
 
 -- the cursor after these members: the end of the range where no document is left after them
-abbrev pub cursor_after : Source → Rows → List Member → Bound
+abbrev pub cursor_after : Source → Rows → List MovedDocument → Bound
 cursor_after s rows members = if nat_le (length (documents_after s rows)) (length members) then s.range.max else last_bound s.cursor members
 
 -- the batch that is handed out next
 abbrev pub batch_of : Source → Rows → Batch
-batch_of s rows = record { number = s.number + 1; upto = cursor_after s rows (members_next s rows); members = members_next s rows }
+batch_of s rows = record { number = s.number + 1; upto = cursor_after s rows (members_next s rows); docs = members_next s rows }
 
 -- the source once it has handed out this batch: the changed keys that it has are no longer changed
 abbrev pub source_after : Source → Batch → Source
@@ -75,11 +69,11 @@ source_after s b = record {
   range = s.range;
   number = b.number;
   cursor = b.upto;
-  changed = filter (λ key. not (has_key key (keys_of_members b.members))) s.changed;
+  changed = filter (λ key. not (has_key key (keys_of_members b.docs))) s.changed;
   unanswered = true;
 }
 
 -- the bytes of the documents of members
-abbrev pub members_bytes : List Member → ℕ
+abbrev pub members_bytes : List MovedDocument → ℕ
 members_bytes [] = 0
-members_bytes (m ∷ ms) = document_bytes m.1 + members_bytes ms
+members_bytes (m ∷ ms) = document_bytes m.document + members_bytes ms

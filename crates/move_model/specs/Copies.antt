@@ -6,7 +6,8 @@ use Rattle.value_model.specs.Keys.{Range, range_span, inside, is_key}
 use Rattle.history_model.specs.Documents.{Rows, AreInOrder, document_under, put_under}
 use Rattle.history_model.specs.History.{IsIn}
 use Rattle.move_model.specs.Sources.{Source, source_start, source_answered, is_up_to, has_key, AreRising, Marks}
-use Rattle.move_model.specs.Batches.{Member, Batch, batch_of, source_after}
+use Rattle.record_model.specs.Moves.{MovedDocument, Batch}
+use Rattle.move_model.specs.Batches.{batch_of, source_after}
 use Rattle.move_model.specs.Recipients.{Fit, next_fit, fit_of, overlay}
 
 pub record Copy : Type 0 where
@@ -48,7 +49,7 @@ copy_applied b c = record {
   source = c.source;
   documents = c.documents;
   sent = c.sent;
-  copied = λ key. overlay b.members key (c.copied key);
+  copied = λ key. overlay b.docs key (c.copied key);
   applied = b.number;
 }
 
@@ -92,9 +93,9 @@ pub data CopyRun : Copy → Copy → Type 0 where
   copy_stays : (c : Copy) → CopyRun c c
   copy_goes_on : (c d e : Copy) → CopyStep c d → CopyRun d e → CopyRun c e
 
-abbrev pub last_members : List Batch → List Member
+abbrev pub last_members : List Batch → List MovedDocument
 last_members [] = []
-last_members (b ∷ sent) = b.members
+last_members (b ∷ sent) = b.docs
 
 -- What the recipient has of the key once the batch in flight is applied: the last one, if it is not yet applied.
 abbrev pub will_have : Copy → Datum → Option Fields

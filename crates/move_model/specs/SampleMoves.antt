@@ -1,11 +1,12 @@
 -- A small range, and documents around it.
-use Rattle.std.specs.Prelude.{ℤ, pos, List, [], ◌∷◌, Some, true}
+use Rattle.std.specs.Prelude.{ℤ, pos, [], ◌∷◌, Some, true}
 use Rattle.bson_model.specs.SampleDocuments.{id_document}
 use Rattle.bson_model.specs.Tree.{Datum, Fields, int32_value, int64_value}
 use Rattle.value_model.specs.Keys.{Range, key_bound}
 use Rattle.history_model.specs.Documents.{Rows}
 use Rattle.move_model.specs.Sources.{Source}
-use Rattle.move_model.specs.Batches.{Member}
+use Rattle.record_model.specs.Moves.{MovedDocument}
+use Rattle.move_model.specs.Batches.{moved}
 
 -- the keys from 10 to 20
 abbrev pub from_ten : Range
@@ -17,8 +18,8 @@ row key = (int32_value key, id_document key)
 abbrev pub five_rows : Rows
 five_rows = row (pos 9) ∷ row (pos 10) ∷ row (pos 12) ∷ row (pos 19) ∷ row (pos 20) ∷ []
 
-abbrev pub moved : ℤ → Member
-moved key = (int32_value key, Some (id_document key))
+abbrev pub moved_row : ℤ → MovedDocument
+moved_row key = moved (int32_value key) (Some (id_document key))
 
 -- the first batch was handed out, up to the end
 abbrev pub sent_batch : Source

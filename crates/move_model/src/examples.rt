@@ -4,17 +4,17 @@ ghost use Rattle.std.specs.Prelude.{◌≡◌, ◌∷◌, [], codes, Some, None,
 ghost use Rattle.bson_model.specs.SampleDocuments.{id_document};
 ghost use Rattle.bson_model.specs.Tree.{int32_value, int64_value};
 ghost use Rattle.value_model.specs.Keys.{key_bound, max_bound, min_bound};
-ghost use Rattle.move_model.specs.SampleMoves.{five_rows, from_ten, moved, sent_batch};
+ghost use Rattle.move_model.specs.SampleMoves.{five_rows, from_ten, moved_row, sent_batch};
 ghost use Rattle.move_model.specs.Sources.{at_end_stage, has_some, is_handed_out, is_up_to, ready_stage, source_answered, source_start, stage_of, unanswered_stage};
-ghost use Rattle.move_model.specs.Batches.{batch_of, cursor_after, fitting, has_room, last_bound, source_after};
+ghost use Rattle.move_model.specs.Batches.{batch_of, cursor_after, fitting, has_room, last_bound, moved, source_after};
 ghost use Rattle.move_model.specs.Recipients.{fit_of, known_fit, next_fit, overlay, strange_fit};
 
 /// Of a range from 10 to 20 the key 10 goes, in either width, and 20 does not. The batch ends at the end of the range, since no document is
 /// left after it.
 pub fn first_batch()
     ensures batch { batch_of (source_start from_ten) five_rows
-        ≡ record { number = 1; upto = key_bound (int32_value (pos 20)); members = moved (pos 10) ∷ moved (pos 12) ∷ moved (pos 19) ∷ [] } }
-    ensures empty { batch_of (source_start from_ten) [] ≡ record { number = 1; upto = key_bound (int32_value (pos 20)); members = [] } }
+        ≡ record { number = 1; upto = key_bound (int32_value (pos 20)); docs = moved_row (pos 10) ∷ moved_row (pos 12) ∷ moved_row (pos 19) ∷ [] } }
+    ensures empty { batch_of (source_start from_ten) [] ≡ record { number = 1; upto = key_bound (int32_value (pos 20)); docs = [] } }
     ensures before { is_handed_out (source_start from_ten) (int32_value (pos 10)) ≡ false }
     ensures after { (is_handed_out sent_batch (int64_value (pos 10)) ≡ true) × (is_handed_out sent_batch (int32_value (pos 20)) ≡ false) × (is_handed_out sent_batch (int32_value (pos 9)) ≡ false) }
     ensures cursor { (is_up_to (key_bound (int32_value (pos 5))) (int64_value (pos 5)) ≡ true) × (is_up_to (key_bound (int32_value (pos 5))) (int32_value (pos 6)) ≡ false) }
@@ -23,9 +23,9 @@ pub fn first_batch()
 /// A changed key goes with its present document, or with none where it was deleted, and is no longer changed then.
 pub fn changed_keys()
     ensures batch { batch_of (record sent_batch { changed = int32_value (pos 11) ∷ int32_value (pos 12) ∷ [] }) five_rows
-        ≡ record { number = 2; upto = key_bound (int32_value (pos 20)); members = (int32_value (pos 11), None) ∷ moved (pos 12) ∷ [] } }
+        ≡ record { number = 2; upto = key_bound (int32_value (pos 20)); docs = moved (int32_value (pos 11)) None ∷ moved_row (pos 12) ∷ [] } }
     ensures after { (source_after (record sent_batch { changed = int64_value (pos 12) ∷ int32_value (pos 13) ∷ [] })
-        (record { number = 2; upto = key_bound (int32_value (pos 20)); members = moved (pos 12) ∷ [] })).changed ≡ int32_value (pos 13) ∷ [] }
+        (record { number = 2; upto = key_bound (int32_value (pos 20)); docs = moved_row (pos 12) ∷ [] })).changed ≡ int32_value (pos 13) ∷ [] }
 {}
 
 /// A batch has 128 keys, and 4,194,304 bytes of documents, at most; a larger document goes alone.
@@ -49,5 +49,5 @@ pub fn fits()
     ensures next { (fit_of 0 1 ≡ next_fit) × (fit_of 1 2 ≡ next_fit) × (fit_of 2 3 ≡ next_fit) }
     ensures known { (fit_of 1 1 ≡ known_fit) × (fit_of 3 1 ≡ known_fit) }
     ensures strange { (fit_of 1 3 ≡ strange_fit) × (fit_of 0 0 ≡ strange_fit) × (fit_of 5 0 ≡ strange_fit) × (fit_of 5 18446744073709551615 ≡ strange_fit) }
-    ensures members { overlay (moved (pos 5) ∷ (int64_value (pos 5), None) ∷ []) (int32_value (pos 5)) (Some (id_document (pos 5))) ≡ None }
+    ensures members { overlay (moved_row (pos 5) ∷ moved (int64_value (pos 5)) None ∷ []) (int32_value (pos 5)) (Some (id_document (pos 5))) ≡ None }
 {}

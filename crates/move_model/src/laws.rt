@@ -6,7 +6,8 @@ ghost use Rattle.value_model.specs.Keys.{Range};
 ghost use Rattle.value_model.specs.Order.{same_value};
 ghost use Rattle.history_model.specs.Documents.{AreInOrder, Rows};
 ghost use Rattle.move_model.specs.Sources.{Source, at_end_stage, stage_of};
-ghost use Rattle.move_model.specs.Batches.{Batch, Member, batch_of, members_bytes, members_left, members_next, most_bytes, most_keys, source_after};
+ghost use Rattle.record_model.specs.Moves.{Batch, MovedDocument};
+ghost use Rattle.move_model.specs.Batches.{batch_of, members_bytes, members_left, members_next, most_bytes, most_keys, source_after};
 ghost use Rattle.move_model.specs.Recipients.{overlay};
 ghost use Rattle.move_model.specs.Copies.{AreEqual, Copy, CopyRun, CopyStep, HasNone, IsCopy, QuietRun, copy_received, copy_start};
 
@@ -50,6 +51,6 @@ pub fn batches_within_limits()
 /// Of two members with one key the later counts.
 #[tactic(auto, using(crate::proofs::Limits::later_counts))]
 pub fn later_member_counts()
-    ensures { (ms : List Member) (m : Member) (key : Datum) (before : Option Fields)
-        → overlay (ms ++ m ∷ []) key before ≡ (if same_value m.0 key then m.1 else overlay ms key before) }
+    ensures { (ms : List MovedDocument) (m : MovedDocument) (key : Datum) (before : Option Fields)
+        → overlay (ms ++ m ∷ []) key before ≡ (if same_value m.key key then m.document else overlay ms key before) }
 {}
