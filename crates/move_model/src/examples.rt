@@ -1,12 +1,12 @@
 //! The definitions on values that one can check by hand.
 
-ghost use Rattle.std.specs.Prelude.{◌≡◌, ◌∷◌, [], codes, Some, None, pos, false, true};
+ghost use Rattle.std.specs.Prelude.{◌≡◌, ◌∷◌, [], Some, None, pos, false, true};
 ghost use Rattle.bson_model.specs.SampleDocuments.{id_document};
 ghost use Rattle.bson_model.specs.Tree.{int32_value, int64_value};
-ghost use Rattle.value_model.specs.Keys.{key_bound, max_bound, min_bound};
+ghost use Rattle.value_model.specs.Keys.{key_bound};
 ghost use Rattle.move_model.specs.SampleMoves.{five_rows, from_ten, moved_row, sent_batch};
-ghost use Rattle.move_model.specs.Sources.{at_end_stage, has_some, is_handed_out, is_up_to, ready_stage, source_answered, source_start, stage_of, unanswered_stage};
-ghost use Rattle.move_model.specs.Batches.{batch_of, cursor_after, fitting, has_room, last_bound, moved, source_after};
+ghost use Rattle.move_model.specs.Sources.{at_end_stage, is_handed_out, is_up_to, ready_stage, source_answered, source_start, stage_of, unanswered_stage};
+ghost use Rattle.move_model.specs.Batches.{batch_of, has_room, moved, source_after};
 ghost use Rattle.move_model.specs.Recipients.{fit_of, known_fit, next_fit, overlay, strange_fit};
 
 /// Of a range from 10 to 20 the key 10 goes, in either width, and 20 does not. The batch ends at the end of the range, since no document is
