@@ -6,7 +6,7 @@ use Rattle.std.specs.List.{AllByRecursion}
 use Rattle.std.specs.List.Sorted.{IsStrictlySortedBy}
 use Rattle.std.specs.Map.{keys_of, lookup, set_value}
 use Rattle.std.specs.Ordering.{is_eq, match_ordering}
-use Rattle.query_model.proofs.Entries.{AreAbove, equal_is, equal_turned}
+use Rattle.query_model.proofs.Entries.{AreAbove, equal_turned}
 use Rattle.bson_values.specs.Tree.{Datum}
 use Rattle.value_compare.specs.Order.{order, same_value}
 use Rattle.value_model.proofs.Flat.{order_total}

@@ -1,5 +1,5 @@
 -- What contracts see of a source's part: which move it is, what is kept of the copy, and which keys have a place among the changed ones.
-use Rattle.std.specs.Prelude.{ℕ, Bool, Option, is_some}
+use Rattle.std.specs.Prelude.{Bool, is_some}
 use Rattle.std.specs.BTreeMap.{get_by}
 use Rattle.bson_values.specs.Tree.{Datum}
 use Rattle.cluster_base.specs.declared.identity.RequestId.{RequestId}

@@ -1,6 +1,6 @@
 -- A key that was handed out is marked, and another changes nothing.
 use Rattle.std.proofs.Common.{◌≡◌, ◌∙◌, true, false, refl, sym, ap}
-use Rattle.std.specs.Prelude.{◌&&◌, Bool, is_some}
+use Rattle.std.specs.Prelude.{is_some}
 use Rattle.std.specs.BTreeMap.{is_at}
 use Rattle.std.specs.Map.{lookup}
 use Rattle.value_compare.specs.Bounds.{bound_of}

@@ -6,7 +6,7 @@ use Rattle.value_compare.specs.Bounds.{bound_of}
 use Rattle.value_compare.specs.Order.{order}
 use Rattle.move_model.specs.Sources.{Source}
 use Rattle.migration_source.specs.Changed.{changed_among}
-use Rattle.migration_source.proofs.Changes.{Entries, none_is, placed}
+use Rattle.migration_source.proofs.Changes.{none_is, placed}
 use Rattle.migration_source.proofs.giving.Giving.reserve.Goals as goal
 
 pub returns-clause-source : goal.returns-clause-source
