@@ -49,7 +49,8 @@ pub earlier_is : (last : Option ℕ) (time : ℕ) → is_earlier last time ≡ t
 earlier_is None time e = tt
 earlier_is (Some t) time e = grind (arith, e)
 
-pub at_middle : (P : MovedDocument → Type 0) (ms : List MovedDocument) (m : MovedDocument) (rest : List MovedDocument) → AllByRecursion P (ms ++ m ∷ rest) → P m
+pub at_middle : (P : MovedDocument → Type 0) (ms : List MovedDocument) (m : MovedDocument) (rest : List MovedDocument) →
+    AllByRecursion P (ms ++ m ∷ rest) → P m
 at_middle P [] m rest all = all.0
 at_middle P (x ∷ ms) m rest all = at_middle P ms m rest all.1
 
@@ -80,7 +81,8 @@ module _ (before now new : Collection) (all left : List MovedDocument) (m : Move
   grown = h.whole ∙ append_assoc left (m ∷ []) h.rest
 
   -- what a step needs: room, where the key is not done
-  room_by : (has : Bool) → has_key m.key (keys_of_members h.rest) ≡ has → HasRoom before all → is_earlier (last_in now m.key) time ≡ true → 1 ≤ room_in now m.key
+  room_by : (has : Bool) → has_key m.key (keys_of_members h.rest) ≡ has → HasRoom before all → is_earlier (last_in now m.key) time ≡ true →
+      1 ≤ room_in now m.key
   room_by true is room early =
       let done : last_in now m.key ≡ Some time = h.last m.key ∙ ap (λ (b : Bool). if b then Some time else last_in before m.key) is in
       absurd (differ (sym early ∙ not_earlier (last_in now m.key) time done))
@@ -164,13 +166,14 @@ module _ (before now new : Collection) (all left : List MovedDocument) (m : Move
           by false e = refl
 
   by_done : (has : Bool) → has_key m.key (keys_of_members h.rest) ≡ has → IsLater before time all →
-      (is_earlier (last_in now m.key) time ≡ true → IsPut m time now new) → (is_earlier (last_in now m.key) time ≡ false → IsSame now new) → Applies before new all left time
+      (is_earlier (last_in now m.key) time ≡ true → IsPut m time now new) → (is_earlier (last_in now m.key) time ≡ false → IsSame now new) →
+      Applies before new all left time
   by_done true is later puts stays =
       let last : last_in now m.key ≡ Some time = h.last m.key ∙ ap (λ (b : Bool). if b then Some time else last_in before m.key) is in
       done (stays (not_earlier (last_in now m.key) time last)) is
   by_done false is later puts stays =
       let old : IfSome (last_in before m.key) (λ t. t < time) =
-          at_middle (λ x. IfSome (last_in before x.key) (λ t. t < time)) left m h.rest (subst (λ l. IsLater before time l) grown later) in
+      at_middle (λ x. IfSome (last_in before x.key) (λ t. t < time)) left m h.rest (subst (λ l. IsLater before time l) grown later) in
       let last : last_in now m.key ≡ last_in before m.key = h.last m.key ∙ ap (λ (b : Bool). if b then Some time else last_in before m.key) is in
       put (puts (ap (λ (o : Option ℕ). is_earlier o time) last ∙ earlier_of (last_in before m.key) time old)) is
 
@@ -182,7 +185,8 @@ module _ (before now new : Collection) (all left : List MovedDocument) (m : Move
 -- all were applied
 module _ (before now : Collection) (all : List MovedDocument) (time : ℕ) (h : Applies before now all [] time) where
   pub all_documents : (k : Datum) (t : ℕ) → at_in now k t ≡ (if nat_le time t then overlay all k (at_in before k t) else at_in before k t)
-  all_documents k t = h.documents k t ∙ ap (λ (l : List MovedDocument). if nat_le time t then overlay l k (at_in before k t) else at_in before k t) (sym h.whole)
+  all_documents k t = h.documents k t
+      ∙ ap (λ (l : List MovedDocument). if nat_le time t then overlay l k (at_in before k t) else at_in before k t) (sym h.whole)
 
   pub all_last : (k : Datum) → last_in now k ≡ (if has_key k (keys_of_members all) then Some time else last_in before k)
   all_last k = h.last k ∙ ap (λ (l : List MovedDocument). if has_key k (keys_of_members l) then Some time else last_in before k) (sym h.whole)
@@ -191,7 +195,8 @@ module _ (before now : Collection) (all : List MovedDocument) (time : ℕ) (h : 
   all_rooms k none = h.rooms k (ap (λ (l : List MovedDocument). has_key k (keys_of_members l)) (sym h.whole) ∙ none)
 
 -- one more, as the definitions see it
-pub seen_pushed : (items before : List code.MovedDocument) (m : code.MovedDocument) → items ≡ before ++ m ∷ [] → map moved_view items ≡ map moved_view before ++ moved_view m ∷ []
+pub seen_pushed : (items before : List code.MovedDocument) (m : code.MovedDocument) → items ≡ before ++ m ∷ [] →
+    map moved_view items ≡ map moved_view before ++ moved_view m ∷ []
 seen_pushed items before m e = ap (λ (l : List code.MovedDocument). map moved_view l) e ∙ pushed before
   where
     pushed : (l : List code.MovedDocument) → map moved_view (l ++ m ∷ []) ≡ map moved_view l ++ moved_view m ∷ []

@@ -41,7 +41,8 @@ turned : (a b : Datum) → is_eq (order a b) ≡ same_value b a
 turned a b = equal_turned order_total a b
 
 marked_by : (key q : Datum) (e : Datum × Bool) (es : Entries) (at : Bool) → is_eq (order key e.0) ≡ at →
-    has_key q (changed_among (set_value (is_at (order key)) es true)) ≡ ((is_some (lookup (is_at (order key)) es) && same_value key q) || has_key q (changed_among es)) →
+    has_key q (changed_among (set_value (is_at (order key)) es true))
+    ≡ ((is_some (lookup (is_at (order key)) es) && same_value key q) || has_key q (changed_among es)) →
     has_key q (changed_among (cond at ((e.0, true) ∷ es) (e ∷ set_value (is_at (order key)) es true)))
     ≡ ((is_some (cond at (Some e.1) (lookup (is_at (order key)) es)) && same_value key q) || has_key q (map (λ x. x.0) (cond e.1 (e ∷ filter (λ x. x.1) es) (filter (λ x. x.1) es))))
 marked_by key q e es true is rest = by e.1
@@ -53,7 +54,8 @@ marked_by key q e es true is rest = by e.1
     absorb true b = refl
     absorb false b = refl
 
-    by : (b : Bool) → (same_value e.0 q || has_key q (changed_among es)) ≡ (same_value key q || has_key q (map (λ x. x.0) (cond b (e ∷ filter (λ x. x.1) es) (filter (λ x. x.1) es))))
+    by : (b : Bool) → (same_value e.0 q || has_key q (changed_among es))
+        ≡ (same_value key q || has_key q (map (λ x. x.0) (cond b (e ∷ filter (λ x. x.1) es) (filter (λ x. x.1) es))))
     by true = ap (λ (t : Bool). t || has_key q (changed_among es)) alike ∙ absorb (same_value key q) (has_key q (changed_among es))
         ∙ ap (λ (t : Bool). same_value key q || (t || has_key q (changed_among es))) (sym alike)
     by false = ap (λ (t : Bool). t || has_key q (changed_among es)) alike
@@ -66,11 +68,13 @@ marked_by key q e es false is rest = by e.1
 
     by : (b : Bool) → has_key q (map (λ x. x.0) (cond b (e ∷ filter (λ x. x.1) (set_value (is_at (order key)) es true)) (filter (λ x. x.1) (set_value (is_at (order key)) es true))))
         ≡ ((is_some (lookup (is_at (order key)) es) && same_value key q) || has_key q (map (λ x. x.0) (cond b (e ∷ filter (λ x. x.1) es) (filter (λ x. x.1) es))))
-    by true = ap (λ (t : Bool). same_value e.0 q || t) rest ∙ exchange (is_some (lookup (is_at (order key)) es) && same_value key q) (same_value e.0 q) (has_key q (changed_among es))
+    by true = ap (λ (t : Bool). same_value e.0 q || t) rest
+        ∙ exchange (is_some (lookup (is_at (order key)) es) && same_value key q) (same_value e.0 q) (has_key q (changed_among es))
     by false = rest
 
 pub marked : (key q : Datum) (es : Entries) →
-    has_key q (changed_among (set_value (is_at (order key)) es true)) ≡ ((is_some (lookup (is_at (order key)) es) && same_value key q) || has_key q (changed_among es))
+    has_key q (changed_among (set_value (is_at (order key)) es true))
+    ≡ ((is_some (lookup (is_at (order key)) es) && same_value key q) || has_key q (changed_among es))
 marked key q [] = refl
 marked key q (e ∷ es) = marked_by key q e es (is_eq (order key e.0)) refl (marked key q es)
 
@@ -97,12 +101,14 @@ none_is None e = refl
 none_is (Some x) e = absurd (cc e)
 
 -- a key that is marked had a place, and others have theirs
-pub places_stay : (key q : Datum) (es : Entries) → is_some (lookup (is_at (order q)) (set_value (is_at (order key)) es true)) ≡ is_some (lookup (is_at (order q)) es)
+pub places_stay : (key q : Datum) (es : Entries) →
+    is_some (lookup (is_at (order q)) (set_value (is_at (order key)) es true)) ≡ is_some (lookup (is_at (order q)) es)
 places_stay key q [] = refl
 places_stay key q (e ∷ es) = by (is_eq (order key e.0)) (is_eq (order q e.0)) (places_stay key q es)
   where
     by : (at own : Bool) → is_some (lookup (is_at (order q)) (set_value (is_at (order key)) es true)) ≡ is_some (lookup (is_at (order q)) es) →
-        is_some (lookup (is_at (order q)) (cond at ((e.0, true) ∷ es) (e ∷ set_value (is_at (order key)) es true))) ≡ is_some (lookup (is_at (order q)) (e ∷ es))
+        is_some (lookup (is_at (order q)) (cond at ((e.0, true) ∷ es) (e ∷ set_value (is_at (order key)) es true)))
+        ≡ is_some (lookup (is_at (order q)) (e ∷ es))
     by true own rest = same (is_eq (order q e.0))
       where
         same : (own : Bool) → is_some (cond own (Some true) (lookup (is_at (order q)) es)) ≡ is_some (cond own (Some e.1) (lookup (is_at (order q)) es))
@@ -110,7 +116,9 @@ places_stay key q (e ∷ es) = by (is_eq (order key e.0)) (is_eq (order q e.0)) 
         same false = refl
     by false own rest = further (is_eq (order q e.0))
       where
-        further : (own : Bool) → is_some (cond own (Some e.1) (lookup (is_at (order q)) (set_value (is_at (order key)) es true))) ≡ is_some (cond own (Some e.1) (lookup (is_at (order q)) es))
+        further : (own : Bool) →
+            is_some (cond own (Some e.1) (lookup (is_at (order q)) (set_value (is_at (order key)) es true)))
+            ≡ is_some (cond own (Some e.1) (lookup (is_at (order q)) es))
         further true = refl
         further false = rest
 
@@ -130,7 +138,8 @@ marks_handed key s es more own is sorted place handed = record {
 }
 
 -- another changes nothing
-pub marks_nothing : (key : Datum) (s : Source) (es : Entries) → s.changed ≡ changed_among es → IsStrictlySortedBy order (keys_of es) → is_handed_out s key ≡ false → Marks key s s
+pub marks_nothing : (key : Datum) (s : Source) (es : Entries) → s.changed ≡ changed_among es → IsStrictlySortedBy order (keys_of es) →
+    is_handed_out s key ≡ false → Marks key s s
 marks_nothing key s es own sorted none = record {
   range = refl;
   number = refl;

@@ -45,7 +45,8 @@ prefix_cases (x ∷ p) r (y ∷ a) c e = by (prefix_cases p r a c cc)
     same = cc
 
     by : ((cs : List MovedDocument) × (p ≡ a ++ cs) × (cs ++ r ≡ c)) ⊎ ((z : MovedDocument) × (zs : List MovedDocument) × (a ≡ p ++ z ∷ zs)) →
-        ((cs : List MovedDocument) × (x ∷ p ≡ (y ∷ a) ++ cs) × (cs ++ r ≡ c)) ⊎ ((z : MovedDocument) × (zs : List MovedDocument) × (y ∷ a ≡ (x ∷ p) ++ z ∷ zs))
+        ((cs : List MovedDocument) × (x ∷ p ≡ (y ∷ a) ++ cs) × (cs ++ r ≡ c)) ⊎ ((z : MovedDocument) × (zs : List MovedDocument)
+        × (y ∷ a ≡ (x ∷ p) ++ z ∷ zs))
     by (inl (cs, is, rest)) = inl (cs, cc, rest)
     by (inr (z, zs, is)) = inr (z, zs, cc)
 
@@ -99,7 +100,8 @@ module _ (s : Source) (rows : Rows) (ordered : AreInOrder rows) (ms : List Moved
         (sym (has_append key (members_of (documents_after s rows)) cs) ∙ ap (λ (l : List MovedDocument). has_key key (keys_of_members l)) (sym is) ∙ absent));
   }
 
-  next_goes_on : (y : MovedDocument) (ys : List MovedDocument) → members_of (documents_after s rows) ≡ ms ++ y ∷ ys → IsNext s rows ms (last_bound s.cursor ms)
+  next_goes_on : (y : MovedDocument) (ys : List MovedDocument) → members_of (documents_after s rows) ≡ ms ++ y ∷ ys →
+      IsNext s rows ms (last_bound s.cursor ms)
   next_goes_on y ys is =
       let after : AreAfter s.cursor (ms ++ y ∷ ys) = subst (AreAfter s.cursor) is (ahead_after s rows ordered) in
       let own : AreAfter s.cursor ms = after_first s.cursor ms (y ∷ ys) after in
@@ -116,13 +118,15 @@ module _ (s : Source) (rows : Rows) (ordered : AreInOrder rows) (ms : List Moved
       }
 
 -- the cursor by whether all documents are among the members
-pub cursor_ends : (s : Source) (rows : Rows) (ms cs : List MovedDocument) → ms ≡ members_of (documents_after s rows) ++ cs → cursor_after s rows ms ≡ s.range.max
+pub cursor_ends : (s : Source) (rows : Rows) (ms cs : List MovedDocument) → ms ≡ members_of (documents_after s rows) ++ cs →
+    cursor_after s rows ms ≡ s.range.max
 cursor_ends s rows ms cs is =
     let n : length ms ≡ length (members_of (documents_after s rows)) + length cs = ap length is ∙ length-append (members_of (documents_after s rows)) cs in
     let more : length (documents_after s rows) ≤ length ms = omega (arith, n, length_members (documents_after s rows)) in
     ap (λ (t : Bool). if t then s.range.max else last_bound s.cursor ms) (le-leb (length (documents_after s rows)) (length ms) more)
 
-pub cursor_goes_on : (s : Source) (rows : Rows) (ms : List MovedDocument) (y : MovedDocument) (ys : List MovedDocument) → members_of (documents_after s rows) ≡ ms ++ y ∷ ys →
+pub cursor_goes_on : (s : Source) (rows : Rows) (ms : List MovedDocument) (y : MovedDocument) (ys : List MovedDocument) →
+    members_of (documents_after s rows) ≡ ms ++ y ∷ ys →
     cursor_after s rows ms ≡ last_bound s.cursor ms
 cursor_goes_on s rows ms y ys is =
     let n : length (documents_after s rows) ≡ length ms + length (y ∷ ys) =
@@ -134,13 +138,15 @@ cursor_goes_on s rows ms y ys is =
 pub next_facts : (s : Source) (rows : Rows) → AreInOrder rows → IsNext s rows (members_next s rows) (cursor_after s rows (members_next s rows))
 next_facts s rows ordered = by (fitting_prefix 0 0 (members_left s rows))
   where
-    by : (rest : List MovedDocument) × (members_next s rows ++ rest ≡ members_left s rows) → IsNext s rows (members_next s rows) (cursor_after s rows (members_next s rows))
+    by : (rest : List MovedDocument) × (members_next s rows ++ rest ≡ members_left s rows) →
+        IsNext s rows (members_next s rows) (cursor_after s rows (members_next s rows))
     by (rest, e) = of_case (prefix_cases (members_next s rows) rest (members_of (documents_after s rows)) (map (λ key. moved key (document_under key rows)) s.changed) e)
       where
         present : AllByRecursion (IsPresent rows) (members_next s rows)
         present = all_first (IsPresent rows) (members_next s rows) rest (subst (AllByRecursion (IsPresent rows)) (sym e) (left_present s rows ordered))
 
-        of_case : ((cs : List MovedDocument) × (members_next s rows ≡ members_of (documents_after s rows) ++ cs) × (cs ++ rest ≡ map (λ key. moved key (document_under key rows)) s.changed))
+        of_case : ((cs : List MovedDocument) × (members_next s rows ≡ members_of (documents_after s rows) ++ cs)
+            × (cs ++ rest ≡ map (λ key. moved key (document_under key rows)) s.changed))
             ⊎ ((y : MovedDocument) × (ys : List MovedDocument) × (members_of (documents_after s rows) ≡ members_next s rows ++ y ∷ ys)) →
             IsNext s rows (members_next s rows) (cursor_after s rows (members_next s rows))
         of_case (inl (cs, is, more)) =

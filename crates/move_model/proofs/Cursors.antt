@@ -48,7 +48,8 @@ trans_le a b c le less = by (order a b) refl le
 -- a cursor at a key that is past another cursor is further
 pub up_to_more : (low : Bound) (k q : Datum) → is_up_to low k ≡ false → is_up_to low q ≡ true → is_up_to (key_bound k) q ≡ true
 up_to_more low k q past here =
-    trans_le q (value_of_bound low) k here (order_total.antisymm (value_of_bound low) k ∙ ap ordering_reverse (not_up_to_is (order k (value_of_bound low)) past))
+    trans_le q (value_of_bound low) k here (order_total.antisymm (value_of_bound low) k
+    ∙ ap ordering_reverse (not_up_to_is (order k (value_of_bound low)) past))
 
 pub up_to_itself : (k : Datum) → is_up_to (key_bound k) k ≡ true
 up_to_itself k = ap is_le (tied_itself order_total k)
@@ -74,7 +75,8 @@ inside_up_to_end range key in_range =
     less_up_to (order key (value_of_bound range.max)) (both (is_le (order_bounds range.min (key_bound key))) (is_lt (order_bounds (key_bound key) range.max)) in_range).1
 
 -- a cursor that is not before the end of a range
-pub at_end_up_to : (cursor : Bound) (range : Range) (key : Datum) → is_lt (order_bounds cursor range.max) ≡ false → inside (range_span range) key ≡ true → is_up_to cursor key ≡ true
+pub at_end_up_to : (cursor : Bound) (range : Range) (key : Datum) → is_lt (order_bounds cursor range.max) ≡ false →
+    inside (range_span range) key ≡ true → is_up_to cursor key ≡ true
 at_end_up_to cursor range key end in_range =
     let low = less_is (order key (value_of_bound range.max)) (both (is_le (order_bounds range.min (key_bound key))) (is_lt (order_bounds (key_bound key) range.max)) in_range).1 in
     by (order (value_of_bound cursor) (value_of_bound range.max)) refl end low
@@ -85,7 +87,8 @@ at_end_up_to cursor range key end in_range =
     m : Datum
     m = value_of_bound range.max
 
-    by : (o : Ordering) → order (value_of_bound cursor) (value_of_bound range.max) ≡ o → is_lt o ≡ false → order key (value_of_bound range.max) ≡ Less → is_le (order key (value_of_bound cursor)) ≡ true
+    by : (o : Ordering) → order (value_of_bound cursor) (value_of_bound range.max) ≡ o → is_lt o ≡ false →
+        order key (value_of_bound range.max) ≡ Less → is_le (order key (value_of_bound cursor)) ≡ true
     by Less is e low = absurd (cc e)
     by Equal is e low = ap is_le (alike_right order_total (value_of_bound cursor) (value_of_bound range.max) key is ∙ low)
     by Greater is e low =
@@ -109,7 +112,8 @@ pub after_all : (low : Bound) (ms : List MovedDocument) → AreAfter low ms → 
 after_all low [] after = tt
 after_all low (m ∷ ms) after = (after.0, weaken ms (after_all (key_bound m.key) ms after.1))
   where
-    weaken : (rest : List MovedDocument) → AllByRecursion (λ r. is_up_to (key_bound m.key) r.key ≡ false) rest → AllByRecursion (λ r. is_up_to low r.key ≡ false) rest
+    weaken : (rest : List MovedDocument) → AllByRecursion (λ r. is_up_to (key_bound m.key) r.key ≡ false) rest →
+        AllByRecursion (λ r. is_up_to low r.key ≡ false) rest
     weaken [] all = tt
     weaken (r ∷ rest) all = (past_more low m.key r.key after.0 all.0, weaken rest all.1)
 

@@ -25,11 +25,13 @@ use Rattle.move_model.proofs.Cursors.{differ, past_less, AreAfter}
 pub has_alike : (a b : Datum) (keys : List Datum) → same_value a b ≡ true → has_key a keys ≡ has_key b keys
 has_alike a b [] same = refl
 has_alike a b (k ∷ keys) same =
-    let first : same_value k a ≡ same_value k b = same_value_equivalence.symm k a ∙ same_value_equivalence.congr a b k same ∙ same_value_equivalence.symm b k in
+    let first : same_value k a ≡ same_value k b = same_value_equivalence.symm k a ∙ same_value_equivalence.congr a b k same
+    ∙ same_value_equivalence.symm b k in
     ap (λ (t : Bool). t || has_key a keys) first ∙ ap (λ (t : Bool). same_value k b || t) (has_alike a b keys same)
 
 -- the keys that are not among those
-pub has_without : (key : Datum) (gone keys : List Datum) → has_key key (filter (λ k. not (has_key k gone)) keys) ≡ (not (has_key key gone) && has_key key keys)
+pub has_without : (key : Datum) (gone keys : List Datum) →
+    has_key key (filter (λ k. not (has_key k gone)) keys) ≡ (not (has_key key gone) && has_key key keys)
 has_without key gone keys =
     any-filter_same (λ k. same_value k key) (λ k. not (has_key k gone)) (not (has_key key gone)) (λ k same. ap not (has_alike k key gone same)) keys
 
@@ -57,11 +59,13 @@ overlay_present rows (m ∷ ms) key before all = by (same_value m.key key) refl 
     either false = refl
 
     by : (b : Bool) → same_value m.key key ≡ b →
-        overlay ms key (if same_value m.key key then m.document else before) ≡ cond (has_key key (keys_of_members ms)) (document_under key rows) (if same_value m.key key then m.document else before) →
+        overlay ms key (if same_value m.key key then m.document else before)
+        ≡ cond (has_key key (keys_of_members ms)) (document_under key rows) (if same_value m.key key then m.document else before) →
         overlay ms key (if same_value m.key key then m.document else before) ≡ cond (b || has_key key (keys_of_members ms)) (document_under key rows) before
     by true is rest =
         rest ∙ ap (λ (t : Bool). cond (has_key key (keys_of_members ms)) (document_under key rows) (if t then m.document else before)) is
-        ∙ ap (λ (d : Option Fields). cond (has_key key (keys_of_members ms)) (document_under key rows) d) (all.0 ∙ same_find order_total m.key key rows (equal_is (order m.key key) is))
+        ∙ ap (λ (d : Option Fields). cond (has_key key (keys_of_members ms)) (document_under key rows) d) (all.0
+        ∙ same_find order_total m.key key rows (equal_is (order m.key key) is))
         ∙ either (has_key key (keys_of_members ms))
     by false is rest = rest ∙ ap (λ (t : Bool). cond (has_key key (keys_of_members ms)) (document_under key rows) (if t then m.document else before)) is
 
@@ -70,7 +74,8 @@ abbrev pub members_of : Rows → List MovedDocument
 members_of rows = map (λ row. moved row.0 (Some row.1)) rows
 
 -- what a filtered row passes, and where it is
-above_own : (low : Datum) (rows : Rows) → AllByRecursion (λ y. order low y ≡ Less) (map (λ row. row.0) rows) → AllByRecursion (λ row. order low row.0 ≡ Less) rows
+above_own : (low : Datum) (rows : Rows) → AllByRecursion (λ y. order low y ≡ Less) (map (λ row. row.0) rows) →
+    AllByRecursion (λ row. order low row.0 ≡ Less) rows
 above_own low [] all = tt
 above_own low (row ∷ rows) all = (all.0, above_own low rows all.1)
 
@@ -99,11 +104,13 @@ filtered_after low p (row ∷ rows) ordered past =
     by (p row.0) refl (filtered_after low p rows (later_rows row rows ordered) past.1)
     (filtered_after (key_bound row.0) p rows (later_rows row rows ordered) (beyond rows (above_own row.0 rows (above_row row rows ordered))))
   where
-    beyond : (more : Rows) → AllByRecursion (λ r. order row.0 r.0 ≡ Less) more → AllByRecursion (λ r. p r.0 ≡ true → is_up_to (key_bound row.0) r.0 ≡ false) more
+    beyond : (more : Rows) → AllByRecursion (λ r. order row.0 r.0 ≡ Less) more → AllByRecursion (λ r. p r.0 ≡ true →
+        is_up_to (key_bound row.0) r.0 ≡ false) more
     beyond [] all = tt
     beyond (r ∷ more) all = (λ pass. past_less row.0 r.0 all.0, beyond more all.1)
 
-    by : (b : Bool) → p row.0 ≡ b → AreAfter low (members_of (filter (λ r. p r.0) rows)) → AreAfter (key_bound row.0) (members_of (filter (λ r. p r.0) rows)) →
+    by : (b : Bool) → p row.0 ≡ b → AreAfter low (members_of (filter (λ r. p r.0) rows)) →
+        AreAfter (key_bound row.0) (members_of (filter (λ r. p r.0) rows)) →
         AreAfter low (members_of (cond b (row ∷ filter (λ r. p r.0) rows) (filter (λ r. p r.0) rows)))
     by true is skip take = (past.0 is, take)
     by false is skip take = skip

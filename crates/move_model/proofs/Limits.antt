@@ -17,7 +17,8 @@ use Rattle.move_model.proofs.Relation.{next_is}
 room_is : (keys bytes more : ℕ) → 1 ≤ keys → has_room keys bytes more ≡ true → (keys < most_keys) × (bytes + more ≤ most_bytes)
 room_is keys bytes more some e =
     let other : (keys == 0) ≡ false = ne_eqb keys 0 (λ none. omega (arith, none, some)) in
-    let rest : (nat_lt keys most_keys && nat_le (bytes + more) most_bytes) ≡ true = sym (ap (λ (t : Bool). t || (nat_lt keys most_keys && nat_le (bytes + more) most_bytes)) other) ∙ e in
+    let rest : (nat_lt keys most_keys && nat_le (bytes + more) most_bytes)
+    ≡ true = sym (ap (λ (t : Bool). t || (nat_lt keys most_keys && nat_le (bytes + more) most_bytes)) other) ∙ e in
     let parts = both (nat_lt keys most_keys) (nat_le (bytes + more) most_bytes) rest in
     (ltb-true keys most_keys parts.0, leb-true (bytes + more) most_bytes parts.1)
 
@@ -48,18 +49,23 @@ more_within keys bytes (m ∷ ms) some less =
             bytes + document_bytes m.document ≤ most_bytes →
             bytes + (document_bytes m.document + members_bytes (fitting (keys + 1) (bytes + document_bytes m.document) ms)) ≤ most_bytes
         bytes_by (inl h) own = omega (arith, h)
-        bytes_by (inr none) own = let z : members_bytes (fitting (keys + 1) (bytes + document_bytes m.document) ms) ≡ 0 = ap members_bytes none in omega (arith, own, z)
+        bytes_by (inr none) own = let z : members_bytes (fitting (keys + 1) (bytes + document_bytes m.document) ms)
+            ≡ 0 = ap members_bytes none in omega (arith, own, z)
 
-first_within : (ms : List MovedDocument) → (length (fitting 0 0 ms) ≤ most_keys) × ((members_bytes (fitting 0 0 ms) ≤ most_bytes) ⊎ (length (fitting 0 0 ms) ≤ 1))
+first_within : (ms : List MovedDocument) →
+    (length (fitting 0 0 ms) ≤ most_keys) × ((members_bytes (fitting 0 0 ms) ≤ most_bytes) ⊎ (length (fitting 0 0 ms) ≤ 1))
 first_within [] = (omega arith, inr (omega arith))
 first_within (m ∷ ms) = by (more_within 1 (0 + document_bytes m.document) ms (omega arith) (omega arith))
   where
-    by : (1 + length (fitting 1 (0 + document_bytes m.document) ms) ≤ most_keys) × (((0 + document_bytes m.document) + members_bytes (fitting 1 (0 + document_bytes m.document) ms) ≤ most_bytes) ⊎ (fitting 1 (0 + document_bytes m.document) ms ≡ [])) →
-        (length (m ∷ fitting 1 (0 + document_bytes m.document) ms) ≤ most_keys) × ((members_bytes (m ∷ fitting 1 (0 + document_bytes m.document) ms) ≤ most_bytes) ⊎ (length (m ∷ fitting 1 (0 + document_bytes m.document) ms) ≤ 1))
+    by : (1 + length (fitting 1 (0 + document_bytes m.document) ms) ≤ most_keys)
+        × (((0 + document_bytes m.document) + members_bytes (fitting 1 (0 + document_bytes m.document) ms) ≤ most_bytes) ⊎ (fitting 1 (0 + document_bytes m.document) ms ≡ [])) →
+        (length (m ∷ fitting 1 (0 + document_bytes m.document) ms) ≤ most_keys)
+        × ((members_bytes (m ∷ fitting 1 (0 + document_bytes m.document) ms) ≤ most_bytes) ⊎ (length (m ∷ fitting 1 (0 + document_bytes m.document) ms) ≤ 1))
     by (n, inl h) = (omega (arith, n), inl (omega (arith, h)))
     by (n, inr none) = (omega (arith, n), inr (let z : length (fitting 1 (0 + document_bytes m.document) ms) ≡ 0 = ap length none in omega (arith, z)))
 
-pub within_limits : (s : Source) (rows : Rows) → (length (members_next s rows) ≤ most_keys) × ((members_bytes (members_next s rows) ≤ most_bytes) ⊎ (length (members_next s rows) ≤ 1))
+pub within_limits : (s : Source) (rows : Rows) →
+    (length (members_next s rows) ≤ most_keys) × ((members_bytes (members_next s rows) ≤ most_bytes) ⊎ (length (members_next s rows) ≤ 1))
 within_limits s rows = first_within (members_left s rows)
 
 pub at_least_one : (s : Source) (rows : Rows) → 1 ≤ length (members_left s rows) → 1 ≤ length (members_next s rows)
@@ -77,6 +83,7 @@ not_next c b other = by (fit_of c.applied b.number) (λ e. other (next_is c.appl
     by known_fit never = refl
     by strange_fit never = refl
 
-pub later_counts : (ms : List MovedDocument) (m : MovedDocument) (key : Datum) (before : Option Fields) → overlay (ms ++ m ∷ []) key before ≡ (if same_value m.key key then m.document else overlay ms key before)
+pub later_counts : (ms : List MovedDocument) (m : MovedDocument) (key : Datum) (before : Option Fields) →
+    overlay (ms ++ m ∷ []) key before ≡ (if same_value m.key key then m.document else overlay ms key before)
 later_counts [] m key before = refl
 later_counts (n ∷ ms) m key before = later_counts ms m key (if same_value n.key key then n.document else before)

@@ -108,10 +108,12 @@ module _ (s : Source) (rows : Rows) (ordered : AreInOrder rows) where
       let stay : length next.changed ≤ length s.changed = stay_fewer (λ key. not (has_key key (keys_of_members ms))) s.changed in
       omega (arith, less, stay)
   by_documents [] is [] e some =
-      absurd (let n = length_left s rows in let d : length (documents_after s rows) ≡ 0 = ap length is in let c : length s.changed ≡ 0 = ap length e in omega (arith, some, n, d, c))
+      absurd (let n = length_left s rows in let d : length (documents_after s rows) ≡ 0 = ap length is in let c : length s.changed
+      ≡ 0 = ap length e in omega (arith, some, n, d, c))
   by_documents [] is (k ∷ keys) e some =
       let has = has_first (moved k (document_under k rows)) (map (λ key. moved key (document_under key rows)) keys)
-      (ap (λ (l : Rows). members_of l ++ map (λ key. moved key (document_under key rows)) s.changed) is ∙ ap (λ (l : List Datum). map (λ key. moved key (document_under key rows)) l) e) in
+      (ap (λ (l : Rows). members_of l ++ map (λ key. moved key (document_under key rows)) s.changed) is
+      ∙ ap (λ (l : List Datum). map (λ key. moved key (document_under key rows)) l) e) in
       let less : length (documents_after next rows) ≤ length (documents_after s rows) = fewer_pass (is_after s) (is_after next) within rows in
       let gone : length next.changed ≡ length (filter (λ key. not (has_key key (keys_of_members ms))) keys) =
       ap (λ (l : List Datum). length (filter (λ key. not (has_key key (keys_of_members ms))) l)) e

@@ -71,7 +71,8 @@ module _ (c : Copy) (h : IsCopy c) (free : c.source.unanswered ≡ false) (key :
   gone : has_key key (copy_handed_out c).source.changed ≡ (not (has_key key (keys_of_members ms)) && has_key key c.source.changed)
   gone = has_without key (keys_of_members ms) c.source.changed
 
-  handed_key : (has : Bool) → has_key key (keys_of_members ms) ≡ has → (up : Bool) → is_up_to upto key ≡ up → IsCopied c key → IsCopied (copy_handed_out c) key
+  handed_key : (has : Bool) → has_key key (keys_of_members ms) ≡ has → (up : Bool) → is_up_to upto key ≡ up → IsCopied c key →
+      IsCopied (copy_handed_out c) key
   handed_key true is up e old =
       inr (facts.handed key in_range is, inr (will_be ∙ ap (λ (t : Bool). cond t (document_under key c.documents) (c.copied key)) is))
   handed_key false is false e (inl (past, none)) =
@@ -112,12 +113,14 @@ next_is applied number e = by (number == applied + 1) refl e
     other true e = cc
     other false e = cc
 
-    by : (b : Bool) → (number == applied + 1) ≡ b → (if b then next_fit else if nat_le 1 number && nat_le number applied then known_fit else strange_fit) ≡ next_fit → number ≡ applied + 1
+    by : (b : Bool) → (number == applied + 1) ≡ b →
+        (if b then next_fit else if nat_le 1 number && nat_le number applied then known_fit else strange_fit) ≡ next_fit → number ≡ applied + 1
     by true is e = eqb-true number (applied + 1) is
     by false is e = absurd (other (nat_le 1 number && nat_le number applied) e)
 
 -- the number of a batch among these
-in_numbered : (b : Batch) (sent : List Batch) → AreNumbered sent → IsIn b sent → (b.number ≤ length sent) × (b.number ≡ length sent → last_members sent ≡ b.docs)
+in_numbered : (b : Batch) (sent : List Batch) → AreNumbered sent → IsIn b sent → (b.number ≤ length sent) × (b.number ≡ length sent →
+    last_members sent ≡ b.docs)
 in_numbered b [] numbered i = absurd (in_none b i)
 in_numbered b (a ∷ sent) numbered i = by (in_cons b a sent i) (λ j. in_numbered b sent numbered.1 j)
   where
@@ -190,7 +193,8 @@ put_in_order key None rows ordered = sorted_remove order_total (λ k. is_eq (ord
 
 put_found : (key q : Datum) (document : Option Fields) (rows : Rows) → AreInOrder rows →
     document_under q (put_under key document rows) ≡ cond (same_value key q) document (document_under q rows)
-put_found key q (Some document) rows ordered = find_insert order_total q key document rows ∙ ap (λ (b : Bool). cond b (Some document) (document_under q rows)) (equal_turned order_total q key)
+put_found key q (Some document) rows ordered = find_insert order_total q key document rows
+    ∙ ap (λ (b : Bool). cond b (Some document) (document_under q rows)) (equal_turned order_total q key)
 put_found key q None rows ordered = find_remove order_total q key rows ordered
 
 module _ (c : Copy) (written : Datum) (document : Option Fields) (s : Source) (h : IsCopy c) (marks : Marks written c.source s) (key : Datum)
@@ -202,7 +206,8 @@ module _ (c : Copy) (written : Datum) (document : Option Fields) (s : Source) (h
   cursor_stays = ap (λ (b : Bound). is_up_to b key) marks.cursor
 
   still : has_key key c.source.changed ≡ true → has_key key s.changed ≡ true
-  still changed = marks.changed key ∙ ap (λ (t : Bool). (is_handed_out c.source written && same_value written key) || t) changed ∙ or_true (is_handed_out c.source written && same_value written key)
+  still changed = marks.changed key ∙ ap (λ (t : Bool). (is_handed_out c.source written && same_value written key) || t) changed
+      ∙ or_true (is_handed_out c.source written && same_value written key)
     where
       or_true : (b : Bool) → (b || true) ≡ true
       or_true true = refl
@@ -228,7 +233,8 @@ module _ (c : Copy) (written : Datum) (document : Option Fields) (s : Source) (h
 
 pub write_kept : (c : Copy) (key : Datum) (document : Option Fields) (s : Source) → IsCopy c → Marks key c.source s → IsCopy (copy_written key document s c)
 write_kept c key document s h marks = record {
-  keys = λ q is in_range. let near : inside (range_span c.source.range) q ≡ true = subst (λ (r : Range). inside (range_span r) q ≡ true) marks.range in_range in
+  keys = λ q is in_range. let near : inside (range_span c.source.range) q ≡ true = subst (λ (r : Range). inside (range_span r) q
+      ≡ true) marks.range in_range in
       written_key c key document s h marks q near (same_value key q) refl (h.keys q is near);
   in_flight = in_flight h.in_flight;
   count = marks.number ∙ h.count;
