@@ -1,23 +1,15 @@
-//! A collection from one key to the next, and the time of a key's last version.
-#![tactic(auto, unfolding(crate::specs::Collections::at_in, crate::specs::Collections::last_in, crate::specs::Present::rows_of))]
+//! The time of a key's last version.
+#![tactic(auto, unfolding(crate::specs::Collections::last_in))]
 
-ghost use Rattle.std.specs.Prelude.{◌≡◌, IfSome, true};
-ghost use Rattle.std.specs.Arc.{arc_value};
-ghost use Rattle.std.specs.Bound.{bound_map};
+ghost use Rattle.std.specs.Prelude.{◌≡◌};
 ghost use Rattle.std.specs.Option.{option_map};
-ghost use Rattle.bson_values.specs.Tree.{Datum};
-ghost use Rattle.value_compare.specs.Keys.{inside, range_span};
-ghost use Rattle.history_model.specs.Documents.{AreInOrder, document_under};
 
-use super::{Collection, lower_edge, upper_edge};
-use bson_values::Document;
+use super::Collection;
 use cluster_base::Time;
-use std::alloc::Global;
-use std::sync::Arc;
-use value_compare::{Key, KeyRange};
+use value_compare::Key;
 
 impl Collection {
-    ghost use Rattle.mvcc_collection.specs.Collections.{at_in, last_in};
+    ghost use Rattle.mvcc_collection.specs.Collections.{last_in};
 
     /// The time of the key's last version, which may be of no document; `None` where it has none.
     pub fn last_at(&self, key: &Key) -> Option<Time>
