@@ -4,3 +4,4 @@ pub mod Rows
 pub mod SpanLists
 pub mod Edges
 pub mod Places
+pub mod Latest
