@@ -1,7 +1,7 @@
 use Rattle.std.proofs.Common.{◌≡◌}
 use Rattle.std.proofs.lemmas.Result.{err_from_is_err_and}
 use Rattle.shard_records.specs.Meanings.{record_view}
-use Rattle.record_reader.proofs.TablesAgain.{found_err, found_record, no_other}
+use Rattle.record_reader.proofs.RecordsAgain.{found_err, found_record, no_other}
 use Rattle.record_reader.proofs.reader.read_record.Goals as goal
 
 pub returns-in_err-kept-clause-only : goal.returns-in_err-kept-clause-only
