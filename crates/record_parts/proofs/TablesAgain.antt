@@ -29,8 +29,8 @@ pub range_again : (r : Range) (rest : List ℕ) → IsSoundRange r → IsHeldRan
 unfolding range_at
 range_again r rest sound held =
     stepped _ (first bound_at (spelled_bound r.min) (spelled_bound r.max) rest (bound_again r.min (spelled_bound r.max ++ rest) sound.min held.0))
-    (stepped _ (bound_again r.max rest sound.max held.1)
-    (stepped _ (range_between_again r.min r.max held.2) refl))
+    (stepped _ (bound_again r.max rest sound.max held.1.0)
+    (stepped _ (range_between_again r.min r.max held.1.1) refl))
 
 pub version_again : (v : Version) (rest : List ℕ) → IsSoundVersion v → version_at (spelled_version v ++ rest) ≡ Some (v, rest)
 unfolding version_at
@@ -68,6 +68,9 @@ all_fine : (chunks : List Chunk) → AllByRecursion IsSoundChunk chunks → AllB
 all_fine [] sound held = tt
 all_fine (c ∷ chunks) sound held = ((sound.0, held.0), all_fine chunks sound.1 held.1)
 
+table_there : (t : Table) → follow_from min_bound t.chunks ≡ true → table_in t.namespace t.epoch t.changes t.oldest t.chunks ≡ Some t
+table_there t follow = rw follow refl
+
 pub table_again : (t : Table) (rest : List ℕ) → IsSoundTable t → IsHeldTable t → table_at (spelled_table t ++ rest) ≡ Some (t, rest)
 unfolding table_at
 table_again t rest sound held =
@@ -80,4 +83,4 @@ table_again t rest sound held =
     (stepped _ (first eight_at (eight t.changes) times rest (eight_again t.changes _ sound.changes))
     (stepped _ (first eight_at (eight t.oldest) chunks rest (eight_again t.oldest _ sound.oldest))
     (stepped _ (list_again chunk_at spelled_chunk IsFine chunk_again t.chunks rest sound.count (all_fine t.chunks sound.chunks held.chunks))
-    (stepped _ (rw follow refl) refl)))))
+    (stepped _ (table_there t follow) refl)))))
