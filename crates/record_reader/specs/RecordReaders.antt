@@ -8,7 +8,7 @@ use Rattle.base_model.specs.Identities.{RequestId}
 use Rattle.history_model.specs.Sessions.{StatementRecord, SessionRecord, are_in_order}
 use Rattle.record_model.specs.Moves.{MoveEnd, MovedDocument}
 use Rattle.record_model.specs.Records.{Record, table_record, entry_record, ceiling_record, floor_record, move_start_record, section_record, move_end_record, released_record, receive_start_record, batch_record, receive_done_record, receive_end_record, deletion_record, create_record, split_record, commit_record, resolve_record, purge_record, catalogue_ceiling_record, life_record, block_record}
-use Rattle.record_reader.specs.Readers.{◌>>=◌, Found, byte_at, four_at, eight_at, namespace_at, document_at, key_at, session_at, statement_at, operation_at, outcome_at, bound_at, range_at, version_at, list_at, table_at}
+use Rattle.record_parts.specs.Readers.{◌>>=◌, Found, byte_at, four_at, eight_at, namespace_at, document_at, key_at, session_at, statement_at, operation_at, outcome_at, bound_at, range_at, version_at, list_at, table_at}
 
 unfoldable pub entry_at : List ℕ → Option Record
 entry_at bytes = do
