@@ -28,8 +28,10 @@ moved_held m key document = record { key = key; document = document }
 pub session_held : (s : SessionRecord) → length s.statements < 2 ^ 32 → AllByRecursion IsWritableStatement s.statements → IsWritableSession s
 session_held s count statements = record { count = count; statements = statements }
 
-pub received_held : (b : ReceivedBatch) → IsWritableBound b.batch.upto → length b.batch.docs < 2 ^ 32 → AllByRecursion IsWritableMoved b.batch.docs → IsWritableReceived b
+pub received_held : (b : ReceivedBatch) → IsWritableBound b.batch.upto → length b.batch.docs < 2 ^ 32 → AllByRecursion IsWritableMoved b.batch.docs →
+    IsWritableReceived b
 received_held b upto count docs = record { upto = upto; count = count; docs = docs }
 
-pub done_held : (r : ReceiveDone) → length r.sessions < 2 ^ 32 → AllByRecursion IsWritableSession r.sessions → are_in_order r.sessions ≡ true → IsWritableDone r × (are_in_order r.sessions ≡ true)
+pub done_held : (r : ReceiveDone) → length r.sessions < 2 ^ 32 → AllByRecursion IsWritableSession r.sessions → are_in_order r.sessions ≡ true →
+    IsWritableDone r × (are_in_order r.sessions ≡ true)
 done_held r count sessions order = (record { count = count; sessions = sessions }, order)

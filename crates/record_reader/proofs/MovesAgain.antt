@@ -38,7 +38,8 @@ unfolding flag_at byte_at
 flag_again true rest = refl
 flag_again false rest = refl
 
-option_document_again : (o : Option Fields) (rest : List ℕ) → IsSoundOption o → IsWritableOption o → option_document_at (spelled_document o ++ rest) ≡ Some (o, rest)
+option_document_again : (o : Option Fields) (rest : List ℕ) → IsSoundOption o → IsWritableOption o →
+    option_document_at (spelled_document o ++ rest) ≡ Some (o, rest)
 unfolding option_document_at some_document_at stored_at byte_at
 option_document_again None rest sound fits = refl
 option_document_again (Some document) rest sound fits =
@@ -72,7 +73,8 @@ unfolding moved_at
 moved_again x rest fine =
     let sound = fine.0 in
     let held = fine.1 in
-    stepped _ (first key_at (spelled_key_value x.key) (spelled_document x.document) rest (key_again x.key ((spelled_document x.document) ++ rest) sound.key held.key))
+    stepped _ (first key_at (spelled_key_value x.key) (spelled_document x.document) rest
+    (key_again x.key ((spelled_document x.document) ++ rest) sound.key held.key))
     (stepped _ (option_document_again x.document rest sound.document held.document) refl)
 
 statement_record_again : (x : StatementRecord) (rest : List ℕ) → IsFineStatement x → statement_record_at (spelled_statement x ++ rest) ≡ Some (x, rest)
@@ -92,10 +94,15 @@ session_record_again x rest fine =
     let held = fine.1 in
     let b1 : List ℕ = spelled_transaction x.transaction ++ spelled_list spelled_statement x.statements in
     stepped _ (first session_at (spelled_session x.session) b1 rest (session_again x.session (b1 ++ rest) sound.session))
-    (stepped _ (first eight_at (eight (cast_unsigned w64 x.transaction)) (spelled_list spelled_statement x.statements) rest (eight_again (cast_unsigned w64 x.transaction) ((spelled_list spelled_statement x.statements) ++ rest) (Fits-of_z sound.transaction).fits))
-    (stepped _ (list_again statement_record_at spelled_statement IsFineStatement statement_record_again x.statements rest sound.count (all_statements x.statements sound.statements held.statements)) (ap (λ (z : ℤ). Some (record { session = x.session; transaction = z; statements = x.statements }, rest)) (to_z-of_z w64 x.transaction sound.transaction))))
+    (stepped _ (first eight_at (eight (cast_unsigned w64 x.transaction)) (spelled_list spelled_statement x.statements) rest
+    (eight_again (cast_unsigned w64 x.transaction) ((spelled_list spelled_statement x.statements) ++ rest) (Fits-of_z sound.transaction).fits))
+    (stepped _ (list_again statement_record_at spelled_statement IsFineStatement statement_record_again x.statements rest sound.count
+    (all_statements x.statements sound.statements held.statements))
+    (ap (λ (z : ℤ). Some (record { session = x.session; transaction = z; statements = x.statements }, rest))
+    (to_z-of_z w64 x.transaction sound.transaction))))
 
-pub move_start_again : (x : MoveStart) → IsSoundMoveStart x → IsUtf8 x.namespace × IsHeldRange x.range → move_start_at (spelled_move_start x) ≡ Some (move_start_record x)
+pub move_start_again : (x : MoveStart) → IsSoundMoveStart x → IsUtf8 x.namespace × IsHeldRange x.range →
+    move_start_at (spelled_move_start x) ≡ Some (move_start_record x)
 unfolding move_start_at
 move_start_again x sound held =
     stepped _ (request_again x.id _ sound.id)
@@ -120,7 +127,8 @@ move_end_again x sound held =
     (stepped _ (eight_again x.time _ sound.time)
     (stepped _ (last eight_at (eight x.due) (eight_again x.due [] sound.due)) refl))))
 
-pub receive_start_again : (x : ReceiveStart) → IsSoundReceiveStart x → IsUtf8 x.namespace × (IsHeldRange x.range × IsHeldTable x.table) → receive_start_at (spelled_receive_start x) ≡ Some (receive_start_record x)
+pub receive_start_again : (x : ReceiveStart) → IsSoundReceiveStart x → IsUtf8 x.namespace × (IsHeldRange x.range × IsHeldTable x.table) →
+    receive_start_at (spelled_receive_start x) ≡ Some (receive_start_record x)
 unfolding receive_start_at
 receive_start_again x sound held =
     stepped _ (request_again x.id _ sound.id)
@@ -137,7 +145,8 @@ received_again x sound held =
     (stepped _ (eight_again x.batch.number _ sound.number)
     (stepped _ (eight_again x.time _ sound.time)
     (stepped _ (bound_again x.batch.upto _ sound.upto held.upto)
-    (stepped _ (last (list_at moved_at) (spelled_list spelled_moved x.batch.docs) (list_again moved_at spelled_moved IsFineMoved moved_again x.batch.docs [] sound.count (all_moved x.batch.docs sound.docs held.docs))) refl))))
+    (stepped _ (last (list_at moved_at) (spelled_list spelled_moved x.batch.docs)
+    (list_again moved_at spelled_moved IsFineMoved moved_again x.batch.docs [] sound.count (all_moved x.batch.docs sound.docs held.docs))) refl))))
 
 pub deletion_again : (x : Deletion) → IsSoundDeletion x → IsUtf8 x.namespace × IsHeldRange x.range → deletion_at (spelled_deletion x) ≡ Some (deletion_record x)
 unfolding deletion_at
@@ -178,15 +187,19 @@ purge_again x sound held =
     (stepped _ (eight_again x.below _ sound.below)
     (stepped _ (last eight_at (eight x.at) (eight_again x.at [] sound.at)) refl))
 
-pub receive_done_again : (x : ReceiveDone) → IsSoundReceiveDone x → IsWritableDone x × (are_in_order x.sessions ≡ true) → receive_done_at (spelled_receive_done x) ≡ Some (receive_done_record x)
+pub receive_done_again : (x : ReceiveDone) → IsSoundReceiveDone x → IsWritableDone x × (are_in_order x.sessions ≡ true) →
+    receive_done_at (spelled_receive_done x) ≡ Some (receive_done_record x)
 unfolding receive_done_at
 receive_done_again x sound held =
     let order : are_in_order x.sessions ≡ true = held.1 in
     stepped _ (request_again x.id _ sound.id)
-    (stepped _ (last (list_at session_record_at) (spelled_list spelled_session_record x.sessions) (list_again session_record_at spelled_session_record IsFineSession session_record_again x.sessions [] sound.count (all_sessions x.sessions sound.sessions held.0.sessions)))
+    (stepped _ (last (list_at session_record_at) (spelled_list spelled_session_record x.sessions)
+    (list_again session_record_at spelled_session_record IsFineSession session_record_again x.sessions [] sound.count
+    (all_sessions x.sessions sound.sessions held.0.sessions)))
     (rw order refl))
 
-pub entry_again : (e : EntryWords) → IsSoundEntry e → IsUtf8 e.namespace → IsWritableRecord (entry_record e) → entry_at (spelled_entry e) ≡ Some (entry_record e)
+pub entry_again : (e : EntryWords) → IsSoundEntry e → IsUtf8 e.namespace → IsWritableRecord (entry_record e) →
+    entry_at (spelled_entry e) ≡ Some (entry_record e)
 unfolding entry_at
 entry_again e sound text fits =
     stepped _ (eight_again e.time _ sound.time)

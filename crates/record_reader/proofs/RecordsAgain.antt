@@ -19,7 +19,8 @@ unfolding number_at
 number_again number_record n fits = stepped _ (last eight_at (eight n) (eight_again n [] fits)) refl
 
 pub record_again : (r : Record) → IsSound r → IsHeld r → record_at (spelled 1 r) ≡ Some r
-unfolding record_at byte_at fields_at shard_fields_at move_fields_at catalogue_fields_at router_fields_at table_record_at released_at given_end_at receive_end_at
+unfolding record_at byte_at fields_at shard_fields_at move_fields_at catalogue_fields_at router_fields_at table_record_at released_at given_end_at
+    receive_end_at
 record_again (table_record t) sound held = stepped _ (last table_at (spelled_table t) (table_again t [] sound held)) refl
 record_again (entry_record e) sound held = entry_again e sound held.0 held.1
 record_again (ceiling_record n) sound held = number_again ceiling_record n sound
@@ -43,20 +44,23 @@ record_again (life_record n) sound held = number_again life_record n sound
 record_again (block_record n) sound held = number_again block_record n sound
 
 -- What a call found in bytes that spell a record is that record.
-pub found_record : {X : Type 0} (view : X → Record) (x : X) (bytes : List ℕ) (r : Record) → record_at bytes ≡ Some (view x) → IsSound r → IsHeld r → spelled 1 r ≡ bytes → Path (Option Record) (Some r) (Some (view x))
+pub found_record : {X : Type 0} (view : X → Record) (x : X) (bytes : List ℕ) (r : Record) → record_at bytes ≡ Some (view x) → IsSound r → IsHeld r →
+    spelled 1 r ≡ bytes → Path (Option Record) (Some r) (Some (view x))
 found_record view x bytes r found sound held same = sym (record_again r sound held) ∙ ap record_at same ∙ found
 
 some_is : (a b : Record) → Path (Option Record) (Some a) (Some b) → a ≡ b
 some_is a b e = cc
 
 -- Where the bytes are not the spelling of what was found, they spell no record.
-pub no_other : {X : Type 0} (view : X → Record) (x : X) (bytes : List ℕ) (same_bytes : Bool) (r : Record) → record_at bytes ≡ Some (view x) → (IsTrue same_bytes ↔ (spelled 1 (view x) ≡ bytes)) → same_bytes ≡ false → IsSound r → IsHeld r → spelled 1 r ≡ bytes → Path (Option Record) (Some r) None
+pub no_other : {X : Type 0} (view : X → Record) (x : X) (bytes : List ℕ) (same_bytes : Bool) (r : Record) → record_at bytes ≡ Some (view x) →
+    (IsTrue same_bytes ↔ (spelled 1 (view x) ≡ bytes)) → same_bytes ≡ false → IsSound r → IsHeld r → spelled 1 r ≡ bytes → Path (Option Record) (Some r) None
 no_other view x bytes false r found tells other sound held same =
     let one : r ≡ view x = some_is r (view x) (found_record view x bytes r found sound held same) in
     absurd (cc (tells.1 (ap (λ (s : Record). spelled 1 s) (sym one) ∙ same)))
 no_other view x bytes true r found tells other sound held same = absurd (cc (other))
 
 -- Bytes in which a call found none spell no record.
-pub found_err : {X : Type 0} (view : X → Record) (e : RecordFault) (bytes : List ℕ) (r : Record) → Finds view (Err e) (record_at bytes) → IsSound r → IsHeld r → spelled 1 r ≡ bytes → Finds view (Err e) (Some r)
+pub found_err : {X : Type 0} (view : X → Record) (e : RecordFault) (bytes : List ℕ) (r : Record) → Finds view (Err e) (record_at bytes) → IsSound r →
+    IsHeld r → spelled 1 r ≡ bytes → Finds view (Err e) (Some r)
 found_err view NoRecord bytes r found sound held same = sym (record_again r sound held) ∙ ap record_at same ∙ found
 found_err view Memory bytes r found sound held same = tt

@@ -15,7 +15,9 @@ ghost use Rattle.record_reader.specs.SoundRecords.{IsHeld};
 use crate::moves::read_request;
 use bson_values::{Document, MOST_BYTES_KEPT};
 use cluster_base::Time;
-use record_parts::{RecordFault, read_bound, read_byte, read_document, read_key, read_u32, read_u64};
+use record_parts::{
+    RecordFault, read_bound, read_byte, read_document, read_key, read_u32, read_u64,
+};
 use shard_records::{MoveBatch, MovedDocument, MovedList, ReceivedBatch, Record};
 use std::alloc::Global;
 use std::sync::Arc;

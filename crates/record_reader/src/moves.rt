@@ -8,7 +8,10 @@ ghost use Rattle.record_parts.specs.SoundParts.{Finds, IsHeldTable};
 ghost use Rattle.record_reader.specs.SoundRecords.{IsHeld};
 
 use cluster_base::{NodeId, RequestId, Time};
-use record_parts::{RecordFault, read_byte, read_namespace, read_range, read_table, read_u32, read_u64, read_version};
+use record_parts::{
+    RecordFault, read_byte, read_namespace, read_range, read_table, read_u32, read_u64,
+    read_version,
+};
 use shard_records::{Deletion, MoveEnd, MoveStart, ReceiveStart, Record, SectionStart};
 use std::alloc::Global;
 

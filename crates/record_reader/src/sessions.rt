@@ -62,7 +62,10 @@ fn read_each_statement(
 
 /// Reads the statements of a session: how many, and each.
 #[tactic(auto, unfolding(record_parts::specs::Readers::list_at))]
-fn read_statements(alloc: Global, bytes: &[u8]) -> Result<(Vec<StatementRecord>, &[u8]), RecordFault>
+fn read_statements(
+    alloc: Global,
+    bytes: &[u8],
+) -> Result<(Vec<StatementRecord>, &[u8]), RecordFault>
     ensures found { Finds (λ x. (map statement_record_view x.0.items, x.1.now)) result (list_at statement_record_at bytes.now) }
     ensures count { IfOk result (λ x. length x.0.items < 2 ^ 32) }
     ensures held { IfOk result (λ x. AllByRecursion IsWritableStatement (map statement_record_view x.0.items)) }

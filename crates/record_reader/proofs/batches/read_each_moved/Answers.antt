@@ -13,21 +13,26 @@ pub returns-in_err-moved-clause-found : goal.returns-in_err-moved-clause-found
 returns-in_err-moved-clause-found c =
     let p = err_from_is_err_and c.from_residual.result c.from_residual.ensures.1 in
     rw (p.1, p.2) (failed c.in_err-moved.field-0.0 (moved_at c.loop.left.now) (items_at moved_at c.args.count c.args.bytes.now)
-    (λ none. fails moved_at c.args.count c.loop.counter (map moved_view c.loop.docs.items) c.loop.left.now c.args.bytes.now c.loop-test.true none c.loop.invariant.so_far) c.in_err-moved.ensures.found)
+    (λ none. fails moved_at c.args.count c.loop.counter (map moved_view c.loop.docs.items) c.loop.left.now c.args.bytes.now c.loop-test.true none
+    c.loop.invariant.so_far) c.in_err-moved.ensures.found)
 
 pub loop-preserved : goal.loop-preserved
 loop-preserved c =
-    let e : map moved_view c.push.new.self.items ≡ map moved_view c.loop.docs.items ++ moved_view c.in_ok-moved.moved ∷ [] = rw c.in_ok-push.ensures.items (map_push moved_view c.loop.docs.items c.in_ok-moved.moved) in
+    let e : map moved_view c.push.new.self.items ≡ map moved_view c.loop.docs.items ++ moved_view c.in_ok-moved.moved ∷ [] = rw c.in_ok-push.ensures.items
+    (map_push moved_view c.loop.docs.items c.in_ok-moved.moved) in
     rw e (record {
-      so_far = goes_on moved_at c.args.count c.loop.counter (map moved_view c.loop.docs.items) (moved_view c.in_ok-moved.moved) c.loop.left.now c.in_ok-moved.rest.now c.args.bytes.now c.loop-test.true c.in_ok-moved.ensures.found c.loop.invariant.so_far;
+      so_far = goes_on moved_at c.args.count c.loop.counter (map moved_view c.loop.docs.items) (moved_view c.in_ok-moved.moved) c.loop.left.now
+          c.in_ok-moved.rest.now c.args.bytes.now c.loop-test.true c.in_ok-moved.ensures.found c.loop.invariant.so_far;
       held = all_push IsWritableMoved (map moved_view c.loop.docs.items) (moved_view c.in_ok-moved.moved) c.loop.invariant.held c.in_ok-moved.ensures.fits;
     })
 
 pub returns-clause-found : goal.returns-clause-found
-returns-clause-found c = ends moved_at c.args.count c.loop.counter (map moved_view c.loop.docs.items) c.loop.left.now c.args.bytes.now c.loop-test.false c.loop.invariant.so_far
+returns-clause-found c = ends moved_at c.args.count c.loop.counter (map moved_view c.loop.docs.items) c.loop.left.now c.args.bytes.now c.loop-test.false
+    c.loop.invariant.so_far
 
 pub returns-clause-count : goal.returns-clause-count
-returns-clause-count c = counted moved_at moved_view c.args.count c.loop.counter c.loop.docs.items c.loop.left.now c.args.bytes.now c.loop-test.false c.loop.invariant.so_far
+returns-clause-count c = counted moved_at moved_view c.args.count c.loop.counter c.loop.docs.items c.loop.left.now c.args.bytes.now c.loop-test.false
+    c.loop.invariant.so_far
 
 pub returns-clause-held : goal.returns-clause-held
 returns-clause-held c = c.loop.invariant.held

@@ -15,4 +15,5 @@ returns-then-branch-clause-only c = λ r sound held same.
 
 pub returns-else-branch-clause-only : goal.returns-else-branch-clause-only
 returns-else-branch-clause-only c = λ r sound held same.
-    no_other record_view c.in_ok-kept.kept c.args.bytes.now c.in_ok-is_spelled.field-0 r c.in_ok-kept.ensures.found c.in_ok-is_spelled.ensures.same c.if-branch.false sound held same
+    no_other record_view c.in_ok-kept.kept c.args.bytes.now c.in_ok-is_spelled.field-0 r c.in_ok-kept.ensures.found c.in_ok-is_spelled.ensures.same
+    c.if-branch.false sound held same
