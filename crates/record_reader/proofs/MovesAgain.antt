@@ -38,13 +38,23 @@ unfolding flag_at byte_at
 flag_again true rest = refl
 flag_again false rest = refl
 
+kept_there : (document : Fields) (rest : List ℕ) → nat_lt most_bytes_kept (length (written document)) ≡ false →
+    Path (Found Fields) (if nat_lt most_bytes_kept (length (written document)) then None else Some (document, rest)) (Some (document, rest))
+kept_there document rest small = rw small refl
+
+stored_again : (document : Fields) (rest : List ℕ) → IsSoundOption (Some document) → IsWritableOption (Some document) →
+    stored_at (written document ++ rest) ≡ Some (document, rest)
+unfolding stored_at
+stored_again document rest sound fits =
+    let most : length (written document) ≤ most_bytes_kept = fits.1 in
+    let small : nat_lt most_bytes_kept (length (written document)) ≡ false = grind (arith, most) in
+    stepped _ (document_again document rest sound (omega (arith, most))) (kept_there document rest small)
+
 option_document_again : (o : Option Fields) (rest : List ℕ) → IsSoundOption o → IsWritableOption o →
     option_document_at (spelled_document o ++ rest) ≡ Some (o, rest)
-unfolding option_document_at some_document_at stored_at byte_at
+unfolding option_document_at some_document_at byte_at
 option_document_again None rest sound fits = refl
-option_document_again (Some document) rest sound fits =
-    let small : nat_lt most_bytes_kept (length (written document)) ≡ false = grind (arith, fits.1) in
-    stepped _ (stepped _ (document_again document rest sound (omega (arith, fits.1))) (rw small refl)) refl
+option_document_again (Some document) rest sound fits = stepped _ (stored_again document rest sound fits) refl
 
 -- sound, and of a form that can be written
 abbrev IsFineMoved : MovedDocument → Type 0
@@ -187,16 +197,18 @@ purge_again x sound held =
     (stepped _ (eight_again x.below _ sound.below)
     (stepped _ (last eight_at (eight x.at) (eight_again x.at [] sound.at)) refl))
 
+sessions_there : (sessions : List SessionRecord) → are_in_order sessions ≡ true → sessions_in sessions ≡ Some sessions
+sessions_there sessions order = rw order refl
+
 pub receive_done_again : (x : ReceiveDone) → IsSoundReceiveDone x → IsWritableDone x × (are_in_order x.sessions ≡ true) →
     receive_done_at (spelled_receive_done x) ≡ Some (receive_done_record x)
 unfolding receive_done_at
 receive_done_again x sound held =
-    let order : are_in_order x.sessions ≡ true = held.1 in
     stepped _ (request_again x.id _ sound.id)
     (stepped _ (last (list_at session_record_at) (spelled_list spelled_session_record x.sessions)
     (list_again session_record_at spelled_session_record IsFineSession session_record_again x.sessions [] sound.count
     (all_sessions x.sessions sound.sessions held.0.sessions)))
-    (rw order refl))
+    (stepped _ (sessions_there x.sessions held.1) refl))
 
 pub entry_again : (e : EntryWords) → IsSoundEntry e → IsUtf8 e.namespace → IsWritableRecord (entry_record e) →
     entry_at (spelled_entry e) ≡ Some (entry_record e)
