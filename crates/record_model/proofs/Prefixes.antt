@@ -12,8 +12,8 @@ use Rattle.base_model.specs.Names.{IsNamespace, full_name}
 use Rattle.bson_model.proofs.OneDocument.{one_document}
 use Rattle.history_model.specs.History.{Session, client_session, router_session, StatementNumber, Operation, insert_operation, update_operation, delete_operation}
 use Rattle.chunk_model.specs.Catalogue.{Creation}
-use Rattle.record_model.specs.Records.{OutcomeWords, EntryWords, Record, entry_record, create_record}
-use Rattle.record_model.specs.RecordFormat.{four, eight, spelled_string, key_document, spelled_key, spelled_session, spelled_number, spelled_operation, spelled_outcome, spelled_entry, spelled_creation, spelled, IsSpellable, IsSoundDocument, IsSoundKeyValue, IsSoundKey, IsSoundSession, IsSoundNumber, IsSoundOperation, IsSoundOutcome, IsSoundEntry, IsSoundCreation, IsSound}
+use Rattle.record_model.specs.Records.{OutcomeWords, EntryWords}
+use Rattle.record_model.specs.PartFormat.{four, eight, spelled_string, key_document, spelled_key, spelled_session, spelled_number, spelled_operation, spelled_outcome, spelled_entry, spelled_creation, IsSpellable, IsSoundDocument, IsSoundKeyValue, IsSoundKey, IsSoundSession, IsSoundNumber, IsSoundOperation, IsSoundOutcome, IsSoundEntry, IsSoundCreation}
 use Rattle.bson_model.proofs.Lengths.{length-framed}
 use Rattle.bson_model.proofs.Parts.{same_prefix, same_boolean}
 
@@ -41,7 +41,7 @@ same_code n m xs ys p q e =
     let prefix = same_four (cast_unsigned w32 n) (cast_unsigned w32 m) xs ys (Fits-of_z p).fits (Fits-of_z q).fits e in
     (sym (to_z-of_z w32 n p) ∙ ap (λ (k : ℕ). cast_signed w32 k) prefix.0 ∙ to_z-of_z w32 m q, prefix.1)
 
-same_transaction : (n m : ℤ) (xs ys : List ℕ) → FitsSigned w64 n → FitsSigned w64 m → eight (cast_unsigned w64 n) ++ xs ≡ eight (cast_unsigned w64 m) ++ ys → (n ≡ m) × (xs ≡ ys)
+pub same_transaction : (n m : ℤ) (xs ys : List ℕ) → FitsSigned w64 n → FitsSigned w64 m → eight (cast_unsigned w64 n) ++ xs ≡ eight (cast_unsigned w64 m) ++ ys → (n ≡ m) × (xs ≡ ys)
 same_transaction n m xs ys p q e =
     let prefix = same_eight (cast_unsigned w64 n) (cast_unsigned w64 m) xs ys (Fits-of_z p).fits (Fits-of_z q).fits e in
     (sym (to_z-of_z w64 n p) ∙ ap (λ (k : ℕ). cast_signed w64 k) prefix.0 ∙ to_z-of_z w64 m q, prefix.1)
@@ -56,6 +56,9 @@ pub same_text : (s t xs ys : List ℕ) → length s < 2 ^ 31 → length t < 2 ^ 
 same_text s t xs ys p q e =
     let number = same_four (length s) (length t) (s ++ xs) (t ++ ys) (omega arith) (omega arith) e in
     same_prefix s t xs ys number.0 number.1
+
+pub same_name : (s t xs ys : List ℕ) → IsNamespace s → IsNamespace t → spelled_string s ++ xs ≡ spelled_string t ++ ys → (s ≡ t) × (xs ≡ ys)
+same_name s t xs ys p q e = same_text s t xs ys (short_name s p) (short_name t q) e
 
 -- a spellable document's own length is a number of four bytes
 short : (ms : Fields) → IsSpellable ms → length (written_fields ms) + 5 < 2 ^ 32
@@ -74,7 +77,7 @@ same_document a b xs ys p q e =
 pub key_in : (a b : Datum) → key_document a ≡ key_document b → a ≡ b
 key_in a b e = cc
 
-same_key : (a b : Option Datum) (xs ys : List ℕ) → IsSoundKey a → IsSoundKey b → spelled_key a ++ xs ≡ spelled_key b ++ ys → (a ≡ b) × (xs ≡ ys)
+pub same_key : (a b : Option Datum) (xs ys : List ℕ) → IsSoundKey a → IsSoundKey b → spelled_key a ++ xs ≡ spelled_key b ++ ys → (a ≡ b) × (xs ≡ ys)
 same_key None None xs ys p q e = (refl, behind 0 0 xs ys e)
 same_key None (Some b) xs ys p q e =
     absurd (omega (arith, first_byte 0 1 _ _ e))
@@ -84,7 +87,7 @@ same_key (Some a) (Some b) xs ys p q e =
     let document = same_document (key_document a) (key_document b) xs ys p.spelled q.spelled (behind 1 1 _ _ e) in
     (ap Some (key_in a b document.0), document.1)
 
-same_session : (s t : Session) (xs ys : List ℕ) → IsSoundSession s → IsSoundSession t → spelled_session s ++ xs ≡ spelled_session t ++ ys → (s ≡ t) × (xs ≡ ys)
+pub same_session : (s t : Session) (xs ys : List ℕ) → IsSoundSession s → IsSoundSession t → spelled_session s ++ xs ≡ spelled_session t ++ ys → (s ≡ t) × (xs ≡ ys)
 same_session (client_session id) (client_session other) xs ys p q e =
     let prefix = same_prefix id other xs ys (p ∙ sym q) (behind 0 0 _ _ e) in
     (ap client_session prefix.0, prefix.1)
@@ -107,7 +110,7 @@ same_number n m xs ys p q e =
     let c = same_four n.index m.index xs ys p.index q.index b.1 in
     (λ i. record { session = a.0 i; transaction = b.0 i; index = c.0 i }, c.1)
 
-same_upsert : (a b : Bool) (xs ys : List ℕ) → boolean_byte a ∷ xs ≡ boolean_byte b ∷ ys → (a ≡ b) × (xs ≡ ys)
+pub same_upsert : (a b : Bool) (xs ys : List ℕ) → boolean_byte a ∷ xs ≡ boolean_byte b ∷ ys → (a ≡ b) × (xs ≡ ys)
 same_upsert a b xs ys e =
     let byte : boolean_byte a ≡ boolean_byte b = cc in
     (same_boolean a b byte, behind _ _ xs ys e)
@@ -142,7 +145,7 @@ same_operation (delete_operation f) (insert_operation d) xs ys p q e =
 same_operation (delete_operation f) (update_operation g c v) xs ys p q e =
     absurd (omega (arith, first_byte 3 2 _ _ e))
 
-same_outcome : (a b : OutcomeWords) (xs ys : List ℕ) → IsSoundOutcome a → IsSoundOutcome b → spelled_outcome a ++ xs ≡ spelled_outcome b ++ ys → (a ≡ b) × (xs ≡ ys)
+pub same_outcome : (a b : OutcomeWords) (xs ys : List ℕ) → IsSoundOutcome a → IsSoundOutcome b → spelled_outcome a ++ xs ≡ spelled_outcome b ++ ys → (a ≡ b) × (xs ≡ ys)
 same_outcome a b xs ys p q e =
     let a_code : List ℕ = four (cast_unsigned w32 a.code) in
     let b_code : List ℕ = four (cast_unsigned w32 b.code) in

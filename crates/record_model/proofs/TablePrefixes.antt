@@ -4,10 +4,10 @@ use Rattle.std.specs.List.{AllByRecursion, flat_map}
 use Rattle.value_model.specs.Keys.{Bound, min_bound, key_bound, max_bound}
 use Rattle.chunk_model.specs.Versions.{Version}
 use Rattle.chunk_model.specs.Tables.{Owned, Chunk, Table}
-use Rattle.record_model.specs.RecordFormat.{four, eight, spelled_string, key_document, spelled_list, spelled_bound, spelled_version, spelled_owned, spelled_chunk, spelled_table, IsSoundBound, IsSoundVersion, IsSoundOwned, IsSoundChunk, IsSoundTable}
-use Rattle.record_model.proofs.Prefixes.{first_byte, behind, regroup, same_four, same_eight, short_name, same_text, same_document, key_in}
+use Rattle.record_model.specs.PartFormat.{four, eight, spelled_string, key_document, spelled_list, spelled_bound, spelled_version, spelled_owned, spelled_chunk, spelled_table, IsSoundBound, IsSoundVersion, IsSoundOwned, IsSoundChunk, IsSoundTable}
+use Rattle.record_model.proofs.Prefixes.{first_byte, behind, regroup, same_four, same_eight, same_name, same_document, key_in}
 
-same_bound : (a b : Bound) (xs ys : List ℕ) → IsSoundBound a → IsSoundBound b → spelled_bound a ++ xs ≡ spelled_bound b ++ ys → (a ≡ b) × (xs ≡ ys)
+pub same_bound : (a b : Bound) (xs ys : List ℕ) → IsSoundBound a → IsSoundBound b → spelled_bound a ++ xs ≡ spelled_bound b ++ ys → (a ≡ b) × (xs ≡ ys)
 same_bound min_bound min_bound xs ys p q e = (refl, behind 0 0 xs ys e)
 same_bound (key_bound a) (key_bound b) xs ys p q e =
     let document = same_document (key_document a) (key_document b) xs ys p.spelled q.spelled (behind 1 1 _ _ e) in
@@ -15,7 +15,7 @@ same_bound (key_bound a) (key_bound b) xs ys p q e =
 same_bound max_bound max_bound xs ys p q e = (refl, behind 2 2 xs ys e)
 same_bound a b xs ys p q e = absurd (omega (arith, first_byte _ _ _ _ e))
 
-same_version : (a b : Version) (xs ys : List ℕ) → IsSoundVersion a → IsSoundVersion b → spelled_version a ++ xs ≡ spelled_version b ++ ys → (a ≡ b) × (xs ≡ ys)
+pub same_version : (a b : Version) (xs ys : List ℕ) → IsSoundVersion a → IsSoundVersion b → spelled_version a ++ xs ≡ spelled_version b ++ ys → (a ≡ b) × (xs ≡ ys)
 same_version a b xs ys p q e =
     let c = same_eight a.epoch b.epoch ((eight a.major ++ eight a.minor) ++ xs) ((eight b.major ++ eight b.minor) ++ ys) p.epoch q.epoch e in
     let m = same_eight a.major b.major (eight a.minor ++ xs) (eight b.minor ++ ys) p.major q.major c.1 in
@@ -42,7 +42,7 @@ same_items spelled_item IsSoundItem item (a ∷ ms) (b ∷ ns) xs ys n p q e =
     let others = same_items spelled_item IsSoundItem item ms ns xs ys (omega (arith, n)) p.1 q.1 first.1 in
     (ap (λ c. c ∷ ms) first.0 ∙ ap (λ cs. b ∷ cs) others.0, others.1)
 
-same_list : {X : Type 0} (spelled_item : X → List ℕ) (IsSoundItem : X → Type 0) → EndsItself spelled_item IsSoundItem → (ms ns : List X) (xs ys : List ℕ) → length ms < 2 ^ 32 → length ns < 2 ^ 32 → AllByRecursion IsSoundItem ms → AllByRecursion IsSoundItem ns → spelled_list spelled_item ms ++ xs ≡ spelled_list spelled_item ns ++ ys → (ms ≡ ns) × (xs ≡ ys)
+pub same_list : {X : Type 0} (spelled_item : X → List ℕ) (IsSoundItem : X → Type 0) → EndsItself spelled_item IsSoundItem → (ms ns : List X) (xs ys : List ℕ) → length ms < 2 ^ 32 → length ns < 2 ^ 32 → AllByRecursion IsSoundItem ms → AllByRecursion IsSoundItem ns → spelled_list spelled_item ms ++ xs ≡ spelled_list spelled_item ns ++ ys → (ms ≡ ns) × (xs ≡ ys)
 same_list spelled_item IsSoundItem item ms ns xs ys few less p q e =
     let count = same_four (length ms) (length ns) (flat_map spelled_item ms ++ xs) (flat_map spelled_item ns ++ ys) few less e in
     same_items spelled_item IsSoundItem item ms ns xs ys count.0 p q count.1
@@ -61,13 +61,15 @@ same_chunk a b xs ys p q e =
     let o = same_list spelled_owned IsSoundOwned same_owned a.owners b.owners xs ys p.count q.count p.owners q.owners v.1 in
     (λ i. record { range = record { min = least.0 i; max = end.0 i }; version = v.0 i; owners = o.0 i }, o.1)
 
-pub same_table : (a b : Table) → IsSoundTable a → IsSoundTable b → spelled_table a ≡ spelled_table b → a ≡ b
-same_table a b p q e =
+pub same_table : (a b : Table) (xs ys : List ℕ) → IsSoundTable a → IsSoundTable b → spelled_table a ++ xs ≡ spelled_table b ++ ys → (a ≡ b) × (xs ≡ ys)
+same_table a b xs ys p q e =
     let a_chunks : List ℕ = spelled_list spelled_chunk a.chunks in
     let b_chunks : List ℕ = spelled_list spelled_chunk b.chunks in
-    let n = same_text a.namespace b.namespace (eight a.epoch ++ (eight a.changes ++ (eight a.oldest ++ a_chunks))) (eight b.epoch ++ (eight b.changes ++ (eight b.oldest ++ b_chunks))) (short_name a.namespace p.namespace) (short_name b.namespace q.namespace) e in
-    let k = same_eight a.epoch b.epoch (eight a.changes ++ (eight a.oldest ++ a_chunks)) (eight b.changes ++ (eight b.oldest ++ b_chunks)) p.epoch q.epoch n.1 in
-    let m = same_eight a.changes b.changes (eight a.oldest ++ a_chunks) (eight b.oldest ++ b_chunks) p.changes q.changes k.1 in
-    let o = same_eight a.oldest b.oldest a_chunks b_chunks p.oldest q.oldest m.1 in
-    let c = same_list spelled_chunk IsSoundChunk same_chunk a.chunks b.chunks [] [] p.count q.count p.chunks q.chunks (ap (λ (l : List ℕ). l ++ []) o.1) in
-    λ i. record { namespace = n.0 i; epoch = k.0 i; changes = m.0 i; oldest = o.0 i; chunks = c.0 i }
+    let a_rest : List ℕ = eight a.epoch ++ (eight a.changes ++ (eight a.oldest ++ a_chunks)) in
+    let b_rest : List ℕ = eight b.epoch ++ (eight b.changes ++ (eight b.oldest ++ b_chunks)) in
+    let n = same_name a.namespace b.namespace (a_rest ++ xs) (b_rest ++ ys) p.namespace q.namespace (regroup (spelled_string a.namespace) a_rest xs (spelled_string b.namespace) b_rest ys e) in
+    let k = same_eight a.epoch b.epoch ((eight a.changes ++ (eight a.oldest ++ a_chunks)) ++ xs) ((eight b.changes ++ (eight b.oldest ++ b_chunks)) ++ ys) p.epoch q.epoch n.1 in
+    let m = same_eight a.changes b.changes ((eight a.oldest ++ a_chunks) ++ xs) ((eight b.oldest ++ b_chunks) ++ ys) p.changes q.changes k.1 in
+    let o = same_eight a.oldest b.oldest (a_chunks ++ xs) (b_chunks ++ ys) p.oldest q.oldest m.1 in
+    let c = same_list spelled_chunk IsSoundChunk same_chunk a.chunks b.chunks xs ys p.count q.count p.chunks q.chunks o.1 in
+    (λ i. record { namespace = n.0 i; epoch = k.0 i; changes = m.0 i; oldest = o.0 i; chunks = c.0 i }, c.1)

@@ -6,6 +6,9 @@ use Rattle.bson_model.specs.SampleDocuments.{id_document}
 use Rattle.history_model.specs.SampleEntries.{first_entry}
 use Rattle.chunk_model.specs.SampleCollections.{creation}
 use Rattle.chunk_model.specs.Tables.{first_table}
+use Rattle.bson_model.specs.Tree.{int32_value}
+use Rattle.value_model.specs.Keys.{min_bound, key_bound}
+use Rattle.record_model.specs.Moves.{MoveStart}
 use Rattle.record_model.specs.Records.{Record, table_record, create_record, life_record, block_record, record_of}
 
 -- the 25 bytes of the collection that begins
@@ -45,3 +48,17 @@ no_entries = table_record (first_table creation) ∷ life_record 1 ∷ block_rec
 
 abbrev pub records : List Record
 records = create_record creation ∷ record_of insert ∷ record_of update ∷ record_of delete ∷ []
+
+-- router 3's second request of its first life moves the keys of d.c below 10, of the version (1, 1, 3), to node 2 at 7; its 81 bytes
+abbrev pub begun_move : MoveStart
+begun_move = record {
+  id = record { router = 3; life = 1; count = 2 };
+  namespace = codes "d.c";
+  range = record { min = min_bound; max = key_bound (int32_value (pos 10)) };
+  to = 2;
+  version = record { epoch = 1; major = 1; minor = 3 };
+  time = 7;
+}
+
+abbrev pub move_bytes : List ℕ
+move_bytes = 0x01 ∷ 0x05 ∷ 0x03 ∷ 0x00 ∷ 0x00 ∷ 0x00 ∷ 0x01 ∷ 0x00 ∷ 0x00 ∷ 0x00 ∷ 0x00 ∷ 0x00 ∷ 0x00 ∷ 0x00 ∷ 0x02 ∷ 0x00 ∷ 0x00 ∷ 0x00 ∷ 0x00 ∷ 0x00 ∷ 0x00 ∷ 0x00 ∷ 0x03 ∷ 0x00 ∷ 0x00 ∷ 0x00 ∷ 0x64 ∷ 0x2E ∷ 0x63 ∷ 0x00 ∷ 0x01 ∷ 0x0E ∷ 0x00 ∷ 0x00 ∷ 0x00 ∷ 0x10 ∷ 0x5F ∷ 0x69 ∷ 0x64 ∷ 0x00 ∷ 0x0A ∷ 0x00 ∷ 0x00 ∷ 0x00 ∷ 0x00 ∷ 0x02 ∷ 0x00 ∷ 0x00 ∷ 0x00 ∷ 0x01 ∷ 0x00 ∷ 0x00 ∷ 0x00 ∷ 0x00 ∷ 0x00 ∷ 0x00 ∷ 0x00 ∷ 0x01 ∷ 0x00 ∷ 0x00 ∷ 0x00 ∷ 0x00 ∷ 0x00 ∷ 0x00 ∷ 0x00 ∷ 0x03 ∷ 0x00 ∷ 0x00 ∷ 0x00 ∷ 0x00 ∷ 0x00 ∷ 0x00 ∷ 0x00 ∷ 0x07 ∷ 0x00 ∷ 0x00 ∷ 0x00 ∷ 0x00 ∷ 0x00 ∷ 0x00 ∷ 0x00 ∷ []

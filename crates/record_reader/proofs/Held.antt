@@ -1,27 +1,37 @@
 -- A record that the program can hold can be written.
-use Rattle.std.proofs.Common.{◌≡◌, ◌<◌, ◌^◌, List, [], ◌∷◌, length, true}
+use Rattle.std.proofs.Common.{◌≡◌, ◌<◌, ◌^◌, length, true}
 use Rattle.std.specs.List.{AllByRecursion}
-use Rattle.std.specs.Str.{IsUtf8}
-use Rattle.value_model.specs.Keys.{IsRange, min_bound}
-use Rattle.chunk_model.specs.Tables.{Chunk, Table}
-use Rattle.chunk_table.specs.Whole.{IsWritableBound, IsWritableChunk, follow_from}
-use Rattle.record_model.specs.Records.{Record, table_record, entry_record, create_record, life_record, block_record}
-use Rattle.shard_records.specs.Sizes.{IsWritableRecord}
-use Rattle.record_reader.specs.SoundRecords.{IsHeld, IsHeldChunk, IsHeldTable}
+use Rattle.bson_model.specs.Limits.{IsWritable}
+use Rattle.chunk_table.specs.Whole.{IsWritableBound}
+use Rattle.history_model.specs.Sessions.{SessionRecord, are_in_order}
+use Rattle.record_model.specs.Moves.{MovedDocument, ReceivedBatch, ReceiveDone}
+use Rattle.record_model.specs.Records.{Record, entry_record, move_start_record, receive_start_record, batch_record, receive_done_record, deletion_record, split_record, commit_record, resolve_record}
+use Rattle.record_model.specs.RecordFormat.{key_document}
+use Rattle.shard_records.specs.Sizes.{IsWritableRecord, IsWritableOption, IsWritableMoved, IsWritableStatement, IsWritableSession, IsWritableReceived, IsWritableDone}
+use Rattle.record_reader.specs.SoundRecords.{IsHeld}
 
 pub held_writable : (r : Record) → IsHeld r → IsWritableRecord r
-held_writable (table_record t) h = tt
 held_writable (entry_record e) h = h.1
-held_writable (create_record c) h = tt
-held_writable (life_record n) h = tt
-held_writable (block_record n) h = tt
+held_writable (move_start_record m) h = (h.1.0, h.1.1.0)
+held_writable (receive_start_record m) h = (h.1.0.0, h.1.0.1.0)
+held_writable (batch_record b) h = h
+held_writable (receive_done_record r) h = h.0
+held_writable (deletion_record d) h = (h.1.0, h.1.1.0)
+held_writable (split_record s) h = h.1
+held_writable (commit_record c) h = (h.1.0, h.1.1.0)
+held_writable (resolve_record r) h = (h.1.0, h.1.1.0)
+held_writable r h = tt
 
-pub chunks_writable : (chunks : List Chunk) → AllByRecursion IsHeldChunk chunks → AllByRecursion IsWritableChunk chunks
-chunks_writable [] held = tt
-chunks_writable (c ∷ chunks) held = (held.0.writable, chunks_writable chunks held.1)
+pub moved_held : (m : MovedDocument) → IsWritable (key_document m.key) → IsWritableOption m.document → IsWritableMoved m
+moved_held m key document = record { key = key; document = document }
 
-pub chunk_held : (c : Chunk) → IsWritableBound c.range.min → IsWritableBound c.range.max → IsRange c.range → length c.owners < 2 ^ 32 → IsHeldChunk c
-chunk_held c min max range count = record { writable = record { min = min; max = max; count = count }; range = range }
+pub session_held : (s : SessionRecord) → length s.statements < 2 ^ 32 → AllByRecursion IsWritableStatement s.statements → IsWritableSession s
+session_held s count statements = record { count = count; statements = statements }
 
-pub table_held : (t : Table) → IsUtf8 t.namespace → AllByRecursion IsHeldChunk t.chunks → follow_from min_bound t.chunks ≡ true → IsHeldTable t
-table_held t name chunks follow = record { name = name; chunks = chunks; follow = follow }
+pub received_held : (b : ReceivedBatch) → IsWritableBound b.batch.upto → length b.batch.docs < 2 ^ 32 → AllByRecursion IsWritableMoved b.batch.docs →
+    IsWritableReceived b
+received_held b upto count docs = record { upto = upto; count = count; docs = docs }
+
+pub done_held : (r : ReceiveDone) → length r.sessions < 2 ^ 32 → AllByRecursion IsWritableSession r.sessions → are_in_order r.sessions ≡ true →
+    IsWritableDone r × (are_in_order r.sessions ≡ true)
+done_held r count sessions order = (record { count = count; sessions = sessions }, order)

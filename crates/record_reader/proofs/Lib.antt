@@ -1,7 +1,4 @@
-pub mod Tests
-pub mod Names
-pub mod Documents
-pub mod Again
-pub mod TablesAgain
-pub mod Items
+pub mod MovesAgain
+pub mod RecordsAgain
 pub mod Held
+pub mod Orders

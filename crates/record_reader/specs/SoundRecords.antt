@@ -1,44 +1,28 @@
--- What reading a record answers, and which records are read.
-use Rattle.std.specs.Prelude.{◌≡◌, true, Option, Some, None, Result, Ok, Err}
-use Rattle.std.specs.List.{AllByRecursion}
+-- Which records are read.
+use Rattle.std.specs.Prelude.{◌≡◌, true}
 use Rattle.std.specs.Str.{IsUtf8}
-use Rattle.bson_values.specs.declared.fault.BsonFault.{BsonFault}
-use Rattle.bson_values.specs.declared.fault.BsonFault.TheVariants as bson
-use Rattle.value_model.specs.Keys.{IsRange, min_bound}
-use Rattle.chunk_model.specs.Tables.{Chunk, Table}
-use Rattle.chunk_table.specs.Whole.{IsWritableChunk, follow_from}
-use Rattle.record_model.specs.Records.{Record, table_record, entry_record, create_record, life_record, block_record}
-use Rattle.shard_records.specs.Sizes.{IsWritableRecord}
-use Rattle.record_reader.specs.declared.fault.RecordFault.{RecordFault}
-use Rattle.record_reader.specs.declared.fault.RecordFault.TheVariants.{NoRecord, Memory}
+use Rattle.bson_model.specs.Limits.{IsWritable}
+use Rattle.history_model.specs.Sessions.{are_in_order}
+use Rattle.record_model.specs.RecordFormat.{key_document}
+use Rattle.record_model.specs.Records.{Record, table_record, entry_record, move_start_record, move_end_record, receive_start_record, batch_record, receive_done_record, receive_end_record, deletion_record, create_record, split_record, commit_record, resolve_record, purge_record}
+use Rattle.shard_records.specs.Sizes.{IsWritableDone, IsWritableReceived, IsWritableRecord}
+use Rattle.record_parts.specs.SoundParts.{IsHeldRange, IsHeldTable}
 
--- What a call returned, seen by view, is what stands there, and nothing stands there where it says so; of want of memory nothing is
--- said.
-abbrev pub Finds : {X Y : Type 0} → (X → Y) → Result X RecordFault → Option Y → Type 0
-Finds view (Ok x) there = there ≡ Some (view x)
-Finds view (Err NoRecord) there = there ≡ None
-Finds view (Err Memory) there = Unit {0}
-
--- bytes that begin with no document are no record
-abbrev pub fault_view : BsonFault → RecordFault
-fault_view bson.Memory = Memory
-fault_view fault = NoRecord
-
--- a chunk that can be written, of a range that is not empty
-pub record IsHeldChunk (c : Chunk) : Type 0 where
-  pub writable : IsWritableChunk c
-  pub range : IsRange c.range
-
--- the chunks follow one another from below all keys to above them, each with an owner
-pub record IsHeldTable (t : Table) : Type 0 where
-  pub name : IsUtf8 t.namespace
-  pub chunks : AllByRecursion IsHeldChunk t.chunks
-  pub follow : follow_from min_bound t.chunks ≡ true
-
--- A record that the program can hold: names are text, documents can be written, and a table gives every key an owner.
+-- A record that the program can hold: names are text, documents can be written, ranges are not empty, a table gives every key an owner,
+-- and sessions are in order, each once.
 abbrev pub IsHeld : Record → Type 0
 IsHeld (table_record t) = IsHeldTable t
 IsHeld (entry_record e) = IsUtf8 e.namespace × IsWritableRecord (entry_record e)
+IsHeld (move_start_record m) = IsUtf8 m.namespace × IsHeldRange m.range
+IsHeld (move_end_record m) = IsHeldTable m.table
+IsHeld (receive_start_record m) = IsUtf8 m.namespace × (IsHeldRange m.range × IsHeldTable m.table)
+IsHeld (batch_record b) = IsWritableReceived b
+IsHeld (receive_done_record r) = IsWritableDone r × (are_in_order r.sessions ≡ true)
+IsHeld (receive_end_record m) = IsHeldTable m.table
+IsHeld (deletion_record d) = IsUtf8 d.namespace × IsHeldRange d.range
 IsHeld (create_record c) = IsUtf8 c.namespace
-IsHeld (life_record n) = Unit {0}
-IsHeld (block_record n) = Unit {0}
+IsHeld (split_record s) = IsUtf8 s.namespace × IsWritable (key_document s.middle)
+IsHeld (commit_record c) = IsUtf8 c.namespace × IsHeldRange c.range
+IsHeld (resolve_record r) = IsUtf8 r.namespace × IsHeldRange r.range
+IsHeld (purge_record p) = IsUtf8 p.namespace
+IsHeld other = Unit {0}

@@ -1,11 +1,12 @@
 //! Records of a journal from their bytes.
 #![tactic(auto)]
 
-mod chunks;
+mod batches;
+mod changes;
 mod entries;
-mod fault;
-mod parts;
+mod moves;
 mod reader;
+mod sessions;
 
-pub use fault::RecordFault;
 pub use reader::read_record;
+pub use record_parts::RecordFault;

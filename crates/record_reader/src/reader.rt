@@ -4,41 +4,72 @@ ghost use Rattle.std.specs.Prelude.{◌≡◌, ◌↔◌, Some, IfOk, IsTrue};
 ghost use Rattle.record_model.specs.Records as records;
 ghost use Rattle.record_model.specs.RecordFormat.{IsSound, spelled};
 ghost use Rattle.shard_records.specs.Meanings.{record_view};
-ghost use Rattle.record_reader.specs.SoundRecords.{Finds, IsHeld};
-ghost use Rattle.record_reader.specs.Readers.{block_at, creation_at, fields_at, life_at, record_at};
+ghost use Rattle.record_parts.specs.SoundParts.{Finds};
+ghost use Rattle.record_reader.specs.SoundRecords.{IsHeld};
+ghost use Rattle.record_model.specs.Records.{block_record, catalogue_ceiling_record, ceiling_record, floor_record, life_record};
+ghost use Rattle.record_reader.specs.RecordReaders.{catalogue_fields_at, fields_at, move_fields_at, number_at, record_at, router_fields_at, shard_fields_at, table_record_at};
 
-use crate::chunks::read_table;
+use crate::batches::read_received;
+use crate::changes::{read_commit, read_creation, read_purge, read_resolve, read_split};
 use crate::entries::read_entry;
-use crate::fault::RecordFault;
-use crate::parts::{read_byte, read_namespace, read_u64};
+use crate::moves::{
+    read_deletion, read_given_end, read_move_start, read_receive_end, read_receive_start,
+    read_released, read_section,
+};
+use crate::sessions::read_receive_done;
 use bson_values::Memory;
 use cluster_base::Time;
+use record_parts::{RecordFault, read_byte, read_table, read_u64};
 use shard_records::{Record, write_record};
 use std::alloc::Global;
 
 /// The format that records are written in.
 const FORMAT: u8 = 0x01;
 
-/// Reads a collection that begins.
-#[tactic(auto, unfolding(crate::specs::Readers::creation_at))]
-fn read_creation(alloc: Global, bytes: &[u8]) -> Result<Record, RecordFault>
-    ensures found { Finds (λ r. record_view r) result (creation_at bytes.now) }
+/// Reads the record of a table.
+#[tactic(auto, unfolding(crate::specs::RecordReaders::table_record_at))]
+fn read_table_record(alloc: Global, bytes: &[u8]) -> Result<Record, RecordFault>
+    ensures found { Finds (λ r. record_view r) result (table_record_at bytes.now) }
     ensures held { IfOk result (λ r. IsHeld (record_view r)) }
 {
-    let (namespace, rest) = read_namespace(alloc, bytes)?;
-    let (epoch, rest) = read_u64(rest)?;
-    let (at, _rest) = read_u64(rest)?;
-    Ok(Record::Create {
-        namespace,
-        epoch,
-        at: Time(at),
-    })
+    let (table, _rest) = read_table(alloc, bytes)?;
+    Ok(Record::Table(table))
+}
+
+/// Reads a ceiling of a shard.
+#[tactic(auto, unfolding(crate::specs::RecordReaders::number_at))]
+fn read_ceiling(bytes: &[u8]) -> Result<Record, RecordFault>
+    ensures found { Finds (λ r. record_view r) result (number_at ceiling_record bytes.now) }
+    ensures held { IfOk result (λ r. IsHeld (record_view r)) }
+{
+    let (number, _rest) = read_u64(bytes)?;
+    Ok(Record::Ceiling(Time(number)))
+}
+
+/// Reads a floor.
+#[tactic(auto, unfolding(crate::specs::RecordReaders::number_at))]
+fn read_floor(bytes: &[u8]) -> Result<Record, RecordFault>
+    ensures found { Finds (λ r. record_view r) result (number_at floor_record bytes.now) }
+    ensures held { IfOk result (λ r. IsHeld (record_view r)) }
+{
+    let (number, _rest) = read_u64(bytes)?;
+    Ok(Record::Floor(Time(number)))
+}
+
+/// Reads a ceiling of the catalogue.
+#[tactic(auto, unfolding(crate::specs::RecordReaders::number_at))]
+fn read_catalogue_ceiling(bytes: &[u8]) -> Result<Record, RecordFault>
+    ensures found { Finds (λ r. record_view r) result (number_at catalogue_ceiling_record bytes.now) }
+    ensures held { IfOk result (λ r. IsHeld (record_view r)) }
+{
+    let (number, _rest) = read_u64(bytes)?;
+    Ok(Record::CatalogueCeiling(Time(number)))
 }
 
 /// Reads a life of a router.
-#[tactic(auto, unfolding(crate::specs::Readers::life_at))]
+#[tactic(auto, unfolding(crate::specs::RecordReaders::number_at))]
 fn read_life(bytes: &[u8]) -> Result<Record, RecordFault>
-    ensures found { Finds (λ r. record_view r) result (life_at bytes.now) }
+    ensures found { Finds (λ r. record_view r) result (number_at life_record bytes.now) }
     ensures held { IfOk result (λ r. IsHeld (record_view r)) }
 {
     let (number, _rest) = read_u64(bytes)?;
@@ -46,33 +77,99 @@ fn read_life(bytes: &[u8]) -> Result<Record, RecordFault>
 }
 
 /// Reads a block of cursor numbers.
-#[tactic(auto, unfolding(crate::specs::Readers::block_at))]
+#[tactic(auto, unfolding(crate::specs::RecordReaders::number_at))]
 fn read_block(bytes: &[u8]) -> Result<Record, RecordFault>
-    ensures found { Finds (λ r. record_view r) result (block_at bytes.now) }
+    ensures found { Finds (λ r. record_view r) result (number_at block_record bytes.now) }
     ensures held { IfOk result (λ r. IsHeld (record_view r)) }
 {
     let (number, _rest) = read_u64(bytes)?;
     Ok(Record::Block(number))
 }
 
-/// Reads the fields of a record of that kind.
-#[tactic(auto, unfolding(crate::specs::Readers::fields_at))]
-fn read_fields(alloc: Global, kind: u8, bytes: &[u8]) -> Result<Record, RecordFault>
-    ensures found { Finds (λ r. record_view r) result (fields_at kind bytes.now) }
+/// Reads the fields of a record of that kind: what a shard keeps outside of moves.
+#[tactic(auto, unfolding(crate::specs::RecordReaders::shard_fields_at))]
+fn read_shard_fields(alloc: Global, kind: u8, bytes: &[u8]) -> Result<Record, RecordFault>
+    ensures found { Finds (λ r. record_view r) result (shard_fields_at kind bytes.now) }
     ensures held { IfOk result (λ r. IsHeld (record_view r)) }
 {
     match kind {
-        0x01 => read_table(alloc, bytes),
+        0x01 => read_table_record(alloc, bytes),
         0x02 => read_entry(alloc, bytes),
+        0x03 => read_ceiling(bytes),
+        0x04 => read_floor(bytes),
+        _ => Err(RecordFault::NoRecord),
+    }
+}
+
+/// Reads the fields of a record of that kind: what a shard keeps of moves.
+#[tactic(auto, unfolding(crate::specs::RecordReaders::move_fields_at))]
+fn read_move_fields(alloc: Global, kind: u8, bytes: &[u8]) -> Result<Record, RecordFault>
+    ensures found { Finds (λ r. record_view r) result (move_fields_at kind bytes.now) }
+    ensures held { IfOk result (λ r. IsHeld (record_view r)) }
+{
+    match kind {
+        0x05 => read_move_start(alloc, bytes),
+        0x06 => read_section(bytes),
+        0x07 => read_given_end(alloc, bytes),
+        0x08 => read_released(bytes),
+        0x09 => read_receive_start(alloc, bytes),
+        0x0a => read_received(alloc, bytes),
+        0x0b => read_receive_done(alloc, bytes),
+        0x0c => read_receive_end(alloc, bytes),
+        0x0d => read_deletion(alloc, bytes),
+        _ => Err(RecordFault::NoRecord),
+    }
+}
+
+/// Reads the fields of a record of that kind: what the catalogue keeps.
+#[tactic(auto, unfolding(crate::specs::RecordReaders::catalogue_fields_at))]
+fn read_catalogue_fields(alloc: Global, kind: u8, bytes: &[u8]) -> Result<Record, RecordFault>
+    ensures found { Finds (λ r. record_view r) result (catalogue_fields_at kind bytes.now) }
+    ensures held { IfOk result (λ r. IsHeld (record_view r)) }
+{
+    match kind {
         0x20 => read_creation(alloc, bytes),
+        0x21 => read_split(alloc, bytes),
+        0x22 => read_commit(alloc, bytes),
+        0x23 => read_resolve(alloc, bytes),
+        0x24 => read_purge(alloc, bytes),
+        0x25 => read_catalogue_ceiling(bytes),
+        _ => Err(RecordFault::NoRecord),
+    }
+}
+
+/// Reads the fields of a record of that kind: what a router keeps.
+#[tactic(auto, unfolding(crate::specs::RecordReaders::router_fields_at))]
+fn read_router_fields(kind: u8, bytes: &[u8]) -> Result<Record, RecordFault>
+    ensures found { Finds (λ r. record_view r) result (router_fields_at kind bytes.now) }
+    ensures held { IfOk result (λ r. IsHeld (record_view r)) }
+{
+    match kind {
         0x30 => read_life(bytes),
         0x31 => read_block(bytes),
         _ => Err(RecordFault::NoRecord),
     }
 }
 
+/// Reads the fields of a record of that kind.
+#[tactic(auto, unfolding(crate::specs::RecordReaders::fields_at))]
+fn read_fields(alloc: Global, kind: u8, bytes: &[u8]) -> Result<Record, RecordFault>
+    ensures found { Finds (λ r. record_view r) result (fields_at kind bytes.now) }
+    ensures held { IfOk result (λ r. IsHeld (record_view r)) }
+{
+    if kind < 0x05 {
+        read_shard_fields(alloc, kind, bytes)
+    } else if kind < 0x0e {
+        read_move_fields(alloc, kind, bytes)
+    } else if kind < 0x30 {
+        read_catalogue_fields(alloc, kind, bytes)
+    } else {
+        read_router_fields(kind, bytes)
+    }
+}
+
 /// Reads the record that bytes begin with, if they spell one.
-#[tactic(auto, unfolding(crate::specs::Readers::record_at))]
+#[tactic(auto, unfolding(crate::specs::RecordReaders::record_at))]
 fn record_in(alloc: Global, bytes: &[u8]) -> Result<Record, RecordFault>
     ensures found { Finds (λ r. record_view r) result (record_at bytes.now) }
     ensures held { IfOk result (λ r. IsHeld (record_view r)) }

@@ -2,11 +2,20 @@
 #![tactic(auto)]
 
 mod batch;
+mod change_writer;
+mod changes;
+mod move_writer;
+mod moves;
 mod record;
+mod session_writer;
 mod tables;
 mod writer;
 
 pub use batch::{MoveBatch, MovedDocument, MovedList};
+pub use changes::{CommitChange, PurgeChange, ResolveChange, SplitChange};
+pub use moves::{
+    Deletion, MoveEnd, MoveStart, ReceiveDone, ReceiveStart, ReceivedBatch, SectionStart,
+};
 pub use record::{Record, WordsRef};
 pub use tables::write_table;
 pub use writer::{write_entry, write_record};

@@ -4,9 +4,13 @@ ghost use Rattle.std.specs.Prelude.{◌≡◌};
 ghost use Rattle.statement_views.specs.Views.{operation_view};
 ghost use Rattle.shard_records.specs.Meanings.{operation_lent};
 
+use crate::changes::{CommitChange, PurgeChange, ResolveChange, SplitChange};
+use crate::moves::{
+    Deletion, MoveEnd, MoveStart, ReceiveDone, ReceiveStart, ReceivedBatch, SectionStart,
+};
 use bson_values::Document;
 use chunk_table::Table;
-use cluster_base::{Namespace, Stmt, Time};
+use cluster_base::{Namespace, RequestId, Stmt, Time};
 use value_compare::{OpWords, Reply};
 
 /// What a node keeps.
@@ -27,6 +31,28 @@ pub enum Record {
         /// What it was told.
         reply: Reply,
     },
+    /// A shard was read at this time: its later entries are above it.
+    Ceiling(Time),
+    /// The history of a shard below this time is no longer kept.
+    Floor(Time),
+    /// The donor begins to give a chunk.
+    MoveStart(MoveStart),
+    /// The donor takes no write of the chunk from a time on.
+    Section(SectionStart),
+    /// The donor's part in a move ends.
+    MoveEnd(MoveEnd),
+    /// The recipient knows that the donor's part in this move ended.
+    Released(RequestId),
+    /// The recipient begins to take a chunk.
+    ReceiveStart(ReceiveStart),
+    /// The recipient stores a batch of documents.
+    Batch(ReceivedBatch),
+    /// The recipient has all documents, and what the donor keeps of sessions.
+    ReceiveDone(ReceiveDone),
+    /// The recipient's part in a move ends.
+    ReceiveEnd(MoveEnd),
+    /// What a shard keeps of a range below a time is deleted.
+    Deleted(Deletion),
     /// A collection begins.
     Create {
         /// Its name.
@@ -36,6 +62,16 @@ pub enum Record {
         /// When it begins.
         at: Time,
     },
+    /// A chunk is split.
+    Split(SplitChange),
+    /// A move of a chunk is committed.
+    Commit(CommitChange),
+    /// A move is not committed, and never will be.
+    Resolve(ResolveChange),
+    /// Owners of chunks are forgotten.
+    Purge(PurgeChange),
+    /// The catalogue told of this time: its later changes are above it.
+    CatalogueCeiling(Time),
     /// A life of a router begins, with this number, which counts from 1.
     Life(u64),
     /// A router takes a block of cursor numbers, with this number.

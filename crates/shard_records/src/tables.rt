@@ -7,11 +7,11 @@ ghost use Rattle.std.specs.List.{AllByRecursion, flat_map};
 ghost use Rattle.chunk_table.specs.Meanings.{chunk_view, owned_view, version_view};
 ghost use Rattle.chunk_table.specs.Whole.{IsWritableBound, IsWritableChunk};
 ghost use Rattle.record_model.specs.Records.{table_record};
-ghost use Rattle.record_model.specs.RecordFormat.{IsSound, IsSoundBound, IsSoundChunk, IsSoundOwned, IsSoundVersion, spelled, spelled_bound, spelled_chunk, spelled_list, spelled_owned, spelled_version};
+ghost use Rattle.record_model.specs.RecordFormat.{IsSound, IsSoundBound, IsSoundChunk, IsSoundOwned, IsSoundTable, IsSoundVersion, spelled, spelled_table, spelled_bound, spelled_chunk, spelled_list, spelled_owned, spelled_version};
 ghost use Rattle.value_compare.specs.Bounds.{bound_of};
 
 use crate::writer::{
-    NEWEST_FORMAT, cut_after_err, put, put_namespace, put_some_key, put_u32, put_u64,
+    cut_after_err, put, put_head, put_namespace, put_some_key, put_u32, put_u64,
 };
 use bson_values::Memory;
 use chunk_table::{Chunk, Owned, Table, Version};
@@ -27,12 +27,12 @@ pub fn write_table(table: &Table, out: &mut Vec<u8>) -> Result<(), Memory>
     ensures err { OnErr result (out.new.items ≡ out.old.items) }
 {
     let len = out.len();
-    let done = put_table(table, out);
+    let done = put_table_record(table, out);
     cut_after_err(done, len, out)
 }
 
 /// Puts where a range begins or ends.
-fn put_bound(bound: &Bound, out: &mut Vec<u8>) -> Result<(), Memory>
+pub(crate) fn put_bound(bound: &Bound, out: &mut Vec<u8>) -> Result<(), Memory>
     requires { IsWritableBound (bound_of bound.now) }
     ensures ok { OnOk result (out.new.items ≡ out.old.items ++ spelled_bound (bound_of bound.now)) }
     ensures sound { OnOk result (IsSoundBound (bound_of bound.now)) }
@@ -49,7 +49,7 @@ fn put_bound(bound: &Bound, out: &mut Vec<u8>) -> Result<(), Memory>
 }
 
 /// Puts a version.
-fn put_version(version: &Version, out: &mut Vec<u8>) -> Result<(), Memory>
+pub(crate) fn put_version(version: &Version, out: &mut Vec<u8>) -> Result<(), Memory>
     ensures ok { OnOk result (out.new.items ≡ out.old.items ++ spelled_version (version_view version.now)) }
     ensures sound { OnOk result (IsSoundVersion (version_view version.now)) }
     ensures kept { take (length out.old.items) out.new.items ≡ out.old.items }
@@ -130,16 +130,25 @@ fn put_chunks(chunks: &[Chunk], out: &mut Vec<u8>) -> Result<(), Memory>
     put_each_chunk(chunks, out)
 }
 
-/// Puts the record of a table.
+/// Puts the fields of a table.
 pub(crate) fn put_table(table: &Table, out: &mut Vec<u8>) -> Result<(), Memory>
-    ensures ok { OnOk result (out.new.items ≡ out.old.items ++ spelled 1 (table_record table.now)) }
-    ensures sound { OnOk result (IsSound (table_record table.now)) }
+    ensures ok { OnOk result (out.new.items ≡ out.old.items ++ spelled_table table.now) }
+    ensures sound { OnOk result (IsSoundTable table.now) }
     ensures kept { take (length out.old.items) out.new.items ≡ out.old.items }
 {
-    put(&[NEWEST_FORMAT, 0x01], out)?;
     put_namespace(table.namespace(), out)?;
     put_u64(table.epoch(), out)?;
     put_u64(table.changes(), out)?;
     put_u64(table.oldest().0, out)?;
     put_chunks(table.chunks(), out)
+}
+
+/// Puts the record of a table.
+fn put_table_record(table: &Table, out: &mut Vec<u8>) -> Result<(), Memory>
+    ensures ok { OnOk result (out.new.items ≡ out.old.items ++ spelled 1 (table_record table.now)) }
+    ensures sound { OnOk result (IsSound (table_record table.now)) }
+    ensures kept { take (length out.old.items) out.new.items ≡ out.old.items }
+{
+    put_head(0x01, out)?;
+    put_table(table, out)
 }

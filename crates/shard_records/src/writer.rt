@@ -6,13 +6,18 @@ ghost use Rattle.std.specs.Prelude.{◌≡◌, ◌<◌, ◌^◌, ◌++◌, ◌�
 ghost use Rattle.std.specs.Int.{cast_unsigned, w64};
 ghost use Rattle.base_model.specs.Names.{IsNamespace};
 ghost use Rattle.bson_model.specs.Spelling.{written};
-ghost use Rattle.record_model.specs.RecordFormat.{IsSoundOperation, IsSound, IsSoundKey, IsSoundNumber, IsSoundOutcome, IsSoundSession, IsSoundDocument, IsSoundKeyValue, eight, four, key_document, spelled, spelled_creation, spelled_entry, spelled_key, spelled_number, spelled_outcome, spelled_session, spelled_string, spelled_operation};
-ghost use Rattle.record_model.specs.Records.{create_record, entry_record};
+ghost use Rattle.record_model.specs.RecordFormat.{IsSoundOperation, IsSound, IsSoundKey, IsSoundNumber, IsSoundOutcome, IsSoundSession, IsSoundDocument, IsSoundKeyValue, IsSoundCreation, IsSoundEntry, eight, four, key_document, kind_byte, spelled, spelled_fields, spelled_creation, spelled_entry, spelled_key, spelled_number, spelled_outcome, spelled_session, spelled_string, spelled_operation};
+ghost use Rattle.record_model.specs.Records.{entry_record};
 ghost use Rattle.statement_views.specs.Views.{number_view, session_view};
 ghost use Rattle.shard_records.specs.Meanings.{entry_view, outcome_view, record_view, operation_lent};
 ghost use Rattle.shard_records.specs.Sizes.{FitsRecord, IsWritableOperation, IsWritableKey, IsWritableRecord};
 ghost use Rattle.bson_model.specs.Limits.{IsWritable};
 
+use crate::change_writer::{put_commit, put_purge, put_resolve, put_split};
+use crate::move_writer::{
+    put_deletion, put_move_end, put_move_start, put_receive_done, put_receive_start, put_received,
+    put_request, put_section,
+};
 use crate::record::{Record, WordsRef};
 use crate::tables::put_table;
 use bson_values::{Document, Memory, Name, write};
@@ -60,7 +65,7 @@ pub fn write_entry(
     ensures err { OnErr result (out.new.items ≡ out.old.items) }
 {
     let len = out.len();
-    let done = put_entry(time, namespace, statement, words, reply, out);
+    let done = put_entry_record(time, namespace, statement, words, reply, out);
     cut_after_err(done, len, out)
 }
 
@@ -121,7 +126,7 @@ pub(crate) fn put_namespace(namespace: &Namespace, out: &mut Vec<u8>) -> Result<
 }
 
 /// Puts a document.
-fn put_document(document: &Document, out: &mut Vec<u8>) -> Result<(), Memory>
+pub(crate) fn put_document(document: &Document, out: &mut Vec<u8>) -> Result<(), Memory>
     requires { FitsRecord document.now }
     ensures ok { OnOk result (out.new.items ≡ out.old.items ++ written document.now) }
     ensures sound { OnOk result (IsSoundDocument document.now) }
@@ -160,7 +165,7 @@ pub(crate) fn put_some_key(key: &Key, out: &mut Vec<u8>) -> Result<(), Memory>
 }
 
 /// Puts whose statement it is.
-fn put_session(session: &Session, out: &mut Vec<u8>) -> Result<(), Memory>
+pub(crate) fn put_session(session: &Session, out: &mut Vec<u8>) -> Result<(), Memory>
     ensures ok { OnOk result (out.new.items ≡ out.old.items ++ spelled_session (session_view session.now)) }
     ensures sound { OnOk result (IsSoundSession (session_view session.now)) }
     ensures kept { take (length out.old.items) out.new.items ≡ out.old.items }
@@ -233,7 +238,7 @@ fn put_operation(words: &WordsRef<'_>, out: &mut Vec<u8>) -> Result<(), Memory>
 }
 
 /// Puts what a statement is told.
-fn put_reply(reply: &Reply, out: &mut Vec<u8>) -> Result<(), Memory>
+pub(crate) fn put_reply(reply: &Reply, out: &mut Vec<u8>) -> Result<(), Memory>
     requires { IsWritableKey (outcome_view reply.now).upserted }
     ensures ok { OnOk result (out.new.items ≡ out.old.items ++ spelled_outcome (outcome_view reply.now)) }
     ensures sound { OnOk result (IsSoundOutcome (outcome_view reply.now)) }
@@ -245,8 +250,30 @@ fn put_reply(reply: &Reply, out: &mut Vec<u8>) -> Result<(), Memory>
     put_u32(reply.code.cast_unsigned(), out)
 }
 
-/// Puts the record of an entry of these parts.
+/// Puts the fields of an entry of these parts.
 fn put_entry(
+    time: Time,
+    namespace: &Namespace,
+    statement: &Stmt,
+    words: &WordsRef<'_>,
+    reply: &Reply,
+    out: &mut Vec<u8>,
+) -> Result<(), Memory>
+    requires words { IsWritableOperation (operation_lent words.now) }
+    requires upserted { IsWritableKey (outcome_view reply.now).upserted }
+    ensures ok { OnOk result (out.new.items ≡ out.old.items ++ spelled_entry (entry_view time namespace.now statement.now (operation_lent words.now) reply.now)) }
+    ensures sound { OnOk result (IsSoundEntry (entry_view time namespace.now statement.now (operation_lent words.now) reply.now)) }
+    ensures kept { take (length out.old.items) out.new.items ≡ out.old.items }
+{
+    put_u64(time.0, out)?;
+    put_namespace(namespace, out)?;
+    put_statement(statement, out)?;
+    put_operation(words, out)?;
+    put_reply(reply, out)
+}
+
+/// Puts the record of an entry of these parts.
+fn put_entry_record(
     time: Time,
     namespace: &Namespace,
     statement: &Stmt,
@@ -260,35 +287,67 @@ fn put_entry(
     ensures sound { OnOk result (IsSound (entry_record (entry_view time namespace.now statement.now (operation_lent words.now) reply.now))) }
     ensures kept { take (length out.old.items) out.new.items ≡ out.old.items }
 {
-    put(&[NEWEST_FORMAT, 0x02], out)?;
-    put_u64(time.0, out)?;
-    put_namespace(namespace, out)?;
-    put_statement(statement, out)?;
-    put_operation(words, out)?;
-    put_reply(reply, out)
+    put_head(0x02, out)?;
+    put_entry(time, namespace, statement, words, reply, out)
 }
 
-/// Puts the record of a collection that begins.
+/// Puts the format and the kind of a record.
+pub(crate) fn put_head(kind: u8, out: &mut Vec<u8>) -> Result<(), Memory>
+    ensures ok { OnOk result (out.new.items ≡ out.old.items ++ 1 ∷ kind ∷ []) }
+    ensures kept { take (length out.old.items) out.new.items ≡ out.old.items }
+{
+    put(&[NEWEST_FORMAT, kind], out)
+}
+
+/// Puts the fields of a collection that begins.
 fn put_creation(
     namespace: &Namespace,
     epoch: u64,
     at: Time,
     out: &mut Vec<u8>,
 ) -> Result<(), Memory>
-    ensures ok { OnOk result (out.new.items ≡ out.old.items ++ spelled 1 (create_record (record { namespace = namespace.now; epoch = epoch; at = at.0 }))) }
-    ensures sound { OnOk result (IsSound (create_record (record { namespace = namespace.now; epoch = epoch; at = at.0 }))) }
+    ensures ok { OnOk result (out.new.items ≡ out.old.items ++ spelled_creation (record { namespace = namespace.now; epoch = epoch; at = at.0 })) }
+    ensures sound { OnOk result (IsSoundCreation (record { namespace = namespace.now; epoch = epoch; at = at.0 })) }
     ensures kept { take (length out.old.items) out.new.items ≡ out.old.items }
 {
-    put(&[NEWEST_FORMAT, 0x20], out)?;
     put_namespace(namespace, out)?;
     put_u64(epoch, out)?;
     put_u64(at.0, out)
 }
 
-/// Puts a record.
-fn put_record(kept: &Record, out: &mut Vec<u8>) -> Result<(), Memory>
+/// The byte that tells what a record is.
+fn kind_of(kept: &Record) -> u8
+    ensures { result ≡ kind_byte (record_view kept.now) }
+{
+    match kept {
+        Record::Table(_) => 0x01,
+        Record::Entry { .. } => 0x02,
+        Record::Ceiling(_) => 0x03,
+        Record::Floor(_) => 0x04,
+        Record::MoveStart(_) => 0x05,
+        Record::Section(_) => 0x06,
+        Record::MoveEnd(_) => 0x07,
+        Record::Released(_) => 0x08,
+        Record::ReceiveStart(_) => 0x09,
+        Record::Batch(_) => 0x0a,
+        Record::ReceiveDone(_) => 0x0b,
+        Record::ReceiveEnd(_) => 0x0c,
+        Record::Deleted(_) => 0x0d,
+        Record::Create { .. } => 0x20,
+        Record::Split(_) => 0x21,
+        Record::Commit(_) => 0x22,
+        Record::Resolve(_) => 0x23,
+        Record::Purge(_) => 0x24,
+        Record::CatalogueCeiling(_) => 0x25,
+        Record::Life(_) => 0x30,
+        Record::Block(_) => 0x31,
+    }
+}
+
+/// Puts the fields of a record.
+fn put_fields(kept: &Record, out: &mut Vec<u8>) -> Result<(), Memory>
     requires { IsWritableRecord (record_view kept.now) }
-    ensures ok { OnOk result (out.new.items ≡ out.old.items ++ spelled 1 (record_view kept.now)) }
+    ensures ok { OnOk result (out.new.items ≡ out.old.items ++ spelled_fields (record_view kept.now)) }
     ensures sound { OnOk result (IsSound (record_view kept.now)) }
     ensures kept { take (length out.old.items) out.new.items ≡ out.old.items }
 {
@@ -306,13 +365,32 @@ fn put_record(kept: &Record, out: &mut Vec<u8>) -> Result<(), Memory>
             epoch,
             at,
         } => put_creation(namespace, *epoch, *at, out),
-        Record::Life(number) => {
-            put(&[NEWEST_FORMAT, 0x30], out)?;
-            put_u64(*number, out)
+        Record::MoveStart(kept) => put_move_start(kept, out),
+        Record::Section(kept) => put_section(kept, out),
+        Record::MoveEnd(kept) | Record::ReceiveEnd(kept) => put_move_end(kept, out),
+        Record::Released(id) => put_request(id, out),
+        Record::ReceiveStart(kept) => put_receive_start(kept, out),
+        Record::Batch(kept) => put_received(kept, out),
+        Record::ReceiveDone(kept) => put_receive_done(kept, out),
+        Record::Deleted(kept) => put_deletion(kept, out),
+        Record::Split(kept) => put_split(kept, out),
+        Record::Commit(kept) => put_commit(kept, out),
+        Record::Resolve(kept) => put_resolve(kept, out),
+        Record::Purge(kept) => put_purge(kept, out),
+        Record::Ceiling(time) | Record::Floor(time) | Record::CatalogueCeiling(time) => {
+            put_u64(time.0, out)
         }
-        Record::Block(number) => {
-            put(&[NEWEST_FORMAT, 0x31], out)?;
-            put_u64(*number, out)
-        }
+        Record::Life(number) | Record::Block(number) => put_u64(*number, out),
     }
+}
+
+/// Puts a record.
+fn put_record(kept: &Record, out: &mut Vec<u8>) -> Result<(), Memory>
+    requires { IsWritableRecord (record_view kept.now) }
+    ensures ok { OnOk result (out.new.items ≡ out.old.items ++ spelled 1 (record_view kept.now)) }
+    ensures sound { OnOk result (IsSound (record_view kept.now)) }
+    ensures kept { take (length out.old.items) out.new.items ≡ out.old.items }
+{
+    put_head(kind_of(kept), out)?;
+    put_fields(kept, out)
 }

@@ -1,4 +1,4 @@
-use Rattle.std.proofs.Common.{[], ◌∷◌, ap, ◌∙◌, ◌++◌, List, ℕ}
+use Rattle.std.proofs.Common.{ap, ◌∙◌, ◌++◌, List, ℕ}
 use Rattle.std.proofs.lemmas.Result.{on_ok_weaker}
 use Rattle.record_model.specs.RecordFormat.{eight, spelled_chunk, spelled_list, spelled_string}
 use Rattle.shard_records.proofs.Puts.{then}
@@ -7,7 +7,7 @@ use Rattle.shard_records.proofs.tables.put_table.Goals as goal
 pub returns-clause-ok : goal.returns-clause-ok
 returns-clause-ok c =
     let table = c.args.table.now in
-    let head = c.put.new.out.items in
+    let head = c.args.out.now.items in
     let behind_name = c.put_namespace.new.out.items in
     let behind_epoch = c.put_u64.new.out.items in
     let behind_changes = c.put_u64-2.new.out.items in
@@ -17,10 +17,9 @@ returns-clause-ok c =
     let times = eight table.oldest ++ chunks in
     let counts = eight table.changes ++ times in
     on_ok_weaker c.put_chunks.result
-    (λ last. then c.args.out.now.items (1 ∷ 0x01 ∷ []) (name ++ (eight table.epoch ++ counts)) c.in_ok-put.ensures.ok
-    (then head name (eight table.epoch ++ counts) (c.in_ok-put_namespace.ensures.ok ∙ ap (λ s. head ++ spelled_string s) c.namespace.ensures)
+    (λ last. then head name (eight table.epoch ++ counts) (c.in_ok-put_namespace.ensures.ok ∙ ap (λ s. head ++ spelled_string s) c.namespace.ensures)
     (then behind_name (eight table.epoch) counts (c.in_ok-put_u64.ensures.ok ∙ ap (λ n. behind_name ++ eight n) c.epoch.ensures)
     (then behind_epoch (eight table.changes) times (c.in_ok-put_u64-2.ensures.ok ∙ ap (λ n. behind_epoch ++ eight n) c.changes.ensures)
     (then behind_changes (eight table.oldest) chunks (c.in_ok-put_u64-3.ensures.ok ∙ ap (λ n. behind_changes ++ eight n) c.oldest.ensures)
-    (last ∙ ap (λ l. behind_oldest ++ spelled_list spelled_chunk l) c.chunks.ensures.chunks))))))
+    (last ∙ ap (λ l. behind_oldest ++ spelled_list spelled_chunk l) c.chunks.ensures.chunks)))))
     c.put_chunks.ensures.ok

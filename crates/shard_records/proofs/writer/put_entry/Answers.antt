@@ -1,4 +1,4 @@
-use Rattle.std.specs.Prelude.{[], ◌∷◌, ◌++◌}
+use Rattle.std.specs.Prelude.{◌++◌}
 use Rattle.std.proofs.lemmas.Result.{on_ok_weaker}
 use Rattle.record_model.specs.RecordFormat.{eight, spelled_string, spelled_number, spelled_operation, spelled_outcome}
 use Rattle.statement_views.specs.Views.{number_view}
@@ -14,9 +14,8 @@ returns-clause-ok c =
     let words = spelled_operation (operation_lent c.args.words.now) in
     let outcome = spelled_outcome (outcome_view c.args.reply.now) in
     on_ok_weaker c.put_reply.result
-    (λ last. then c.args.out.now.items (1 ∷ 0x02 ∷ []) (time ++ (namespace ++ (number ++ (words ++ outcome)))) c.in_ok-put.ensures.ok
-    (then c.put.new.out.items time (namespace ++ (number ++ (words ++ outcome))) c.in_ok-put_u64.ensures.ok
+    (λ last. then c.args.out.now.items time (namespace ++ (number ++ (words ++ outcome))) c.in_ok-put_u64.ensures.ok
     (then c.put_u64.new.out.items namespace (number ++ (words ++ outcome)) c.in_ok-put_namespace.ensures.ok
     (then c.put_namespace.new.out.items number (words ++ outcome) c.in_ok-put_statement.ensures.ok
-    (then c.put_statement.new.out.items words outcome c.in_ok-put_operation.ensures.ok last)))))
+    (then c.put_statement.new.out.items words outcome c.in_ok-put_operation.ensures.ok last))))
     c.put_reply.ensures.ok
