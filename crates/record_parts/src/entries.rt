@@ -7,9 +7,7 @@ ghost use Rattle.record_parts.specs.Readers.{client_at, delete_at, insert_at, op
 ghost use Rattle.shard_records.specs.Sizes.{IsWritableKey, IsWritableOperation};
 
 use crate::fault::RecordFault;
-use crate::parts::{
-    read_byte, read_bytes, read_document, read_key, read_u32, read_u64,
-};
+use crate::parts::{read_byte, read_bytes, read_document, read_key, read_u32, read_u64};
 use cluster_base::{NodeId, Session, Stmt};
 use std::alloc::Global;
 use value_compare::{Key, OpWords, Reply};

@@ -10,9 +10,7 @@ ghost use Rattle.record_model.specs.Records.{table_record};
 ghost use Rattle.record_model.specs.RecordFormat.{IsSound, IsSoundBound, IsSoundChunk, IsSoundOwned, IsSoundTable, IsSoundVersion, spelled, spelled_table, spelled_bound, spelled_chunk, spelled_list, spelled_owned, spelled_version};
 ghost use Rattle.value_compare.specs.Bounds.{bound_of};
 
-use crate::writer::{
-    cut_after_err, put, put_head, put_namespace, put_some_key, put_u32, put_u64,
-};
+use crate::writer::{cut_after_err, put, put_head, put_namespace, put_some_key, put_u32, put_u64};
 use bson_values::Memory;
 use chunk_table::{Chunk, Owned, Table, Version};
 use value_compare::Bound;
