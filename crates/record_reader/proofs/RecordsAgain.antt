@@ -1,6 +1,7 @@
 -- Every record is read as it is spelled.
 use Rattle.std.proofs.Common.{◌≡◌, ℕ, ◌<◌, ◌^◌, List, [], ◌∷◌, ◌++◌, Bool, true, false, refl, sym, ap, ◌∙◌}
-use Rattle.std.specs.Prelude.{Option, Some, None, Result, Ok, Err, IsTrue, ◌↔◌}
+use Rattle.std.specs.Prelude.{Option, Some, None, Result, Ok, Err, IfOk, IsTrue, ◌↔◌}
+use Rattle.bson_values.specs.declared.text.Memory as values
 use Rattle.base_model.specs.Identities.{RequestId}
 use Rattle.chunk_model.specs.Tables.{Table}
 use Rattle.record_model.specs.Moves.{MoveEnd}
@@ -11,7 +12,7 @@ use Rattle.record_parts.specs.declared.fault.RecordFault.{RecordFault}
 use Rattle.record_parts.specs.declared.fault.RecordFault.TheVariants.{NoRecord, Memory}
 use Rattle.record_parts.specs.SoundParts.{Finds, IsHeldTable}
 use Rattle.record_parts.specs.Readers.{◌>>=◌, byte_at, eight_at, table_at}
-use Rattle.record_reader.specs.SoundRecords.{IsHeld}
+use Rattle.record_reader.specs.SoundRecords.{IsDecided, IsHeld}
 use Rattle.record_reader.specs.RecordReaders.{request_at, table_record_at, number_at, released_at, given_end_at, receive_end_at, shard_fields_at, move_fields_at, catalogue_fields_at, router_fields_at, fields_at, record_at}
 use Rattle.record_parts.proofs.Again.{stepped, last, eight_again}
 use Rattle.record_parts.proofs.TablesAgain.{table_again}
@@ -86,3 +87,30 @@ pub found_err : {X : Type 0} (view : X → Record) (e : RecordFault) (bytes : Li
     IsHeld r → spelled 1 r ≡ bytes → Finds view (Err e) (Some r)
 found_err view NoRecord bytes r found sound held same = sym (record_again r sound held) ∙ ap record_at same ∙ found
 found_err view Memory bytes r found sound held same = tt
+
+-- What is decided of what a call found is what the bytes are.
+pub decided_only : {X : Type 0} (view : X → Record) (x : X) (bytes : List ℕ) (told : Result Bool values.Memory) (result : Result X RecordFault)
+    (r : Record) → record_at bytes ≡ Some (view x) → IfOk told (λ b. IsTrue b ↔ (spelled 1 (view x) ≡ bytes)) → IsDecided x told result →
+    IsSound r → IsHeld r → spelled 1 r ≡ bytes → Finds view result (Some r)
+decided_only view x bytes (Ok true) result r found tells is sound held same = rw is (found_record view x bytes r found sound held same)
+decided_only view x bytes (Ok false) result r found tells is sound held same = rw is (no_other view x bytes false r found tells refl sound held same)
+decided_only view x bytes (Err e) result r found tells is sound held same = rw is tt
+
+-- What is decided is what was kept, of which all holds that holds where it is the same.
+pub decided_holds : {X : Type 0} (P : X → Type 0) (x : X) (told : Result Bool values.Memory) (result : Result X RecordFault) →
+    IfOk told (λ b. IsTrue b → P x) → IsDecided x told result → IfOk result P
+decided_holds P x (Ok true) result holds is = rw is (holds refl)
+decided_holds P x (Ok false) result holds is = rw is tt
+decided_holds P x (Err e) result holds is = rw is tt
+
+pub told_same : {Q : Type 0} (told : Result Bool values.Memory) → IfOk told (λ b. IsTrue b ↔ Q) → IfOk told (λ b. IsTrue b → Q)
+told_same (Ok b) tells = tells.0
+told_same (Err e) tells = tt
+
+pub told_sound : {Q : Type 0} (told : Result Bool values.Memory) → IfOk told (λ (b : Bool). Q) → IfOk told (λ b. IsTrue b → Q)
+told_sound (Ok b) q = λ yes. q
+told_sound (Err e) q = tt
+
+pub told_any : {Q : Type 0} (told : Result Bool values.Memory) → Q → IfOk told (λ b. IsTrue b → Q)
+told_any (Ok b) q = λ yes. q
+told_any (Err e) q = tt

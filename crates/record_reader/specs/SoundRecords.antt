@@ -1,11 +1,14 @@
 -- Which records are read.
-use Rattle.std.specs.Prelude.{◌≡◌, true}
+use Rattle.std.specs.Prelude.{◌≡◌, Bool, true, false, Result, Ok, Err}
 use Rattle.std.specs.Str.{IsUtf8}
 use Rattle.bson_model.specs.Limits.{IsWritable}
+use Rattle.bson_values.specs.declared.text.Memory.{Memory}
 use Rattle.history_model.specs.Sessions.{are_in_order}
 use Rattle.record_model.specs.RecordFormat.{key_document}
 use Rattle.record_model.specs.Records.{Record, table_record, entry_record, move_start_record, move_end_record, receive_start_record, batch_record, receive_done_record, receive_end_record, deletion_record, create_record, split_record, commit_record, resolve_record, purge_record}
 use Rattle.shard_records.specs.Sizes.{IsWritableDone, IsWritableReceived, IsWritableRecord}
+use Rattle.record_parts.specs.declared.fault.RecordFault.{RecordFault}
+use Rattle.record_parts.specs.declared.fault.RecordFault.TheVariants as fault
 use Rattle.record_parts.specs.SoundParts.{IsHeldRange, IsHeldTable}
 
 -- A record that the program can hold: names are text, documents can be written, ranges are not empty, a table gives every key an owner,
@@ -26,3 +29,9 @@ IsHeld (commit_record c) = IsUtf8 c.namespace × IsHeldRange c.range
 IsHeld (resolve_record r) = IsUtf8 r.namespace × IsHeldRange r.range
 IsHeld (purge_record p) = IsUtf8 p.namespace
 IsHeld other = Unit {0}
+
+-- what is kept is the result where it is the same, and none is where it is another
+abbrev pub IsDecided : {T : Type 0} → T → Result Bool Memory → Result T RecordFault → Type 0
+IsDecided kept (Ok true) result = result ≡ Ok kept
+IsDecided kept (Ok false) result = result ≡ Err fault.NoRecord
+IsDecided kept (Err e) result = result ≡ Err fault.Memory

@@ -5,7 +5,7 @@ ghost use Rattle.record_model.specs.Records as records;
 ghost use Rattle.record_model.specs.RecordFormat.{IsSound, spelled};
 ghost use Rattle.shard_records.specs.Meanings.{record_view};
 ghost use Rattle.record_parts.specs.SoundParts.{Finds};
-ghost use Rattle.record_reader.specs.SoundRecords.{IsHeld};
+ghost use Rattle.record_reader.specs.SoundRecords.{IsDecided, IsHeld};
 ghost use Rattle.record_model.specs.Records.{block_record, catalogue_ceiling_record, ceiling_record, floor_record, life_record};
 ghost use Rattle.record_reader.specs.RecordReaders.{catalogue_fields_at, fields_at, move_fields_at, number_at, record_at, router_fields_at, shard_fields_at, table_record_at};
 
@@ -195,6 +195,17 @@ fn is_spelled(alloc: Global, kept: &Record, bytes: &[u8]) -> Result<bool, Memory
     Ok(spelling.as_slice() == bytes)
 }
 
+/// What is kept, where it is known to be the same.
+fn kept_if<T: Drop>(kept: T, same: Result<bool, Memory>) -> Result<T, RecordFault>
+    ensures { IsDecided kept same result }
+{
+    match same {
+        Ok(true) => Ok(kept),
+        Ok(false) => Err(RecordFault::NoRecord),
+        Err(_) => Err(RecordFault::Memory),
+    }
+}
+
 /// Reads the record that the bytes, all of them, spell in the newest format.
 ///
 /// # Errors
@@ -209,9 +220,6 @@ pub fn read_record(alloc: Global, bytes: &[u8]) -> Result<Record, RecordFault>
     ensures only { (r : records.Record) → IsSound r → IsHeld r → spelled 1 r ≡ bytes.now → Finds (λ x. record_view x) result (Some r) }
 {
     let kept = record_in(alloc, bytes)?;
-    if is_spelled(alloc, &kept, bytes)? {
-        Ok(kept)
-    } else {
-        Err(RecordFault::NoRecord)
-    }
+    let same = is_spelled(alloc, &kept, bytes);
+    kept_if(kept, same)
 }

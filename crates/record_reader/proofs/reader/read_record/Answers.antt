@@ -1,7 +1,9 @@
 use Rattle.std.proofs.Common.{◌≡◌}
 use Rattle.std.proofs.lemmas.Result.{err_from_is_err_and}
+use Rattle.record_model.specs.RecordFormat.{spelled, IsSound}
 use Rattle.shard_records.specs.Meanings.{record_view}
-use Rattle.record_reader.proofs.RecordsAgain.{found_err, found_record, no_other}
+use Rattle.record_reader.specs.SoundRecords.{IsHeld}
+use Rattle.record_reader.proofs.RecordsAgain.{found_err, decided_only, decided_holds, told_any, told_same, told_sound}
 use Rattle.record_reader.proofs.reader.read_record.Goals as goal
 
 pub returns-in_err-kept-clause-only : goal.returns-in_err-kept-clause-only
@@ -9,11 +11,22 @@ returns-in_err-kept-clause-only c = λ r sound held same.
     let p = err_from_is_err_and c.from_residual.result c.from_residual.ensures.1 in
     rw (p.1, p.2) (found_err record_view c.in_err-kept.field-0.0 c.args.bytes.now r c.in_err-kept.ensures.found sound held same)
 
-pub returns-then-branch-clause-only : goal.returns-then-branch-clause-only
-returns-then-branch-clause-only c = λ r sound held same.
-    found_record record_view c.in_ok-kept.kept c.args.bytes.now r c.in_ok-kept.ensures.found sound held same
+pub returns-clause-spelled : goal.returns-clause-spelled
+returns-clause-spelled c =
+    decided_holds (λ y. spelled 1 (record_view y) ≡ c.args.bytes.now) c.in_ok-kept.kept c.is_spelled.result c.kept_if.result
+    (told_same c.is_spelled.result c.is_spelled.ensures.same) c.kept_if.ensures
 
-pub returns-else-branch-clause-only : goal.returns-else-branch-clause-only
-returns-else-branch-clause-only c = λ r sound held same.
-    no_other record_view c.in_ok-kept.kept c.args.bytes.now c.in_ok-is_spelled.field-0 r c.in_ok-kept.ensures.found c.in_ok-is_spelled.ensures.same
-    c.if-branch.false sound held same
+pub returns-clause-sound : goal.returns-clause-sound
+returns-clause-sound c =
+    decided_holds (λ y. IsSound (record_view y)) c.in_ok-kept.kept c.is_spelled.result c.kept_if.result
+    (told_sound c.is_spelled.result c.is_spelled.ensures.sound) c.kept_if.ensures
+
+pub returns-clause-only : goal.returns-clause-only
+returns-clause-only c = λ r sound held same.
+    decided_only record_view c.in_ok-kept.kept c.args.bytes.now c.is_spelled.result c.kept_if.result r
+    c.in_ok-kept.ensures.found c.is_spelled.ensures.same c.kept_if.ensures sound held same
+
+pub returns-clause-held : goal.returns-clause-held
+returns-clause-held c =
+    decided_holds (λ y. IsHeld (record_view y)) c.in_ok-kept.kept c.is_spelled.result c.kept_if.result
+    (told_any c.is_spelled.result c.in_ok-kept.ensures.held) c.kept_if.ensures
