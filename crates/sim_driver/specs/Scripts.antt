@@ -1,5 +1,5 @@
 -- What a script has beside the nodes: the open links of its routers, and which messages were delivered (own).
-use Rattle.std.specs.Prelude.{◌≡◌, ℕ, zero, suc, ◌+◌, ◌-◌, ◌==◌, ◌&&◌, ◌||◌, not, List, [], ◌∷◌, ◌++◌, Option, Some, None, Bool, true, false, if◌then◌else◌}
+use Rattle.std.specs.Prelude.{◌≡◌, ℕ, zero, suc, ◌+◌, ◌-◌, ◌==◌, ◌&&◌, ◌||◌, not, List, [], ◌∷◌, ◌++◌, map, Option, Some, None, Bool, true, false, if◌then◌else◌}
 use Rattle.std.specs.List.{flat_map, slice_set}
 use Rattle.std.specs.Str.{bytes_eq}
 use Rattle.node_model.specs.Letters.{Letter}
@@ -84,18 +84,22 @@ next_from n kind delivered (m ∷ letters) =
 
 -- OUTPUT
 
--- the router whose open link has this number, among those from this router on
-abbrev pub router_from : (first : ℕ) → List LinkView → (number : ℕ) → Option ℕ
+-- the numbers of links
+abbrev pub numbers_of : List LinkView → List ℕ
+numbers_of links = map (λ (link : LinkView). link.number) links
+
+-- the router whose link has this number, of links with these numbers, from this router on
+abbrev pub router_from : (first : ℕ) → (numbers : List ℕ) → (number : ℕ) → Option ℕ
 router_from first [] number = None
-router_from first (link ∷ links) number = if link.number == number then Some first else router_from (first + 1) links number
+router_from first (n ∷ numbers) number = if n == number then Some first else router_from (first + 1) numbers number
 
 abbrev pub line_by : (router : Option ℕ) → (reply : List ℕ) → List ℕ
 line_by None reply = []
 line_by (Some router) reply = reply_line router reply
 
--- the lines of the replies to these links
-abbrev pub reply_lines : List LinkView → List ToLink → List ℕ
-reply_lines links replies = flat_map (λ (t : ToLink). line_by (router_from 0 links t.link) t.bytes) replies
+-- the lines of the replies to links with these numbers
+abbrev pub reply_lines : (numbers : List ℕ) → List ToLink → List ℕ
+reply_lines numbers replies = flat_map (λ (t : ToLink). line_by (router_from 0 numbers t.link) t.bytes) replies
 
 abbrev pub closed_lines : (closed : Option ℕ) → List ℕ
 closed_lines None = []
@@ -103,4 +107,4 @@ closed_lines (Some router) = closed_line router
 
 -- what is printed for a line: the replies to the links that were open, in the order in which they were given, and the router whose link was closed
 abbrev pub printed : List LinkView → List ToLink → (closed : Option ℕ) → List ℕ
-printed links replies closed = reply_lines links replies ++ closed_lines closed
+printed links replies closed = reply_lines (numbers_of links) replies ++ closed_lines closed

@@ -1,7 +1,7 @@
 //! Which messages were delivered.
 
-ghost use Rattle.std.specs.Prelude.{◌≡◌, ℕ, ◌<◌, ◌≤◌, [], true, length, OnOk};
-ghost use Rattle.sim_driver.specs.Scripts.{is_delivered, marked};
+ghost use Rattle.std.specs.Prelude.{◌≡◌, ℕ, [], OnOk};
+ghost use Rattle.sim_driver.specs.Scripts.{AreDelivered, is_delivered, marked};
 
 use bson_values::Memory;
 use std::alloc::Global;
@@ -20,7 +20,6 @@ impl Model for Delivered {
 
     ghost Value = { List Bool };
 
-    ghost use Rattle.std.specs.Prelude.{◌≡◌, ℕ, ◌<◌, ◌≤◌, true, length};
     ghost use Rattle.sim_driver.specs.Scripts.{AreDelivered};
 
     ghost view = { λ d. d.flags.items };
@@ -30,7 +29,8 @@ impl Model for Delivered {
 
 /// Notes the message at a place.
 fn mark(flags: &mut Vec<bool>, place: usize) -> Result<(), Memory>
-    ensures { OnOk result (flags.new.items ≡ marked place flags.old.items) }
+    ensures marked { OnOk result (flags.new.items ≡ marked place flags.old.items) }
+    ensures kept { (before : ℕ) → AreDelivered before flags.old.items → AreDelivered before flags.new.items }
 {
     'places: while flags.len() <= place {
         flags.push(false)?;

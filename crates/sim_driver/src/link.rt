@@ -54,6 +54,13 @@ impl Link {
         }
     }
 
+    /// Its number.
+    pub fn number(&self) -> u32
+        ensures { result ≡ self.now.number }
+    {
+        self.number
+    }
+
     /// Bytes come: each whole request goes to the router at a place, in order. Returns whether what comes after them is no request; then the
     /// link must be closed.
     ///

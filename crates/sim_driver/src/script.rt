@@ -1,12 +1,15 @@
 //! What a script has beside the nodes.
 
-ghost use Rattle.std.specs.Prelude.{◌≡◌, IfOk};
-ghost use Rattle.sim_driver.specs.Scripts.{new_script, script_view};
+ghost use Rattle.std.specs.Prelude.{◌≡◌, IfOk, vec_len};
+ghost use Rattle.sim_driver.specs.Scripts.{links_from, new_script, script_view};
 
 use crate::delivered::Delivered;
 use crate::link::Link;
 use bson_values::Memory;
 use std::alloc::Global;
+
+/// The node of router 0; that of router r is r more.
+pub const FIRST_ROUTER: usize = 2;
 
 /// The open link of each router, in order, and which messages were delivered.
 #[derive(Drop)]
@@ -31,7 +34,8 @@ fn new_links(alloc: Global, count: u32) -> Result<Vec<Link>, Memory>
 impl Script {
     /// What a script has before its first line. Fails if out of memory, or where links can't be counted.
     pub fn new(alloc: Global, routers: usize) -> Result<Script, Memory>
-        ensures { IfOk result (λ script. script_view script ≡ new_script routers) }
+        ensures view { IfOk result (λ script. script_view script ≡ new_script routers) }
+        ensures links { IfOk result (λ script. vec_len script.links ≡ routers) }
     {
         let Ok(opened) = u32::try_from(routers) else {
             return Err(Memory);
