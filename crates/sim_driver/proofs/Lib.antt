@@ -3,6 +3,8 @@ pub mod Deliveries
 pub mod Endings
 pub mod Faults
 pub mod Histories
+pub mod Marks
+pub mod NextPlaces
 pub mod Places
 pub mod PlayedLines
 pub mod Plays

@@ -1,5 +1,5 @@
 -- What calls of a script do to the world that stands for nodes and messages (own).
-use Rattle.std.specs.Prelude.{◌≡◌, ◌⊎◌, ℕ, ◌+◌, ◌<◌, List, [], ◌∷◌, ◌++◌, length, Some, None, Option, Bool, true, false}
+use Rattle.std.specs.Prelude.{◌≡◌, ◌⊎◌, ℕ, ◌+◌, ◌<◌, List, [], ◌∷◌, ◌++◌, length, Some, None, Option, Bool, true, false, not, ◌&&◌}
 use Rattle.std.specs.List.{slice_get}
 use Rattle.opmsg_frames.specs.Outline.{FrameFault}
 use Rattle.opmsg_frames.specs.Frames.{FramesFrom}
@@ -15,7 +15,7 @@ use Rattle.pipe_driver.specs.Rounds.{first_router, replies_behind}
 use Rattle.pipe_driver.specs.declared.status.Status.{Status}
 use Rattle.pipe_driver.specs.declared.status.Status.TheVariants as statuses
 use Rattle.sim_driver.specs.Plays.{SettlesBut, client_events, is_passed}
-use Rattle.sim_driver.specs.Scripts.{is_of_kind, marked}
+use Rattle.sim_driver.specs.Scripts.{is_delivered, is_of_kind, marked}
 
 -- the message at a place among all that were sent was delivered, or lost where it goes to no node
 pub record HasDeliveredOne {S : Type 0} (view : S → SeatView) (seats : List S) (network : NetworkView) (handed : List ToLink) (before : World)
@@ -110,3 +110,7 @@ IsOfKindAt letters at kind is = (m : Letter) × (slice_get letters at ≡ Some m
 -- whether a message at a place is passed over
 abbrev pub IsPassedAt : List Letter → (at : ℕ) → (except : Option (List ℕ)) → (delivered : List Bool) → Bool → Type 0
 IsPassedAt letters at except delivered is = (m : Letter) × (slice_get letters at ≡ Some m) × (is ≡ is_passed except delivered at m)
+
+-- whether a message at a place is of the kind, and was not delivered
+abbrev pub IsNextAt : List Letter → (at : ℕ) → (kind : List ℕ) → (delivered : List Bool) → Bool → Type 0
+IsNextAt letters at kind delivered is = (m : Letter) × (slice_get letters at ≡ Some m) × (is ≡ (not (is_delivered delivered at) && is_of_kind kind m))

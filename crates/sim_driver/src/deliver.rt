@@ -10,7 +10,7 @@ ghost use Rattle.driver_steps.specs.Seats.{AreOpen, faults_of, left_of, places_o
 ghost use Rattle.driver_steps.specs.Worlds.{StandsFor, network_view};
 ghost use Rattle.pipe_driver.specs.Counts.{HaveRisenWhere};
 ghost use Rattle.pipe_driver.specs.declared.status.Status.TheVariants as statuses;
-ghost use Rattle.sim_driver.specs.Moves.{HasDeliveredOne, HasSettledBut, IsCut, IsOfKindAt, IsPartOfDelivery, IsPassedAt, IsReceiverAt, PassesOrDelivers};
+ghost use Rattle.sim_driver.specs.Moves.{HasDeliveredOne, HasSettledBut, IsCut, IsNextAt, IsOfKindAt, IsPartOfDelivery, IsPassedAt, IsReceiverAt, PassesOrDelivers};
 ghost use Rattle.sim_driver.specs.Plays.{IsPartOfSettling};
 ghost use Rattle.sim_driver.specs.Scripts.{AreDelivered, marked, next_from, place_from};
 
@@ -131,7 +131,7 @@ fn is_passed<M: Mail>(
     delivered: &Delivered,
 ) -> bool
     requires { at < deque_len sent.now }
-    ensures { IsPassedAt (map M.letter sent.now.items) at (option_map (λ k. k.now) except) delivered.now result }
+    ensures { IsPassedAt (map M.letter sent.now.items) at (option_map (λ k. k.now) except.entry) delivered.now result }
 {
     if delivered.has(at) {
         return true;
@@ -140,6 +140,17 @@ fn is_passed<M: Mail>(
         Some(kind) => is_of_kind(sent, at, kind),
         None => false,
     }
+}
+
+/// Whether the message at a place is of the kind, and was not delivered.
+fn is_next<M: Mail>(sent: &VecDeque<M>, at: usize, kind: &[u8], delivered: &Delivered) -> bool
+    requires { at < deque_len sent.now }
+    ensures { IsNextAt (map M.letter sent.now.items) at kind.now delivered.now result }
+{
+    if delivered.has(at) {
+        return false;
+    }
+    is_of_kind(sent, at, kind)
 }
 
 /// The place of the first message of the kind that was not delivered, from a place before which all were.
@@ -155,7 +166,7 @@ pub fn find_next<M: Mail>(
 {
     let mut at = first;
     'sent: while at < sent.len() {
-        if !delivered.has(at) && is_of_kind(sent, at, kind) {
+        if is_next(sent, at, kind, delivered) {
             return Some(at);
         }
         at += 1;
@@ -227,7 +238,7 @@ fn deliver_unless<R: Threads + Sync, N: Node, L: Log>(
         StandsFor (seat_since N.state L.facts since) seats.old.items (network_view
         (λ m. N.Mail.letter m) network.old) handed w 0 →
         OnOk result (PassesOrDelivers (seat_since N.state L.facts since) seats.new.items
-        (network_view (λ m. N.Mail.letter m) network.new) handed w (option_map (λ k. k.now) except) at delivered.old delivered.new) }
+        (network_view (λ m. N.Mail.letter m) network.new) handed w (option_map (λ k. k.now) except.entry) at delivered.old delivered.new) }
     ensures cut { (since : Since L) (w : World) (handed : List ToLink) →
         StandsFor (seat_since N.state L.facts since) seats.old.items (network_view
         (λ m. N.Mail.letter m) network.old) handed w 0 →
@@ -272,12 +283,12 @@ pub fn settle_but<R: Threads + Sync, N: Node, L: Log>(
         StandsFor (seat_since N.state L.facts since) seats.old.items (network_view
         (λ m. N.Mail.letter m) network.old) handed w 0 →
         OnOk result (HasSettledBut (seat_since N.state L.facts since) seats.new.items
-        (network_view (λ m. N.Mail.letter m) network.new) handed w (option_map (λ k. k.now) except) delivered.old delivered.new) }
+        (network_view (λ m. N.Mail.letter m) network.new) handed w (option_map (λ k. k.now) except.entry) delivered.old delivered.new) }
     ensures cut { (since : Since L) (w : World) (handed : List ToLink) → length delivered.old ≤ length w.sent →
         StandsFor (seat_since N.state L.facts since) seats.old.items (network_view
         (λ m. N.Mail.letter m) network.old) handed w 0 →
         IfErr result (λ status. IsCut (seat_since N.state L.facts since) seats.new.items w
-        (IsPartOfSettling (option_map (λ k. k.now) except) w delivered.old) status) }
+        (IsPartOfSettling (option_map (λ k. k.now) except.entry) w delivered.old) status) }
     ensures len { vec_len seats.new ≡ vec_len seats.old }
     ensures open { result ≢ Err statuses.DiskFailed → AreOpen L.facts.is_open seats.new.items }
 

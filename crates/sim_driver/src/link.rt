@@ -1,6 +1,6 @@
 //! The link of a router that is open.
 
-ghost use Rattle.std.specs.Prelude.{◌≡◌, ◌≢◌, ◌⊎◌, ◌++◌, ◌<◌, List, true, false, vec_len, IfErr, IfOk, OnOk, Err};
+ghost use Rattle.std.specs.Prelude.{◌≡◌, ◌≢◌, ◌⊎◌, ℕ, ◌++◌, ◌<◌, List, Ok, true, false, vec_len, IfErr, IfOk, OnOk, Err};
 ghost use Rattle.node_model.specs.World.{IsRouter, World};
 ghost use Rattle.node_traits.specs.declared.outputs.ToLink.{ToLink};
 ghost use Rattle.driver_steps.specs.Crashes.{Since};

@@ -91,12 +91,12 @@ pub fn play_settle<R: Threads + Sync, N: Node, L: Log>(
         (λ m. N.Mail.letter m) network.old) handed w 0 →
         OnOk result (HasPlayed (seat_since N.state L.facts since) seats.new.items (network_view
         (λ m. N.Mail.letter m) network.new) handed w
-        (settle_line (option_map (λ k. k.now) except)) (script_view script.old) (script_view script.new) None) }
+        (settle_line (option_map (λ k. k.now) except.entry)) (script_view script.old) (script_view script.new) None) }
     ensures stops { (since : Since L) (w : World) (handed : List ToLink) →
         length script.old.delivered ≤ length w.sent →
         StandsFor (seat_since N.state L.facts since) seats.old.items (network_view
         (λ m. N.Mail.letter m) network.old) handed w 0 →
-        IfErr result (StopsLine (seat_since N.state L.facts since) seats.new.items w (settle_line (option_map (λ k. k.now) except))
+        IfErr result (StopsLine (seat_since N.state L.facts since) seats.new.items w (settle_line (option_map (λ k. k.now) except.entry))
         (script_view script.old)) }
     ensures len { vec_len seats.new ≡ vec_len seats.old }
     ensures links { vec_len script.new.links ≡ vec_len script.old.links }

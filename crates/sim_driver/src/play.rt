@@ -64,19 +64,44 @@ pub fn play_said<R: Threads + Sync, N: Node<Request = Request>, L: Log>(
     ensures disk_fault { HaveRisenWhere (result ≡ Err statuses.DiskFailed) (faults_of L.facts.fault_count seats.old.items) (faults_of L.facts.fault_count seats.new.items) }
     ensures places { places_of L.facts.place seats.new.items ≡ places_of L.facts.place seats.old.items }
 {
-    let played = match line {
+    match line {
         Line::Client { router, bytes } => {
-            return play_client(alloc, router, &bytes, seats, network, script);
+            match play_client(alloc, router, &bytes, seats, network, script) {
+                Ok(closed) => Ok(closed),
+                Err(status) => Err(status),
+            }
         }
-        Line::Deliver { node, k } => play_deliver(rt, alloc, node, k, seats, network, script),
-        Line::Moment { node, moment } => play_moment(node, moment, seats, network, script),
-        Line::Settle => play_settle(rt, alloc, None, seats, network, script),
-        Line::SettleExcept { kind } => play_settle(rt, alloc, Some(&kind), seats, network, script),
-        Line::Next { kind } => play_next(rt, alloc, &kind, seats, network, script),
-    };
-    match played {
-        Ok(()) => Ok(None),
-        Err(status) => Err(status),
+        Line::Deliver { node, k } => match play_deliver(
+            rt, alloc, node, k, seats, network, script,
+        ) {
+            Ok(()) => Ok(None),
+            Err(status) => Err(status),
+        },
+        Line::Moment { node, moment } => match play_moment(node, moment, seats, network, script) {
+            Ok(()) => Ok(None),
+            Err(status) => Err(status),
+        },
+        Line::Settle => match play_settle(rt, alloc, None, seats, network, script) {
+            Ok(()) => Ok(None),
+            Err(status) => Err(status),
+        },
+        Line::SettleExcept { kind } => {
+            match play_settle(rt, alloc, Some(kind.as_slice()), seats, network, script) {
+                Ok(()) => Ok(None),
+                Err(status) => Err(status),
+            }
+        }
+        Line::Next { kind } => match play_next(
+            rt,
+            alloc,
+            kind.as_slice(),
+            seats,
+            network,
+            script,
+        ) {
+            Ok(()) => Ok(None),
+            Err(status) => Err(status),
+        },
     }
 }
 

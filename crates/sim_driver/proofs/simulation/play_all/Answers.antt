@@ -16,9 +16,9 @@ use Rattle.sim_driver.proofs.simulation.play_all.Goals as goal
 pub pieces-init : goal.pieces-init
 pieces-init g c = record {
   most = omega arith;
-  room = c.in-Ok.ensures;
+  room = c.in-Ok-new_piece.ensures;
   begun = rw c.new-begun.ensures.items tt;
-  fault = c.new-script.ensures.fault;
+  links = omega (arith, c.in-Ok.ensures.links, c.len.ensures, c.args.seats.now.ok, c.requires.at);
   len = refl;
   are_open = c.requires.«open»;
   source_calm = refl;
@@ -97,7 +97,7 @@ pieces-preserved g c =
       most = omega (arith, c.in-Ok-take_more.ensures.most, c.min-room.ensures, c.pieces-test.true);
       begun = c.in-Ok-play_piece.ensures.begun;
       room = c.take_more.ensures.len ∙ c.pieces.invariant.room;
-      fault = c.in-Ok-play_piece.ensures.fault;
+      links = ap (λ (n : ℕ). first_router + n) c.play_piece.ensures.links ∙ c.pieces.invariant.links;
       len = c.play_piece.ensures.len ∙ c.pieces.invariant.len;
       are_open = c.in-Ok-play_piece.ensures.«open»;
       source_calm = c.take_more.ensures.fault.1 (λ e. cc) ∙ c.pieces.invariant.source_calm;
