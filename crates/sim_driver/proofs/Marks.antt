@@ -22,10 +22,13 @@ fewer_delivered (suc n) [] all = absurd all
 fewer_delivered (suc n) (d ∷ ds) all = (all.0, fewer_delivered n ds all.1)
 
 -- one more is
-pub more_delivered : (n : ℕ) (ds : List Bool) → AreDelivered n ds → n < length ds → get_or ds n false ≡ true → AreDelivered (n + 1) ds
+more_delivered : (n : ℕ) (ds : List Bool) → AreDelivered n ds → n < length ds → get_or ds n false ≡ true → AreDelivered (suc n) ds
 more_delivered n [] all within is = absurd (omega (arith, within))
 more_delivered zero (d ∷ ds) all within is = (is, tt)
 more_delivered (suc n) (d ∷ ds) all within is = (all.0, more_delivered n ds all.1 (omega (arith, within)) is)
+
+pub one_more_delivered : (n : ℕ) (ds : List Bool) → AreDelivered n ds → n < length ds → get_or ds n false ≡ true → AreDelivered (n + 1) ds
+one_more_delivered n ds all within is = subst (λ (k : ℕ). AreDelivered k ds) (sym (add-one n)) (more_delivered n ds all within is)
 
 pub delivered_get : (ds : List Bool) (place : ℕ) → is_delivered ds place ≡ get_or ds place false
 delivered_get [] place = refl

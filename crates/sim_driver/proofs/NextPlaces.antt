@@ -43,15 +43,15 @@ module _ (kind : List ℕ) (ds : List Bool) where
 
   module _ (xs : List Letter) (at : ℕ) (m : Letter) (got : slice_get xs at ≡ Some m) where
     pub next_here : (is : Bool) → is ≡ (not (is_delivered ds at) && is_of_kind kind m) → is ≡ true → next_from at kind ds (drop at xs) ≡ Some at
-    next_here is told yes =
+    next_here is told holds =
         ap (λ (l : List Letter). next_from at kind ds l) (drop_here xs at m got)
-        ∙ taken (not (is_delivered ds at) && is_of_kind kind m) (Some at) (next_from (at + 1) kind ds (drop (suc at) xs)) (sym told ∙ yes)
+        ∙ taken (not (is_delivered ds at) && is_of_kind kind m) (Some at) (next_from (at + 1) kind ds (drop (suc at) xs)) (sym told ∙ holds)
 
     pub next_other : (is : Bool) → is ≡ (not (is_delivered ds at) && is_of_kind kind m) → is ≡ false
         → next_from at kind ds (drop at xs) ≡ next_from (at + 1) kind ds (drop (at + 1) xs)
-    next_other is told no =
+    next_other is told fails =
         ap (λ (l : List Letter). next_from at kind ds l) (drop_here xs at m got)
-        ∙ (step_other at m (drop (suc at) xs) (sym told ∙ no) ∙ ap (λ (n : ℕ). next_from (at + 1) kind ds (drop n xs)) (sym (add-one at)))
+        ∙ (step_other at m (drop (suc at) xs) (sym told ∙ fails) ∙ ap (λ (n : ℕ). next_from (at + 1) kind ds (drop n xs)) (sym (add-one at)))
 
   pub next_none : (xs : List Letter) (at : ℕ) → length xs ≤ at → next_from at kind ds (drop at xs) ≡ None
   next_none xs at past = ap (λ (l : List Letter). next_from at kind ds l) (drop_past xs at past)

@@ -3,7 +3,6 @@ use Rattle.std.proofs.Common.{◌≡◌, ℕ, zero, suc, ◌+◌, ◌<◌, ◌�
 use Rattle.std.proofs.Common.{length-append, append_assoc, append-nil}
 use Rattle.std.specs.Prelude.{Option, Some, None, Bool}
 use Rattle.std.specs.List.{slice_get, slice_set}
-use Rattle.std.proofs.lemmas.List.{length-slice_set}
 use Rattle.std.proofs.lemmas.Option.{slice_get_within}
 use Rattle.opmsg_frames.specs.Outline.{FrameFault}
 use Rattle.opmsg_frames.specs.Frames.{FramesFrom, ends, fails, goes_on}
@@ -11,7 +10,7 @@ use Rattle.node_model.specs.Journal.{Kept}
 use Rattle.node_model.specs.Letters.{Input}
 use Rattle.node_model.specs.Requests.{Request}
 use Rattle.node_model.specs.States.{Router, new_router, router_state}
-use Rattle.node_model.specs.World.{World, IsRouter, Moves, Event, deliver_event, moment_event, Happens, comes, delivers, passes, begins as was_opened}
+use Rattle.node_model.specs.World.{Held, World, IsRouter, Moves, Event, deliver_event, moment_event, Happens, comes, delivers, passes, begins as was_opened}
 use Rattle.node_model.specs.World.{Run, stands, goes, routers_from, start}
 use Rattle.node_model.proofs.Schedules.{run_then}
 use Rattle.pipe_driver.specs.Progress.{AreAsked}
@@ -47,9 +46,14 @@ plays_run routers _ _ _ _ _ (plays_more lines before events u w s t out bytes li
 
 -- NODES
 
+count_set : (nodes : List Held) (at : ℕ) (h : Held) → length (slice_set nodes at h) ≡ length nodes
+count_set [] at h = refl
+count_set (x ∷ nodes) zero h = refl
+count_set (x ∷ nodes) (suc at) h = omega (arith, count_set nodes at h)
+
 move_count : (w v : World) (at : ℕ) (i : Input) → Moves w at i v → length v.nodes ≡ length w.nodes
 move_count w v at i m =
-    ap (λ (x : World). length x.nodes) m.then ∙ length-slice_set w.nodes at (record { state = m.new; kept = m.old.kept ++ m.f.written })
+    ap (λ (x : World). length x.nodes) m.then ∙ count_set w.nodes at (record { state = m.new; kept = m.old.kept ++ m.f.written })
 
 happens_count : (w v : World) (e : Event) → Happens w e v → length v.nodes ≡ length w.nodes
 happens_count _ _ _ (comes w v at link number request router m) = move_count w v at _ m

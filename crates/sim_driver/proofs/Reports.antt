@@ -59,8 +59,10 @@ router_other first (n ∷ numbers) zero number inside other =
 router_other first (n ∷ numbers) (suc i) number inside other =
     let later : first + suc i ≡ (first + 1) + i = omega arith in
     let last : (first + 1) + (i + 1) ≡ first + (suc i + 1) = omega arith in
+    let same : suc (i + 1) ≡ suc i + 1 = omega arith in
     ap (λ (k : ℕ). router_from k (drop i numbers) number) later
-    ∙ (router_other (first + 1) numbers i number (omega (arith, inside)) other ∙ ap (λ (k : ℕ). router_from k (drop (i + 1) numbers) number) last)
+    ∙ (router_other (first + 1) numbers i number (omega (arith, inside)) other ∙ (ap (λ (k : ℕ). router_from k (drop (i + 1) numbers) number) last
+    ∙ ap (λ (k : ℕ). router_from (first + (suc i + 1)) (drop k (n ∷ numbers)) number) same))
 
 pub router_none : (first : ℕ) (numbers : List ℕ) (i number : ℕ) → length numbers ≤ i → router_from first (drop i numbers) number ≡ None
 router_none first numbers i number past = ap (λ (l : List ℕ). router_from first l number) (drop_all i numbers past)

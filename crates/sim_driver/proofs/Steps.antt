@@ -1,5 +1,5 @@
 -- A script goes on by one line, or stops at it.
-use Rattle.std.proofs.Common.{◌≡◌, inl, inr, ℕ, ◌+◌, ◌≤◌, IsTrue, List, [], ◌∷◌, ◌++◌, length, refl, arith, length-append, sym, ap, subst, ◌∙◌, append_assoc, append-nil}
+use Rattle.std.proofs.Common.{◌≡◌, inl, inr, ℕ, ◌+◌, ◌-◌, ◌≤◌, IsTrue, List, [], ◌∷◌, ◌++◌, length, refl, arith, length-append, sym, ap, subst, ◌∙◌, append_assoc, append-nil}
 use Rattle.std.specs.Prelude.{Bool, Option}
 use Rattle.std.proofs.lemmas.Grind.{flat_map-append}
 use Rattle.outside.specs.Streams.{Put}
@@ -16,7 +16,7 @@ use Rattle.driver_steps.specs.Seats.{SeatView}
 use Rattle.driver_steps.specs.Worlds.{NetworkView, StandsFor, network_view, puts_given}
 use Rattle.driver_steps.specs.Moves.{BeginWith, HasRun, HasStopped, IsUpTo}
 use Rattle.driver_steps.proofs.Crashes.{leads_by, leads_nowhere, leads_on}
-use Rattle.driver_steps.proofs.Seats.{held_kept}
+use Rattle.driver_steps.proofs.Seats.{held_kept, held_len}
 use Rattle.driver_steps.proofs.Runs.{handed_on}
 use Rattle.pipe_driver.specs.Acknowledgements.{AreCovered}
 use Rattle.pipe_driver.specs.Pieces.{PutInPart}
@@ -35,7 +35,7 @@ use Rattle.sim_driver.specs.LineOutcomes.{HasPlayedBytes, IsPartOfBytes, part_re
 use Rattle.sim_driver.specs.Simulations.{newline, bytes_of_lines, plays_none, plays_more, CameTo, came_opening, came_lines, came_part, all_printed}
 use Rattle.sim_driver.specs.Progress.{Playing, StopsAt, at_refused_line, at_write_fault, at_disk_fault, at_no_memory, Stopped}
 use Rattle.sim_driver.proofs.Faults.{run_more, still}
-use Rattle.sim_driver.proofs.Plays.{plays_run, whole_is_part}
+use Rattle.sim_driver.proofs.Plays.{plays_count, plays_run, whole_is_part}
 
 lines_more : (lines : List (List ℕ)) (bytes : List ℕ) → bytes_of_lines (lines ++ bytes ∷ []) ≡ bytes_of_lines lines ++ (bytes ++ newline ∷ [])
 lines_more lines bytes =
@@ -329,3 +329,10 @@ pub playing_from : {S : Type 0} (view : S → SeatView) (seats : List S) (networ
     → Playing view seats network routers tells noted held_before held t consumed
 playing_from view seats network routers tells noted held_before held consumed s t same p =
     subst (λ (x : ScriptView). Playing view seats network routers tells noted held_before held x consumed) same p
+
+-- so many routers there are
+pub routers_are : {S : Type 0} (view : S → SeatView) (seats : List S) (network : NetworkView) (routers : ℕ) (tells : Bool) (noted : List Noted)
+    (held_before held consumed : List ℕ) (s : ScriptView) → Playing view seats network routers tells noted held_before held s consumed
+    → (count : ℕ) → count ≡ length seats → routers ≡ count - 2
+routers_are view seats network routers tells noted held_before held consumed s p count counted =
+    omega (arith, counted, held_len view seats p.world.nodes p.stands.nodes, plays_count routers p.lines p.events p.world s p.out p.plays)

@@ -49,7 +49,7 @@ pub lines-preserved : goal.lines-preserved
 lines-preserved g c = record {
   begun = subst (λ (l : List ℕ). HasNone newline l) (sym c.clear.ensures.items) tt;
   len = c.answer_line.ensures.len ∙ c.lines.invariant.len;
-  are_open = c.in-Ok-answer_line.ensures.«open»;
+  are_open = c.in-Ok-answer_line.ensures.«open» (λ e. cc);
   links = c.answer_line.ensures.links ∙ c.lines.invariant.links;
   sink_calm = c.answer_line.ensures.write_fault.1 (λ e. cc) ∙ c.lines.invariant.sink_calm;
   disks_calm = c.answer_line.ensures.disk_fault.1 (λ e. cc) ∙ c.lines.invariant.disks_calm;

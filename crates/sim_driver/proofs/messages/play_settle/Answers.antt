@@ -9,7 +9,7 @@ use Rattle.sim_driver.proofs.messages.play_settle.Goals as goal
 
 pub returns-in-Ok-clause-played : goal.returns-in-Ok-clause-played
 returns-in-Ok-clause-played g c since w handed known s =
-    let h = rw c.next.ensures.same at (c.in-Ok.ensures.settled since w handed (rw c.next.ensures.same known) s) in
+    let h = rw c.next-first.ensures.same at (c.in-Ok.ensures.settled since w handed (rw c.next-first.ensures.same known) s) in
     settle_played (seat_since g.N.Node.state g.L.Log.facts since) _ _ handed w
     (script_view c.args.script.now) (option_map (λ k. k.now) c.args.except) c.settle_but.new.delivered h
 
@@ -22,4 +22,4 @@ returns-in-Err-clause-stops g c since w handed known s =
     (IsPartOfSettling (option_map (λ k. k.now) c.args.except) w c.args.script.now.delivered)
     (IsPartOfLine w (script_view c.args.script.now) (settle_line (option_map (λ k. k.now) c.args.except))) c.in-Err.status
     (λ events are. part_of_settle (option_map (λ k. k.now) c.args.except) events are)
-    (rw c.next.ensures.same at (c.in-Err.ensures.cut since w handed (rw c.next.ensures.same known) s)))
+    (rw c.next-first.ensures.same at (c.in-Err.ensures.cut since w handed (rw c.next-first.ensures.same known) s)))

@@ -79,13 +79,13 @@ returns-in-SettleExcept-clause-stops g c asks since w handed routers known s =
 pub returns-in-Ok-play_next-clause-played : goal.returns-in-Ok-play_next-clause-played
 returns-in-Ok-play_next-clause-played g c asks since w handed routers known s =
     played_as (seat_since g.N.Node.state g.L.Log.facts since) _ _ handed w
-    (next_line c.as_slice-2.result.now) (meaning_of c.args.line)
-    _ _ _ (ap (λ (b : List ℕ). next_line b) c.as_slice-2.ensures.value ∙ ap meaning_of (sym c.in-Next.is))
+    (next_line c.as_slice-in-Next.result.now) (meaning_of c.args.line)
+    _ _ _ (ap (λ (b : List ℕ). next_line b) c.as_slice-in-Next.ensures.value ∙ ap meaning_of (sym c.in-Next.is))
     (c.in-Ok-play_next.ensures.played since w handed s)
 
 pub returns-clause-stops : goal.returns-clause-stops
 returns-clause-stops g c asks since w handed routers known s =
     stops_as (seat_since g.N.Node.state g.L.Log.facts since) _ w
-    (next_line c.as_slice-2.result.now) (meaning_of c.args.line)
-    _ _ (ap (λ (b : List ℕ). next_line b) c.as_slice-2.ensures.value ∙ ap meaning_of (sym c.in-Next.is))
+    (next_line c.as_slice-in-Next.result.now) (meaning_of c.args.line)
+    _ _ (ap (λ (b : List ℕ). next_line b) c.as_slice-in-Next.ensures.value ∙ ap meaning_of (sym c.in-Next.is))
     (c.in-Err-play_next.ensures.stops since w handed s)
