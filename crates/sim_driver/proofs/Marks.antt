@@ -30,6 +30,12 @@ more_delivered (suc n) (d ∷ ds) all within is = (all.0, more_delivered n ds al
 pub one_more_delivered : (n : ℕ) (ds : List Bool) → AreDelivered n ds → n < length ds → get_or ds n false ≡ true → AreDelivered (n + 1) ds
 one_more_delivered n ds all within is = subst (λ (k : ℕ). AreDelivered k ds) (sym (add-one n)) (more_delivered n ds all within is)
 
+-- a place that is there needs no other value
+pub same_get : (ds : List Bool) (n : ℕ) (b c : Bool) → n < length ds → get_or ds n b ≡ get_or ds n c
+same_get [] n b c within = absurd (omega (arith, within))
+same_get (d ∷ ds) zero b c within = refl
+same_get (d ∷ ds) (suc n) b c within = same_get ds n b c (omega (arith, within))
+
 pub delivered_get : (ds : List Bool) (place : ℕ) → is_delivered ds place ≡ get_or ds place false
 delivered_get [] place = refl
 delivered_get (d ∷ ds) zero = refl

@@ -73,7 +73,10 @@ impl Delivered {
     pub fn has(&self, place: usize) -> bool
         ensures { result ≡ is_delivered self.now place }
     {
-        place < self.flags.len() && self.flags[place]
+        if place >= self.flags.len() {
+            return false;
+        }
+        self.flags[place]
     }
 
     /// A place before which all were delivered.
