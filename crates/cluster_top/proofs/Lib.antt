@@ -3,6 +3,8 @@ pub mod Counts
 pub mod Crashes
 pub mod OneReading
 pub mod OpenJournals
+pub mod OpenedUpTo
+pub mod Openings
 pub mod SeatFacts
 pub mod Statuses
 pub mod Unserved

@@ -61,7 +61,9 @@ fn value_in(option: &str) -> Option<&str>
 /// 8. It takes no memory. `None` where they are refused: no word, another word, the option with `pipe` or twice, `--`, or a value that is
 /// no number or not in range.
 pub fn read_command(words: &[Text]) -> Option<Command>
-    ensures { result ≡ command_of words.now }
+    ensures command { result ≡ command_of words.now }
+    ensures some { IfSome result (λ command. 1 ≤ routers_of command) }
+    ensures few { IfSome result (λ command. routers_of command ≤ most_routers) }
 {
     match words {
         [word] if word.as_str() == "pipe" => Some(Command::Pipe),
@@ -80,7 +82,7 @@ pub fn read_command(words: &[Text]) -> Option<Command>
 /// How many nodes the arguments of the command line start, and so how many disks `run` wants: the catalogue, the shard and
 /// the routers. `None` exactly where these are refused.
 pub fn node_count(words: &[Text]) -> Option<usize>
-    ensures { result ≡ node_count_of words.now }
+    ensures count { result ≡ node_count_of words.now }
     ensures few { IfSome result (λ count. count ≤ 10) }
 {
     match read_command(words) {

@@ -3,12 +3,17 @@
 ghost use Rattle.std.specs.Prelude.{◌≡◌, ◌↔◌, ◌≤◌, ◌<◌, ◌+◌, ◌++◌, [], map, false, vec_len, vec_capacity, IsTrue, IfOk, IfErr, OnOk, OnErr, Some};
 ghost use Rattle.std.specs.List.{slice_get};
 ghost use Rattle.outside.specs.Causes.{Rose};
-ghost use Rattle.outside.specs.Devices.{OneRose};
+ghost use Rattle.outside.specs.Devices.{NoneFell, OneRose};
 ghost use Rattle.outside.specs.Disks.{Within};
 ghost use Rattle.node_traits.specs.Calls.{LeavesAlso};
-ghost use Rattle.cluster_top.specs.Disks.{AllEmpty, SomeFile};
-ghost use Rattle.cluster_top.specs.OpenJournals.{disks_of};
-ghost use Rattle.cluster_top.specs.Openings.{AreOpenedUpTo, AreUnopened, InPairs, IsAsked, IsOpened, IsUnopened, disk_facts};
+ghost use Rattle.cluster_top.specs.Crashes.{LeaveSuch};
+ghost use Rattle.journal_frames.specs.Files.{Stands};
+ghost use Rattle.pipe_driver.specs.Counts.{RoseWhere};
+ghost use Rattle.cluster_top.specs.Disks.{AllEmpty, AreNoWorse, IsEmpty, SomeFile};
+ghost use Rattle.cluster_top.specs.OpenJournals.{IsFresh};
+ghost use Rattle.cluster_top.specs.Openings.{AreOpenedUpTo, AreUnopened, InPairs, IsAsked, IsOpened, disk_facts};
+ghost use Rattle.cluster_top.specs.Stops.{StopsOpening};
+ghost use Rattle.cluster_top.specs.declared.status.Status.TheVariants as statuses;
 
 use crate::journals::close_all;
 use crate::status::Status;
@@ -70,7 +75,7 @@ fn is_empty_at<D: Disk>(disks: &mut Vec<D>, at: usize) -> Result<bool, Failed>
 ///
 /// # Errors
 /// `Failed` if a disk met a fault, which is counted.
-pub fn are_empty<D: Disk>(disks: &mut Vec<D>) -> Result<bool, Failed>
+fn ask_all<D: Disk>(disks: &mut Vec<D>) -> Result<bool, Failed>
     ensures empty { IfOk result (λ empty. IsTrue D.tells → IsTrue empty → AllEmpty (map D.content disks.old.items)) }
     ensures some { IfOk result (λ empty. IsTrue D.tells → empty ≡ false → SomeFile (map D.content disks.old.items)) }
     ensures asked { InPairs (IsAsked (disk_facts D.tells D.content D.may_leave D.moment D.left_since D.place D.fault_count)) disks.old.items disks.new.items }
@@ -89,6 +94,25 @@ pub fn are_empty<D: Disk>(disks: &mut Vec<D>) -> Result<bool, Failed>
     Ok(true)
 }
 
+/// Whether all files have length 0, as `ask_all`: what a caller knows of the disks then.
+///
+/// # Errors
+/// `Failed` if a disk met a fault, which is counted.
+pub fn are_empty<D: Disk>(disks: &mut Vec<D>) -> Result<bool, Failed>
+    ensures empty { IfOk result (λ empty. IsTrue D.tells → IsTrue empty → AllEmpty (map D.content disks.old.items)) }
+    ensures some { IfOk result (λ empty. IsTrue D.tells → empty ≡ false → SomeFile (map D.content disks.old.items)) }
+    ensures same { IsTrue D.tells → map D.content disks.new.items ≡ map D.content disks.old.items }
+    ensures crash { IsTrue D.tells → AreNoWorse D.may_leave disks.old.items disks.new.items }
+    ensures leaves { IsTrue D.tells → LeaveSuch D.moment D.left_since (λ at file. ⊥) disks.old.items disks.new.items }
+    ensures cause { OnErr result (OneRose (map D.fault_count disks.old.items) (map D.fault_count disks.new.items)) }
+    ensures calm { OnOk result (map D.fault_count disks.new.items ≡ map D.fault_count disks.old.items) }
+    ensures places { map D.place disks.new.items ≡ map D.place disks.old.items }
+    ensures later { NoneFell (map D.fault_count disks.old.items) (map D.fault_count disks.new.items) }
+    ensures len { vec_len disks.new ≡ vec_len disks.old }
+{
+    ask_all(disks)
+}
+
 /// The journal that was opened; its records are let go.
 fn journal_of<D: Disk>(opened: (Journal<D>, RecordList)) -> Journal<D>
     ensures { result ≡ opened.0 }
@@ -98,10 +122,21 @@ fn journal_of<D: Disk>(opened: (Journal<D>, RecordList)) -> Journal<D>
 
 /// Opens the journal on a disk.
 fn open_one<D: Disk>(alloc: Global, disk: D) -> Result<Journal<D>, Unopened<D>>
-    ensures opened { IfOk result (λ journal.
-        IsOpened (disk_facts D.tells D.content D.may_leave D.moment D.left_since D.place D.fault_count) disk journal) }
-    ensures unopened { IfErr result (λ u.
-        IsUnopened (disk_facts D.tells D.content D.may_leave D.moment D.left_since D.place D.fault_count) u.status disk u.disk) }
+    ensures opened { IsEmpty D.tells (D.content disk) → IfOk result (λ journal. IsFresh D.tells D.content journal) }
+    ensures open { IfOk result (λ journal. IsTrue journal.is_open) }
+    ensures kept { IsEmpty D.tells (D.content disk) → IfErr result (λ u. IsTrue D.tells → Stands (D.content u.disk) []) }
+    ensures leaves { IsEmpty D.tells (D.content disk) → IfOk result (λ journal. IsTrue D.tells →
+        LeavesAlso D.moment D.left_since disk journal.disk (λ file. Stands file [])) }
+    ensures leaves_err { IsEmpty D.tells (D.content disk) → IfErr result (λ u. IsTrue D.tells →
+        LeavesAlso D.moment D.left_since disk u.disk (λ file. Stands file [])) }
+    ensures damaged { IfErr result (λ u. IsEmpty D.tells (D.content disk) → u.status ≡ statuses.DamagedJournal → ¬ IsTrue D.tells) }
+    ensures stops { IfErr result (λ u. StopsOpening u.status) }
+    ensures fault { IfErr result (λ u. RoseWhere (u.status ≡ statuses.DiskFailed) (D.fault_count disk) (D.fault_count u.disk)) }
+    ensures calm { IfOk result (λ journal. D.fault_count journal.disk ≡ D.fault_count disk) }
+    ensures place { IfOk result (λ journal. D.place journal.disk ≡ D.place disk) }
+    ensures place_err { IfErr result (λ u. D.place u.disk ≡ D.place disk) }
+    ensures later { IfOk result (λ journal. D.fault_count disk ≤ D.fault_count journal.disk) }
+    ensures later_err { IfErr result (λ u. D.fault_count disk ≤ D.fault_count u.disk) }
 {
     match Journal::open(alloc, disk) {
         Ok(opened) => Ok(journal_of(opened)),

@@ -7,9 +7,10 @@
 //! - `ask` and bytes that come in, in hexadecimal; `3*05` stands for `050505`;
 //! - `is` and what the framer and the commands make of them: a request, a fault with its offset, or the number of bytes left;
 //! - `gets` and bytes of replies;
-//! - `sim`: the bytes are a script, and the run's argument is `sim`, where else it is `pipe`;
+//! - `sim`, alone or with `--routers` and a number: the bytes are a script, and these words are the run's arguments, where else it is
+//!   `pipe`; it stands before the lines of the disks;
 //! - `cut`: in each cutting in two and byte by byte the same comes of it;
-//! - `fail` and `take`, `put` or a disk (0 the catalogue's, 1 the shard's, 2 the router's), and the number of a call that fails;
+//! - `fail` and `take`, `put` or a disk (0 the catalogue's, 1 the shard's, 2 and on the routers'), and the number of a call that fails;
 //! - `narrow` and the most bytes that a put takes;
 //! - `file`, a disk and its bytes at the start; `keeps`, a disk and its bytes at the end: an opening of its journal finds just the records that
 //!   stand in these by their gates and lengths, and all bytes of each are read as one record; `size`, a disk and the number of its bytes at the end;

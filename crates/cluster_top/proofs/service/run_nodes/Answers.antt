@@ -21,44 +21,44 @@ returns-in-Ok-false-clause-damaged g c = λ is.
 pub returns-in-Ok-false-clause-disk_fault : goal.returns-in-Ok-false-clause-disk_fault
 returns-in-Ok-false-clause-disk_fault g c =
     rw c.untouched.ensures.disks
-    (all_still _ (map g.D.Disk.fault_count (three {D = g.row.D.Denot} c.args.disks)) (map g.D.Disk.fault_count (three {D = g.row.D.Denot} c.are_empty.new.self))
+    (all_still _ (map g.D.Disk.fault_count c.args.disks.items) (map g.D.Disk.fault_count c.are_empty.new.disks.items)
     (λ is. let clash : statuses.DamagedJournal ≡ statuses.DiskFailed = sym c.untouched.ensures.status ∙ is in cc) c.in-Ok-false.ensures.calm)
 
 pub returns-in-Err-clause-headline : goal.returns-in-Err-clause-headline
 returns-in-Err-clause-headline g c = λ asked new empty other.
     rw (c.untouched-in-Err.ensures.disks, c.untouched-in-Err.ensures.status)
     (unopened (source_call g.S.Source.tells g.S.Source.left g.S.Source.fault_count c.args.input.now c.args.input.now) (sink_call g.K.Sink.tells g.K.Sink.held g.K.Sink.fault_count c.args.out.now c.args.out.now)
-    g.D.Disk.tells (map g.D.Disk.content (three {D = g.row.D.Denot} c.are_empty.new.self)) (LeaveTheWay g.D.Disk.tells g.D.Disk.moment g.D.Disk.left_since (three {D = g.row.D.Denot} c.args.disks) (three {D = g.row.D.Denot} c.are_empty.new.self))
-    (AreDurableBefore g.K.Sink.tells g.D.Disk.tells g.D.Disk.place g.D.Disk.moment g.D.Disk.left_since c.args.command (g.K.Sink.noted c.args.out.now) (g.K.Sink.held c.args.out.now) (three {D = g.row.D.Denot} c.are_empty.new.self))
+    g.D.Disk.tells (map g.D.Disk.content c.are_empty.new.disks.items) (LeaveTheWay (routers_of c.args.command) g.D.Disk.tells g.D.Disk.moment g.D.Disk.left_since c.args.disks.items c.are_empty.new.disks.items)
+    (AreDurableBefore g.K.Sink.tells g.D.Disk.tells g.D.Disk.place g.D.Disk.moment g.D.Disk.left_since c.args.command (g.K.Sink.noted c.args.out.now) (g.K.Sink.held c.args.out.now) c.are_empty.new.disks.items)
     (g.C.Clock.gives c.args.clock.now) _ c.args.command statuses.DiskFailed at_opening_fault (λ e. cc)
     c.untouched-in-Err.ensures.rest (λ told. refl) (λ told. sym (append-nil (g.K.Sink.held c.args.out.now)))
     (λ told. empty_kept _ _ _
-    (still_empty g.D.Disk.tells (map g.D.Disk.content (three {D = g.row.D.Denot} c.args.disks)) (map g.D.Disk.content (three {D = g.row.D.Denot} c.are_empty.new.self)) c.in-Err.ensures.same empty told))
-    (λ told. all_weaker g.D.Disk.moment g.D.Disk.left_since (λ at file. ⊥) (λ at file. IsOfTheWay (start 1) at file) (three {D = g.row.D.Denot} c.args.disks) (three {D = g.row.D.Denot} c.are_empty.new.self) never_of (c.in-Err.ensures.leaves told))
-    (none_owed g.K.Sink.tells g.D.Disk.tells g.D.Disk.place g.D.Disk.moment g.D.Disk.left_since c.args.command (g.K.Sink.noted c.args.out.now) (g.K.Sink.held c.args.out.now) _ (start 1)))
+    (still_empty g.D.Disk.tells (map g.D.Disk.content c.args.disks.items) (map g.D.Disk.content c.are_empty.new.disks.items) c.in-Err.ensures.same empty told))
+    (λ told. all_weaker g.D.Disk.moment g.D.Disk.left_since (λ at file. ⊥) (λ at file. IsOfTheWay (routers_of c.args.command) (start (routers_of c.args.command)) at file) c.args.disks.items c.are_empty.new.disks.items (never_of (routers_of c.args.command)) (c.in-Err.ensures.leaves told))
+    (none_owed g.K.Sink.tells g.D.Disk.tells g.D.Disk.place g.D.Disk.moment g.D.Disk.left_since c.args.command (g.K.Sink.noted c.args.out.now) (g.K.Sink.held c.args.out.now) _ (start (routers_of c.args.command))))
 
 pub returns-in-Err-clause-disk_fault : goal.returns-in-Err-clause-disk_fault
 returns-in-Err-clause-disk_fault g c =
     rw c.untouched-in-Err.ensures.disks
-    (one_of_them_rose _ (map g.D.Disk.fault_count (three {D = g.row.D.Denot} c.args.disks)) (map g.D.Disk.fault_count (three {D = g.row.D.Denot} c.are_empty.new.self)) c.untouched-in-Err.ensures.status
+    (one_of_them_rose _ (map g.D.Disk.fault_count c.args.disks.items) (map g.D.Disk.fault_count c.are_empty.new.disks.items) c.untouched-in-Err.ensures.status
     c.in-Err.ensures.cause)
 
 pub returns-in-Err-open_all-clause-headline : goal.returns-in-Err-open_all-clause-headline
 returns-in-Err-open_all-clause-headline g c = λ asked new empty other.
-    let still : IsEmptyAll g.D.Disk.tells (map g.D.Disk.content (three {D = g.row.D.Denot} c.are_empty.new.self)) =
-    still_empty g.D.Disk.tells (map g.D.Disk.content (three {D = g.row.D.Denot} c.args.disks)) (map g.D.Disk.content (three {D = g.row.D.Denot} c.are_empty.new.self)) c.in-Ok-true.ensures.same empty in
+    let still : IsEmptyAll g.D.Disk.tells (map g.D.Disk.content c.are_empty.new.disks.items) =
+    still_empty g.D.Disk.tells (map g.D.Disk.content c.args.disks.items) (map g.D.Disk.content c.are_empty.new.disks.items) c.in-Ok-true.ensures.same empty in
     rw (c.untouched-in-Err-open_all.ensures.disks, c.untouched-in-Err-open_all.ensures.status)
     (unopened (source_call g.S.Source.tells g.S.Source.left g.S.Source.fault_count c.args.input.now c.args.input.now) (sink_call g.K.Sink.tells g.K.Sink.held g.K.Sink.fault_count c.args.out.now c.args.out.now)
-    g.D.Disk.tells (map g.D.Disk.content (three {D = g.row.D.Denot} c.in-Err-open_all.field-0.disks))
-    (LeaveTheWay g.D.Disk.tells g.D.Disk.moment g.D.Disk.left_since (three {D = g.row.D.Denot} c.args.disks) (three {D = g.row.D.Denot} c.in-Err-open_all.field-0.disks))
-    (AreDurableBefore g.K.Sink.tells g.D.Disk.tells g.D.Disk.place g.D.Disk.moment g.D.Disk.left_since c.args.command (g.K.Sink.noted c.args.out.now) (g.K.Sink.held c.args.out.now) (three {D = g.row.D.Denot} c.in-Err-open_all.field-0.disks)) (g.C.Clock.gives c.args.clock.now) _ c.args.command c.in-Err-open_all.field-0.status c.in-Err-open_all.ensures.stops
+    g.D.Disk.tells (map g.D.Disk.content c.in-Err-open_all.field-0.disks.items)
+    (LeaveTheWay (routers_of c.args.command) g.D.Disk.tells g.D.Disk.moment g.D.Disk.left_since c.args.disks.items c.in-Err-open_all.field-0.disks.items)
+    (AreDurableBefore g.K.Sink.tells g.D.Disk.tells g.D.Disk.place g.D.Disk.moment g.D.Disk.left_since c.args.command (g.K.Sink.noted c.args.out.now) (g.K.Sink.held c.args.out.now) c.in-Err-open_all.field-0.disks.items) (g.C.Clock.gives c.args.clock.now) _ c.args.command c.in-Err-open_all.field-0.status c.in-Err-open_all.ensures.stops
     (λ is. other (c.untouched-in-Err-open_all.ensures.status ∙ is)) c.untouched-in-Err-open_all.ensures.rest (λ told. refl) (λ told. sym (append-nil (g.K.Sink.held c.args.out.now)))
     (λ told. let kept = c.in-Err-open_all.ensures.kept still told in none_kept _ _ _ kept.0 kept.1.0 kept.1.1.0)
-    (λ told. all_weaker g.D.Disk.moment g.D.Disk.left_since (λ at file. Stands file []) (λ at file. IsOfTheWay (start 1) at file) (three {D = g.row.D.Denot} c.args.disks) (three {D = g.row.D.Denot} c.in-Err-open_all.field-0.disks)
-    (λ at file none. of_the_start (start 1) at file (leads_nowhere (start 1)) none)
-    (all_then g.D.Disk.moment g.D.Disk.left_since (λ at file. Stands file []) (three {D = g.row.D.Denot} c.args.disks) (three {D = g.row.D.Denot} c.are_empty.new.self) (three {D = g.row.D.Denot} c.in-Err-open_all.field-0.disks) (c.in-Ok-true.ensures.leaves told)
+    (λ told. all_weaker g.D.Disk.moment g.D.Disk.left_since (λ at file. Stands file []) (λ at file. IsOfTheWay (routers_of c.args.command) (start (routers_of c.args.command)) at file) c.args.disks.items c.in-Err-open_all.field-0.disks.items
+    (λ at file none. of_the_start (routers_of c.args.command) (start (routers_of c.args.command)) at file (leads_nowhere (start (routers_of c.args.command))) none)
+    (all_then g.D.Disk.moment g.D.Disk.left_since (λ at file. Stands file []) c.args.disks.items c.are_empty.new.disks.items c.in-Err-open_all.field-0.disks.items (c.in-Ok-true.ensures.leaves told)
     (c.in-Err-open_all.ensures.leaves_err still told)))
-    (none_owed g.K.Sink.tells g.D.Disk.tells g.D.Disk.place g.D.Disk.moment g.D.Disk.left_since c.args.command (g.K.Sink.noted c.args.out.now) (g.K.Sink.held c.args.out.now) _ (start 1)))
+    (none_owed g.K.Sink.tells g.D.Disk.tells g.D.Disk.place g.D.Disk.moment g.D.Disk.left_since c.args.command (g.K.Sink.noted c.args.out.now) (g.K.Sink.held c.args.out.now) _ (start (routers_of c.args.command))))
 
 pub returns-in-Err-open_all-clause-status : goal.returns-in-Err-open_all-clause-status
 returns-in-Err-open_all-clause-status g c = λ is. (opening_not_refused _ c.in-Err-open_all.ensures.stops).0 (sym c.untouched-in-Err-open_all.ensures.status ∙ is)
@@ -74,34 +74,34 @@ returns-in-Err-open_all-clause-write_fault g c =
 pub returns-in-Err-open_all-clause-disk_fault : goal.returns-in-Err-open_all-clause-disk_fault
 returns-in-Err-open_all-clause-disk_fault g c =
     rw c.untouched-in-Err-open_all.ensures.disks
-    (one_rose_after _ (map g.D.Disk.fault_count (three {D = g.row.D.Denot} c.args.disks)) (map g.D.Disk.fault_count (three {D = g.row.D.Denot} c.are_empty.new.self))
-    (map g.D.Disk.fault_count (three {D = g.row.D.Denot} c.in-Err-open_all.field-0.disks)) c.in-Ok-true.ensures.calm
-    (one_rose_as (c.in-Err-open_all.field-0.status ≡ statuses.DiskFailed) _ (map g.D.Disk.fault_count (three {D = g.row.D.Denot} c.are_empty.new.self))
-    (map g.D.Disk.fault_count (three {D = g.row.D.Denot} c.in-Err-open_all.field-0.disks)) (λ is. c.untouched-in-Err-open_all.ensures.status ∙ is)
+    (one_rose_after _ (map g.D.Disk.fault_count c.args.disks.items) (map g.D.Disk.fault_count c.are_empty.new.disks.items)
+    (map g.D.Disk.fault_count c.in-Err-open_all.field-0.disks.items) c.in-Ok-true.ensures.calm
+    (one_rose_as (c.in-Err-open_all.field-0.status ≡ statuses.DiskFailed) _ (map g.D.Disk.fault_count c.are_empty.new.disks.items)
+    (map g.D.Disk.fault_count c.in-Err-open_all.field-0.disks.items) (λ is. c.untouched-in-Err-open_all.ensures.status ∙ is)
     (λ is. sym c.untouched-in-Err-open_all.ensures.status ∙ is) c.in-Err-open_all.ensures.fault))
 
 pub returns-in-Err-open_all-clause-later : goal.returns-in-Err-open_all-clause-later
 returns-in-Err-open_all-clause-later g c =
     rw c.untouched-in-Err-open_all.ensures.disks
-    (none_fell_after (map g.D.Disk.fault_count (three {D = g.row.D.Denot} c.args.disks)) (map g.D.Disk.fault_count (three {D = g.row.D.Denot} c.are_empty.new.self))
-    (map g.D.Disk.fault_count (three {D = g.row.D.Denot} c.in-Err-open_all.field-0.disks)) c.in-Ok-true.ensures.calm c.in-Err-open_all.ensures.later_err)
+    (none_fell_after (map g.D.Disk.fault_count c.args.disks.items) (map g.D.Disk.fault_count c.are_empty.new.disks.items)
+    (map g.D.Disk.fault_count c.in-Err-open_all.field-0.disks.items) c.in-Ok-true.ensures.calm c.in-Err-open_all.ensures.later_err)
 
 pub returns-in-Err-open_all-clause-places : goal.returns-in-Err-open_all-clause-places
 returns-in-Err-open_all-clause-places g c = rw c.untouched-in-Err-open_all.ensures.disks (c.in-Err-open_all.ensures.places_err ∙ c.in-Ok-true.ensures.places)
 
 pub returns-in-Err-open_all-clause-durable : goal.returns-in-Err-open_all-clause-durable
 returns-in-Err-open_all-clause-durable g c = λ told empty failed wanted.
-    let still : IsEmptyAll g.D.Disk.tells (map g.D.Disk.content (three {D = g.row.D.Denot} c.are_empty.new.self)) =
-    still_empty g.D.Disk.tells (map g.D.Disk.content (three {D = g.row.D.Denot} c.args.disks)) (map g.D.Disk.content (three {D = g.row.D.Denot} c.are_empty.new.self)) c.in-Ok-true.ensures.same empty in
+    let still : IsEmptyAll g.D.Disk.tells (map g.D.Disk.content c.are_empty.new.disks.items) =
+    still_empty g.D.Disk.tells (map g.D.Disk.content c.args.disks.items) (map g.D.Disk.content c.are_empty.new.disks.items) c.in-Ok-true.ensures.same empty in
     absurd (opening_stopped c.in-Err-open_all.field-0.status c.in-Err-open_all.ensures.stops (λ is. failed (c.untouched-in-Err-open_all.ensures.status ∙ is))
     (λ is. wanted (c.untouched-in-Err-open_all.ensures.status ∙ is)) (λ is. c.in-Err-open_all.ensures.damaged still is told))
 
 pub returns-in-Ok-clause-headline : goal.returns-in-Ok-clause-headline
 returns-in-Ok-clause-headline g c = λ asked new empty other.
-    let still : IsEmptyAll g.D.Disk.tells (map g.D.Disk.content (three {D = g.row.D.Denot} c.are_empty.new.self)) =
-    still_empty g.D.Disk.tells (map g.D.Disk.content (three {D = g.row.D.Denot} c.args.disks)) (map g.D.Disk.content (three {D = g.row.D.Denot} c.are_empty.new.self)) c.in-Ok-true.ensures.same empty in
-    c.serve.ensures.headline asked new (c.in-Ok.ensures.opened still) (three {D = g.row.D.Denot} c.args.disks)
-    (λ told. all_then g.D.Disk.moment g.D.Disk.left_since (λ at file. Stands file []) (three {D = g.row.D.Denot} c.args.disks) (three {D = g.row.D.Denot} c.are_empty.new.self) (disks_of {D = g.row.D.Denot} c.in-Ok.journals) (c.in-Ok-true.ensures.leaves told)
+    let still : IsEmptyAll g.D.Disk.tells (map g.D.Disk.content c.are_empty.new.disks.items) =
+    still_empty g.D.Disk.tells (map g.D.Disk.content c.args.disks.items) (map g.D.Disk.content c.are_empty.new.disks.items) c.in-Ok-true.ensures.same empty in
+    c.serve.ensures.headline asked new (c.in-Ok.ensures.opened still) c.args.disks.items
+    (λ told. all_then g.D.Disk.moment g.D.Disk.left_since (λ at file. Stands file []) c.args.disks.items c.are_empty.new.disks.items (disks_of c.in-Ok-open_all.opened.journals.items) (c.in-Ok-true.ensures.leaves told)
     (c.in-Ok.ensures.leaves still told))
 
 pub returns-in-Ok-clause-durable : goal.returns-in-Ok-clause-durable
@@ -115,12 +115,12 @@ returns-in-Ok-clause-damaged g c = λ is. absurd (c.serve.ensures.status.1 is)
 
 pub returns-in-Ok-clause-disk_fault : goal.returns-in-Ok-clause-disk_fault
 returns-in-Ok-clause-disk_fault g c =
-    one_rose_after _ (map g.D.Disk.fault_count (three {D = g.row.D.Denot} c.args.disks)) (map g.D.Disk.fault_count (disks_of {D = g.row.D.Denot} c.in-Ok.journals)) (map g.D.Disk.fault_count (three {D = g.row.D.Denot} c.serve.result.disks))
+    one_rose_after _ (map g.D.Disk.fault_count c.args.disks.items) (map g.D.Disk.fault_count (disks_of c.in-Ok-open_all.opened.journals.items)) (map g.D.Disk.fault_count c.serve.result.disks.items)
     (c.in-Ok.ensures.calm ∙ c.in-Ok-true.ensures.calm) c.serve.ensures.disk_fault
 
 pub returns-in-Ok-clause-later : goal.returns-in-Ok-clause-later
 returns-in-Ok-clause-later g c =
-    none_fell_after (map g.D.Disk.fault_count (three {D = g.row.D.Denot} c.args.disks)) (map g.D.Disk.fault_count (disks_of {D = g.row.D.Denot} c.in-Ok.journals)) (map g.D.Disk.fault_count (three {D = g.row.D.Denot} c.serve.result.disks))
+    none_fell_after (map g.D.Disk.fault_count c.args.disks.items) (map g.D.Disk.fault_count (disks_of c.in-Ok-open_all.opened.journals.items)) (map g.D.Disk.fault_count c.serve.result.disks.items)
     (c.in-Ok.ensures.calm ∙ c.in-Ok-true.ensures.calm) c.serve.ensures.later
 
 pub returns-in-Ok-clause-places : goal.returns-in-Ok-clause-places
