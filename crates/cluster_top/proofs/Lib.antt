@@ -1,6 +1,9 @@
 pub mod Asked
 pub mod Counts
 pub mod Crashes
+pub mod Lefts
+pub mod NotBegun
+pub mod Numbers
 pub mod OneReading
 pub mod OpenJournals
 pub mod OpenedUpTo

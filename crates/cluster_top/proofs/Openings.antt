@@ -309,6 +309,9 @@ module _ {D : Type 0} (facts : DiskFacts D) where
     pub unopened_places : map facts.place after ≡ map facts.place before
     unopened_places = back_places before after (back_pairs status before after are)
 
+  pub unopened_len : (status : Status) (before after : List D) → AreUnopened facts status before after → length after ≡ length before
+  unopened_len status before after are = pairs_len IsBack before after (back_pairs status before after are)
+
   pub unopened_stops : (status : Status) (before after : List D) → AreUnopened facts status before after → StopsOpening status
   unopened_stops status before after (inl (memory, same)) = subst (λ (s : Status). StopsOpening s) (sym memory) at_opening_memory
   unopened_stops status before after (inr s) = s.unopened.stops

@@ -201,11 +201,6 @@ opening_not_refused status at_opening_fault = (λ e. cc, λ e. cc, λ e. cc)
 opening_not_refused status at_damage = (λ e. cc, λ e. cc, λ e. cc)
 opening_not_refused status at_opening_memory = (λ e. cc, λ e. cc, λ e. cc)
 
-pub opening_stopped : (status : Status) → StopsOpening status → status ≢ statuses.DiskFailed → status ≢ statuses.OutOfMemory → status ≢ statuses.DamagedJournal → ⊥
-opening_stopped status at_opening_fault disk memory damaged = disk refl
-opening_stopped status at_damage disk memory damaged = damaged refl
-opening_stopped status at_opening_memory disk memory damaged = memory refl
-
 -- files that are the same as empty ones are empty
 pub still_empty : (tells : Bool) (before after : List (List ℕ)) → (IsTrue tells → after ≡ before) → IsEmptyAll tells before → IsEmptyAll tells after
 still_empty tells before after same empty = λ told. subst (λ (files : List (List ℕ)). AllEmpty files) (sym (same told)) (empty told)

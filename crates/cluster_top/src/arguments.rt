@@ -30,12 +30,22 @@ impl Command {
     }
 }
 
-/// The number of routers that a word says, from 1 to 8, in digits, which may follow a plus.
+/// The number that a word is: digits, which may follow a plus.
+fn read_number(word: &str) -> Option<u64>
+    ensures { result ≡ number_in word.now }
+{
+    match word.parse::<u64>() {
+        Ok(number) => Some(number),
+        Err(_) => None,
+    }
+}
+
+/// The number of routers that a word says, from 1 to 8.
 fn routers_in(word: &str) -> Option<u32>
     ensures { result ≡ within 1 most_routers (number_in word.now) }
 {
-    match word.parse::<u64>() {
-        Ok(routers) if 1 <= routers && routers <= MOST_ROUTERS => Some(routers as u32),
+    match read_number(word) {
+        Some(routers) if 1 <= routers && routers <= MOST_ROUTERS => Some(routers as u32),
         _ => None,
     }
 }

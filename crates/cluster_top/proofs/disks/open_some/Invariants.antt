@@ -1,6 +1,6 @@
-use Rattle.std.proofs.Common.{◌≤◌, ◌+◌, length}
+use Rattle.std.proofs.Common.{◌≡◌, ◌≤◌, ◌+◌, length}
 use Rattle.std.specs.Prelude.{vec_capacity, vec_len}
-use Rattle.std.specs.Vec.Iter.{into_iter_items}
+use Rattle.std.specs.Vec.Iter.{into_iter_items, into_iter_len}
 use Rattle.cluster_top.specs.Openings.{AreOpenedUpTo, disk_facts}
 use Rattle.cluster_top.proofs.disks.open_some.Given as goal
 
@@ -11,4 +11,5 @@ invariant-loop-disk g l = record {
   count : (vec_len l.journals + vec_len l.unopened) + length (into_iter_items l.disk-iterator) ≤ vec_len l.fn.disks;
   room : vec_len l.fn.disks ≤ vec_capacity l.journals;
   unopened_room : vec_len l.fn.disks ≤ vec_capacity l.unopened;
+  left : into_iter_len l.disk-iterator ≡ length (into_iter_items l.disk-iterator);
 }

@@ -1,7 +1,7 @@
 use Rattle.std.proofs.Common.{◌≡◌, ◌≤◌, ◌+◌, ◌++◌, IsTrue, length, map}
 use Rattle.std.specs.Prelude.{vec_capacity, vec_len}
 use Rattle.std.specs.List.{AllByRecursion}
-use Rattle.std.specs.Vec.Iter.{into_iter_items}
+use Rattle.std.specs.Vec.Iter.{into_iter_items, into_iter_len}
 use Rattle.cluster_top.specs.OpenJournals.{IsDurable}
 use Rattle.cluster_top.proofs.seats.take_disks.Given as goal
 
@@ -13,4 +13,5 @@ invariant-loop-seat g l = record {
       → AllByRecursion (IsDurable g.D.Disk.content g.D.Disk.may_leave) l.back.items
       × AllByRecursion (λ s. IsTrue s.log.is_open) (into_iter_items l.seat-iterator);
   room : vec_len l.back + length (into_iter_items l.seat-iterator) ≤ vec_capacity l.back;
+  left : into_iter_len l.seat-iterator ≡ length (into_iter_items l.seat-iterator);
 }

@@ -24,7 +24,7 @@ returns-in-Err-ask-clause-stopped g c since routers rounds events w next handed 
     let r = c.in-Ok.ensures.given since w next handed s in
     let router = router_asked (seat_since g.N.Node.state g.L.Log.facts since)
     handed routers rounds events w next
-    (vec_len c.args.seats.now) (round_of c.args.router c.args.moment c.args.number (g.N.Node.asks c.args.request)) some pipes as_many refl r.end r.run in
+    (vec_len c.args.seats.now) (round_of c.args.router c.args.moment c.args.number (g.N.Node.asks c.args.request)) c.args.router some pipes as_many refl r.end r.run in
     subst (λ (z : ℤ). HasStopped
     (seat_since g.N.Node.state g.L.Log.facts since) c.ask.new.seats.items
     c.ask.new.network.replies.items handed w
@@ -43,7 +43,7 @@ returns-in-Err-settle-clause-stopped g c since routers rounds events w next hand
     let r = c.in-Ok.ensures.given since w next handed s in
     let router = router_asked (seat_since g.N.Node.state g.L.Log.facts since)
     handed routers rounds events w next
-    (vec_len c.args.seats.now) (round_of c.args.router c.args.moment c.args.number (g.N.Node.asks c.args.request)) some pipes as_many refl r.end r.run in
+    (vec_len c.args.seats.now) (round_of c.args.router c.args.moment c.args.number (g.N.Node.asks c.args.request)) c.args.router some pipes as_many refl r.end r.run in
     let a = c.in-Ok-ask.ensures.asked since r.end next handed r.stands router in
     subst (λ (z : ℤ). HasStopped
     (seat_since g.N.Node.state g.L.Log.facts since) c.settle.new.seats.items
@@ -63,7 +63,7 @@ returns-in-Ok-settle-clause-served g c since routers rounds events w next handed
     let r = c.in-Ok.ensures.given since w next handed s in
     let router = router_asked (seat_since g.N.Node.state g.L.Log.facts since)
     handed routers rounds events w next
-    (vec_len c.args.seats.now) (round_of c.args.router c.args.moment c.args.number (g.N.Node.asks c.args.request)) some pipes as_many refl r.end r.run in
+    (vec_len c.args.seats.now) (round_of c.args.router c.args.moment c.args.number (g.N.Node.asks c.args.request)) c.args.router some pipes as_many refl r.end r.run in
     let a = c.in-Ok-ask.ensures.asked since r.end next handed r.stands router in
     subst (λ (z : ℤ). HasServed
     (seat_since g.N.Node.state g.L.Log.facts since) c.settle.new.seats.items
@@ -71,5 +71,5 @@ returns-in-Ok-settle-clause-served g c since routers rounds events w next handed
     (round_served (seat_since g.N.Node.state g.L.Log.facts since)
     handed routers rounds events w next
     (vec_len c.args.seats.now) (round_of c.args.router c.args.moment (to_z w32 (of_z w32 c.args.number)) (g.N.Node.asks c.args.request))
-    some pipes as_many refl _ _ r.end a.end r.run a.happens
+    c.args.router some pipes as_many refl _ _ r.end a.end r.run a.happens
     (c.in-Ok-settle.ensures.settled since a.end next handed a.stands))
