@@ -20,7 +20,7 @@ returns-in-Err-clause-served g c asks q is reads since routers some held_before 
       since.noted,
       noted_places g.K.Sink.tells _ _ _ since.noted c.serve_round.ensures.places n,
       stops_by (seat_since g.N.Node.state g.L.Log.facts since)
-          _ _ routers _ _ held_before _ _ c.in-Err.e _ c.of.ensures
+          _ _ c.args.router routers _ _ held_before _ _ c.in-Err.e _ c.of.ensures
           (cut_in_round (seat_since g.N.Node.state g.L.Log.facts since)
           _ _ _ (g.C.Clock.gives c.args.clock.now) c.args.router routers _ _ held_before _
           consumed
