@@ -1,7 +1,9 @@
 pub mod Asked
+pub mod Asking
 pub mod Counts
 pub mod Crashes
 pub mod Lefts
+pub mod NewNodes
 pub mod NotBegun
 pub mod Numbers
 pub mod OneReading

@@ -1,10 +1,10 @@
 -- Numbers of the arguments, and what stands after the first bytes of a word.
 use Rattle.std.specs.Prelude.{◌≡◌, ℕ, ◌≤◌, ◌<◌, ◌^◌, ◌&&◌, Bool, true, false, List, length, take, drop, Option, Some, None, eqb, nat_le, nat_lt, if◌then◌else◌, IfSome, Result, Ok, Err}
-use Rattle.std.proofs.Common.{refl, sym, ap, ◌∙◌, arith}
+use Rattle.std.proofs.Common.{refl, sym, ap, subst, ◌∙◌}
 use Rattle.std.specs.List.{starts_with}
 use Rattle.std.specs.Option.{option_map}
 use Rattle.std.specs.Str.{all_ascii_digits}
-use Rattle.std.specs.Str.Parse.{AllDigits, IsNumeral, digits_value, without_leading_plus}
+use Rattle.std.specs.Str.Parse.{IsNumeral, ParsesUnsigned, digits_value, without_leading_plus}
 use Rattle.std.proofs.lemmas.Bool.{lt-ltb, ltb-true, le-leb, leb-true}
 use Rattle.std.proofs.lemmas.Str.Parse.{IsNumeralModel, numerals_by_value, tells_all_ascii_digits}
 use Rattle.cluster_top.specs.Arguments.{command_of, most_routers, number_in, routers_of, script_of, within}
@@ -50,6 +50,13 @@ pub unread : (word : List ℕ) → ¬ (IsNumeral 10 (without_leading_plus word) 
 unread word never =
     sym (ap (λ (b : Bool). if b then Some (digits_value 10 (without_leading_plus word)) else None)
     (false_unless (is_number (without_leading_plus word)) (λ is. never (tells (without_leading_plus word) is))))
+
+-- what std reads in the word
+pub parsed_some : {E : Type 0} (word : List ℕ) (r : Result ℕ E) (n : ℕ) → r ≡ Ok n → ParsesUnsigned 64 10 word r → Some n ≡ number_in word
+parsed_some {E} word r n is parses = read word n (subst (λ (x : Result ℕ E). ParsesUnsigned 64 10 word x) is parses)
+
+pub parsed_none : {E : Type 0} (word : List ℕ) (r : Result ℕ E) (e : E) → r ≡ Err e → ParsesUnsigned 64 10 word r → None ≡ number_in word
+parsed_none {E} word r e is parses = unread word (subst (λ (x : Result ℕ E). ParsesUnsigned 64 10 word x) is parses)
 
 -- RANGES
 

@@ -22,32 +22,32 @@ use Rattle.cluster_top.proofs.OpenJournals.{nothing}
 
 -- PAIRS
 
-pub pairs_len : {A B : Type 0} (R : A → B → Type 0) (as : List A) (bs : List B) → InPairs R as bs → length bs ≡ length as
+pub pairs_len : {A B : Type 0} (R : A → B → Type 0) (xs : List A) (ys : List B) → InPairs R xs ys → length ys ≡ length xs
 pairs_len R [] [] are = refl
-pairs_len R [] (b ∷ bs) are = absurd are
-pairs_len R (a ∷ as) [] are = absurd are
-pairs_len R (a ∷ as) (b ∷ bs) are = ap suc (pairs_len R as bs are.1)
+pairs_len R [] (b ∷ ys) are = absurd are
+pairs_len R (a ∷ xs) [] are = absurd are
+pairs_len R (a ∷ xs) (b ∷ ys) are = ap suc (pairs_len R xs ys are.1)
 
-pub pairs_more : {A B : Type 0} (R : A → B → Type 0) (as : List A) (bs : List B) (a : A) (b : B) → InPairs R as bs → R a b → InPairs R (as ++ a ∷ []) (bs ++ b ∷ [])
+pub pairs_more : {A B : Type 0} (R : A → B → Type 0) (xs : List A) (ys : List B) (a : A) (b : B) → InPairs R xs ys → R a b → InPairs R (xs ++ a ∷ []) (ys ++ b ∷ [])
 pairs_more R [] [] a b are is = (is, tt)
-pairs_more R [] (y ∷ bs) a b are is = absurd are
-pairs_more R (x ∷ as) [] a b are is = absurd are
-pairs_more R (x ∷ as) (y ∷ bs) a b are is = (are.0, pairs_more R as bs a b are.1 is)
+pairs_more R [] (y ∷ ys) a b are is = absurd are
+pairs_more R (x ∷ xs) [] a b are is = absurd are
+pairs_more R (x ∷ xs) (y ∷ ys) a b are is = (are.0, pairs_more R xs ys a b are.1 is)
 
 -- the other of a pair
-pub record Other {A B : Type 0} (R : A → B → Type 0) (bs : List B) (at : ℕ) (a : A) : Type 0 where
+pub record Other {A B : Type 0} (R : A → B → Type 0) (ys : List B) (at : ℕ) (a : A) : Type 0 where
   pub b : B
-  pub here : slice_get bs at ≡ Some b
+  pub here : slice_get ys at ≡ Some b
   pub are : R a b
 
-pub other_at : {A B : Type 0} (R : A → B → Type 0) (as : List A) (bs : List B) (at : ℕ) (a : A) → InPairs R as bs → slice_get as at ≡ Some a → Other R bs at a
-other_at R [] bs at a are got = absurd (cc got)
-other_at R (x ∷ as) [] at a are got = absurd are
-other_at R (x ∷ as) (y ∷ bs) zero a are got =
+pub other_at : {A B : Type 0} (R : A → B → Type 0) (xs : List A) (ys : List B) (at : ℕ) (a : A) → InPairs R xs ys → slice_get xs at ≡ Some a → Other R ys at a
+other_at R [] ys at a are got = absurd (cc got)
+other_at R (x ∷ xs) [] at a are got = absurd are
+other_at R (x ∷ xs) (y ∷ ys) zero a are got =
     let same : x ≡ a = cc got in
     record { b = y; here = refl; are = subst (λ z. R z y) same are.0 }
-other_at R (x ∷ as) (y ∷ bs) (suc at) a are got =
-    let there = other_at R as bs at a are.1 got in
+other_at R (x ∷ xs) (y ∷ ys) (suc at) a are got =
+    let there = other_at R xs ys at a are.1 got in
     record { b = there.b; here = there.here; are = there.are }
 
 -- ASKED FOR THEIR LENGTHS
@@ -76,12 +76,12 @@ module _ {D : Type 0} (facts : DiskFacts D) where
   all_asked_alone [] = tt
   all_asked_alone (disk ∷ disks) = (asked_alone disk, all_asked_alone disks)
 
-  pub asked_then : (as bs cs : List D) → InPairs (IsAsked facts) as bs → InPairs (IsAsked facts) bs cs → InPairs (IsAsked facts) as cs
-  asked_then [] [] cs p q = q
-  asked_then [] (b ∷ bs) cs p q = absurd p
-  asked_then (a ∷ as) [] cs p q = absurd p
-  asked_then (a ∷ as) (b ∷ bs) [] p q = absurd q
-  asked_then (a ∷ as) (b ∷ bs) (c ∷ cs) p q = (asked_again a b c p.0 q.0, asked_then as bs cs p.1 q.1)
+  pub asked_then : (xs ys zs : List D) → InPairs (IsAsked facts) xs ys → InPairs (IsAsked facts) ys zs → InPairs (IsAsked facts) xs zs
+  asked_then [] [] zs p q = q
+  asked_then [] (b ∷ ys) zs p q = absurd p
+  asked_then (a ∷ xs) [] zs p q = absurd p
+  asked_then (a ∷ xs) (b ∷ ys) [] p q = absurd q
+  asked_then (a ∷ xs) (b ∷ ys) (c ∷ zs) p q = (asked_again a b c p.0 q.0, asked_then xs ys zs p.1 q.1)
 
   pub asked_at : (disks : List D) (at : ℕ) (old new : D) → slice_get disks at ≡ Some old → IsAsked facts old new
       → InPairs (IsAsked facts) disks (slice_set disks at new)
@@ -94,40 +94,40 @@ module _ {D : Type 0} (facts : DiskFacts D) where
   pub asked_same : (befores afters : List D) → IsTrue facts.tells → InPairs (IsAsked facts) befores afters
       → map facts.content afters ≡ map facts.content befores
   asked_same [] [] told are = refl
-  asked_same [] (b ∷ bs) told are = absurd are
-  asked_same (a ∷ as) [] told are = absurd are
-  asked_same (a ∷ as) (b ∷ bs) told are =
-      ap (λ (file : List ℕ). file ∷ map facts.content bs) (are.0.same told)
-      ∙ ap (λ (files : List (List ℕ)). facts.content a ∷ files) (asked_same as bs told are.1)
+  asked_same [] (b ∷ ys) told are = absurd are
+  asked_same (a ∷ xs) [] told are = absurd are
+  asked_same (a ∷ xs) (b ∷ ys) told are =
+      ap (λ (file : List ℕ). file ∷ map facts.content ys) (are.0.same told)
+      ∙ ap (λ (files : List (List ℕ)). facts.content a ∷ files) (asked_same xs ys told are.1)
 
   pub asked_crash : (befores afters : List D) → IsTrue facts.tells → InPairs (IsAsked facts) befores afters
       → AreNoWorse facts.may_leave befores afters
   asked_crash [] [] told are = tt
-  asked_crash [] (b ∷ bs) told are = absurd are
-  asked_crash (a ∷ as) [] told are = absurd are
-  asked_crash (a ∷ as) (b ∷ bs) told are = (are.0.crash told, asked_crash as bs told are.1)
+  asked_crash [] (b ∷ ys) told are = absurd are
+  asked_crash (a ∷ xs) [] told are = absurd are
+  asked_crash (a ∷ xs) (b ∷ ys) told are = (are.0.crash told, asked_crash xs ys told are.1)
 
   pub asked_leaves : (befores afters : List D) → IsTrue facts.tells → InPairs (IsAsked facts) befores afters
       → LeaveSuch facts.moment facts.left_since (λ at file. ⊥) befores afters
   asked_leaves [] [] told are = tt
-  asked_leaves [] (b ∷ bs) told are = absurd are
-  asked_leaves (a ∷ as) [] told are = absurd are
-  asked_leaves (a ∷ as) (b ∷ bs) told are = (are.0.leaves told, asked_leaves as bs told are.1)
+  asked_leaves [] (b ∷ ys) told are = absurd are
+  asked_leaves (a ∷ xs) [] told are = absurd are
+  asked_leaves (a ∷ xs) (b ∷ ys) told are = (are.0.leaves told, asked_leaves xs ys told are.1)
 
   pub asked_places : (befores afters : List D) → InPairs (IsAsked facts) befores afters → map facts.place afters ≡ map facts.place befores
   asked_places [] [] are = refl
-  asked_places [] (b ∷ bs) are = absurd are
-  asked_places (a ∷ as) [] are = absurd are
-  asked_places (a ∷ as) (b ∷ bs) are =
-      ap (λ (place : List ℕ). place ∷ map facts.place bs) are.0.place
-      ∙ ap (λ (places : List (List ℕ)). facts.place a ∷ places) (asked_places as bs are.1)
+  asked_places [] (b ∷ ys) are = absurd are
+  asked_places (a ∷ xs) [] are = absurd are
+  asked_places (a ∷ xs) (b ∷ ys) are =
+      ap (λ (place : List ℕ). place ∷ map facts.place ys) are.0.place
+      ∙ ap (λ (places : List (List ℕ)). facts.place a ∷ places) (asked_places xs ys are.1)
 
   pub asked_later : (befores afters : List D) → InPairs (IsAsked facts) befores afters
       → NoneFell (map facts.fault_count befores) (map facts.fault_count afters)
   asked_later [] [] are = tt
-  asked_later [] (b ∷ bs) are = absurd are
-  asked_later (a ∷ as) [] are = absurd are
-  asked_later (a ∷ as) (b ∷ bs) are = (are.0.later, asked_later as bs are.1)
+  asked_later [] (b ∷ ys) are = absurd are
+  asked_later (a ∷ xs) [] are = absurd are
+  asked_later (a ∷ xs) (b ∷ ys) are = (are.0.later, asked_later xs ys are.1)
 
 -- ONE PLACE
 
@@ -251,30 +251,30 @@ module _ {D : Type 0} (facts : DiskFacts D) where
   back_none : (before after : List D) → InPairs IsBack before after → IsEmptyAll facts.tells (map facts.content before) → IsTrue facts.tells
       → HaveNoRecord (map facts.content after)
   back_none [] [] are empty told = tt
-  back_none [] (b ∷ bs) are empty told = absurd are
-  back_none (a ∷ as) [] are empty told = absurd are
-  back_none (a ∷ as) (b ∷ bs) are empty told = (are.0.none (λ told. (empty told).0) told, back_none as bs are.1 (λ told. (empty told).1) told)
+  back_none [] (b ∷ ys) are empty told = absurd are
+  back_none (a ∷ xs) [] are empty told = absurd are
+  back_none (a ∷ xs) (b ∷ ys) are empty told = (are.0.none (λ told. (empty told).0) told, back_none xs ys are.1 (λ told. (empty told).1) told)
 
   back_leave : (before after : List D) → InPairs IsBack before after → IsEmptyAll facts.tells (map facts.content before) → IsTrue facts.tells
       → LeaveSuch facts.moment facts.left_since (λ at file. Stands file []) before after
   back_leave [] [] are empty told = tt
-  back_leave [] (b ∷ bs) are empty told = absurd are
-  back_leave (a ∷ as) [] are empty told = absurd are
-  back_leave (a ∷ as) (b ∷ bs) are empty told = (are.0.leaves (λ told. (empty told).0) told, back_leave as bs are.1 (λ told. (empty told).1) told)
+  back_leave [] (b ∷ ys) are empty told = absurd are
+  back_leave (a ∷ xs) [] are empty told = absurd are
+  back_leave (a ∷ xs) (b ∷ ys) are empty told = (are.0.leaves (λ told. (empty told).0) told, back_leave xs ys are.1 (λ told. (empty told).1) told)
 
   back_later : (before after : List D) → InPairs IsBack before after → NoneFell (map facts.fault_count before) (map facts.fault_count after)
   back_later [] [] are = tt
-  back_later [] (b ∷ bs) are = absurd are
-  back_later (a ∷ as) [] are = absurd are
-  back_later (a ∷ as) (b ∷ bs) are = (are.0.later, back_later as bs are.1)
+  back_later [] (b ∷ ys) are = absurd are
+  back_later (a ∷ xs) [] are = absurd are
+  back_later (a ∷ xs) (b ∷ ys) are = (are.0.later, back_later xs ys are.1)
 
   back_places : (before after : List D) → InPairs IsBack before after → map facts.place after ≡ map facts.place before
   back_places [] [] are = refl
-  back_places [] (b ∷ bs) are = absurd are
-  back_places (a ∷ as) [] are = absurd are
-  back_places (a ∷ as) (b ∷ bs) are =
-      ap (λ (place : List ℕ). place ∷ map facts.place bs) are.0.place
-      ∙ ap (λ (places : List (List ℕ)). facts.place a ∷ places) (back_places as bs are.1)
+  back_places [] (b ∷ ys) are = absurd are
+  back_places (a ∷ xs) [] are = absurd are
+  back_places (a ∷ xs) (b ∷ ys) are =
+      ap (λ (place : List ℕ). place ∷ map facts.place ys) are.0.place
+      ∙ ap (λ (places : List (List ℕ)). facts.place a ∷ places) (back_places xs ys are.1)
 
   rose_stopped : (failed : Type 0) (done others : List D) (journals : List (JournalView D)) (disk back : D) → InPairs (IsOpened facts) done journals
       → RoseWhere failed (facts.fault_count disk) (facts.fault_count back)

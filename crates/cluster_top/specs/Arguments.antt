@@ -15,7 +15,7 @@ most_routers = 8
 abbrev pub number_in : List ℕ → Option ℕ
 number_in word =
     if nat_lt 0 (length (without_leading_plus word)) && all_ascii_digits (without_leading_plus word)
-        && nat_lt (digits_value 10 (without_leading_plus word)) (2 ^ 64)
+    && nat_lt (digits_value 10 (without_leading_plus word)) (2 ^ 64)
     then Some (digits_value 10 (without_leading_plus word)) else None
 
 -- a number in its range, or none

@@ -35,8 +35,8 @@ disk_facts told content_of outcomes moment_of left place_of faults = record {
 -- two lists are as long, and this holds of each two in one place
 abbrev pub InPairs : {A B : Type 0} → (A → B → Type 0) → List A → List B → Type 0
 InPairs R [] [] = Unit {0}
-InPairs R (a ∷ as) (b ∷ bs) = R a b × InPairs R as bs
-InPairs R as bs = ⊥
+InPairs R (a ∷ xs) (b ∷ ys) = R a b × InPairs R xs ys
+InPairs R xs ys = ⊥
 
 -- The disk was asked for its length, or left alone: its file is as it was, and a crash leaves no other.
 pub record IsAsked {D : Type 0} (facts : DiskFacts D) (before after : D) : Type 0 where

@@ -65,7 +65,16 @@ pub fn drive<
     ensures places { places_of L.facts.place seats.new.items ≡ places_of L.facts.place seats.old.items }
 {
     match command {
-        Command::Pipe => pipe_driver::pipe(rt, alloc, input, out, seats, clock, FIRST_ROUTER, MOST_TAKEN),
+        Command::Pipe => pipe_driver::pipe(
+            rt,
+            alloc,
+            input,
+            out,
+            seats,
+            clock,
+            FIRST_ROUTER,
+            MOST_TAKEN,
+        ),
         Command::Sim { .. } => Ending {
             status: simulate(rt, alloc, input, out, seats, MOST_TAKEN),
             rest: 0,

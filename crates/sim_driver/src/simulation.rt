@@ -71,7 +71,7 @@ pub fn simulate<
         routers limit result }
 
     // But where a disk failed or memory ended, records can be appended to each log.
-    ensures open { result ≢ statuses.DiskFailed → result ≢ statuses.OutOfMemory → AreOpen L.facts.is_open seats.new.items }
+    ensures open { result ≢ statuses.DiskFailed → AreOpen L.facts.is_open seats.new.items }
     ensures len { vec_len seats.new ≡ vec_len seats.old }
 
     // Each fault of a device has its own status.

@@ -1,4 +1,4 @@
-use Rattle.std.proofs.Common.{arith, refl}
+use Rattle.std.proofs.Common.{[], refl}
 use Rattle.pipe_driver.specs.Rounds.{first_router}
 use Rattle.node_model.specs.States.{new_router}
 use Rattle.cluster_top.proofs.drive.drive.Goals as goal

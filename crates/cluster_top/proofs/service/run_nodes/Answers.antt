@@ -1,4 +1,4 @@
-use Rattle.std.proofs.Common.{◌∙◌, ◌≡◌, [], refl, sym, map, append-nil, arith, inl}
+use Rattle.std.proofs.Common.{◌∙◌, ◌≡◌, [], refl, sym, map, append-nil, arith, inl, inr}
 use Rattle.std.proofs.lemmas.List.{length-map}
 use Rattle.outside.specs.Devices.{sink_call, source_call}
 use Rattle.journal_frames.specs.Files.{Stands}
@@ -10,13 +10,13 @@ use Rattle.cluster_top.specs.Arguments.{routers_of}
 use Rattle.cluster_top.specs.Disks.{IsEmptyAll}
 use Rattle.cluster_top.specs.Openings.{disk_facts}
 use Rattle.cluster_top.specs.OpenJournals.{disks_of}
-use Rattle.cluster_top.specs.Stops.{at_opening_fault}
+use Rattle.cluster_top.specs.Stops.{at_opening_fault, at_opening_memory}
 use Rattle.cluster_top.specs.declared.status.Status.TheVariants as statuses
 use Rattle.cluster_top.proofs.Crashes.{all_then, all_weaker, never_of, none_owed, of_the_start}
 use Rattle.cluster_top.proofs.Openings.{opened_calm, opened_fresh, opened_leave, opened_places, unopened_fault, unopened_later, unopened_leave, unopened_len, unopened_none, unopened_places, unopened_stops}
 use Rattle.cluster_top.proofs.NotBegun.{not_begun}
 use Rattle.cluster_top.proofs.Counts.{all_still, one_of_them_rose, one_rose_after, one_rose_as}
-use Rattle.cluster_top.proofs.Unserved.{all_empty_kept, none_kept, none_of_bytes, opening_not_refused, still_empty, unopened}
+use Rattle.cluster_top.proofs.Unserved.{all_empty_kept, no_record, none_kept, none_of_bytes, opening_not_refused, still_empty, unopened}
 use Rattle.cluster_top.proofs.service.run_nodes.Goals as goal
 
 pub returns-in-Ok-false-clause-damaged : goal.returns-in-Ok-false-clause-damaged
@@ -138,3 +138,43 @@ returns-in-Ok-open_all-clause-later g c =
 
 pub returns-in-Ok-open_all-clause-places : goal.returns-in-Ok-open_all-clause-places
 returns-in-Ok-open_all-clause-places g c = c.serve.ensures.places ∙ (opened_places (disk_facts g.D.Disk.tells g.D.Disk.content g.D.Disk.may_leave g.D.Disk.moment g.D.Disk.left_since g.D.Disk.place g.D.Disk.fault_count) c.are_empty.new.disks.items c.in-Ok-open_all.opened.journals.items c.in-Ok-open_all.ensures.opened ∙ c.in-Ok-true.ensures.places)
+
+-- there was no memory for the nodes
+pub returns-in-Err-Memory-clause-headline : goal.returns-in-Err-Memory-clause-headline
+returns-in-Err-Memory-clause-headline g c = λ asked new empty other.
+    rw (c.untouched-in-Err-Memory.ensures.disks, c.untouched-in-Err-Memory.ensures.status)
+    (unopened (source_call g.S.Source.tells g.S.Source.left g.S.Source.fault_count c.args.input.now c.args.input.now) (sink_call g.K.Sink.tells g.K.Sink.held g.K.Sink.fault_count c.args.out.now c.args.out.now)
+    g.D.Disk.tells (map g.D.Disk.content c.are_empty.new.disks.items) (LeaveTheWay (routers_of c.args.command) g.D.Disk.tells g.D.Disk.moment g.D.Disk.left_since c.args.disks.items c.are_empty.new.disks.items)
+    (AreDurableBefore g.K.Sink.tells g.D.Disk.tells g.D.Disk.place g.D.Disk.moment g.D.Disk.left_since c.args.command (g.K.Sink.noted c.args.out.now) (g.K.Sink.held c.args.out.now) c.are_empty.new.disks.items)
+    (g.C.Clock.gives c.args.clock.now) _ c.args.command statuses.OutOfMemory at_opening_memory (λ e. cc)
+    c.untouched-in-Err-Memory.ensures.rest (λ told. refl) (λ told. sym (append-nil (g.K.Sink.held c.args.out.now)))
+    (λ told. all_empty_kept (routers_of c.args.command) (map g.D.Disk.content c.are_empty.new.disks.items)
+    (still_empty g.D.Disk.tells (map g.D.Disk.content c.args.disks.items) (map g.D.Disk.content c.are_empty.new.disks.items) c.in-Ok-true.ensures.same empty told)
+    (length-map c.are_empty.new.disks.items g.D.Disk.content ∙ omega (arith, c.requires.disks, c.in-Ok-true.ensures.len, c.are_empty.new.disks.ok, c.args.disks.ok)))
+    (λ told. all_weaker g.D.Disk.moment g.D.Disk.left_since (λ at file. ⊥) (λ at file. IsOfTheWay (routers_of c.args.command) (start (routers_of c.args.command)) at file) c.args.disks.items c.are_empty.new.disks.items (never_of (routers_of c.args.command)) (c.in-Ok-true.ensures.leaves told))
+    (none_owed g.K.Sink.tells g.D.Disk.tells g.D.Disk.place g.D.Disk.moment g.D.Disk.left_since c.args.command (g.K.Sink.noted c.args.out.now) (g.K.Sink.held c.args.out.now) _ (start (routers_of c.args.command))))
+
+pub returns-in-Err-Memory-clause-durable : goal.returns-in-Err-Memory-clause-durable
+returns-in-Err-Memory-clause-durable g c = λ told empty failed.
+    rw (c.untouched-in-Err-Memory.ensures.disks, c.untouched-in-Err-Memory.ensures.status)
+    (inr (
+      refl,
+      record {
+        source_same = ((λ told. refl), refl);
+        sink_same = ((λ told. sym (append-nil (g.K.Sink.held c.args.out.now))), refl);
+        no_record = no_record (map g.D.Disk.content c.are_empty.new.disks.items)
+            (still_empty g.D.Disk.tells (map g.D.Disk.content c.args.disks.items) (map g.D.Disk.content c.are_empty.new.disks.items) c.in-Ok-true.ensures.same empty told);
+      },
+    ))
+
+pub returns-in-Err-Memory-clause-not_empty : goal.returns-in-Err-Memory-clause-not_empty
+returns-in-Err-Memory-clause-not_empty g c = λ told bytes. absurd (none_of_bytes (map g.D.Disk.content c.args.disks.items) (c.in-Ok-true.ensures.empty told c.in-Ok-true.field-0-test) bytes)
+
+pub returns-in-Err-Memory-clause-disk_fault : goal.returns-in-Err-Memory-clause-disk_fault
+returns-in-Err-Memory-clause-disk_fault g c =
+    rw c.untouched-in-Err-Memory.ensures.disks
+    (all_still _ (map g.D.Disk.fault_count c.args.disks.items) (map g.D.Disk.fault_count c.are_empty.new.disks.items)
+    (λ is. let clash : statuses.OutOfMemory ≡ statuses.DiskFailed = sym c.untouched-in-Err-Memory.ensures.status ∙ is in cc) c.in-Ok-true.ensures.calm)
+
+pub returns-in-Err-open_all-clause-not_empty : goal.returns-in-Err-open_all-clause-not_empty
+returns-in-Err-open_all-clause-not_empty g c = λ told bytes. absurd (none_of_bytes (map g.D.Disk.content c.args.disks.items) (c.in-Ok-true.ensures.empty told c.in-Ok-true.field-0-test) bytes)
