@@ -3,6 +3,7 @@ ghost use Rattle.std.specs.Prelude.{◌≡◌};
 ghost use Rattle.outside_memory.specs.Clocks.{IsOfList};
 
 use outside::clock::Clock;
+use std::marker::Model;
 use std::sync::atomic::{AtomicUsize, Ordering};
 
 /// A clock that stands at one moment, in milliseconds since 1970.
