@@ -1,13 +1,13 @@
--- The arguments start three nodes at most.
-use Rattle.std.specs.Prelude.{ℕ, ◌≤◌, List, Option, Some, None}
-use Rattle.std.proofs.Common.{arith}
+-- The arguments start ten nodes at most.
+use Rattle.std.specs.Prelude.{◌≡◌, ℕ, ◌≤◌, Option, Some, None, IfSome}
+use Rattle.std.proofs.Common.{arith, subst, sym}
 use Rattle.std.specs.Option.{unwrap_or}
-use Rattle.cluster_top.specs.Arguments.{command_of, node_count_of, nodes_for}
-use Rattle.cluster_top.specs.declared.arguments.Command.{Command}
 
-three_or_none : (given : Option Command) → unwrap_or (nodes_for given) 0 ≤ 3
-three_or_none None = omega arith
-three_or_none (Some command) = omega arith
+pub few_or_none : (given : Option ℕ) → IfSome given (λ count. count ≤ 10) → unwrap_or given 0 ≤ 10
+few_or_none None few = omega arith
+few_or_none (Some count) few = few
 
-pub few_nodes : (words : List (List ℕ)) → unwrap_or (node_count_of words) 0 ≤ 3
-few_nodes words = three_or_none (command_of words)
+-- where there is a count, it is this one
+pub as_counted : (given : Option ℕ) (length : ℕ) → length ≡ unwrap_or given 0 → IfSome given (λ count. length ≡ count)
+as_counted None length is = tt
+as_counted (Some count) length is = is

@@ -7,9 +7,9 @@ use Rattle.outside.specs.Notes.{Note}
 use Rattle.cluster_top.specs.Counts.{OneRoseWhere}
 use Rattle.cluster_top.specs.Crashes.{AreDurableBefore, LeaveTheWay}
 use Rattle.cluster_top.specs.Disks.{AreNoWorse, IsEmptyAll, SomeFile}
-use Rattle.cluster_top.specs.Arguments.{command_of}
+use Rattle.cluster_top.specs.Arguments.{command_of, routers_of}
 use Rattle.cluster_top.specs.Headline.{HeadlineOf}
-use Rattle.cluster_top.specs.OpenJournals.{IsDurable}
+use Rattle.cluster_top.specs.OpenJournals.{IsDurable, IsNotBegun}
 use Rattle.cluster_top.specs.Statuses.{OfConnection, OfStatus}
 use Rattle.cluster_top.specs.declared.arguments.Command.{Command}
 
@@ -33,16 +33,17 @@ pub record IsLeft {D : Type 0} (status : ℕ) (started : Type 0) (given : Option
   pub places : map place left ≡ map place before
   pub disk_fault : OneRoseWhere (status ≡ 5) (map fault_count before) (map fault_count left)
   pub none_fell : NoneFell (map fault_count before) (map fault_count left)
-  -- where no nodes start they are as they were, and where a file had bytes nothing is served
-  pub refused : ¬ started → left ≡ before
+  -- where no nodes start they are as they were, and nothing was taken or put; and where a file had bytes nothing is served
+  pub refused : ¬ started → (left ≡ before) × (rest ≡ 0) × SourceIsUntouched source × SinkIsUntouched sink
   pub untouched : (status ≡ 2) ⊎ (status ≡ 6) → rest ≡ 0
   pub six : status ≡ 6 → IsTrue tells → SomeFile (map content before)
   pub not_empty : started → IsTrue tells → SomeFile (map content before) → (rest ≡ 0) × IsNotServed status source sink content may_leave before left
   -- on empty files a run of the nodes served, whose journals the disks keep, and which makes one legal history; a crash meanwhile left what they
   -- kept on the way, and each byte was put only after what it says was durable
-  pub headline : status ≢ 2 → IsEmptyAll tells (map content before) → status ≢ 6 → (command : Command) × IfSome given (λ c. command ≡ c)
-      × OfStatus status (λ s. OfConnection s (λ ending. HeadlineOf command source sink tells
-      (map content left) (LeaveTheWay tells moment left_since before left)
-      (AreDurableBefore sink.tells tells place moment left_since command notes sink.held_before left) gives ending rest))
-  -- but where a disk failed or memory ended, a crash takes none of the records
-  pub durable : status ≢ 2 → IsTrue tells → IsEmptyAll tells (map content before) → status ≢ 5 → status ≢ 7 → AllByRecursion (IsDurable content may_leave) left
+  pub headline : IfSome given (λ command. IsEmptyAll tells (map content before) → status ≢ 6
+      → OfStatus status (λ s. OfConnection s (λ ending. HeadlineOf command source sink tells
+      (map content left) (LeaveTheWay (routers_of command) tells moment left_since before left)
+      (AreDurableBefore sink.tells tells place moment left_since command notes sink.held_before left) gives ending rest)))
+  -- but where a disk failed, a crash takes none of the records; or memory ended before all journals were open, and no file has a record
+  pub durable : status ≢ 2 → IsTrue tells → IsEmptyAll tells (map content before) → status ≢ 5
+      → AllByRecursion (IsDurable content may_leave) left ⊎ ((status ≡ 7) × IsNotBegun source sink (map content left))

@@ -1,6 +1,7 @@
-//! The program `cluster`. Its one argument is `pipe`: it takes the bytes of one connection from standard input and answers on
-//! standard output; or `sim`: it plays the script of events on standard input, and prints on standard output. What requests leave stands in the files node00.journal, node01.journal and node02.journal in the working
-//! folder, which must be empty or absent at the start. It ends with the status of the run, and where that is not 0 it writes one
+//! The program `cluster`. Its arguments are `pipe`: it takes the bytes of one connection from standard input and answers on
+//! standard output; or `sim`: it plays the script of events on standard input, with one router, and prints on standard output; or
+//! `sim --routers m`: the same with m routers, from 1 to 8. What requests leave stands in the files node00.journal, node01.journal and
+//! on in the working folder, one for each node, which must be empty or absent at the start. It ends with the status of the run, and where that is not 0 it writes one
 //! line to standard error. It holds the lock of each of these files from before their first use to its end, and ends with status
 //! 5 where one is held by another; where its arguments are refused no file is opened.
 #![tactic(auto)]
@@ -24,9 +25,6 @@ use outside::standard::{StdSink, StdSource, WallClock};
 use std::env;
 use std::process::ExitCode;
 
-/// The nodes of a command: the catalogue, a shard and a router.
-const NODES: usize = 3;
-
 fn main(rt: HostRuntime) -> ExitCode {
     let places = hold_places(&rt);
     let words = arguments_of(rt.alloc(), env::args(&rt));
@@ -41,7 +39,7 @@ fn main(rt: HostRuntime) -> ExitCode {
     };
     let mut input = StdSource::new(rt.stdin());
     let mut out = StdSink::new(rt.stdout());
-    let Ok(disks) = file_disks(rt, rt.alloc(), NODES) else {
+    let Ok(disks) = file_disks(rt, rt.alloc(), count) else {
         return told(&rt, Status::OutOfMemory.number());
     };
     serve(

@@ -1,6 +1,6 @@
 //! From the arguments to the status.
 
-ghost use Rattle.std.specs.Prelude.{◌≡◌, ◌↔◌, ◌⊎◌, ℕ, Err, IfOk, IsNone, IsOkAnd, IsSome, vec_len};
+ghost use Rattle.std.specs.Prelude.{◌≡◌, ◌↔◌, ◌⊎◌, ℕ, Err, IfOk, IfSome, IsNone, IsOkAnd, IsSome, vec_len};
 ghost use Rattle.outside.specs.Devices.{SinkIsUntouched, SourceIsUntouched, sink_call, source_call};
 ghost use Rattle.pipe_driver.specs.Counts.{RoseWhere};
 ghost use Rattle.cluster_top.specs.Arguments.{node_count_of};
@@ -59,7 +59,7 @@ fn status_of<R: Threads + Wait + Sync, S: Source, D: Disk + Send, K: Witness<D>,
     disks: Vec<D>,
     clock: &C,
 ) -> Stopped<D>
-    requires { vec_len disks ≡ 3 }
+    requires { IfOk words (λ given. IfSome (node_count_of given.items) (λ count. vec_len disks ≡ count)) }
     ensures unreadable { words ≡ Err none.Unreadable → result.status ≡ 2 }
     ensures no_memory { words ≡ Err none.Memory → result.status ≡ 7 }
     ensures words { IfOk words (λ given. (result.status ≡ 2) ↔ IsNone (node_count_of given.items)) }
@@ -100,8 +100,8 @@ fn status_of<R: Threads + Wait + Sync, S: Source, D: Disk + Send, K: Witness<D>,
     }
 }
 
-/// Runs the cluster as the arguments say, which were read from the command line, over these streams and over the disks of the
-/// catalogue, the shard and the router, and writes the line of its status. The disks come back.
+/// Runs the cluster as the arguments say, which were read from the command line, over these streams and over the disks of its nodes,
+/// in their order, and writes the line of its status. The disks come back.
 pub fn serve<
     R: Eprint + Threads + Wait + Sync,
     S: Source,
@@ -117,7 +117,7 @@ pub fn serve<
     disks: Vec<D>,
     clock: &C,
 ) -> Served<D>
-    requires { vec_len disks ≡ 3 }
+    requires { IfOk words (λ given. IfSome (node_count_of given.items) (λ count. vec_len disks ≡ count)) }
     ensures unreadable { words ≡ Err none.Unreadable → exit_status result.code ≡ 2 }
     ensures no_memory { words ≡ Err none.Memory → exit_status result.code ≡ 7 }
     ensures words { IfOk words (λ given. (exit_status result.code ≡ 2) ↔ IsNone (node_count_of given.items)) }

@@ -9,7 +9,7 @@ use Rattle.journal_frames.specs.Views.{JournalView, journal_facts}
 use Rattle.journal_frames.proofs.Unique.{one_list}
 use Rattle.node_model.specs.Journal.{Kept}
 use Rattle.node_model.specs.States.{NodeState}
-use Rattle.node_model.specs.World.{World, journal_at, start}
+use Rattle.node_model.specs.World.{World, journal_at, routers_from, start}
 use Rattle.node_traits.specs.Calls.{LeavesAlso}
 use Rattle.node_traits.specs.Effects.{spellings}
 use Rattle.driver_steps.specs.Crashes.{LeadsTo, LeavesKept}
@@ -18,6 +18,7 @@ use Rattle.driver_steps.specs.declared.seat.Seat.{Seat}
 use Rattle.driver_steps.proofs.Crashes.{leads_nowhere}
 use Rattle.pipe_driver.specs.Acknowledgements.{AreAcknowledgedBy, IsNotedBefore}
 use Rattle.pipe_driver.proofs.Covers.{got_mapped}
+use Rattle.cluster_top.specs.Arguments.{routers_of}
 use Rattle.cluster_top.specs.Crashes.{AreDurableBefore, IsOfTheWay, LeaveSuch, LeaveTheWay}
 use Rattle.cluster_top.specs.Drivers.{output_of}
 use Rattle.cluster_top.specs.declared.arguments.Command.{Command}
@@ -106,43 +107,47 @@ module _ {D : Type 0} (moment : D → ℕ) (left_since : D → ℕ → Outcomes)
 
 -- THE NODES
 
-none_at_start : (at : ℕ) → journal_at (start 1).nodes at ≡ []
-none_at_start zero = refl
-none_at_start (suc zero) = refl
-none_at_start (suc (suc zero)) = refl
-none_at_start (suc (suc (suc at))) = refl
+none_of_routers : (first routers at : ℕ) → journal_at (routers_from first routers) at ≡ []
+none_of_routers first zero at = refl
+none_of_routers first (suc routers) zero = refl
+none_of_routers first (suc routers) (suc at) = none_of_routers (first + 1) routers at
+
+none_at_start : (routers at : ℕ) → journal_at (start routers).nodes at ≡ []
+none_at_start routers zero = refl
+none_at_start routers (suc zero) = refl
+none_at_start routers (suc (suc at)) = none_of_routers 2 routers at
 
 -- no record is what each node keeps at the start
-pub of_the_start : (w : World) (at : ℕ) (file : List ℕ) → LeadsTo (start 1) w → Stands file [] → IsOfTheWay w at file
-of_the_start w at file on stands = record {
-  world = start 1;
-  before = leads_nowhere (start 1);
+pub of_the_start : (routers : ℕ) (w : World) (at : ℕ) (file : List ℕ) → LeadsTo (start routers) w → Stands file [] → IsOfTheWay routers w at file
+of_the_start routers w at file on stands = record {
+  world = start routers;
+  before = leads_nowhere (start routers);
   behind = on;
-  has = subst (λ (l : List Kept). Stands file (spellings l)) (sym (none_at_start at)) stands;
+  has = subst (λ (l : List Kept). Stands file (spellings l)) (sym (none_at_start routers at)) stands;
 }
 
-pub never_of : (at : ℕ) (file : List ℕ) → ⊥ → IsOfTheWay (start 1) at file
-never_of at file never = absurd never
+pub never_of : (routers at : ℕ) (file : List ℕ) → ⊥ → IsOfTheWay routers (start routers) at file
+never_of routers at file never = absurd never
 
-pub none_on_the_way : {D : Type 0} (tells : Bool) (moment : D → ℕ) (left_since : D → ℕ → Outcomes) (disks : List D)
-    → LeaveTheWay tells moment left_since disks disks (start 1)
-none_on_the_way tells moment left_since disks told = all_alone moment left_since (λ at file. IsOfTheWay (start 1) at file) disks
+pub none_on_the_way : {D : Type 0} (routers : ℕ) (tells : Bool) (moment : D → ℕ) (left_since : D → ℕ → Outcomes) (disks : List D)
+    → LeaveTheWay routers tells moment left_since disks disks (start routers)
+none_on_the_way routers tells moment left_since disks told = all_alone moment left_since (λ at file. IsOfTheWay routers (start routers) at file) disks
 
 module _ {N D : Type 0} (state : N → NodeState) (tells : Bool) (content : D → List ℕ) (moment : D → ℕ) (left_since : D → ℕ → Outcomes) (fault_count : D → ℕ)
-    (place : D → List ℕ) (w : World) (told : IsTrue tells) where
+    (place : D → List ℕ) (routers : ℕ) (w : World) (told : IsTrue tells) where
   -- what is said of a log is said of its disk
   at_place : (at : ℕ) (disk : D) (old new : JournalView D) → LeavesAlso moment left_since disk old.disk (λ file. Stands file [])
-      → LeavesKept (journal_facts tells content moment left_since fault_count place) (start 1) old new at w
-      → LeavesAlso moment left_since disk new.disk (λ file. IsOfTheWay w at file)
+      → LeavesKept (journal_facts tells content moment left_since fault_count place) (start routers) old new at w
+      → LeavesAlso moment left_since disk new.disk (λ file. IsOfTheWay routers w at file)
   at_place at disk old new first k =
-      leaves_then moment left_since disk old.disk new.disk (λ file. Stands file []) (λ file. IsOfTheWay w at file) (λ file. IsOfTheWay w at file) first
-      (record { later = k.left.later; each = k.left.each }) (λ file stands. of_the_start w at file k.came stands) (λ file is. is)
+      leaves_then moment left_since disk old.disk new.disk (λ file. Stands file []) (λ file. IsOfTheWay routers w at file) (λ file. IsOfTheWay routers w at file) first
+      (record { later = k.left.later; each = k.left.each }) (λ file stands. of_the_start routers w at file k.came stands) (λ file is. is)
 
   each_place : (node : ℕ → ℕ) (disks : List D) (olds news : List (Seat N (JournalView D)))
       → LeaveSuch moment left_since (λ at file. Stands file []) disks (map (λ s. s.log.disk) olds) → length olds ≡ length news
       → ((at : ℕ) (s : Seat N (JournalView D)) → slice_get news at ≡ Some s → (old : JournalView D) → slice_get (map (λ s. s.log) olds) at ≡ Some old
-      → LeavesKept (journal_facts tells content moment left_since fault_count place) (start 1) old s.log (node at) w)
-      → LeaveSuch moment left_since (λ at file. IsOfTheWay w (node at) file) disks (map (λ s. s.log.disk) news)
+      → LeavesKept (journal_facts tells content moment left_since fault_count place) (start routers) old s.log (node at) w)
+      → LeaveSuch moment left_since (λ at file. IsOfTheWay routers w (node at) file) disks (map (λ s. s.log.disk) news)
   each_place node [] [] [] first len kept = tt
   each_place node [] [] (s ∷ news) first len kept = absurd (omega (arith, len))
   each_place node [] (o ∷ olds) news first len kept = absurd first
@@ -156,8 +161,8 @@ module _ {N D : Type 0} (state : N → NodeState) (tells : Bool) (content : D �
   -- and so of all disks
   pub seats_leave : (disks : List D) (olds news : List (Seat N (JournalView D)))
       → LeaveSuch moment left_since (λ at file. Stands file []) disks (map (λ s. s.log.disk) olds) → length olds ≡ length news
-      → LeaveKept (seat_since state (journal_facts tells content moment left_since fault_count place) (since_then olds (start 1))) news w
-      → LeaveSuch moment left_since (λ at file. IsOfTheWay w at file) disks (map (λ s. s.log.disk) news)
+      → LeaveKept (seat_since state (journal_facts tells content moment left_since fault_count place) (since_then olds (start routers))) news w
+      → LeaveSuch moment left_since (λ at file. IsOfTheWay routers w at file) disks (map (λ s. s.log.disk) news)
   seats_leave disks olds news first len leave =
       each_place (λ at. at) disks olds news first len (λ at s got old began. (leave at s got told).0 old began)
 
@@ -173,7 +178,7 @@ module _ {N D : Type 0} (tells_bytes tells : Bool) (content : D → List ℕ) (m
     (place : D → List ℕ) (command : Command) (notes : List Note) (held_before : List ℕ) (seats : List (Seat N (JournalView D))) (last : World)
     (put : List ℕ) where
   -- what is acknowledged by logs is so by their disks
-  pub disks_owed : AreAcknowledgedBy (journal_facts tells content moment left_since fault_count place) tells_bytes (output_of command) (start 1) notes
+  pub disks_owed : AreAcknowledgedBy (journal_facts tells content moment left_since fault_count place) tells_bytes (output_of command) (start (routers_of command)) notes
       held_before seats last put
       → AreDurableBefore tells_bytes tells place moment left_since command notes held_before (map (λ s. s.log.disk) seats) last put
   disks_owed owed bytes files offset below =

@@ -1,17 +1,17 @@
 -- Nodes with their journals: at the start, and behind a connection.
-use Rattle.std.specs.Prelude.{◌≡◌, ◌≢◌, ℕ, Bool, IsTrue, List, [], ◌∷◌, ◌++◌, map}
-use Rattle.std.proofs.Common.{refl, sym, ap, subst, ◌∙◌}
-use Rattle.std.specs.List.{AllByRecursion}
+use Rattle.std.specs.Prelude.{◌≡◌, ◌≢◌, ℕ, zero, suc, ◌+◌, Bool, IsTrue, List, [], ◌∷◌, length, map}
+use Rattle.std.proofs.Common.{refl, sym, ap, subst, ◌∙◌, arith}
 use Rattle.outside.specs.Devices.{SourceCall, SinkCall, NoneFell, OneRose}
 use Rattle.outside.proofs.Relations.{none_fell_self}
 use Rattle.outside.specs.Disks.{Outcomes}
 use Rattle.journal_frames.specs.Views.{JournalView, journal_facts}
-use Rattle.node_model.specs.States.{NodeState}
-use Rattle.node_model.specs.World.{Held, World, start}
-use Rattle.driver_steps.specs.Seats.{AreHeld, AreKept, AreOpen, HaveRisen, seat_view}
+use Rattle.node_model.specs.States.{NodeState, catalogue_state, shard_state, router_state, new_catalogue, new_shard, new_router}
+use Rattle.node_model.specs.World.{Held, World, routers_from, start}
+use Rattle.driver_steps.specs.Seats.{AreHeld, AreKept, IsHeld, seat_view}
 use Rattle.driver_steps.specs.declared.seat.Seat.{Seat}
 use Rattle.pipe_driver.specs.Endings.{most_taken}
 use Rattle.pipe_driver.proofs.Endings.{piped_with}
+use Rattle.pipe_driver.specs.Rounds.{first_router}
 use Rattle.pipe_driver.specs.Counts.{HaveRisenWhere, RoseWhere}
 use Rattle.pipe_driver.proofs.Counts.{rose_as}
 use Rattle.sim_driver.proofs.Endings.{simulated_as}
@@ -23,25 +23,46 @@ use Rattle.cluster_top.specs.declared.arguments.Command.{Command}
 use Rattle.cluster_top.specs.declared.arguments.Command.TheVariants.{Pipe, Sim}
 use Rattle.cluster_top.specs.Journals.{AreJournals}
 use Rattle.cluster_top.specs.Nodes.{AreNew}
-use Rattle.cluster_top.specs.OpenJournals.{AreFresh, disks_of}
+use Rattle.cluster_top.specs.OpenJournals.{AreFresh, HaveNoRecord, IsFresh, disks_of}
 use Rattle.cluster_top.specs.Seats.{seats_of}
 use Rattle.cluster_top.specs.Statuses.{of_connection}
-use Rattle.cluster_top.specs.declared.journals.Journals.{Journals}
-use Rattle.cluster_top.specs.declared.nodes.Nodes.{Nodes}
 use Rattle.cluster_top.specs.declared.status.Status.{Status}
 use Rattle.cluster_top.specs.declared.status.Status.TheVariants as statuses
 use Rattle.cluster_top.proofs.Counts.{one_rose_as}
 
 module _ {N D : Type 0} (state : N → NodeState) (tells : Bool) (content : D → List ℕ) (moment : D → ℕ) (left_since : D → ℕ → Outcomes) (fault_count : D → ℕ)
     (place : D → List ℕ) where
+  -- a new node with a journal without records
+  is_held : (node : N) (journal : JournalView D) (new : NodeState) → state node ≡ new → IsFresh tells content journal
+      → IsHeld (seat_view state (journal_facts tells content moment left_since fault_count place) (record { node = node; log = journal }))
+      (record { state = new; kept = [] })
+  is_held node journal new same fresh = record { same = sym same; written = fresh.none; keeps = record { sound = tt; found = λ told. fresh.file } }
+
+  held_routers : (first routers : ℕ) (nodes : List N) (journals : List (JournalView D)) → map state nodes ≡ map (λ h. h.state) (routers_from first routers)
+      → AreFresh tells content journals → length journals ≡ routers
+      → AreHeld (seat_view state (journal_facts tells content moment left_since fault_count place)) (seats_of nodes journals) (routers_from first routers)
+  held_routers first zero [] journals new fresh count = tt
+  held_routers first zero (node ∷ nodes) journals new fresh count = absurd (cc new)
+  held_routers first (suc routers) [] journals new fresh count = absurd (cc new)
+  held_routers first (suc routers) (node ∷ nodes) [] new fresh count = absurd (omega (arith, count))
+  held_routers first (suc routers) (node ∷ nodes) (journal ∷ journals) new fresh count = (
+    is_held node journal (router_state (new_router first)) (cc new) fresh.0,
+    held_routers (first + 1) routers nodes journals (cc new) fresh.1 (omega (arith, count)),
+  )
+
   -- new nodes with journals without records are those of the start
-  pub held_at_start : (nodes : Nodes N) (journals : Journals D) → AreNew state nodes → AreFresh tells content journals
-      → AreHeld (seat_view state (journal_facts tells content moment left_since fault_count place)) (seats_of nodes journals) (start 1).nodes
-  held_at_start nodes journals new fresh = (
-    record { same = sym new.catalogue; written = fresh.catalogue.none; keeps = record { sound = tt; found = λ told. fresh.catalogue.file } },
+  pub held_at_start : (routers : ℕ) (nodes : List N) (journals : List (JournalView D)) → AreNew state routers nodes → AreFresh tells content journals
+      → length journals ≡ 2 + routers
+      → AreHeld (seat_view state (journal_facts tells content moment left_since fault_count place)) (seats_of nodes journals) (start routers).nodes
+  held_at_start routers [] journals new fresh count = absurd (cc new)
+  held_at_start routers (catalogue ∷ []) journals new fresh count = absurd (cc new)
+  held_at_start routers (catalogue ∷ shard ∷ nodes) [] new fresh count = absurd (omega (arith, count))
+  held_at_start routers (catalogue ∷ shard ∷ nodes) (a ∷ []) new fresh count = absurd (omega (arith, count))
+  held_at_start routers (catalogue ∷ shard ∷ nodes) (a ∷ b ∷ journals) new fresh count = (
+    is_held catalogue a (catalogue_state (new_catalogue 0)) (cc new) fresh.0,
     (
-      record { same = sym new.shard; written = fresh.shard.none; keeps = record { sound = tt; found = λ told. fresh.shard.file } },
-      (record { same = sym new.router; written = fresh.router.none; keeps = record { sound = tt; found = λ told. fresh.router.file } }, tt),
+      is_held shard b (shard_state (new_shard 1)) (cc new) fresh.1.0,
+      held_routers 2 routers nodes journals (cc new) fresh.1.1 (omega (arith, count)),
     ),
   )
 
@@ -53,10 +74,26 @@ module _ {N D : Type 0} (state : N → NodeState) (tells : Bool) (content : D �
   kept_in_files [] (h ∷ nodes) kept told = absurd kept
   kept_in_files (s ∷ seats) [] kept told = absurd kept
 
+-- journals without records have files without records, as many
+pub fresh_files : {D : Type 0} (tells : Bool) (content : D → List ℕ) (journals : List (JournalView D)) → AreFresh tells content journals → IsTrue tells
+    → HaveNoRecord (map content (disks_of journals))
+fresh_files tells content [] fresh told = tt
+fresh_files tells content (j ∷ journals) fresh told = (fresh.0.file told, fresh_files tells content journals fresh.1 told)
+
+pub files_len : {D : Type 0} (content : D → List ℕ) (journals : List (JournalView D)) → length (map content (disks_of journals)) ≡ length journals
+files_len content [] = refl
+files_len content (j ∷ journals) = ap suc (files_len content journals)
+
 -- of the disks of the seats, before
-pub told_before : {N D X : Type 0} (f : D → X) (nodes : Nodes N) (journals : Journals D) (seats : List (Seat N (JournalView D))) → seats ≡ seats_of nodes journals
-    → map (λ s. f s.log.disk) seats ≡ map f (disks_of journals)
-told_before {N = N} {D = D} f nodes journals seats is = ap (λ (ss : List (Seat N (JournalView D))). map (λ s. f s.log.disk) ss) is
+pub told_before : {N D X : Type 0} (f : D → X) (nodes : List N) (journals : List (JournalView D)) (seats : List (Seat N (JournalView D)))
+    → seats ≡ seats_of nodes journals → length nodes ≡ length journals → map (λ s. f s.log.disk) seats ≡ map f (disks_of journals)
+told_before {N = N} {D = D} {X = X} f nodes journals seats is count = ap (λ (ss : List (Seat N (JournalView D))). map (λ s. f s.log.disk) ss) is ∙ each nodes journals count
+  where
+    each : (ns : List N) (js : List (JournalView D)) → length ns ≡ length js → map {B = X} (λ s. f s.log.disk) (seats_of ns js) ≡ map f (disks_of js)
+    each [] [] count = refl
+    each [] (j ∷ js) count = absurd (omega (arith, count))
+    each (n ∷ ns) [] count = absurd (omega (arith, count))
+    each (n ∷ ns) (j ∷ js) count = ap (λ (xs : List X). f j.disk ∷ xs) (each ns js (omega (arith, count)))
 
 -- and behind it
 pub told_after : {N D X : Type 0} (f : D → X) (disks : List D) (seats : List (Seat N (JournalView D))) → disks ≡ map (λ s. s.log.disk) seats → map (λ s. f s.log.disk) seats ≡ map f disks
@@ -76,9 +113,9 @@ pub driven_as : (command : Command) (source : SourceCall) (sink : SinkCall) (giv
     → ((w : World) (put : List ℕ) → owed w put → owed_then w put) → IsDriven command source sink gives kept leaves owed status rest
     → IsDriven command source sink gives then leaves_then owed_then status rest
 driven_as Pipe source sink gives kept then leaves leaves_then owed owed_then status rest f g pays driven =
-    piped_with source sink gives kept then leaves leaves_then owed owed_then 1 most_taken status rest driven f g (λ w put leave owes. pays w put owes)
-driven_as Sim source sink gives kept then leaves leaves_then owed owed_then status rest f g pays driven =
-    (simulated_as source sink kept then leaves leaves_then owed owed_then 1 most_taken status f g (λ w put leave owes. pays w put owes) driven.0, driven.1)
+    piped_with source sink gives first_router kept then leaves leaves_then owed owed_then 1 most_taken status rest driven f g (λ w put leave owes. pays w put owes)
+driven_as (Sim routers) source sink gives kept then leaves leaves_then owed owed_then status rest f g pays driven =
+    (simulated_as source sink kept then leaves leaves_then owed owed_then routers most_taken status f g (λ w put leave owes. pays w put owes) driven.0, driven.1)
 
 -- a connection ends with no status of another kind
 pub of_no_other : (ending : connections.Status) → (of_connection ending ≢ statuses.BadArguments) × (of_connection ending ≢ statuses.DamagedJournal)
@@ -132,12 +169,3 @@ later_of ended.WriteFailed a b where_it = subst (λ (ns : List ℕ). NoneFell a 
 later_of ended.OutOfMemory a b where_it = subst (λ (ns : List ℕ). NoneFell a ns) (sym (where_it.1 (λ e. cc))) (none_fell_self a)
 later_of ended.BadInput a b where_it = subst (λ (ns : List ℕ). NoneFell a ns) (sym (where_it.1 (λ e. cc))) (none_fell_self a)
 later_of ended.InputTooLong a b where_it = subst (λ (ns : List ℕ). NoneFell a ns) (sym (where_it.1 (λ e. cc))) (none_fell_self a)
-
--- three seats, taken from the end one after another
-pub each_of_three : {S : Type 0} (P : S → Type 0) (all two one none : List S) (a b c : S) → all ≡ two ++ c ∷ [] → two ≡ one ++ b ∷ [] → one ≡ none ++ a ∷ [] → none ≡ []
-    → AllByRecursion P all → P a × P b × P c
-each_of_three {S = S} P all two one none a b c first second third nothing each =
-    let are : all ≡ a ∷ b ∷ c ∷ [] =
-    first ∙ ap (λ (l : List S). l ++ c ∷ []) (second ∙ ap (λ (l : List S). l ++ b ∷ []) (third ∙ ap (λ (l : List S). l ++ a ∷ []) nothing)) in
-    let three : AllByRecursion P (a ∷ b ∷ c ∷ []) = subst (λ (l : List S). AllByRecursion P l) are each in
-    (three.0, three.1.0, three.1.1.0)

@@ -37,3 +37,8 @@ six_or_five status number is (inr failed) = inr (has_number DiskFailed status nu
 pub refused_or_damaged : (status : Status) (number : ℕ) → number ≡ number_of status → status ≢ BadArguments → (number ≡ 2) ⊎ (number ≡ 6) → status ≡ DamagedJournal
 refused_or_damaged status number is other (inl two) = absurd (other (is_status BadArguments status number is two))
 refused_or_damaged status number is other (inr six) = is_status DamagedJournal status number is six
+
+pub seven_or_durable : (status : Status) (number : ℕ) → number ≡ number_of status → (durable begun : Type 0) → durable ⊎ ((status ≡ OutOfMemory) × begun)
+    → durable ⊎ ((number ≡ 7) × begun)
+seven_or_durable status number is durable begun (inl all) = inl all
+seven_or_durable status number is durable begun (inr (memory, none)) = inr (has_number OutOfMemory status number is memory, none)

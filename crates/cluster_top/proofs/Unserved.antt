@@ -1,23 +1,25 @@
 -- How `pipe` ends where nothing is served.
-use Rattle.std.specs.Prelude.{◌≡◌, ◌≢◌, ◌⊎◌, ℕ, None, Bool, IsTrue, List, [], ◌∷◌, length, map}
+use Rattle.std.specs.Prelude.{◌≡◌, ◌≢◌, ◌⊎◌, ℕ, zero, suc, ◌+◌, None, Bool, IsTrue, List, [], ◌∷◌, length, map}
 use Rattle.std.proofs.Common.{refl, sym, subst, inl, inr, arith}
 use Rattle.std.specs.List.{AllByRecursion}
 use Rattle.outside.specs.Devices.{SourceCall, SinkCall, SourceGave, SinkTook}
 use Rattle.opmsg_frames.specs.Frames.{ends}
-use Rattle.journal_frames.specs.Files.{Stands}
 use Rattle.node_model.specs.Schedule.{openings}
-use Rattle.node_model.specs.World.{World, start, stands}
+use Rattle.node_model.specs.World.{World, routers_from, start, stands}
 use Rattle.pipe_driver.specs.Endings.{IsPiped, SomeServed, disk_failed, most_taken, no_memory}
+use Rattle.pipe_driver.specs.Rounds.{first_router}
 use Rattle.pipe_driver.specs.Schedules.{came_opening}
 use Rattle.pipe_driver.specs.declared.status.Status as connections
 use Rattle.pipe_driver.specs.declared.status.Status.TheVariants as ended
 use Rattle.pipe_driver.proofs.Histories.{piped_history}
 use Rattle.sim_driver.specs.Simulations.{IsSimulated, CameTo, came_opening as began, disk_failed as script_disk_failed, no_memory as script_no_memory}
 use Rattle.sim_driver.proofs.Histories.{simulated_history}
+use Rattle.cluster_top.specs.Arguments.{routers_of}
 use Rattle.cluster_top.specs.Disks.{AllEmpty, IsEmptyAll, SomeFile}
 use Rattle.cluster_top.specs.Drivers.{IsDriven}
 use Rattle.cluster_top.specs.Headline.{Headline, HeadlineOf, ScriptHeadline}
 use Rattle.cluster_top.specs.Journals.{AreJournals}
+use Rattle.cluster_top.specs.OpenJournals.{HaveNoRecord}
 use Rattle.cluster_top.specs.Statuses.{OfConnection, of_connection}
 use Rattle.cluster_top.specs.Stops.{StopsOpening, at_opening_fault, at_damage, at_opening_memory}
 use Rattle.cluster_top.specs.declared.arguments.Command.{Command}
@@ -26,25 +28,33 @@ use Rattle.cluster_top.specs.declared.status.Status.{Status}
 use Rattle.cluster_top.specs.declared.status.Status.TheVariants as statuses
 use Rattle.cluster_top.proofs.OpenJournals.{nothing}
 
--- three files without records are the journals of the nodes at the start
-pub none_kept : (a b c : List ℕ) → Stands a [] → Stands b [] → Stands c [] → AreJournals (a ∷ b ∷ c ∷ []) (start 1).nodes
-none_kept a b c first second third =
-    (record { stands = first; sound = tt }, (record { stands = second; sound = tt }, (record { stands = third; sound = tt }, tt)))
+kept_routers : (first routers : ℕ) (files : List (List ℕ)) → HaveNoRecord files → length files ≡ routers → AreJournals files (routers_from first routers)
+kept_routers first zero [] none count = tt
+kept_routers first zero (file ∷ files) none count = absurd (omega (arith, count))
+kept_routers first (suc routers) [] none count = absurd (omega (arith, count))
+kept_routers first (suc routers) (file ∷ files) none count =
+    (record { stands = none.0; sound = tt }, kept_routers (first + 1) routers files none.1 (omega (arith, count)))
+
+-- files without records are the journals of the nodes at the start
+pub none_kept : (routers : ℕ) (files : List (List ℕ)) → HaveNoRecord files → length files ≡ 2 + routers → AreJournals files (start routers).nodes
+none_kept routers [] none count = absurd (omega (arith, count))
+none_kept routers (a ∷ []) none count = absurd (omega (arith, count))
+none_kept routers (a ∷ b ∷ files) none count = (
+  record { stands = none.0; sound = tt },
+  (record { stands = none.1.0; sound = tt }, kept_routers 2 routers files none.1.1 (omega (arith, count))),
+)
 
 -- empty files are such
-pub empty_kept : (a b c : List ℕ) → AllEmpty (a ∷ b ∷ c ∷ []) → AreJournals (a ∷ b ∷ c ∷ []) (start 1).nodes
-empty_kept a b c empty = none_kept a b c (nothing a empty.0) (nothing b empty.1.0) (nothing c empty.1.1.0)
+pub no_record : (files : List (List ℕ)) → AllEmpty files → HaveNoRecord files
+no_record [] empty = tt
+no_record (file ∷ files) empty = (nothing file empty.0, no_record files empty.1)
 
-pub all_empty_kept : (files : List (List ℕ)) → AllEmpty files → length files ≡ 3 → AreJournals files (start 1).nodes
-all_empty_kept (a ∷ b ∷ c ∷ []) empty three = empty_kept a b c empty
-all_empty_kept [] empty three = absurd (omega (arith, three))
-all_empty_kept (a ∷ []) empty three = absurd (omega (arith, three))
-all_empty_kept (a ∷ b ∷ []) empty three = absurd (omega (arith, three))
-all_empty_kept (a ∷ b ∷ c ∷ d ∷ files) empty three = absurd (omega (arith, three))
+pub all_empty_kept : (routers : ℕ) (files : List (List ℕ)) → AllEmpty files → length files ≡ 2 + routers → AreJournals files (start routers).nodes
+all_empty_kept routers files empty count = none_kept routers files (no_record files empty) count
 
 module _ (source : SourceCall) (sink : SinkCall) (tells : Bool) (files_after : List (List ℕ)) (leaves : World → Type 0)
     (owed : World → List ℕ → Type 0) (gives : ℕ → Type 0) (rest : ℕ) where
-  none_served : SomeServed 1 gives [] [] [] (start 1)
+  none_served : SomeServed 1 gives first_router [] [] [] (start 1)
   none_served = record {
     under_way = [];
     others = [];
@@ -54,21 +64,21 @@ module _ (source : SourceCall) (sink : SinkCall) (tells : Bool) (files_after : L
     replied = refl;
   }
 
-  pub headline_from : (ending : connections.Status) → IsPiped source sink gives (λ nodes. IsTrue tells → AreJournals files_after nodes) leaves owed 1 most_taken ending rest
+  pub headline_from : (ending : connections.Status) → IsPiped source sink gives first_router (λ nodes. IsTrue tells → AreJournals files_after nodes) leaves owed 1 most_taken ending rest
       → Headline source sink tells files_after leaves owed gives ending rest
   headline_from ending piped = record {
     piped = piped;
-    history = piped_history source sink gives (λ nodes. IsTrue tells → AreJournals files_after nodes) leaves owed 1 most_taken ending rest piped;
+    history = piped_history source sink gives first_router (λ nodes. IsTrue tells → AreJournals files_after nodes) leaves owed 1 most_taken ending rest piped;
   }
 
-  none_played : CameTo 1 [] [] [] (start 1)
-  none_played = began [] [] (start 1) (openings 0 (length (start 1).nodes), refl) (stands (start 1))
+  none_played : (routers : ℕ) → CameTo routers [] [] [] (start routers)
+  none_played routers = began [] [] (start routers) (openings 0 (length (start routers).nodes), refl) (stands (start routers))
 
-  script_from : (ending : connections.Status) → IsSimulated source sink (λ nodes. IsTrue tells → AreJournals files_after nodes) leaves owed 1 most_taken ending
-      → rest ≡ 0 → ScriptHeadline source sink tells files_after leaves owed ending rest
-  script_from ending simulated none = record {
+  script_from : (routers : ℕ) (ending : connections.Status) → IsSimulated source sink (λ nodes. IsTrue tells → AreJournals files_after nodes) leaves owed routers most_taken ending
+      → rest ≡ 0 → ScriptHeadline routers source sink tells files_after leaves owed ending rest
+  script_from routers ending simulated none = record {
     simulated = simulated;
-    history = simulated_history source sink (λ nodes. IsTrue tells → AreJournals files_after nodes) leaves owed 1 most_taken ending simulated;
+    history = simulated_history source sink (λ nodes. IsTrue tells → AreJournals files_after nodes) leaves owed routers most_taken ending simulated;
     no_rest = none;
   }
 
@@ -76,7 +86,7 @@ module _ (source : SourceCall) (sink : SinkCall) (tells : Bool) (files_after : L
       → IsDriven command source sink gives (λ nodes. IsTrue tells → AreJournals files_after nodes) leaves owed ending rest
       → HeadlineOf command source sink tells files_after leaves owed gives ending rest
   headline_of Pipe ending driven = headline_from ending driven
-  headline_of Sim ending driven = script_from ending driven.0 driven.1
+  headline_of (Sim routers) ending driven = script_from routers ending driven.0 driven.1
 
   -- the disks were not opened
   pub disk_unopened : rest ≡ 0 → SourceGave source [] → SinkTook sink [] → (IsTrue tells → AreJournals files_after (start 1).nodes) → leaves (start 1) → owed (start 1) [] → Headline source sink tells files_after leaves owed gives ended.DiskFailed rest
@@ -126,60 +136,60 @@ module _ (source : SourceCall) (sink : SinkCall) (tells : Bool) (files_after : L
     acknowledged = debts;
   })
 
-  script_disk_unopened : rest ≡ 0 → SourceGave source [] → SinkTook sink [] → (IsTrue tells → AreJournals files_after (start 1).nodes) → leaves (start 1) → owed (start 1) []
-      → ScriptHeadline source sink tells files_after leaves owed ended.DiskFailed rest
-  script_disk_unopened none took put files crashes debts = script_from ended.DiskFailed (record {
+  script_disk_unopened : (routers : ℕ) → rest ≡ 0 → SourceGave source [] → SinkTook sink [] → (IsTrue tells → AreJournals files_after (start routers).nodes) → leaves (start routers) → owed (start routers) []
+      → ScriptHeadline routers source sink tells files_after leaves owed ended.DiskFailed rest
+  script_disk_unopened routers none took put files crashes debts = script_from routers ended.DiskFailed (record {
     taken = [];
     put = [];
     lines = [];
     left = [];
-    end = start 1;
+    end = start routers;
     took = took;
     put_all = put;
     parts = refl;
     each = tt;
     most = omega arith;
-    cause = script_disk_failed none_played;
+    cause = script_disk_failed (none_played routers);
     files = files;
-    last = start 1;
+    last = start routers;
     is_last = inl refl;
     crashes = crashes;
     acknowledged = debts;
   }) none
 
-  script_memory_unopened : rest ≡ 0 → SourceGave source [] → SinkTook sink [] → (IsTrue tells → AreJournals files_after (start 1).nodes) → leaves (start 1) → owed (start 1) []
-      → ScriptHeadline source sink tells files_after leaves owed ended.OutOfMemory rest
-  script_memory_unopened none took put files crashes debts = script_from ended.OutOfMemory (record {
+  script_memory_unopened : (routers : ℕ) → rest ≡ 0 → SourceGave source [] → SinkTook sink [] → (IsTrue tells → AreJournals files_after (start routers).nodes) → leaves (start routers) → owed (start routers) []
+      → ScriptHeadline routers source sink tells files_after leaves owed ended.OutOfMemory rest
+  script_memory_unopened routers none took put files crashes debts = script_from routers ended.OutOfMemory (record {
     taken = [];
     put = [];
     lines = [];
     left = [];
-    end = start 1;
+    end = start routers;
     took = took;
     put_all = put;
     parts = refl;
     each = tt;
     most = omega arith;
-    cause = script_no_memory none_played;
+    cause = script_no_memory (none_played routers);
     files = files;
-    last = start 1;
+    last = start routers;
     is_last = inl refl;
     crashes = crashes;
     acknowledged = debts;
   }) none
 
-  no_disk : (command : Command) → rest ≡ 0 → SourceGave source [] → SinkTook sink [] → (IsTrue tells → AreJournals files_after (start 1).nodes)
-      → leaves (start 1) → owed (start 1) [] → HeadlineOf command source sink tells files_after leaves owed gives ended.DiskFailed rest
+  no_disk : (command : Command) → rest ≡ 0 → SourceGave source [] → SinkTook sink [] → (IsTrue tells → AreJournals files_after (start (routers_of command)).nodes)
+      → leaves (start (routers_of command)) → owed (start (routers_of command)) [] → HeadlineOf command source sink tells files_after leaves owed gives ended.DiskFailed rest
   no_disk Pipe none took put files crashes debts = disk_unopened none took put files crashes debts
-  no_disk Sim none took put files crashes debts = script_disk_unopened none took put files crashes debts
+  no_disk (Sim routers) none took put files crashes debts = script_disk_unopened routers none took put files crashes debts
 
-  no_room : (command : Command) → rest ≡ 0 → SourceGave source [] → SinkTook sink [] → (IsTrue tells → AreJournals files_after (start 1).nodes)
-      → leaves (start 1) → owed (start 1) [] → HeadlineOf command source sink tells files_after leaves owed gives ended.OutOfMemory rest
+  no_room : (command : Command) → rest ≡ 0 → SourceGave source [] → SinkTook sink [] → (IsTrue tells → AreJournals files_after (start (routers_of command)).nodes)
+      → leaves (start (routers_of command)) → owed (start (routers_of command)) [] → HeadlineOf command source sink tells files_after leaves owed gives ended.OutOfMemory rest
   no_room Pipe none took put files crashes debts = memory_unopened none took put files crashes debts
-  no_room Sim none took put files crashes debts = script_memory_unopened none took put files crashes debts
+  no_room (Sim routers) none took put files crashes debts = script_memory_unopened routers none took put files crashes debts
 
   pub unopened : (command : Command) (status : Status) → StopsOpening status → status ≢ statuses.DamagedJournal → rest ≡ 0 → SourceGave source []
-      → SinkTook sink [] → (IsTrue tells → AreJournals files_after (start 1).nodes) → leaves (start 1) → owed (start 1) []
+      → SinkTook sink [] → (IsTrue tells → AreJournals files_after (start (routers_of command)).nodes) → leaves (start (routers_of command)) → owed (start (routers_of command)) []
       → OfConnection status (λ ending. HeadlineOf command source sink tells files_after leaves owed gives ending rest)
   unopened command status at_opening_fault other none took put files crashes debts = (ended.DiskFailed, refl, no_disk command none took put files crashes debts)
   unopened command status at_damage other none took put files crashes debts = absurd (other refl)
@@ -190,11 +200,6 @@ pub opening_not_refused : (status : Status) → StopsOpening status → (status 
 opening_not_refused status at_opening_fault = (λ e. cc, λ e. cc, λ e. cc)
 opening_not_refused status at_damage = (λ e. cc, λ e. cc, λ e. cc)
 opening_not_refused status at_opening_memory = (λ e. cc, λ e. cc, λ e. cc)
-
-pub opening_stopped : (status : Status) → StopsOpening status → status ≢ statuses.DiskFailed → status ≢ statuses.OutOfMemory → status ≢ statuses.DamagedJournal → ⊥
-opening_stopped status at_opening_fault disk memory damaged = disk refl
-opening_stopped status at_damage disk memory damaged = damaged refl
-opening_stopped status at_opening_memory disk memory damaged = memory refl
 
 -- files that are the same as empty ones are empty
 pub still_empty : (tells : Bool) (before after : List (List ℕ)) → (IsTrue tells → after ≡ before) → IsEmptyAll tells before → IsEmptyAll tells after

@@ -8,6 +8,7 @@ use Rattle.node_traits.specs.Effects.{spellings}
 use Rattle.driver_steps.specs.Crashes.{Passes}
 use Rattle.outside.specs.Notes.{Note}
 use Rattle.pipe_driver.specs.Acknowledgements.{AreAcknowledged}
+use Rattle.cluster_top.specs.Arguments.{routers_of}
 use Rattle.cluster_top.specs.Drivers.{output_of}
 use Rattle.cluster_top.specs.declared.arguments.Command.{Command}
 
@@ -19,17 +20,18 @@ LeaveSuch moment left_since P (before ∷ befores) (after ∷ afters) =
     LeavesAlso moment left_since before after (P zero) × LeaveSuch moment left_since (λ at. P (suc at)) befores afters
 LeaveSuch moment left_since P befores afters = ⊥
 
--- an opening of the file finds just what the node at a place kept in a world on the way from the start to this one
-abbrev pub IsOfTheWay : World → ℕ → Outcomes
-IsOfTheWay w at file = Passes (start 1) w (λ v. Stands file (spellings (journal_at v.nodes at)))
+-- an opening of the file finds just what the node at a place kept in a world on the way to this one, from the start with so many routers
+abbrev pub IsOfTheWay : (routers : ℕ) → World → ℕ → Outcomes
+IsOfTheWay routers w at file = Passes (start routers) w (λ v. Stands file (spellings (journal_at v.nodes at)))
 
 -- such files, of disks that tell theirs
-abbrev pub LeaveTheWay : {D : Type 0} → Bool → (D → ℕ) → (D → ℕ → Outcomes) → List D → List D → World → Type 0
-LeaveTheWay tells moment left_since befores afters w = IsTrue tells → LeaveSuch moment left_since (λ at file. IsOfTheWay w at file) befores afters
+abbrev pub LeaveTheWay : {D : Type 0} → (routers : ℕ) → Bool → (D → ℕ) → (D → ℕ → Outcomes) → List D → List D → World → Type 0
+LeaveTheWay routers tells moment left_since befores afters w =
+    IsTrue tells → LeaveSuch moment left_since (λ at file. IsOfTheWay routers w at file) befores afters
 
 -- Each byte that was written is acknowledged: before it was written the disks were noted, in a world on the way in which all bytes up to it were
 -- given, and no crash from then on leaves of a disk less than what its node keeps in that world.
 abbrev pub AreDurableBefore : {D : Type 0} → (tells_bytes tells_files : Bool) → (D → List ℕ) → (D → ℕ) → (D → ℕ → Outcomes) → Command → List Note
     → (held_before : List ℕ) → List D → World → (put : List ℕ) → Type 0
 AreDurableBefore tells_bytes tells_files place moment left_since command notes held_before disks last put =
-    AreAcknowledged tells_bytes tells_files Stands place moment left_since (output_of command) (start 1) notes held_before disks last put
+    AreAcknowledged tells_bytes tells_files Stands place moment left_since (output_of command) (start (routers_of command)) notes held_before disks last put

@@ -1,12 +1,7 @@
--- The disks before they are opened.
+-- The disks before they are opened, in order of their nodes.
 use Rattle.std.specs.Prelude.{◌≡◌, ◌≢◌, ◌⊎◌, ℕ, Bool, IsTrue, List, [], ◌∷◌}
 use Rattle.std.specs.List.{AllByRecursion}
 use Rattle.outside.specs.Disks.{Within}
-use Rattle.cluster_top.specs.declared.disks.Disks.{Disks}
-
--- the disks in order of their nodes
-abbrev pub three : {D : Type 0} → Disks D → List D
-three disks = disks.catalogue ∷ disks.shard ∷ disks.router ∷ []
 
 abbrev pub AllEmpty : List (List ℕ) → Type 0
 AllEmpty files = AllByRecursion (λ file. file ≡ []) files

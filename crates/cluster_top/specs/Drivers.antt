@@ -3,6 +3,7 @@ use Rattle.std.specs.Prelude.{◌≡◌, ℕ, List}
 use Rattle.outside.specs.Devices.{SourceCall, SinkCall}
 use Rattle.node_model.specs.World.{Held, World}
 use Rattle.pipe_driver.specs.Endings.{IsPiped, most_taken}
+use Rattle.pipe_driver.specs.Rounds.{first_router}
 use Rattle.pipe_driver.specs.declared.status.Status.{Status}
 use Rattle.pipe_driver.specs.Progress.{all_replies}
 use Rattle.sim_driver.specs.Simulations.{IsSimulated, all_printed}
@@ -12,10 +13,10 @@ use Rattle.cluster_top.specs.declared.arguments.Command.TheVariants.{Pipe, Sim}
 -- one connection was served, or a script was played, of which no rest is told
 abbrev pub IsDriven : Command → SourceCall → SinkCall → (ℕ → Type 0) → (List Held → Type 0) → (World → Type 0) → (World → List ℕ → Type 0) → Status
     → (rest : ℕ) → Type 0
-IsDriven Pipe source sink gives kept leaves owed status rest = IsPiped source sink gives kept leaves owed 1 most_taken status rest
-IsDriven Sim source sink gives kept leaves owed status rest = IsSimulated source sink kept leaves owed 1 most_taken status × (rest ≡ 0)
+IsDriven Pipe source sink gives kept leaves owed status rest = IsPiped source sink gives first_router kept leaves owed 1 most_taken status rest
+IsDriven (Sim routers) source sink gives kept leaves owed status rest = IsSimulated source sink kept leaves owed routers most_taken status × (rest ≡ 0)
 
 -- what is all output in a world: the replies that were given, or what the lines of a script print
 abbrev pub output_of : Command → World → List ℕ → Type 0
 output_of Pipe = all_replies
-output_of Sim = all_printed 1
+output_of (Sim routers) = all_printed routers

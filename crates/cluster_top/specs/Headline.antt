@@ -6,6 +6,7 @@ use Rattle.node_model.specs.OneHistory.{OneHistory}
 use Rattle.node_model.specs.Tables.{first_shard}
 use Rattle.node_model.specs.World.{World, journal_at}
 use Rattle.pipe_driver.specs.Endings.{IsPiped, most_taken}
+use Rattle.pipe_driver.specs.Rounds.{first_router}
 use Rattle.pipe_driver.specs.declared.status.Status.{Status}
 use Rattle.sim_driver.specs.Simulations.{IsSimulated}
 use Rattle.cluster_top.specs.Journals.{AreJournals}
@@ -16,20 +17,20 @@ use Rattle.cluster_top.specs.declared.arguments.Command.TheVariants.{Pipe, Sim}
 abbrev pub MakesOneHistory : World → Type 0
 MakesOneHistory end = OneHistory end.given (creations_kept (journal_at end.nodes 0)) (entries_kept (journal_at end.nodes first_shard)) end.asked end.answered
 
--- The bytes taken are requests and a rest, and the bytes put are the replies of a run of the nodes, by the schedule, whose journals the disks
--- keep. Whatever clients send, what the catalogue and the shard keep then is one legal history of an unsharded collection with each
+-- The bytes taken are requests and a rest, and the bytes put are the replies of a run of the nodes with one router, by the schedule, whose journals
+-- the disks keep. Whatever clients send, what the catalogue and the shard keep then is one legal history of an unsharded collection with each
 -- statement at most once, of which each reply is a right one. `tells` is whether the disks tell their files; `leaves` says what a crash at any
 -- moment of the call left, of the world up to which the run may go on; and `owed` that each byte was put only after what it says was durable.
 pub record Headline (source : SourceCall) (sink : SinkCall) (tells : Bool) (files : List (List ℕ)) (leaves : World → Type 0)
     (owed : World → List ℕ → Type 0) (gives : ℕ → Type 0) (status : Status) (rest : ℕ) : Type 0 where
-  pub piped : IsPiped source sink gives (λ nodes. IsTrue tells → AreJournals files nodes) leaves owed 1 most_taken status rest
+  pub piped : IsPiped source sink gives first_router (λ nodes. IsTrue tells → AreJournals files nodes) leaves owed 1 most_taken status rest
   pub history : MakesOneHistory piped.end
 
--- The bytes taken are lines of a script and a rest, and the bytes put are what a run of the nodes prints, of the events that the lines say. What
--- their journals keep is one history too, in whatever order the script delivers.
-pub record ScriptHeadline (source : SourceCall) (sink : SinkCall) (tells : Bool) (files : List (List ℕ)) (leaves : World → Type 0)
+-- The bytes taken are lines of a script and a rest, and the bytes put are what a run of the nodes with so many routers prints, of the events that
+-- the lines say. What their journals keep is one history too, in whatever order the script delivers.
+pub record ScriptHeadline (routers : ℕ) (source : SourceCall) (sink : SinkCall) (tells : Bool) (files : List (List ℕ)) (leaves : World → Type 0)
     (owed : World → List ℕ → Type 0) (status : Status) (rest : ℕ) : Type 0 where
-  pub simulated : IsSimulated source sink (λ nodes. IsTrue tells → AreJournals files nodes) leaves owed 1 most_taken status
+  pub simulated : IsSimulated source sink (λ nodes. IsTrue tells → AreJournals files nodes) leaves owed routers most_taken status
   pub history : MakesOneHistory simulated.end
   pub no_rest : rest ≡ 0
 
@@ -37,4 +38,4 @@ pub record ScriptHeadline (source : SourceCall) (sink : SinkCall) (tells : Bool)
 abbrev pub HeadlineOf : Command → SourceCall → SinkCall → Bool → List (List ℕ) → (World → Type 0) → (World → List ℕ → Type 0) → (ℕ → Type 0) → Status
     → ℕ → Type 0
 HeadlineOf Pipe source sink tells files leaves owed gives status rest = Headline source sink tells files leaves owed gives status rest
-HeadlineOf Sim source sink tells files leaves owed gives status rest = ScriptHeadline source sink tells files leaves owed status rest
+HeadlineOf (Sim routers) source sink tells files leaves owed gives status rest = ScriptHeadline routers source sink tells files leaves owed status rest

@@ -7,6 +7,7 @@ pub mod Headline
 pub mod Journals
 pub mod Nodes
 pub mod OpenJournals
+pub mod Openings
 pub mod Seats
 pub mod Statuses
 pub mod Stops

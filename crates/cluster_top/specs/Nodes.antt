@@ -1,10 +1,8 @@
 -- The nodes at the start.
-use Rattle.std.specs.Prelude.{◌≡◌}
-use Rattle.node_model.specs.States.{NodeState, catalogue_state, shard_state, router_state, new_catalogue, new_shard, new_router}
-use Rattle.cluster_top.specs.declared.nodes.Nodes.{Nodes}
+use Rattle.std.specs.Prelude.{◌≡◌, ℕ, List, map}
+use Rattle.node_model.specs.States.{NodeState}
+use Rattle.node_model.specs.World.{start}
 
--- a new catalogue, a new shard and a new router, with the numbers 0, 1 and 2
-pub record AreNew {N : Type 0} (state : N → NodeState) (nodes : Nodes N) : Type 0 where
-  pub catalogue : state nodes.catalogue ≡ catalogue_state (new_catalogue 0)
-  pub shard : state nodes.shard ≡ shard_state (new_shard 1)
-  pub router : state nodes.router ≡ router_state (new_router 2)
+-- The nodes are new, in order of their numbers: node 0 is the catalogue, node 1 the shard, and the routers follow, so many.
+abbrev pub AreNew : {N : Type 0} → (state : N → NodeState) → (routers : ℕ) → List N → Type 0
+AreNew state routers nodes = map state nodes ≡ map (λ held. held.state) (start routers).nodes

@@ -1,35 +1,27 @@
-//! The three disks: asked for their lengths, opened as journals, and handed back.
+//! The disks, in order of their nodes: asked for their lengths, opened as journals, and handed back.
 
-ghost use Rattle.std.specs.Prelude.{◌≡◌, ◌↔◌, ◌≤◌, [], map, true, false, vec_len, vec_capacity, IsTrue, IfOk, IfErr, OnOk, OnErr};
-ghost use Rattle.std.specs.List.{AllByRecursion};
+ghost use Rattle.std.specs.Prelude.{◌≡◌, ◌↔◌, ◌≤◌, ◌<◌, ◌+◌, ◌++◌, [], map, false, vec_len, vec_capacity, IsTrue, IfOk, IfErr, OnOk, OnErr, Some};
+ghost use Rattle.std.specs.List.{slice_get};
 ghost use Rattle.outside.specs.Causes.{Rose};
 ghost use Rattle.outside.specs.Devices.{NoneFell, OneRose};
 ghost use Rattle.outside.specs.Disks.{Within};
 ghost use Rattle.node_traits.specs.Calls.{LeavesAlso};
-ghost use Rattle.pipe_driver.specs.Counts.{RoseWhere};
-ghost use Rattle.cluster_top.specs.Counts.{OneRoseWhere};
 ghost use Rattle.cluster_top.specs.Crashes.{LeaveSuch};
-ghost use Rattle.cluster_top.specs.OpenJournals.{AreFresh, IsFresh, disks_of};
 ghost use Rattle.journal_frames.specs.Files.{Stands};
-ghost use Rattle.cluster_top.specs.Disks.{AllEmpty, AreNoWorse, IsEmpty, IsEmptyAll, SomeFile, three};
+ghost use Rattle.pipe_driver.specs.Counts.{RoseWhere};
+ghost use Rattle.cluster_top.specs.Disks.{AllEmpty, AreNoWorse, IsEmpty, SomeFile};
+ghost use Rattle.cluster_top.specs.OpenJournals.{IsFresh};
+ghost use Rattle.cluster_top.specs.Openings.{AreOpenedUpTo, AreUnopened, InPairs, IsAsked, IsOpened, disk_facts};
 ghost use Rattle.cluster_top.specs.Stops.{StopsOpening};
 ghost use Rattle.cluster_top.specs.declared.status.Status.TheVariants as statuses;
 
-use crate::journals::Journals;
+use crate::journals::close_all;
 use crate::status::Status;
 use journal_frames::{Journal, OpenFault};
 use outside::disk::Disk;
 use outside::log::RecordList;
 use outside::streams::Failed;
-use std::alloc::Global;
-
-/// The disks of the catalogue, the shard and the router.
-#[derive(Drop)]
-pub struct Disks<D: Drop> {
-    pub catalogue: D,
-    pub shard: D,
-    pub router: D,
-}
+use std::alloc::{AllocError, Global};
 
 /// A journal that was not opened: why, and its disk.
 #[derive(Drop)]
@@ -42,37 +34,7 @@ struct Unopened<D: Drop> {
 #[derive(Drop)]
 pub struct AllUnopened<D: Drop> {
     pub status: Status,
-    pub disks: Disks<D>,
-}
-
-/// Takes the three disks out of the vector, which keeps room for them.
-pub fn take_apart<D: Drop>(disks: &mut Vec<D>) -> Disks<D>
-    requires { vec_len disks.old ≡ 3 }
-    ensures disks { disks.old.items ≡ three result }
-    ensures len { vec_len disks.new ≡ 0 }
-    ensures items { disks.new.items ≡ [] }
-    ensures room { 3 ≤ vec_capacity disks.new }
-{
-    let router = disks.take_last();
-    let shard = disks.take_last();
-    let catalogue = disks.take_last();
-    Disks {
-        catalogue,
-        shard,
-        router,
-    }
-}
-
-/// Puts the three disks into a vector that has room for them.
-pub fn put_back<D: Drop>(disks: &mut Vec<D>, taken: Disks<D>)
-    requires len { vec_len disks.old ≡ 0 }
-    requires items { disks.old.items ≡ [] }
-    requires room { 3 ≤ vec_capacity disks.old }
-    ensures { disks.new.items ≡ three taken }
-{
-    disks.push_reserved(taken.catalogue);
-    disks.push_reserved(taken.shard);
-    disks.push_reserved(taken.router);
+    pub disks: Vec<D>,
 }
 
 /// Whether the disk's file has length 0.
@@ -93,30 +55,62 @@ fn is_empty<D: Disk>(disk: &mut D) -> Result<bool, Failed>
     Ok(length == 0)
 }
 
-impl<D: Disk> Disks<D> {
-    /// Whether all files have length 0. The disks are asked in order of their nodes, up to the first whose file has not.
-    ///
-    /// # Errors
-    /// `Failed` if a disk met a fault, which is counted.
-    pub fn are_empty(&mut self) -> Result<bool, Failed>
-        ensures empty { IfOk result (λ empty. IsTrue D.tells → IsTrue empty → AllEmpty (map D.content (three self.old))) }
-        ensures some { IfOk result (λ empty. IsTrue D.tells → empty ≡ false → SomeFile (map D.content (three self.old))) }
-        ensures same { IsTrue D.tells → map D.content (three self.new) ≡ map D.content (three self.old) }
-        ensures crash { IsTrue D.tells → AreNoWorse D.may_leave (three self.old) (three self.new) }
-        ensures leaves { IsTrue D.tells → LeaveSuch D.moment D.left_since (λ at file. ⊥) (three self.old) (three self.new) }
-        ensures cause { OnErr result (OneRose (map D.fault_count (three self.old)) (map D.fault_count (three self.new))) }
-        ensures calm { OnOk result (map D.fault_count (three self.new) ≡ map D.fault_count (three self.old)) }
-        ensures places { map D.place (three self.new) ≡ map D.place (three self.old) }
-        ensures later { NoneFell (map D.fault_count (three self.old)) (map D.fault_count (three self.new)) }
-    {
-        if !is_empty(&mut self.catalogue)? {
-            return Ok(false);
+/// Whether the file of the disk in this place has length 0; the other disks are left alone.
+///
+/// # Errors
+/// `Failed` if the disk met a fault, which is counted.
+fn is_empty_at<D: Disk>(disks: &mut Vec<D>, at: usize) -> Result<bool, Failed>
+    requires { at < vec_len disks.old }
+    ensures answer { IfOk result (λ empty. (disk : D) → slice_get disks.old.items at ≡ Some disk → IsTrue D.tells → IsTrue empty ↔ (D.content disk ≡ [])) }
+    ensures asked { InPairs (IsAsked (disk_facts D.tells D.content D.may_leave D.moment D.left_since D.place D.fault_count)) disks.old.items disks.new.items }
+    ensures cause { OnErr result (OneRose (map D.fault_count disks.old.items) (map D.fault_count disks.new.items)) }
+    ensures calm { OnOk result (map D.fault_count disks.new.items ≡ map D.fault_count disks.old.items) }
+    ensures len { vec_len disks.new ≡ vec_len disks.old }
+{
+    let disk = &mut disks[at];
+    is_empty(disk)
+}
+
+/// Whether all files have length 0. The disks are asked in order of their nodes, up to the first whose file has not.
+///
+/// # Errors
+/// `Failed` if a disk met a fault, which is counted.
+fn ask_all<D: Disk>(disks: &mut Vec<D>) -> Result<bool, Failed>
+    ensures empty { IfOk result (λ empty. IsTrue D.tells → IsTrue empty → AllEmpty (map D.content disks.old.items)) }
+    ensures some { IfOk result (λ empty. IsTrue D.tells → empty ≡ false → SomeFile (map D.content disks.old.items)) }
+    ensures asked { InPairs (IsAsked (disk_facts D.tells D.content D.may_leave D.moment D.left_since D.place D.fault_count)) disks.old.items disks.new.items }
+    ensures cause { OnErr result (OneRose (map D.fault_count disks.old.items) (map D.fault_count disks.new.items)) }
+    ensures calm { OnOk result (map D.fault_count disks.new.items ≡ map D.fault_count disks.old.items) }
+    ensures len { vec_len disks.new ≡ vec_len disks.old }
+{
+    let count = disks.len();
+    for at in 0..count {
+        match is_empty_at(disks, at) {
+            Ok(true) => {}
+            Ok(false) => return Ok(false),
+            Err(e) => return Err(e),
         }
-        if !is_empty(&mut self.shard)? {
-            return Ok(false);
-        }
-        is_empty(&mut self.router)
     }
+    Ok(true)
+}
+
+/// Whether all files have length 0, as `ask_all`: what a caller knows of the disks then.
+///
+/// # Errors
+/// `Failed` if a disk met a fault, which is counted.
+pub fn are_empty<D: Disk>(disks: &mut Vec<D>) -> Result<bool, Failed>
+    ensures empty { IfOk result (λ empty. IsTrue D.tells → IsTrue empty → AllEmpty (map D.content disks.old.items)) }
+    ensures some { IfOk result (λ empty. IsTrue D.tells → empty ≡ false → SomeFile (map D.content disks.old.items)) }
+    ensures same { IsTrue D.tells → map D.content disks.new.items ≡ map D.content disks.old.items }
+    ensures crash { IsTrue D.tells → AreNoWorse D.may_leave disks.old.items disks.new.items }
+    ensures leaves { IsTrue D.tells → LeaveSuch D.moment D.left_since (λ at file. ⊥) disks.old.items disks.new.items }
+    ensures cause { OnErr result (OneRose (map D.fault_count disks.old.items) (map D.fault_count disks.new.items)) }
+    ensures calm { OnOk result (map D.fault_count disks.new.items ≡ map D.fault_count disks.old.items) }
+    ensures places { map D.place disks.new.items ≡ map D.place disks.old.items }
+    ensures later { NoneFell (map D.fault_count disks.old.items) (map D.fault_count disks.new.items) }
+    ensures len { vec_len disks.new ≡ vec_len disks.old }
+{
+    ask_all(disks)
 }
 
 /// The journal that was opened; its records are let go.
@@ -126,7 +120,7 @@ fn journal_of<D: Disk>(opened: (Journal<D>, RecordList)) -> Journal<D>
     opened.0
 }
 
-/// Opens the journal on a disk whose file is empty.
+/// Opens the journal on a disk.
 fn open_one<D: Disk>(alloc: Global, disk: D) -> Result<Journal<D>, Unopened<D>>
     ensures opened { IsEmpty D.tells (D.content disk) → IfOk result (λ journal. IsFresh D.tells D.content journal) }
     ensures open { IfOk result (λ journal. IsTrue journal.is_open) }
@@ -161,63 +155,103 @@ fn open_one<D: Disk>(alloc: Global, disk: D) -> Result<Journal<D>, Unopened<D>>
     }
 }
 
-/// Opens the journals on disks whose files are empty, in order of their nodes.
-pub fn open_all<D: Disk>(alloc: Global, disks: Disks<D>) -> Result<Journals<D>, AllUnopened<D>>
-    ensures opened { IsEmptyAll D.tells (map D.content (three disks)) → IfOk result (λ journals. AreFresh D.tells D.content journals) }
-    ensures open { IfOk result (λ journals. IsTrue journals.catalogue.is_open × IsTrue journals.shard.is_open × IsTrue journals.router.is_open) }
-    ensures kept { IsEmptyAll D.tells (map D.content (three disks)) → IfErr result (λ u. IsTrue D.tells → AllByRecursion (λ disk. Stands (D.content disk) []) (three u.disks)) }
-    ensures leaves { IsEmptyAll D.tells (map D.content (three disks)) → IfOk result (λ journals. IsTrue D.tells →
-        LeaveSuch D.moment D.left_since (λ at file. Stands file []) (three disks) (disks_of journals)) }
-    ensures leaves_err { IsEmptyAll D.tells (map D.content (three disks)) → IfErr result (λ u. IsTrue D.tells →
-        LeaveSuch D.moment D.left_since (λ at file. Stands file []) (three disks) (three u.disks)) }
-    ensures damaged { IfErr result (λ u. IsEmptyAll D.tells (map D.content (three disks)) → u.status ≡ statuses.DamagedJournal → ¬ IsTrue D.tells) }
-    ensures stops { IfErr result (λ u. StopsOpening u.status) }
-    ensures fault { IfErr result (λ u. OneRoseWhere (u.status ≡ statuses.DiskFailed) (map D.fault_count (three disks)) (map D.fault_count (three u.disks))) }
-    ensures calm { IfOk result (λ journals. map D.fault_count (disks_of journals) ≡ map D.fault_count (three disks)) }
-    ensures places { IfOk result (λ journals. map D.place (disks_of journals) ≡ map D.place (three disks)) }
-    ensures places_err { IfErr result (λ u. map D.place (three u.disks) ≡ map D.place (three disks)) }
-    ensures later { IfOk result (λ journals. NoneFell (map D.fault_count (three disks)) (map D.fault_count (disks_of journals))) }
-    ensures later_err { IfErr result (λ u. NoneFell (map D.fault_count (three disks)) (map D.fault_count (three u.disks))) }
+/// Opens the journals on the disks, in order of their nodes, up to the first that is not opened: gives its status, if there is one. That disk and
+/// those after it are put into `unopened`. Both vectors must have room for all.
+fn open_some<D: Disk>(
+    alloc: Global,
+    disks: Vec<D>,
+    journals: &mut Vec<Journal<D>>,
+    unopened: &mut Vec<D>,
+) -> Option<Status>
+    requires journals { journals.old.items ≡ [] }
+    requires unopened { unopened.old.items ≡ [] }
+    requires room { vec_len disks ≤ vec_capacity journals.old }
+    requires unopened_room { vec_len disks ≤ vec_capacity unopened.old }
+    ensures { AreOpenedUpTo (disk_facts D.tells D.content D.may_leave D.moment D.left_since D.place D.fault_count)
+        disks.items [] result journals.new.items unopened.new.items }
 {
-    let catalogue = match open_one(alloc, disks.catalogue) {
-        Ok(journal) => journal,
-        Err(u) => {
-            return Err(AllUnopened {
-                status: u.status,
-                disks: Disks {
-                    catalogue: u.disk,
-                    shard: disks.shard,
-                    router: disks.router,
-                },
-            });
-        }
-    };
-    let shard = match open_one(alloc, disks.shard) {
-        Ok(journal) => journal,
-        Err(u) => {
-            return Err(AllUnopened {
-                status: u.status,
-                disks: Disks {
-                    catalogue: catalogue.into_disk(),
-                    shard: u.disk,
-                    router: disks.router,
-                },
-            });
-        }
-    };
-    match open_one(alloc, disks.router) {
-        Ok(router) => Ok(Journals {
-            catalogue,
-            shard,
-            router,
-        }),
-        Err(u) => Err(AllUnopened {
-            status: u.status,
-            disks: Disks {
-                catalogue: catalogue.into_disk(),
-                shard: shard.into_disk(),
-                router: u.disk,
+    let mut stopped = None;
+    for disk in disks {
+        match stopped {
+            Some(_) => unopened.push_reserved(disk),
+            None => match open_one(alloc, disk) {
+                Ok(journal) => journals.push_reserved(journal),
+                Err(u) => {
+                    stopped = Some(u.status);
+                    unopened.push_reserved(u.disk);
+                }
             },
-        }),
+        }
+    }
+    stopped
+}
+
+/// Puts the disks behind those that a vector has, which has room for them.
+fn put_behind<D: Drop>(disks: Vec<D>, all: &mut Vec<D>)
+    requires { vec_len all.old + vec_len disks ≤ vec_capacity all.old }
+    ensures { all.new.items ≡ all.old.items ++ disks.items }
+{
+    for disk in disks {
+        all.push_reserved(disk);
+    }
+}
+
+/// Empty vectors with room for the disks and the journals of so many nodes.
+#[derive(Drop)]
+struct Rooms<D: Disk> {
+    journals: Vec<Journal<D>>,
+    unopened: Vec<D>,
+    back: Vec<D>,
+}
+
+fn rooms_for<D: Disk>(alloc: Global, count: usize) -> Result<Rooms<D>, AllocError>
+    ensures journals { IfOk result (λ rooms. (rooms.journals.items ≡ []) × (count ≤ vec_capacity rooms.journals)) }
+    ensures unopened { IfOk result (λ rooms. (rooms.unopened.items ≡ []) × (count ≤ vec_capacity rooms.unopened)) }
+    ensures back { IfOk result (λ rooms. (rooms.back.items ≡ []) × (count ≤ vec_capacity rooms.back)) }
+{
+    Ok(Rooms {
+        journals: Vec::with_capacity(alloc, count)?,
+        unopened: Vec::with_capacity(alloc, count)?,
+        back: Vec::with_capacity(alloc, count)?,
+    })
+}
+
+/// The journals of nodes, which are open, and an empty vector with room for their disks.
+#[derive(Drop)]
+pub struct Opened<D: Disk> {
+    pub journals: Vec<Journal<D>>,
+    pub back: Vec<D>,
+}
+
+/// Opens the journals on the disks, in order of their nodes. Where one is not opened, or there is no memory, all disks come back, each in its
+/// place.
+pub fn open_all<D: Disk>(alloc: Global, disks: Vec<D>) -> Result<Opened<D>, AllUnopened<D>>
+    ensures opened { IfOk result (λ all.
+        InPairs (IsOpened (disk_facts D.tells D.content D.may_leave D.moment D.left_since D.place D.fault_count)) disks.items all.journals.items) }
+    ensures back { IfOk result (λ all. (all.back.items ≡ []) × (vec_len disks ≤ vec_capacity all.back)) }
+    ensures unopened { IfErr result (λ u.
+        AreUnopened (disk_facts D.tells D.content D.may_leave D.moment D.left_since D.place D.fault_count) u.status disks.items u.disks.items) }
+{
+    let Ok(rooms) = rooms_for(alloc, disks.len()) else {
+        return Err(AllUnopened {
+            status: Status::OutOfMemory,
+            disks,
+        });
+    };
+    let Rooms {
+        mut journals,
+        mut unopened,
+        mut back,
+    } = rooms;
+    match open_some(alloc, disks, &mut journals, &mut unopened) {
+        None => Ok(Opened { journals, back }),
+        Some(status) => {
+            close_all(journals, &mut back);
+            put_behind(unopened, &mut back);
+            Err(AllUnopened {
+                status,
+                disks: back,
+            })
+        }
     }
 }

@@ -9,6 +9,7 @@ ghost use Rattle.pipe_driver.specs.Counts.{HaveRisenWhere, RoseWhere};
 ghost use Rattle.pipe_driver.specs.Progress.{AreAskedAsRead};
 ghost use Rattle.pipe_driver.specs.Rounds.{first_router};
 ghost use Rattle.pipe_driver.specs.declared.status.Status.TheVariants as statuses;
+ghost use Rattle.cluster_top.specs.Arguments.{routers_of};
 ghost use Rattle.cluster_top.specs.Drivers.{IsDriven, output_of};
 
 use crate::arguments::Command;
@@ -19,7 +20,7 @@ use outside::clock::Clock;
 use outside::log::Log;
 use outside::streams::Source;
 use outside::witness::Witness;
-use pipe_driver::Ending;
+use pipe_driver::{Ending, FIRST_ROUTER};
 use sim_driver::simulate;
 use std::alloc::Global;
 use std::marker::Sync;
@@ -47,14 +48,15 @@ pub fn drive<
     clock: &C,
 ) -> Ending
     requires at { first_router < vec_len seats.old }
+    requires some { 0 < routers_of command }
     requires open { AreOpen L.facts.is_open seats.old.items }
-    ensures driven { AreAskedAsRead N.asks → AreHeld (seat_view N.state L.facts) seats.old.items (start 1).nodes →
+    ensures driven { AreAskedAsRead N.asks → AreHeld (seat_view N.state L.facts) seats.old.items (start (routers_of command)).nodes →
         IsDriven command (source_call S.tells S.left S.fault_count input.old input.new) (sink_call K.tells K.held K.fault_count out.old out.new)
         (C.gives clock.now) (AreKept (seat_view N.state L.facts) seats.new.items)
-        (LeaveKept (seat_since N.state L.facts (since_then seats.old.items (start 1))) seats.new.items)
-        (AreAcknowledgedBy L.facts K.tells (output_of command) (start 1) (K.noted out.new) (K.held out.old) seats.new.items)
+        (LeaveKept (seat_since N.state L.facts (since_then seats.old.items (start (routers_of command)))) seats.new.items)
+        (AreAcknowledgedBy L.facts K.tells (output_of command) (start (routers_of command)) (K.noted out.new) (K.held out.old) seats.new.items)
         result.status result.rest }
-    ensures open { result.status ≢ statuses.DiskFailed → result.status ≢ statuses.OutOfMemory → AreOpen L.facts.is_open seats.new.items }
+    ensures open { result.status ≢ statuses.DiskFailed → AreOpen L.facts.is_open seats.new.items }
     ensures len { vec_len seats.new ≡ vec_len seats.old }
     ensures read_fault { RoseWhere (result.status ≡ statuses.ReadFailed) (S.fault_count input.old) (S.fault_count input.new) }
     ensures write_fault { RoseWhere (result.status ≡ statuses.WriteFailed) (K.fault_count out.old) (K.fault_count out.new) }
@@ -63,8 +65,17 @@ pub fn drive<
     ensures places { places_of L.facts.place seats.new.items ≡ places_of L.facts.place seats.old.items }
 {
     match command {
-        Command::Pipe => pipe_driver::pipe(rt, alloc, input, out, seats, clock, MOST_TAKEN),
-        Command::Sim => Ending {
+        Command::Pipe => pipe_driver::pipe(
+            rt,
+            alloc,
+            input,
+            out,
+            seats,
+            clock,
+            FIRST_ROUTER,
+            MOST_TAKEN,
+        ),
+        Command::Sim { .. } => Ending {
             status: simulate(rt, alloc, input, out, seats, MOST_TAKEN),
             rest: 0,
         },

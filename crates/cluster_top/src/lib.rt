@@ -13,8 +13,7 @@ mod status;
 mod top;
 
 pub use arguments::{Command, node_count, read_command};
-pub use disks::Disks;
-pub use nodes::{Nodes, new_nodes};
+pub use nodes::new_nodes;
 pub use outside::exchange::{Exchange, LinkEnd, Spoken};
 pub use service::{RunEnd, run_nodes};
 pub use status::Status;

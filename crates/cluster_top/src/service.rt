@@ -1,27 +1,28 @@
-//! The commands `pipe` and `sim`: one connection or script, and three nodes, whose journals stand on three disks.
+//! The commands `pipe` and `sim`: one connection or script, and nodes, each with its journal on a disk.
 
-ghost use Rattle.std.specs.Prelude.{◌≡◌, ◌≢◌, ◌⊎◌, [], List, map, IsTrue};
+ghost use Rattle.std.specs.Prelude.{◌≡◌, ◌≢◌, ◌⊎◌, ◌<◌, ◌≤◌, [], IfOk, List, map, IsTrue, vec_capacity, vec_len};
 ghost use Rattle.std.specs.List.{AllByRecursion};
 ghost use Rattle.outside.specs.Devices.{NoneFell, SinkIsUntouched, SourceIsUntouched, sink_call, source_call};
 ghost use Rattle.pipe_driver.specs.Progress.{AreAskedAsRead};
 ghost use Rattle.journal_frames.specs.Files.{Stands};
 ghost use Rattle.pipe_driver.specs.Counts.{RoseWhere};
+ghost use Rattle.cluster_top.specs.Arguments.{nodes_of, routers_of};
 ghost use Rattle.cluster_top.specs.Counts.{OneRoseWhere};
 ghost use Rattle.cluster_top.specs.Crashes.{AreDurableBefore, LeaveSuch, LeaveTheWay};
-ghost use Rattle.cluster_top.specs.Disks.{AreNoWorse, IsEmptyAll, SomeFile, three};
+ghost use Rattle.cluster_top.specs.Disks.{AreNoWorse, IsEmptyAll, SomeFile};
 ghost use Rattle.cluster_top.specs.Headline.{HeadlineOf};
 ghost use Rattle.cluster_top.specs.Nodes.{AreNew};
-ghost use Rattle.cluster_top.specs.OpenJournals.{AreFresh, IsDurable, disks_of};
+ghost use Rattle.cluster_top.specs.OpenJournals.{AreAllOpen, AreFresh, IsDurable, IsNotBegun, disks_of};
 ghost use Rattle.cluster_top.specs.Statuses.{OfConnection};
 ghost use Rattle.cluster_top.specs.declared.status.Status.TheVariants as statuses;
 
 use crate::arguments::Command;
-use crate::disks::{AllUnopened, Disks, open_all};
+use crate::disks::{AllUnopened, Opened, are_empty, open_all};
 use crate::drive::drive;
-use crate::journals::Journals;
-use crate::nodes::Nodes;
+use crate::journals::close_all;
 use crate::seats::{put_in, take_disks};
 use crate::status::Status;
+use bson_values::Memory;
 use node_traits::Node;
 use opmsg_frames::Request;
 use outside::clock::Clock;
@@ -37,10 +38,10 @@ use std::thread::Threads;
 pub struct RunEnd<D: Drop> {
     pub status: Status,
     pub rest: u64,
-    pub disks: Disks<D>,
+    pub disks: Vec<D>,
 }
 
-fn untouched<D: Drop>(status: Status, disks: Disks<D>) -> RunEnd<D>
+fn untouched<D: Drop>(status: Status, disks: Vec<D>) -> RunEnd<D>
     ensures status { result.status ≡ status }
     ensures rest { result.rest ≡ 0 }
     ensures disks { result.disks ≡ disks }
@@ -52,8 +53,9 @@ fn untouched<D: Drop>(status: Status, disks: Disks<D>) -> RunEnd<D>
     }
 }
 
-/// Serves one connection, or plays a script, to its end by new nodes. The three files must be empty at the start; then they are opened as journals, and what
-/// the nodes keep stands in them.
+/// Serves one connection, or plays a script, to its end by new nodes, in order of their numbers, each with the disk in its place. All files must be
+/// empty at the start; then they are opened as journals, and what the nodes keep stands in them. `nodes` is an error where there was no memory for
+/// them: then the disks are asked whether they are empty, and the status is `OutOfMemory` if they are.
 pub fn run_nodes<
     R: Threads + Sync,
     N: Node<Request = Request>,
@@ -67,47 +69,56 @@ pub fn run_nodes<
     command: Command,
     input: &mut S,
     out: &mut K,
-    nodes: Nodes<N>,
-    disks: Disks<D>,
+    nodes: Result<Vec<N>, Memory>,
+    disks: Vec<D>,
     clock: &C,
 ) -> RunEnd<D>
-    ensures headline { AreAskedAsRead N.asks → AreNew N.state nodes → IsEmptyAll D.tells (map D.content (three disks)) →
+    requires some { 0 < routers_of command }
+    requires nodes { IfOk nodes (λ nodes. vec_len nodes ≡ nodes_of command) }
+    requires disks { vec_len disks ≡ nodes_of command }
+    ensures headline { AreAskedAsRead N.asks → IfOk nodes (λ nodes. AreNew N.state (routers_of command) nodes.items) → IsEmptyAll D.tells (map D.content disks.items) →
         result.status ≢ statuses.DamagedJournal → OfConnection result.status (λ ending. HeadlineOf command
         (source_call S.tells S.left S.fault_count input.old input.new)
         (sink_call K.tells K.held K.fault_count out.old out.new)
-        D.tells (map D.content (three result.disks))
-        (LeaveTheWay D.tells D.moment D.left_since (three disks) (three result.disks))
-        (AreDurableBefore K.tells D.tells D.place D.moment D.left_since command (K.noted out.new) (K.held out.old) (three result.disks))
+        D.tells (map D.content result.disks.items)
+        (LeaveTheWay (routers_of command) D.tells D.moment D.left_since disks.items result.disks.items)
+        (AreDurableBefore K.tells D.tells D.place D.moment D.left_since command (K.noted out.new) (K.held out.old) result.disks.items)
         (C.gives clock.now) ending result.rest) }
-    ensures durable { IsTrue D.tells → IsEmptyAll D.tells (map D.content (three disks)) →
-        result.status ≢ statuses.DiskFailed → result.status ≢ statuses.OutOfMemory →
-        AllByRecursion (IsDurable D.content D.may_leave) (three result.disks) }
+    ensures durable { IsTrue D.tells → IsEmptyAll D.tells (map D.content disks.items) → result.status ≢ statuses.DiskFailed →
+        AllByRecursion (IsDurable D.content D.may_leave) result.disks.items
+        ⊎ ((result.status ≡ statuses.OutOfMemory) × IsNotBegun
+        (source_call S.tells S.left S.fault_count input.old input.new)
+        (sink_call K.tells K.held K.fault_count out.old out.new) (map D.content result.disks.items)) }
     ensures status { result.status ≢ statuses.BadArguments }
     ensures damaged { result.status ≡ statuses.DamagedJournal → (result.rest ≡ 0)
         × SourceIsUntouched (source_call S.tells S.left S.fault_count input.old input.new)
         × SinkIsUntouched (sink_call K.tells K.held K.fault_count out.old out.new)
-        × (IsTrue D.tells → SomeFile (map D.content (three disks))) }
-    ensures not_empty { IsTrue D.tells → SomeFile (map D.content (three disks)) → (result.rest ≡ 0)
+        × (IsTrue D.tells → SomeFile (map D.content disks.items)) }
+    ensures not_empty { IsTrue D.tells → SomeFile (map D.content disks.items) → (result.rest ≡ 0)
         × SourceIsUntouched (source_call S.tells S.left S.fault_count input.old input.new)
         × SinkIsUntouched (sink_call K.tells K.held K.fault_count out.old out.new)
-        × (map D.content (three result.disks) ≡ map D.content (three disks)) × AreNoWorse D.may_leave (three disks) (three result.disks)
+        × (map D.content result.disks.items ≡ map D.content disks.items) × AreNoWorse D.may_leave disks.items result.disks.items
         × ((result.status ≡ statuses.DamagedJournal) ⊎ (result.status ≡ statuses.DiskFailed)) }
 
     // Each fault has its own status.
     ensures read_fault { RoseWhere (result.status ≡ statuses.ReadFailed) (S.fault_count input.old) (S.fault_count input.new) }
     ensures write_fault { RoseWhere (result.status ≡ statuses.WriteFailed) (K.fault_count out.old) (K.fault_count out.new) }
-    ensures disk_fault { OneRoseWhere (result.status ≡ statuses.DiskFailed) (map D.fault_count (three disks)) (map D.fault_count (three result.disks)) }
-    ensures later { NoneFell (map D.fault_count (three disks)) (map D.fault_count (three result.disks)) }
-    ensures places { map D.place (three result.disks) ≡ map D.place (three disks) }
+    ensures disk_fault { OneRoseWhere (result.status ≡ statuses.DiskFailed) (map D.fault_count disks.items) (map D.fault_count result.disks.items) }
+    ensures later { NoneFell (map D.fault_count disks.items) (map D.fault_count result.disks.items) }
+    ensures places { map D.place result.disks.items ≡ map D.place disks.items }
 {
     let mut disks = disks;
-    match disks.are_empty() {
+    match are_empty(&mut disks) {
         Ok(true) => {}
         Ok(false) => return untouched(Status::DamagedJournal, disks),
         Err(_) => return untouched(Status::DiskFailed, disks),
     }
+    let nodes = match nodes {
+        Ok(nodes) => nodes,
+        Err(Memory) => return untouched(Status::OutOfMemory, disks),
+    };
     match open_all(alloc, disks) {
-        Ok(journals) => serve(rt, alloc, command, input, out, nodes, journals, clock),
+        Ok(opened) => serve(rt, alloc, command, input, out, nodes, opened, clock),
         Err(AllUnopened { status, disks }) => untouched(status, disks),
     }
 }
@@ -126,38 +137,45 @@ fn serve<
     command: Command,
     input: &mut S,
     out: &mut K,
-    nodes: Nodes<N>,
-    journals: Journals<D>,
+    nodes: Vec<N>,
+    opened: Opened<D>,
     clock: &C,
 ) -> RunEnd<D>
-    requires open { IsTrue journals.catalogue.is_open × IsTrue journals.shard.is_open × IsTrue journals.router.is_open }
-    ensures headline { AreAskedAsRead N.asks → AreNew N.state nodes → AreFresh D.tells D.content journals → (disks : List D) →
-        (IsTrue D.tells → LeaveSuch D.moment D.left_since (λ at file. Stands file []) disks (disks_of journals)) →
+    requires some { 0 < routers_of command }
+    requires nodes { vec_len nodes ≡ nodes_of command }
+    requires journals { vec_len opened.journals ≡ nodes_of command }
+    requires open { AreAllOpen opened.journals.items }
+    requires back { opened.back.items ≡ [] }
+    requires room { nodes_of command ≤ vec_capacity opened.back }
+    ensures headline { AreAskedAsRead N.asks → AreNew N.state (routers_of command) nodes.items → AreFresh D.tells D.content opened.journals.items → (disks : List D) →
+        (IsTrue D.tells → LeaveSuch D.moment D.left_since (λ at file. Stands file []) disks (disks_of opened.journals.items)) →
         OfConnection result.status (λ ending. HeadlineOf command
         (source_call S.tells S.left S.fault_count input.old input.new)
         (sink_call K.tells K.held K.fault_count out.old out.new)
-        D.tells (map D.content (three result.disks))
-        (LeaveTheWay D.tells D.moment D.left_since disks (three result.disks))
-        (AreDurableBefore K.tells D.tells D.place D.moment D.left_since command (K.noted out.new) (K.held out.old) (three result.disks))
+        D.tells (map D.content result.disks.items)
+        (LeaveTheWay (routers_of command) D.tells D.moment D.left_since disks result.disks.items)
+        (AreDurableBefore K.tells D.tells D.place D.moment D.left_since command (K.noted out.new) (K.held out.old) result.disks.items)
         (C.gives clock.now) ending result.rest) }
-    ensures durable { IsTrue D.tells → result.status ≢ statuses.DiskFailed → result.status ≢ statuses.OutOfMemory →
-        AllByRecursion (IsDurable D.content D.may_leave) (three result.disks) }
+    ensures durable { IsTrue D.tells → result.status ≢ statuses.DiskFailed → AllByRecursion (IsDurable D.content D.may_leave) result.disks.items }
     ensures status { (result.status ≢ statuses.BadArguments) × (result.status ≢ statuses.DamagedJournal) }
     ensures read_fault { RoseWhere (result.status ≡ statuses.ReadFailed) (S.fault_count input.old) (S.fault_count input.new) }
     ensures write_fault { RoseWhere (result.status ≡ statuses.WriteFailed) (K.fault_count out.old) (K.fault_count out.new) }
-    ensures disk_fault { OneRoseWhere (result.status ≡ statuses.DiskFailed) (map D.fault_count (disks_of journals)) (map D.fault_count (three result.disks)) }
-    ensures later { NoneFell (map D.fault_count (disks_of journals)) (map D.fault_count (three result.disks)) }
-    ensures places { map D.place (three result.disks) ≡ map D.place (disks_of journals) }
+    ensures disk_fault { OneRoseWhere (result.status ≡ statuses.DiskFailed) (map D.fault_count (disks_of opened.journals.items)) (map D.fault_count result.disks.items) }
+    ensures later { NoneFell (map D.fault_count (disks_of opened.journals.items)) (map D.fault_count result.disks.items) }
+    ensures places { map D.place result.disks.items ≡ map D.place (disks_of opened.journals.items) }
 {
+    let Opened { journals, mut back } = opened;
     let mut seats = Vec::new(alloc);
-    if seats.reserve(3).is_err() {
-        return untouched(Status::OutOfMemory, journals.into_disks());
+    if seats.reserve(journals.len()).is_err() {
+        close_all(journals, &mut back);
+        return untouched(Status::OutOfMemory, back);
     }
     put_in(&mut seats, nodes, journals);
     let ending = drive(rt, alloc, command, input, out, &mut seats, clock);
+    take_disks(seats, &mut back);
     RunEnd {
         status: Status::of(ending.status),
         rest: ending.rest,
-        disks: take_disks(seats),
+        disks: back,
     }
 }

@@ -8,12 +8,11 @@ ghost use Rattle.cluster_top.specs.Counts.{OneRoseWhere};
 ghost use Rattle.cluster_top.specs.Crashes.{AreDurableBefore, LeaveTheWay};
 ghost use Rattle.cluster_top.specs.Disks.{AreNoWorse, IsEmptyAll, SomeFile};
 ghost use Rattle.cluster_top.specs.Headline.{HeadlineOf};
-ghost use Rattle.cluster_top.specs.OpenJournals.{IsDurable};
+ghost use Rattle.cluster_top.specs.OpenJournals.{IsDurable, IsNotBegun};
 ghost use Rattle.cluster_top.specs.Statuses.{OfConnection, OfStatus};
-ghost use Rattle.cluster_top.specs.Arguments.{command_of, node_count_of};
+ghost use Rattle.cluster_top.specs.Arguments.{command_of, node_count_of, routers_of};
 
 use crate::arguments::read_command;
-use crate::disks::{put_back, take_apart};
 use crate::nodes::new_nodes;
 use crate::service::run_nodes;
 use crate::status::Status;
@@ -38,9 +37,9 @@ pub struct Ended<D: Drop, L: Drop> {
     pub links: Vec<Spoken<L>>,
 }
 
-/// Runs the cluster as the arguments say. So far there is one argument: with `pipe` one connection from `input` to `out` is served to its
-/// end, with `sim` the script in `input` is played to its end. What the requests leave stands on the disks, whose files must be empty at
-/// the start. The acceptor and the gate are not used. `Status` has the statuses; with 2 and 6 nothing was taken or put, and with 10
+/// Runs the cluster as the arguments say: with `pipe` one connection from `input` to `out` is served to its end, with `sim` the script in `input`
+/// is played to its end, by one router or by as many as `--routers` says. What the requests leave stands on the disks, one for each node, whose
+/// files must be empty at the start. The acceptor and the gate are not used. `Status` has the statuses; with 2 and 6 nothing was taken or put, and with 10
 /// 2^40 bytes were taken.
 pub fn run<R, S, K, A, D, C, G>(
     rt: &R,
@@ -92,20 +91,22 @@ where
         (source_call S.tells S.left S.fault_count input.old input.new)
         (sink_call K.tells K.held K.fault_count out.old out.new)
         D.tells (map D.content result.disks.items)
-        (LeaveTheWay D.tells D.moment D.left_since disks.items result.disks.items)
+        (LeaveTheWay (routers_of command) D.tells D.moment D.left_since disks.items result.disks.items)
         (AreDurableBefore K.tells D.tells D.place D.moment D.left_since command (K.noted out.new) (K.held out.old) result.disks.items)
         (C.gives clock.now) ending result.rest))) }
 
-    // But where a disk failed or memory ended, each file is a journal, byte for byte, with nothing after its closed gate, and a crash leaves just
-    // that.
+    // But where a disk failed, each file is a journal, byte for byte, with nothing after its closed gate, and a crash leaves just that; or memory
+    // ended before all journals were open, and then nothing was taken or put, and no file has a record.
     ensures durable { IsSome (node_count_of words.now) → IsTrue D.tells → IsEmptyAll D.tells (map D.content disks.items) →
-        result.status ≢ 5 → result.status ≢ 7 → AllByRecursion (IsDurable D.content D.may_leave) result.disks.items }
+        result.status ≢ 5 → AllByRecursion (IsDurable D.content D.may_leave) result.disks.items
+        ⊎ ((result.status ≡ 7) × IsNotBegun
+        (source_call S.tells S.left S.fault_count input.old input.new)
+        (sink_call K.tells K.held K.fault_count out.old out.new) (map D.content result.disks.items)) }
 
     // The acceptor comes back as it was, and no link was accepted.
     ensures acceptor { _acceptor.new ≡ _acceptor.old }
     ensures links { result.links.items ≡ [] }
 {
-    let mut disks = disks;
     let command = match read_command(words) {
         Some(command) => command,
         None => {
@@ -117,22 +118,20 @@ where
             };
         }
     };
-    let three = take_apart(&mut disks);
     let ending = run_nodes(
         rt,
         alloc,
         command,
         input,
         out,
-        new_nodes(alloc),
-        three,
+        new_nodes(alloc, command.routers()),
+        disks,
         clock,
     );
-    put_back(&mut disks, ending.disks);
     Ended {
         status: ending.status.number(),
         rest: ending.rest,
-        disks,
+        disks: ending.disks,
         links: Vec::new(alloc),
     }
 }

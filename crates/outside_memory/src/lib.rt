@@ -16,7 +16,7 @@ mod source;
 
 pub use acceptor::MemAcceptor;
 pub use call::{Call, Piece};
-pub use clock::FixedClock;
+pub use clock::{FixedClock, ListClock};
 pub use disk::MemDisk;
 pub use gate::OpenGate;
 pub use link::MemLink;

@@ -1,33 +1,52 @@
-//! Arguments that start no nodes.
+//! The arguments of the command line, and how many nodes they start.
 
 use bson_values::{Memory, Text};
 use cluster_top::node_count;
 use std::alloc::Global;
 use std::test::Fail;
 
-/// Returns whether `first` and `second`, where they are given, start nodes.
-fn starts(alloc: Global, first: Option<&str>, second: Option<&str>) -> Result<bool, Memory> {
+/// Returns how many nodes the words of this line start, if they start any.
+fn started(alloc: Global, line: &str) -> Result<Option<usize>, Memory> {
     let mut arguments = Vec::new(alloc);
-    if let Some(first) = first {
-        arguments.push(Text::of(alloc, first)?)?;
+    for word in line.split_whitespace() {
+        arguments.push(Text::of(alloc, word)?)?;
     }
-    if let Some(second) = second {
-        arguments.push(Text::of(alloc, second)?)?;
-    }
-    Ok(node_count(&arguments).is_some())
+    Ok(node_count(&arguments))
 }
 
 #[test]
-fn pipe_alone_starts_nodes(rt: HostRuntime) -> Result<(), Fail> {
-    assert!(rt; starts(rt.alloc(), Some("pipe"), None)?);
-    assert!(rt; !starts(rt.alloc(), None, None)?);
-    assert!(rt; !starts(rt.alloc(), Some("pope"), None)?);
+fn commands_start_nodes(rt: HostRuntime) -> Result<(), Fail> {
+    assert!(rt; started(rt.alloc(), "pipe")? == Some(3));
+    assert!(rt; started(rt.alloc(), "sim")? == Some(3));
+    assert!(rt; started(rt.alloc(), "sim --routers 2")? == Some(4));
+    assert!(rt; started(rt.alloc(), "sim --routers=8")? == Some(10));
+    assert!(rt; started(rt.alloc(), "sim --routers +2")? == Some(4));
+    assert!(rt; started(rt.alloc(), "sim --routers=007")? == Some(9));
     Ok(())
 }
 
 #[test]
-fn a_second_argument_starts_none(rt: HostRuntime) -> Result<(), Fail> {
-    assert!(rt; !starts(rt.alloc(), Some("pipe"), Some("pipe"))?);
-    assert!(rt; !starts(rt.alloc(), Some("pipe"), Some(""))?);
+fn other_words_start_none(rt: HostRuntime) -> Result<(), Fail> {
+    for line in [
+        "",
+        "pope",
+        "pipe pipe",
+        "pipe --routers 1",
+        "pipe --routers=1",
+        "sim --routers",
+        "sim --routers=",
+        "sim --routers 0",
+        "sim --routers 9",
+        "sim --routers -1",
+        "sim --routers two",
+        "sim --routers=2 --routers=2",
+        "sim --routers 2 --routers 2",
+        "sim -- --routers 2",
+        "sim --",
+        "sim --router 2",
+        "--routers 2 sim",
+    ] {
+        assert!(rt; started(rt.alloc(), line)?.is_none());
+    }
     Ok(())
 }

@@ -142,5 +142,5 @@ fn are_found(alloc: Global, row: &Row, disks: &[MemDisk]) -> Result<bool, RowFau
 
 /// Returns whether the disks have the content that the row says.
 pub fn are_left(alloc: Global, row: &Row, disks: &[MemDisk]) -> Result<bool, RowFault> {
-    Ok(disks.len() == 3 && are_kept(row, disks) && are_found(alloc, row, disks)?)
+    Ok(disks.len() == row.disks.len() && are_kept(row, disks) && are_found(alloc, row, disks)?)
 }

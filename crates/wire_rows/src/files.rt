@@ -152,7 +152,7 @@ fn check_file<R: Files + AllocGlobal + Print + Threads + Wait + Sync>(
 }
 
 /// The files, in the order in which they are checked.
-const FILES: [&str; 14] = [
+const FILES: [&str; 15] = [
     "frames.rows",
     "commands.rows",
     "refusals.rows",
@@ -166,6 +166,7 @@ const FILES: [&str; 14] = [
     "devices.rows",
     "scripts.rows",
     "retries.script.rows",
+    "routers.rows",
     "takings.rows",
 ];
 

@@ -6,9 +6,10 @@
 //! - `ask` and bytes that arrive, in hexadecimal; `3*05` means `050505`;
 //! - `is` and what the framer and the commands return for them: a request, a fault with its offset, or the number of bytes left;
 //! - `gets` and bytes of replies;
-//! - `sim`: the bytes are a script, and the run's argument is `sim`; without this line it is `pipe`;
+//! - `sim`, alone or with `--routers` and a number: the bytes are a script, and these words are the run's arguments, where without this line it is
+//!   `pipe`; it comes before the lines of the disks;
 //! - `cut`: the result is the same in each cutting in two and byte by byte;
-//! - `fail` and `take`, `put` or a disk (0 the catalogue's, 1 the shard's, 2 the router's), and the number of a call that fails;
+//! - `fail` and `take`, `put` or a disk (0 the catalogue's, 1 the shard's, 2 and on the routers'), and the number of a call that fails;
 //! - `narrow` and the greatest number of bytes that one write takes;
 //! - `file`, a disk and its bytes at the start; `keeps`, a disk and its bytes at the end: an opening of its journal finds just the records in these by their
 //!   gates and lengths, and all bytes of each are read as one record; `size`, a disk and the number of its bytes at the end; `untouched`: the bytes of the

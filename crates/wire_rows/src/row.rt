@@ -18,7 +18,7 @@ pub struct Row {
     pub failing_puts: Vec<u64>,
     /// The greatest number of bytes that one write takes.
     pub most_put: u64,
-    /// The disks of the catalogue, the shard and the router.
+    /// The disks of the catalogue, the shard and the routers.
     pub disks: Vec<DiskPlan>,
     /// What the framer and the commands return for the bytes, a line for each request and for what follows them.
     pub told: String,
@@ -32,6 +32,8 @@ pub struct Row {
     pub is_cut: bool,
     /// Whether its bytes are a script.
     pub is_script: bool,
+    /// The words after `sim`: none, or `--routers` and how many.
+    pub options: String,
 }
 
 /// Returns three disks about which the row says nothing.
@@ -61,6 +63,7 @@ impl Row {
             is_untouched: false,
             is_cut: false,
             is_script: false,
+            options: String::new(alloc),
         })
     }
 
@@ -94,11 +97,23 @@ impl Row {
             self.is_cut = true;
             Ok(())
         } else if word == "sim" {
-            self.is_script = true;
-            Ok(())
+            self.take_options(alloc, rest)
         } else {
             self.take_disk(alloc, word, rest)
         }
+    }
+
+    /// Reads the words after `sim`: none, or `--routers` and how many, each of which has a disk.
+    fn take_options(&mut self, alloc: Global, words: &str) -> Result<(), RowFault> {
+        self.is_script = true;
+        self.options.push_str(words)?;
+        let Some(routers) = words.strip_prefix("--routers ") else {
+            return Ok(());
+        };
+        for _ in 1..number(routers)? {
+            self.disks.push(DiskPlan::new(alloc))?;
+        }
+        Ok(())
     }
 
     /// Reads the number of a call that fails: of a take, a write or a call of a disk.

@@ -74,6 +74,9 @@ fn arguments_of(alloc: Global, row: &Row) -> Result<Vec<Text>, RowFault> {
     let word = if row.is_script { "sim" } else { "pipe" };
     let mut arguments = Vec::new(alloc);
     arguments.push(Text::of(alloc, word)?)?;
+    for option in row.options.as_str().split_whitespace() {
+        arguments.push(Text::of(alloc, option)?)?;
+    }
     Ok(arguments)
 }
 

@@ -1,10 +1,9 @@
 use Rattle.std.proofs.Common.{List, map, refl, sym, subst, append-nil, rules}
 use Rattle.outside.proofs.Relations.{none_fell_self}
-use Rattle.cluster_top.specs.Disks.{IsEmptyAll, SomeFile, three}
 use Rattle.cluster_top.specs.declared.status.Status.TheVariants as statuses
 use Rattle.cluster_top.proofs.Asked.{asked_as_read}
 use Rattle.cluster_top.proofs.Counts.{one_rose_numbered, rose_numbered}
-use Rattle.cluster_top.proofs.Statuses.{has_number, is_status, refused_or_damaged, six_or_five}
+use Rattle.cluster_top.proofs.Statuses.{has_number, is_status, refused_or_damaged, seven_or_durable, six_or_five}
 use Rattle.cluster_top.proofs.top.run.Goals as goal
 
 pub returns-in-None-clause-untouched : goal.returns-in-None-clause-untouched
@@ -14,23 +13,23 @@ pub returns-in-None-clause-none_fell : goal.returns-in-None-clause-none_fell
 returns-in-None-clause-none_fell g c = none_fell_self (map g.D.Disk.fault_count c.args.disks.items)
 
 pub returns-in-None-clause-words : goal.returns-in-None-clause-words
-returns-in-None-clause-words g c = rw (sym c.read_command.ensures, c.in-None.is) (λ two. refl, λ none. c.number.ensures)
+returns-in-None-clause-words g c = rw (sym c.read_command.ensures.command, c.in-None.is) (λ two. refl, λ none. c.number.ensures)
 
 pub returns-in-None-clause-not_empty : goal.returns-in-None-clause-not_empty
-returns-in-None-clause-not_empty g c = rw (sym c.read_command.ensures, c.in-None.is) (λ some. absurd (cc some))
+returns-in-None-clause-not_empty g c = rw (sym c.read_command.ensures.command, c.in-None.is) (λ some. absurd (cc some))
 
 pub returns-in-None-clause-headline : goal.returns-in-None-clause-headline
-returns-in-None-clause-headline g c = rw (sym c.read_command.ensures, c.in-None.is) tt
+returns-in-None-clause-headline g c = rw (sym c.read_command.ensures.command, c.in-None.is) tt
 
 pub returns-in-None-clause-durable : goal.returns-in-None-clause-durable
-returns-in-None-clause-durable g c = rw (sym c.read_command.ensures, c.in-None.is) (λ some. absurd (cc some))
+returns-in-None-clause-durable g c = rw (sym c.read_command.ensures.command, c.in-None.is) (λ some. absurd (cc some))
 
-pub take_apart-three-requires : goal.take_apart-three-requires
-take_apart-three-requires g c = rw (sym c.read_command.ensures, c.in-Some.is) at c.requires
+pub run_nodes-ending-requires-disks : goal.run_nodes-ending-requires-disks
+run_nodes-ending-requires-disks g c = rw (sym c.read_command.ensures.command, c.in-Some.is) at c.requires
 
 pub returns-clause-words : goal.returns-clause-words
 returns-clause-words g c =
-    rw (sym c.read_command.ensures, c.in-Some.is) (
+    rw (sym c.read_command.ensures.command, c.in-Some.is) (
       λ two. absurd (c.run_nodes-ending.ensures.status (is_status statuses.BadArguments c.run_nodes-ending.result.status c.number-2.result c.number-2.ensures two)),
       λ none. absurd (cc none),
     )
@@ -44,16 +43,12 @@ returns-clause-untouched g c = λ refused.
     (damaged.0, damaged.1, damaged.2)
 
 pub returns-clause-six : goal.returns-clause-six
-returns-clause-six g c = λ is. rw c.take_apart-three.ensures.disks (c.run_nodes-ending.ensures.damaged (is_status statuses.DamagedJournal c.run_nodes-ending.result.status c.number-2.result c.number-2.ensures is)).3
+returns-clause-six g c = λ is. (c.run_nodes-ending.ensures.damaged (is_status statuses.DamagedJournal c.run_nodes-ending.result.status c.number-2.result c.number-2.ensures is)).3
 
 pub returns-clause-not_empty : goal.returns-clause-not_empty
 returns-clause-not_empty g c = λ some told bytes.
-    let still : SomeFile (map g.D.Disk.content (three {D = g.row.D.Denot} c.take_apart-three.result)) = subst (λ (disks : List g.row.D.Denot). SomeFile (map g.D.Disk.content disks)) c.take_apart-three.ensures.disks bytes in
-    let done = c.run_nodes-ending.ensures.not_empty told still in
-    rw (c.take_apart-three.ensures.disks, c.put_back.ensures) (done.0, done.1, done.2, done.3, done.4, six_or_five c.run_nodes-ending.result.status c.number-2.result c.number-2.ensures done.5)
-
-pub returns-clause-places : goal.returns-clause-places
-returns-clause-places g c = rw (c.take_apart-three.ensures.disks, c.put_back.ensures) c.run_nodes-ending.ensures.places
+    let done = c.run_nodes-ending.ensures.not_empty told bytes in
+    (done.0, done.1, done.2, done.3, done.4, six_or_five c.run_nodes-ending.result.status c.number-2.result c.number-2.ensures done.5)
 
 pub returns-clause-read_fault : goal.returns-clause-read_fault
 returns-clause-read_fault g c = rose_numbered statuses.ReadFailed c.run_nodes-ending.result.status c.number-2.result c.number-2.ensures _ _ c.run_nodes-ending.ensures.read_fault
@@ -62,25 +57,19 @@ pub returns-clause-write_fault : goal.returns-clause-write_fault
 returns-clause-write_fault g c = rose_numbered statuses.WriteFailed c.run_nodes-ending.result.status c.number-2.result c.number-2.ensures _ _ c.run_nodes-ending.ensures.write_fault
 
 pub returns-clause-disk_fault : goal.returns-clause-disk_fault
-returns-clause-disk_fault g c = rw (c.take_apart-three.ensures.disks, c.put_back.ensures) (one_rose_numbered statuses.DiskFailed c.run_nodes-ending.result.status c.number-2.result c.number-2.ensures _ _ c.run_nodes-ending.ensures.disk_fault)
-
-pub returns-clause-none_fell : goal.returns-clause-none_fell
-returns-clause-none_fell g c = rw (c.take_apart-three.ensures.disks, c.put_back.ensures) c.run_nodes-ending.ensures.later
+returns-clause-disk_fault g c = one_rose_numbered statuses.DiskFailed c.run_nodes-ending.result.status c.number-2.result c.number-2.ensures _ _ c.run_nodes-ending.ensures.disk_fault
 
 pub returns-clause-headline : goal.returns-clause-headline
 returns-clause-headline g c =
-    rw (sym c.read_command.ensures, c.in-Some.is)
-    (λ empty other.
-    let still : IsEmptyAll g.D.Disk.tells (map g.D.Disk.content (three {D = g.row.D.Denot} c.take_apart-three.result)) =
-    subst (λ (disks : List g.row.D.Denot). IsEmptyAll g.D.Disk.tells (map g.D.Disk.content disks)) c.take_apart-three.ensures.disks empty in
-    rw (c.take_apart-three.ensures.disks, c.put_back.ensures) (
+    rw (sym c.read_command.ensures.command, c.in-Some.is)
+    (λ empty other. (
       c.run_nodes-ending.result.status,
       c.number-2.ensures,
-      c.run_nodes-ending.ensures.headline asked_as_read c.new_nodes.ensures still
+      c.run_nodes-ending.ensures.headline asked_as_read c.new_nodes.ensures.new empty
           (λ is. other (has_number statuses.DamagedJournal c.run_nodes-ending.result.status c.number-2.result c.number-2.ensures is)),
     ))
 
 pub returns-clause-durable : goal.returns-clause-durable
-returns-clause-durable g c = λ some told empty failed wanted.
-    let still : IsEmptyAll g.D.Disk.tells (map g.D.Disk.content (three {D = g.row.D.Denot} c.take_apart-three.result)) = subst (λ (disks : List g.row.D.Denot). IsEmptyAll g.D.Disk.tells (map g.D.Disk.content disks)) c.take_apart-three.ensures.disks empty in
-    rw c.put_back.ensures (c.run_nodes-ending.ensures.durable told still (λ is. failed (has_number statuses.DiskFailed c.run_nodes-ending.result.status c.number-2.result c.number-2.ensures is)) (λ is. wanted (has_number statuses.OutOfMemory c.run_nodes-ending.result.status c.number-2.result c.number-2.ensures is)))
+returns-clause-durable g c = λ some told empty failed.
+    seven_or_durable c.run_nodes-ending.result.status c.number-2.result c.number-2.ensures _ _
+    (c.run_nodes-ending.ensures.durable told empty (λ is. failed (has_number statuses.DiskFailed c.run_nodes-ending.result.status c.number-2.result c.number-2.ensures is)))
