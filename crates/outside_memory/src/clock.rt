@@ -29,7 +29,9 @@ pub struct ListClock {
 
 impl Model for ListClock {
     ghost use Rattle.std.specs.Prelude.{ℕ, List};
+
     ghost Value = { List ℕ };
+
     ghost view = { λ c. c.moments.items };
 }
 
