@@ -103,13 +103,13 @@ decided_holds P x (Ok true) result holds is = rw is (holds refl)
 decided_holds P x (Ok false) result holds is = rw is tt
 decided_holds P x (Err e) result holds is = rw is tt
 
-pub told_same : {Q : Type 0} (told : Result Bool values.Memory) → IfOk told (λ b. IsTrue b ↔ Q) → IfOk told (λ b. IsTrue b → Q)
-told_same (Ok b) tells = tells.0
-told_same (Err e) tells = tt
+pub told_same : (Q : Type 0) (told : Result Bool values.Memory) → IfOk told (λ b. IsTrue b ↔ Q) → IfOk told (λ b. IsTrue b → Q)
+told_same Q (Ok b) tells = tells.0
+told_same Q (Err e) tells = tt
 
-pub told_sound : {Q : Type 0} (told : Result Bool values.Memory) → IfOk told (λ (b : Bool). Q) → IfOk told (λ b. IsTrue b → Q)
-told_sound (Ok b) q = λ yes. q
-told_sound (Err e) q = tt
+pub told_sound : (Q : Type 0) (told : Result Bool values.Memory) → IfOk told (λ (b : Bool). Q) → IfOk told (λ b. IsTrue b → Q)
+told_sound Q (Ok b) q = λ yes. q
+told_sound Q (Err e) q = tt
 
 pub told_any : {Q : Type 0} (told : Result Bool values.Memory) → Q → IfOk told (λ b. IsTrue b → Q)
 told_any (Ok b) q = λ yes. q

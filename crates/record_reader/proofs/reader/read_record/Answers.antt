@@ -13,20 +13,20 @@ returns-in_err-kept-clause-only c = λ r sound held same.
 
 pub returns-clause-spelled : goal.returns-clause-spelled
 returns-clause-spelled c =
-    decided_holds (λ y. spelled 1 (record_view y) ≡ c.args.bytes.now) c.in_ok-kept.kept c.is_spelled.result c.kept_if.result
-    (told_same c.is_spelled.result c.is_spelled.ensures.same) c.kept_if.ensures
+    decided_holds (λ y. spelled 1 (record_view y) ≡ c.args.bytes.now) c.in_ok-kept.kept c.is_spelled-same.result c.kept_if.result
+    (told_same _ c.is_spelled-same.result c.is_spelled-same.ensures.same) c.kept_if.ensures
 
 pub returns-clause-sound : goal.returns-clause-sound
 returns-clause-sound c =
-    decided_holds (λ y. IsSound (record_view y)) c.in_ok-kept.kept c.is_spelled.result c.kept_if.result
-    (told_sound c.is_spelled.result c.is_spelled.ensures.sound) c.kept_if.ensures
+    decided_holds (λ y. IsSound (record_view y)) c.in_ok-kept.kept c.is_spelled-same.result c.kept_if.result
+    (told_sound _ c.is_spelled-same.result c.is_spelled-same.ensures.sound) c.kept_if.ensures
 
 pub returns-clause-only : goal.returns-clause-only
 returns-clause-only c = λ r sound held same.
-    decided_only record_view c.in_ok-kept.kept c.args.bytes.now c.is_spelled.result c.kept_if.result r
-    c.in_ok-kept.ensures.found c.is_spelled.ensures.same c.kept_if.ensures sound held same
+    decided_only record_view c.in_ok-kept.kept c.args.bytes.now c.is_spelled-same.result c.kept_if.result r
+    c.in_ok-kept.ensures.found c.is_spelled-same.ensures.same c.kept_if.ensures sound held same
 
 pub returns-clause-held : goal.returns-clause-held
 returns-clause-held c =
-    decided_holds (λ y. IsHeld (record_view y)) c.in_ok-kept.kept c.is_spelled.result c.kept_if.result
-    (told_any c.is_spelled.result c.in_ok-kept.ensures.held) c.kept_if.ensures
+    decided_holds (λ y. IsHeld (record_view y)) c.in_ok-kept.kept c.is_spelled-same.result c.kept_if.result
+    (told_any c.is_spelled-same.result c.in_ok-kept.ensures.held) c.kept_if.ensures
