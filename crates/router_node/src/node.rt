@@ -50,7 +50,7 @@ impl RouterNode {
     ghost use Rattle.std.specs.Prelude.{◌≡◌, IfOk, Some, false};
     ghost use Rattle.std.specs.Option.{option_map};
     ghost use Rattle.chunk_model.specs.Tables.{table_of};
-    ghost use Rattle.reply_model.specs.Exchanges as asked;
+    ghost use Rattle.base_model.specs.Identities as asked;
     ghost use Rattle.node_model.specs.RouterRows as rows;
     ghost use Rattle.node_model.specs.States.{new_router};
     ghost use Rattle.node_traits.specs.Ids.{id_view};

@@ -5,7 +5,7 @@ ghost use Rattle.std.specs.Option.{option_map, unwrap_or};
 ghost use Rattle.command_model.specs.Command.{command_in};
 ghost use Rattle.command_words.specs.Commands.{command_view, reading_view};
 ghost use Rattle.command_model.specs.CommandSizes.{IsSmallCommand};
-ghost use Rattle.reply_model.specs.Exchanges as asked;
+ghost use Rattle.base_model.specs.Identities as asked;
 ghost use Rattle.node_model.specs.RouterRows as rows;
 ghost use Rattle.router_requests.specs.Works.{telling_view};
 ghost use Rattle.opmsg_frames.specs.RequestMeanings.{form_view};

@@ -24,7 +24,7 @@ impl RouterNode {
     ghost use Rattle.std.specs.Arc.{arc_value};
     ghost use Rattle.command_replies.specs.AnswerMeanings.{answer_view};
     ghost use Rattle.command_model.specs.Answers.{first_answer};
-    ghost use Rattle.reply_model.specs.Exchanges as asked;
+    ghost use Rattle.base_model.specs.Identities as asked;
     ghost use Rattle.pipeline_model.specs.Lengths.{excess_of_answer};
     ghost use Rattle.node_model.specs.Letters.{Letter, read_rows};
     ghost use Rattle.node_model.specs.RouterRows as rows;

@@ -3,7 +3,7 @@
 ghost use Rattle.std.specs.Prelude.{◌≡◌, ◌≢◌, Option, length, map, true, false, IfOk};
 ghost use Rattle.command_replies.specs.AnswerMeanings.{answer_view};
 ghost use Rattle.command_replies.specs.Kinds.{kind_view};
-ghost use Rattle.reply_model.specs.Exchanges as asked;
+ghost use Rattle.base_model.specs.Identities as asked;
 ghost use Rattle.command_model.specs.Writes as writes;
 ghost use Rattle.reply_model.specs.Outcomes as outcomes;
 ghost use Rattle.node_model.specs.RouterRows as rows;

@@ -1,5 +1,5 @@
 -- The answer to a request that arrives, or the work that it needs.
-use Rattle.reply_model.specs.Exchanges as asked
+use Rattle.base_model.specs.Identities as asked
 use Rattle.node_model.specs.RouterRows as rows
 use Rattle.node_model.specs.RouterRows.{at_once, needs, needs_batch, needs_end}
 use Rattle.command_replies.specs.AnswerMeanings.{answer_view}

@@ -5,7 +5,7 @@ ghost use Rattle.std.specs.Option.{unwrap_or};
 ghost use Rattle.command_replies.specs.Kinds.{given_view, kind_view};
 ghost use Rattle.command_model.specs.CommandSizes.{IsSmallWrite};
 ghost use Rattle.command_words.specs.Commands.{write_view};
-ghost use Rattle.reply_model.specs.Exchanges as asked;
+ghost use Rattle.base_model.specs.Identities as asked;
 ghost use Rattle.reply_model.specs.Right.{usual_size};
 ghost use Rattle.node_model.specs.RouterRows as rows;
 ghost use Rattle.node_model.specs.States as states;

@@ -3,7 +3,7 @@
 ghost use Rattle.std.specs.Prelude.{◌≡◌, ◌∷◌, [], ℕ, IfOk};
 ghost use Rattle.command_model.specs.Answers.{answer_document};
 ghost use Rattle.command_replies.specs.AnswerMeanings.{answer_view};
-ghost use Rattle.reply_model.specs.Exchanges as asked;
+ghost use Rattle.base_model.specs.Identities as asked;
 ghost use Rattle.node_traits.specs.Effects.{puts_of};
 ghost use Rattle.node_traits.specs.Lists.{listed};
 ghost use Rattle.opmsg_model.specs.Replies as wire;

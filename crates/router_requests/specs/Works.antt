@@ -1,7 +1,7 @@
 -- What open requests of the program are, by the definitions.
 use Rattle.std.specs.Prelude.{ℕ, List, map}
 use Rattle.pipeline_model.specs.Stages.{Stage}
-use Rattle.reply_model.specs.Exchanges as asked
+use Rattle.base_model.specs.Identities as asked
 use Rattle.node_model.specs.States as states
 use Rattle.node_model.specs.States.{in_batches, as_number, writing, reading, for_time, for_table, for_shards}
 use Rattle.command_replies.specs.Kinds.{given_view, kind_view}

@@ -3,7 +3,7 @@
 ghost use Rattle.std.specs.Prelude.{◌≡◌, ◌∷◌, [], IfOk, Option, Some, map};
 ghost use Rattle.std.specs.Option.{option_map};
 ghost use Rattle.command_replies.specs.Kinds.{given_view};
-ghost use Rattle.reply_model.specs.Exchanges as asked;
+ghost use Rattle.base_model.specs.Identities as asked;
 ghost use Rattle.node_model.specs.RouterRows as rows;
 ghost use Rattle.node_model.specs.States as states;
 ghost use Rattle.command_model.specs.Writes as writes;

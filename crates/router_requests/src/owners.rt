@@ -6,7 +6,7 @@ ghost use Rattle.bson_model.specs.Tree.{Datum};
 ghost use Rattle.bson_values.specs.View.{datum_of};
 ghost use Rattle.command_model.specs.Statements.{key_asked_by};
 ghost use Rattle.command_model.specs.Writes.{ClientNumber};
-ghost use Rattle.reply_model.specs.Exchanges as asked;
+ghost use Rattle.base_model.specs.Identities as asked;
 ghost use Rattle.history_model.specs.History.{key_written};
 ghost use Rattle.node_model.specs.RouterRows as rows;
 ghost use Rattle.pipeline_lang.specs.Halves.{half_of};

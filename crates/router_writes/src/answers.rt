@@ -3,7 +3,7 @@
 ghost use Rattle.std.specs.Prelude.{◌≡◌, ◌+◌, IfOk, Option, map};
 ghost use Rattle.std.specs.Option.{option_map};
 ghost use Rattle.command_model.specs.Writes.{ClientNumber};
-ghost use Rattle.reply_model.specs.Exchanges as asked;
+ghost use Rattle.base_model.specs.Identities as asked;
 ghost use Rattle.reply_model.specs.Outcomes as outcomes;
 ghost use Rattle.reply_model.specs.Right as right;
 ghost use Rattle.node_model.specs.RouterRows as rows;

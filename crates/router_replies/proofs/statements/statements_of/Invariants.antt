@@ -3,7 +3,7 @@ use Rattle.std.specs.List.{AllByRecursion}
 use Rattle.std.specs.Vec.Iter.{into_iter_items}
 use Rattle.command_model.specs.Writes.{ClientNumber}
 use Rattle.command_model.specs.CommandSizes.{IsKeepable}
-use Rattle.reply_model.specs.Exchanges as asked
+use Rattle.base_model.specs.Identities as asked
 use Rattle.node_model.specs.RouterRows as rows
 use Rattle.protocol_model.specs.Statements.{statement_view}
 use Rattle.statement_views.specs.Views.{operation_view}
