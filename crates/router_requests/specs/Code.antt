@@ -3,9 +3,9 @@ use Rattle.std.specs.Prelude.{◌≡◌, ◌⊎◌, ℕ, List, refl, ◌==◌, i
 use Rattle.std.proofs.Common.{inl, inr}
 use Rattle.std.specs.Coded.{Coded, code_by, coded×, coded⊎, coded_list, coded_ℕ}
 use Rattle.group_accum.specs.Code.{group_code}
-use Rattle.node_model.specs.Halves.{Half, HalfEnd, documents_end, partials_end, counted_end, Joining, joined_in_order, joined_groups, joined_counts, joined_as_they_come, Merge}
-use Rattle.node_model.specs.Keys.{Span}
-use Rattle.node_model.specs.Stages.{Stage}
+use Rattle.pipeline_model.specs.Halves.{Half, HalfEnd, documents_end, partials_end, counted_end, Joining, joined_in_order, joined_groups, joined_counts, joined_as_they_come, Merge}
+use Rattle.value_model.specs.Keys.{Span}
+use Rattle.pipeline_model.specs.Stages.{Stage}
 use Rattle.pipeline_lang.specs.Code.{stages_code}
 use Rattle.pipeline_model.specs.GroupSpecs.{GroupSpec}
 use Rattle.pipeline_model.specs.SortKeys.{SortField}
