@@ -50,7 +50,7 @@ impl RouterNode {
     ghost use Rattle.std.specs.Prelude.{◌≡◌, IfOk, Some, false};
     ghost use Rattle.std.specs.Option.{option_map};
     ghost use Rattle.chunk_model.specs.Tables.{table_of};
-    ghost use Rattle.reply_model.specs.Exchanges as asked;
+    ghost use Rattle.base_model.specs.Identities as identities;
     ghost use Rattle.node_model.specs.RouterRows as rows;
     ghost use Rattle.node_model.specs.States.{new_router};
     ghost use Rattle.node_traits.specs.Ids.{id_view};
@@ -124,7 +124,7 @@ impl RouterNode {
 
     // Returns the table that work can proceed with.
     pub(crate) fn table_for(&self, namespace: &Namespace, work: &Work) -> Option<&Table>
-        ensures { (id : asked.RequestId) → option_map (λ t. t.now) result ≡ rows.table_for self.now.tables.tables namespace.now (work_view id work.now) }
+        ensures { (id : identities.RequestId) → option_map (λ t. t.now) result ≡ rows.table_for self.now.tables.tables namespace.now (work_view id work.now) }
     {
         match work {
             Work::Writing { .. } => self.table_of(namespace),
@@ -134,7 +134,7 @@ impl RouterNode {
 
     // Returns whether work reads at a time that is not reached.
     fn is_ahead(time: Time, work: &Work) -> bool
-        ensures { (id : asked.RequestId) → result ≡ rows.is_ahead time.0 (work_view id work.now) }
+        ensures { (id : identities.RequestId) → result ≡ rows.is_ahead time.0 (work_view id work.now) }
     {
         match work {
             Work::Writing { .. } => false,
@@ -150,7 +150,7 @@ impl RouterNode {
         namespace: &Namespace,
         work: &Work,
     ) -> Result<(Wait, Option<Message>), Memory>
-        ensures wait { (id : asked.RequestId) → IfOk result (λ asked. wait_view asked.0
+        ensures wait { (id : identities.RequestId) → IfOk result (λ asked. wait_view asked.0
             ≡ rows.wait_of (router_of self.now) time.0 namespace.now (work_view id work.now)) }
         ensures letters { IfOk result (λ asked. letters_of asked.1
             ≡ rows.asks_for (router_of self.now) time.0 count namespace.now (work_view (rows.id_of (router_of self.now) count) work.now)) }

@@ -5,7 +5,7 @@ ghost use Rattle.std.specs.Option.{option_map, unwrap_or};
 ghost use Rattle.command_model.specs.Command.{command_in};
 ghost use Rattle.command_words.specs.Commands.{command_view, reading_view};
 ghost use Rattle.command_model.specs.CommandSizes.{IsSmallCommand};
-ghost use Rattle.reply_model.specs.Exchanges as asked;
+ghost use Rattle.base_model.specs.Identities as identities;
 ghost use Rattle.node_model.specs.RouterRows as rows;
 ghost use Rattle.router_requests.specs.Works.{telling_view};
 ghost use Rattle.opmsg_frames.specs.RequestMeanings.{form_view};
@@ -36,7 +36,7 @@ impl RouterNode {
 
     // Returns the plan of a read: of the time that it names, or else of the router's. Returns `Memory` if memory runs out.
     fn plan_read(&self, reading: Reading, telling: Telling) -> Result<RequestPlan, Memory>
-        ensures { (id : asked.RequestId) → IfOk result (λ plan. plan_view id plan ≡ rows.plan_read (started (router_of self.now)) (reading_view reading)
+        ensures { (id : identities.RequestId) → IfOk result (λ plan. plan_view id plan ≡ rows.plan_read (started (router_of self.now)) (reading_view reading)
             (telling_view telling)) }
     {
         let Reading {
@@ -58,7 +58,7 @@ impl RouterNode {
     // Returns the plan of a command, or `Memory` if memory runs out.
     fn plan_command(&self, silent: bool, command: Command) -> Result<RequestPlan, Memory>
         requires { IsSmallCommand (command_view command) }
-        ensures { (id : asked.RequestId) → IfOk result (λ plan. plan_view id plan
+        ensures { (id : identities.RequestId) → IfOk result (λ plan. plan_view id plan
             ≡ rows.plan_of (started (router_of self.now)) id silent (Ok (command_view command))) }
     {
         match command {
@@ -88,7 +88,7 @@ impl RouterNode {
         silent: bool,
         body: Body,
     ) -> Result<RequestPlan, Memory>
-        ensures { (id : asked.RequestId) → IfOk result (λ plan. plan_view id plan
+        ensures { (id : identities.RequestId) → IfOk result (λ plan. plan_view id plan
             ≡ rows.plan_of (started (router_of self.now)) id silent (command_in (form_view sent) (body_of body))) }
     {
         if !is_taken(&body) {

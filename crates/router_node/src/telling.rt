@@ -24,7 +24,7 @@ impl RouterNode {
     ghost use Rattle.std.specs.Arc.{arc_value};
     ghost use Rattle.command_replies.specs.AnswerMeanings.{answer_view};
     ghost use Rattle.command_model.specs.Answers.{first_answer};
-    ghost use Rattle.reply_model.specs.Exchanges as asked;
+    ghost use Rattle.base_model.specs.Identities as identities;
     ghost use Rattle.pipeline_model.specs.Lengths.{excess_of_answer};
     ghost use Rattle.node_model.specs.Letters.{Letter, read_rows};
     ghost use Rattle.node_model.specs.RouterRows as rows;
@@ -188,7 +188,7 @@ impl RouterNode {
         read: &OpenRead,
         shown: Rows,
     ) -> Result<StepPlan, Memory>
-        ensures { (m : Letter) (id : asked.RequestId) → m.body ≡ read_rows id 1 (Ok (rows_of shown)) → time.0 ≡ rows.heard (router_of self.now) m →
+        ensures { (m : Letter) (id : identities.RequestId) → m.body ≡ read_rows id 1 (Ok (rows_of shown)) → time.0 ≡ rows.heard (router_of self.now) m →
             rows.open_of (router_of self.now) id ≡ Some (open_view self.now.me.0 self.now.life request.now) →
             (open_view self.now.me.0 self.now.life request.now).work ≡ read_view read.now → IfOk result (λ p. IsHeard (router_of self.now) m p) }
     {
@@ -211,7 +211,7 @@ impl RouterNode {
         read: &OpenRead,
         fault: HalfFault,
     ) -> Result<StepPlan, Memory>
-        ensures { (m : Letter) (id : asked.RequestId) → m.body ≡ read_rows id 1 (Err (half_fault_view fault)) → time.0 ≡ rows.heard (router_of self.now) m →
+        ensures { (m : Letter) (id : identities.RequestId) → m.body ≡ read_rows id 1 (Err (half_fault_view fault)) → time.0 ≡ rows.heard (router_of self.now) m →
             rows.open_of (router_of self.now) id ≡ Some (open_view self.now.me.0 self.now.life request.now) →
             (open_view self.now.me.0 self.now.life request.now).work ≡ read_view read.now → IfOk result (λ p. IsHeard (router_of self.now) m p) }
     {
@@ -229,7 +229,7 @@ impl RouterNode {
         read: &OpenRead,
         told: Result<Rows, HalfFault>,
     ) -> Result<StepPlan, Memory>
-        ensures { (m : Letter) (id : asked.RequestId) → m.body ≡ read_rows id 1 (rows_view told) → time.0 ≡ rows.heard (router_of self.now) m →
+        ensures { (m : Letter) (id : identities.RequestId) → m.body ≡ read_rows id 1 (rows_view told) → time.0 ≡ rows.heard (router_of self.now) m →
             rows.open_of (router_of self.now) id ≡ Some (open_view self.now.me.0 self.now.life request.now) →
             (open_view self.now.me.0 self.now.life request.now).work ≡ read_view read.now → IfOk result (λ p. IsHeard (router_of self.now) m p) }
     {

@@ -3,7 +3,7 @@
 ghost use Rattle.std.specs.Prelude.{◌≡◌, ◌≢◌, Option, length, map, true, false, IfOk};
 ghost use Rattle.command_replies.specs.AnswerMeanings.{answer_view};
 ghost use Rattle.command_replies.specs.Kinds.{kind_view};
-ghost use Rattle.reply_model.specs.Exchanges as asked;
+ghost use Rattle.base_model.specs.Identities as identities;
 ghost use Rattle.command_model.specs.Writes as writes;
 ghost use Rattle.reply_model.specs.Outcomes as outcomes;
 ghost use Rattle.node_model.specs.RouterRows as rows;
@@ -38,7 +38,7 @@ fn with_told(alloc: Global, answers: &DoneList, dones: &DoneList) -> Result<Done
 
 /// Returns whether all statements are answered, or the last answer ends the command.
 fn is_all(ordered: bool, statements: &StatementList, answers: &DoneList) -> bool
-    ensures { (given : Option writes.ClientNumber) (id : asked.RequestId) → result
+    ensures { (given : Option writes.ClientNumber) (id : identities.RequestId) → result
         ≡ rows.is_answered ordered (map (λ s. statement_view given id s) statements.now.items) (map done_view answers.now.items) }
 {
     is_answered(ordered, statements, answers)

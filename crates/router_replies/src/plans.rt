@@ -5,7 +5,7 @@ ghost use Rattle.std.specs.Option.{unwrap_or};
 ghost use Rattle.command_replies.specs.Kinds.{given_view, kind_view};
 ghost use Rattle.command_model.specs.CommandSizes.{IsSmallWrite};
 ghost use Rattle.command_words.specs.Commands.{write_view};
-ghost use Rattle.reply_model.specs.Exchanges as asked;
+ghost use Rattle.base_model.specs.Identities as identities;
 ghost use Rattle.reply_model.specs.Right.{usual_size};
 ghost use Rattle.node_model.specs.RouterRows as rows;
 ghost use Rattle.node_model.specs.States as states;
@@ -39,7 +39,7 @@ pub enum RequestPlan {
 /// Returns the plan of a write, or `Memory` if memory runs out.
 pub fn plan_write(alloc: Global, write: WriteCommand) -> Result<RequestPlan, Memory>
     requires { IsSmallWrite (write_view write) }
-    ensures { (id : asked.RequestId) → IfOk result (λ plan. plan_view id plan
+    ensures { (id : identities.RequestId) → IfOk result (λ plan. plan_view id plan
         ≡ rows.needs write.namespace (states.writing (kind_view write.kind) write.ordered
         (rows.statements_from (given_view write.number) id 0 (map operation_view write.operations.items)) [])) }
 {
@@ -69,7 +69,7 @@ pub fn needs_read(
     parts: Parts,
     telling: Telling,
 ) -> RequestPlan
-    ensures { (id : asked.RequestId) → plan_view id result ≡ rows.needs namespace (states.reading named at.0 (stages_of parts) (telling_view telling)) }
+    ensures { (id : identities.RequestId) → plan_view id result ≡ rows.needs namespace (states.reading named at.0 (stages_of parts) (telling_view telling)) }
 {
     let read = OpenRead {
         named,

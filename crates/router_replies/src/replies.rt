@@ -3,7 +3,7 @@
 ghost use Rattle.std.specs.Prelude.{◌≡◌, ◌∷◌, [], ℕ, IfOk};
 ghost use Rattle.command_model.specs.Answers.{answer_document};
 ghost use Rattle.command_replies.specs.AnswerMeanings.{answer_view};
-ghost use Rattle.reply_model.specs.Exchanges as asked;
+ghost use Rattle.base_model.specs.Identities as identities;
 ghost use Rattle.node_traits.specs.Effects.{puts_of};
 ghost use Rattle.node_traits.specs.Lists.{listed};
 ghost use Rattle.opmsg_model.specs.Replies as wire;
@@ -45,7 +45,7 @@ pub fn reply_to(
     head: &Head,
     answer: &Answer,
 ) -> Result<Option<ToLink>, Memory>
-    ensures { (id : asked.RequestId) (time : ℕ) → IfOk result (λ reply. listed reply ≡ puts_of (record {
+    ensures { (id : identities.RequestId) (time : ℕ) → IfOk result (λ reply. listed reply ≡ puts_of (record {
       id = id;
       link = link;
       number = number;

@@ -4,7 +4,7 @@ ghost use Rattle.std.specs.Prelude.{◌≡◌, IfOk, Option, map};
 ghost use Rattle.std.specs.List.{AllByRecursion};
 ghost use Rattle.command_model.specs.Writes.{ClientNumber};
 ghost use Rattle.command_model.specs.CommandSizes.{IsKeepable};
-ghost use Rattle.reply_model.specs.Exchanges as asked;
+ghost use Rattle.base_model.specs.Identities as identities;
 ghost use Rattle.node_model.specs.RouterRows as rows;
 ghost use Rattle.protocol_model.specs.Statements as protocol;
 ghost use Rattle.protocol_model.specs.Statements.{statement_view};
@@ -33,7 +33,7 @@ pub(crate) fn statements_of(
     operations: Vec<OpWords>,
 ) -> Result<StatementList, Memory>
     requires { AllByRecursion IsKeepable (map operation_view operations.items) }
-    ensures { (given : Option ClientNumber) (id : asked.RequestId) → IfOk result (λ list. map (λ s. statement_view given id s) list.items
+    ensures { (given : Option ClientNumber) (id : identities.RequestId) → IfOk result (λ list. map (λ s. statement_view given id s) list.items
         ≡ rows.statements_from given id 0 (map operation_view operations.items)) }
 {
     let mut statements = Vec::new(alloc);

@@ -1,7 +1,7 @@
 -- What open requests of the program are, by the definitions.
 use Rattle.std.specs.Prelude.{ℕ, List, map}
 use Rattle.pipeline_model.specs.Stages.{Stage}
-use Rattle.reply_model.specs.Exchanges as asked
+use Rattle.base_model.specs.Identities as identities
 use Rattle.node_model.specs.States as states
 use Rattle.node_model.specs.States.{in_batches, as_number, writing, reading, for_time, for_table, for_shards}
 use Rattle.command_replies.specs.Kinds.{given_view, kind_view}
@@ -33,7 +33,7 @@ abbrev pub read_view : OpenRead → states.Work
 read_view read = read_at read read.at.0
 
 -- the work of the request with this id
-abbrev pub work_view : asked.RequestId → Work → states.Work
+abbrev pub work_view : identities.RequestId → Work → states.Work
 work_view id (Writing kind number ordered statements answers) =
     writing (kind_view kind) ordered (map (λ s. statement_view (given_view number) id s) statements.items) (map done_view answers.items)
 work_view id (Reading read) = read_view read

@@ -3,7 +3,7 @@
 ghost use Rattle.std.specs.Prelude.{◌≡◌, ◌∷◌, [], IfOk, Option, Some, map};
 ghost use Rattle.std.specs.Option.{option_map};
 ghost use Rattle.command_replies.specs.Kinds.{given_view};
-ghost use Rattle.reply_model.specs.Exchanges as asked;
+ghost use Rattle.base_model.specs.Identities as identities;
 ghost use Rattle.node_model.specs.RouterRows as rows;
 ghost use Rattle.node_model.specs.States as states;
 ghost use Rattle.command_model.specs.Writes as writes;
@@ -36,7 +36,7 @@ fn goes_to(
     shard: NodeId,
     statement: &Statement,
 ) -> Result<bool, Memory>
-    ensures { (given : Option writes.ClientNumber) (id : asked.RequestId) → IfOk result (λ there.
+    ensures { (given : Option writes.ClientNumber) (id : identities.RequestId) → IfOk result (λ there.
         rows.is_on shard.0 (rows.owner_of_statement table.now (statement_view given id statement.now)) ≡ there) }
 {
     let owner = owner_of_statement(alloc, table, statement)?;
@@ -50,7 +50,7 @@ fn run_to(
     shard: NodeId,
     statements: &[Statement],
 ) -> Result<StatementList, Memory>
-    ensures { (given : Option writes.ClientNumber) (id : asked.RequestId) → IfOk result (λ run.
+    ensures { (given : Option writes.ClientNumber) (id : identities.RequestId) → IfOk result (λ run.
         map (λ s. statement_view given id s) run.items ≡ rows.run_to table.now shard.0 (map (λ s. statement_view given id s) statements.now)) }
 {
     let mut run = Vec::with_capacity(alloc, statements.len())?;
@@ -67,7 +67,7 @@ fn run_to(
 
 /// The statements that are not answered.
 fn unanswered<'a>(statements: &'a [Statement], answers: &[Done]) -> &'a [Statement]
-    ensures { (given : Option writes.ClientNumber) (id : asked.RequestId) → map (λ s. statement_view given id s) result.now
+    ensures { (given : Option writes.ClientNumber) (id : identities.RequestId) → map (λ s. statement_view given id s) result.now
         ≡ rows.unanswered (map (λ s. statement_view given id s) statements.now) (map done_view answers.now) }
 {
     if answers.len() < statements.len() {
@@ -177,7 +177,7 @@ impl Asker {
         namespace: &Namespace,
         work: &Work,
     ) -> Result<Message, Memory>
-        ensures { (id : asked.RequestId) → IfOk result (λ m. letters_of (Some m)
+        ensures { (id : identities.RequestId) → IfOk result (λ m. letters_of (Some m)
             ≡ rows.asks_table (asker_view self) time.0 namespace.now (work_view id work.now) ∷ []) }
     {
         match work {

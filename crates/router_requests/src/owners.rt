@@ -6,7 +6,7 @@ ghost use Rattle.bson_model.specs.Tree.{Datum};
 ghost use Rattle.bson_values.specs.View.{datum_of};
 ghost use Rattle.command_model.specs.Statements.{key_asked_by};
 ghost use Rattle.command_model.specs.Writes.{ClientNumber};
-ghost use Rattle.reply_model.specs.Exchanges as asked;
+ghost use Rattle.base_model.specs.Identities as identities;
 ghost use Rattle.history_model.specs.History.{key_written};
 ghost use Rattle.node_model.specs.RouterRows as rows;
 ghost use Rattle.pipeline_lang.specs.Halves.{half_of};
@@ -88,7 +88,7 @@ pub(crate) fn owner_of_statement(
     table: &Table,
     statement: &Statement,
 ) -> Result<NodeId, Memory>
-    ensures { (given : Option ClientNumber) (id : asked.RequestId) → IfOk result (λ shard.
+    ensures { (given : Option ClientNumber) (id : identities.RequestId) → IfOk result (λ shard.
         rows.owner_of_statement table.now (statement_view given id statement.now) ≡ Some shard.0) }
 {
     if let Some(shard) = table.sole_owner() {

@@ -3,7 +3,7 @@
 ghost use Rattle.std.specs.Prelude.{◌≡◌, ◌&&◌, ℕ, List, None};
 ghost use Rattle.std.specs.Option.{is_some, option_map};
 ghost use Rattle.std.specs.Str.{bytes_eq};
-ghost use Rattle.reply_model.specs.Exchanges as asked;
+ghost use Rattle.base_model.specs.Identities as identities;
 ghost use Rattle.node_model.specs.RouterRows as rows;
 ghost use Rattle.node_model.specs.States as states;
 ghost use Rattle.chunk_model.specs.Tables as tables;
@@ -49,7 +49,7 @@ fn waits_for(request: &OpenRequest, namespace: &Namespace) -> bool
 /// Whether work can go on with this table, if it is known.
 #[tactic(auto, using(crate::proofs::Nexts::some_owner))]
 fn can_go_on(known: Option<&Table>, work: &Work) -> bool
-    ensures { (id : asked.RequestId) → result ≡ is_some (rows.enough_of (option_map (λ t. t.now) known.entry) (work_view id work.now)) }
+    ensures { (id : identities.RequestId) → result ≡ is_some (rows.enough_of (option_map (λ t. t.now) known.entry) (work_view id work.now)) }
 {
     match known {
         None => false,
@@ -62,7 +62,7 @@ fn can_go_on(known: Option<&Table>, work: &Work) -> bool
 
 /// What becomes of work that waits for its table, and can't go on, where the table was told for a time.
 fn next_without(told: At, work: &Work) -> Next
-    ensures { (r : states.Router) (time : ℕ) (q : states.Open) (id : asked.RequestId) → q.work ≡ work_view id work.now →
+    ensures { (r : states.Router) (time : ℕ) (q : states.Open) (id : identities.RequestId) → q.work ≡ work_view id work.now →
         IsNext r time None q (rows.next_without r time (at_view told) q) result }
 {
     match work {

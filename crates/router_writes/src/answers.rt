@@ -3,7 +3,7 @@
 ghost use Rattle.std.specs.Prelude.{◌≡◌, ◌+◌, IfOk, Option, map};
 ghost use Rattle.std.specs.Option.{option_map};
 ghost use Rattle.command_model.specs.Writes.{ClientNumber};
-ghost use Rattle.reply_model.specs.Exchanges as asked;
+ghost use Rattle.base_model.specs.Identities as identities;
 ghost use Rattle.reply_model.specs.Outcomes as outcomes;
 ghost use Rattle.reply_model.specs.Right as right;
 ghost use Rattle.node_model.specs.RouterRows as rows;
@@ -68,7 +68,7 @@ fn are_all(ordered: bool, count: usize, answers: &[Done]) -> bool
 /// Returns whether all statements are answered, or the last answer ends the command.
 #[tactic(auto, using(crate::proofs::Counted::answered_by_count))]
 pub fn is_answered(ordered: bool, statements: &[Statement], answers: &[Done]) -> bool
-    ensures { (given : Option ClientNumber) (id : asked.RequestId) → result
+    ensures { (given : Option ClientNumber) (id : identities.RequestId) → result
         ≡ rows.is_answered ordered (map (λ s. statement_view given id s) statements.now) (map done_view answers.now) }
 {
     are_all(ordered, statements.len(), answers)
