@@ -1,0 +1,6 @@
+pub mod Placed
+pub mod Merging
+pub mod Documents
+pub mod Growth
+pub mod MergedLegal
+pub mod LegalByKeys
