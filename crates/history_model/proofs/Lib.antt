@@ -5,3 +5,4 @@ pub mod Noted
 pub mod Collections
 pub mod Keyed
 pub mod Versions
+pub mod Merged

@@ -8,7 +8,8 @@ ghost use Rattle.base_model.specs.Errors.{ErrorCode, duplicate_key, object_too_l
 ghost use Rattle.history_model.specs.Documents.{ListsDocuments, documents_at};
 ghost use Rattle.query_model.specs.Effects.{IsUnder};
 ghost use Rattle.history_model.specs.Versions.{Put, last_put, one_more};
-ghost use Rattle.history_model.specs.Notes.{Note, done_before, new_statement, seen, seen_with};
+ghost use Rattle.history_model.specs.Merges.{seen_by_both};
+ghost use Rattle.history_model.specs.Notes.{Note, Seen, done_before, new_statement, seen, seen_with};
 ghost use Rattle.history_model.specs.History.{Entry, IsBefore, IsSameStatement, Legal, MeetsNothing, Operation, StatementNumber, document_after, document_at, effect, fails_with, insert_operation, key_written, writes_to};
 
 /// No two entries of a legal history have one time and one shard, and none is the statement of another.
@@ -63,6 +64,16 @@ pub fn one_more_note<A>()
         → seen (notes ++ note ∷ []) number ≡ seen_with note number (seen notes number) }
     ensures own { (notes : List (Note A)) (note : Note A) → seen notes note.number ≡ new_statement
         → seen (notes ++ note ∷ []) note.number ≡ done_before note.time note.told }
+{}
+
+/// A number against notes that come after others is what `seen_by_both` says of both. A statement that either covers, since it was
+/// done or its session has a greater transaction, is covered by both: where it is new, it is new by each.
+pub fn notes_of_both<A>()
+    ensures both { (notes others : List (Note A)) (number : StatementNumber) → seen (notes ++ others) number ≡ seen_by_both (seen notes number) (seen others number) }
+    ensures covered { (notes others : List (Note A)) (number : StatementNumber) → seen (notes ++ others) number ≡ new_statement
+        → (seen notes number ≡ new_statement) × (seen others number ≡ new_statement) }
+    ensures joined { (x y z : Seen A) → seen_by_both (seen_by_both x y) z ≡ seen_by_both x (seen_by_both y z) }
+    ensures itself { (x : Seen A) → seen_by_both x x ≡ x }
 {}
 
 /// One more version sets the document under its key from its time on, and changes nothing else.

@@ -1,18 +1,11 @@
 -- What a node keeps in its journal. The records are own; an entry's words are those of the client (MongoDB manual, "insert",
 -- "update" and "delete").
 use Rattle.std.specs.Prelude.{ℕ, ℤ, pos, List, Option, Some, None}
-use Rattle.bson_model.specs.Tree.{Datum}
 use Rattle.base_model.specs.Errors.{ErrorCode}
 use Rattle.history_model.specs.History.{StatementNumber, Operation, Outcome, Entry}
+pub use Rattle.history_model.specs.Sessions.{OutcomeWords}
 use Rattle.chunk_model.specs.Catalogue.{Creation}
 use Rattle.chunk_model.specs.Tables.{Table}
-
--- what a statement is told; an error is told by its number, and 0 is none
-pub record OutcomeWords : Type 0 where
-  pub count : ℕ
-  pub modified : ℕ
-  pub upserted : Option Datum
-  pub code : ℤ
 
 -- one write, without its shard, which is the journal's own
 pub record EntryWords : Type 0 where

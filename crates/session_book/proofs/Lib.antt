@@ -3,3 +3,8 @@ pub mod Noting
 pub mod Sessions
 pub mod Places
 pub mod Booked
+pub mod Merging
+pub mod Counts
+pub mod Floors
+pub mod Joined
+pub mod Order

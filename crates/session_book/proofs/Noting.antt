@@ -8,10 +8,10 @@ use Rattle.std.proofs.lemmas.Bool.Decides.{Decides-int_eq}
 use Rattle.std.proofs.lemmas.Cmp.{int_eq_equiv}
 use Rattle.history_model.specs.Notes.{Seen, new_statement, older_than}
 use Rattle.value_compare.specs.declared.words.Reply.{Reply}
-use Rattle.session_book.specs.declared.session.Noted.{Noted}
+use Rattle.statement_views.specs.declared.sessions.StatementRecord.{StatementRecord}
 use Rattle.session_book.specs.Statements.{Statements, are_some, with_index, seen_as, seen_among, notes_in, seen_after}
 
-as_none : (found : Option Noted) → seen_as found ≡ new_statement → found ≡ None
+as_none : (found : Option StatementRecord) → seen_as found ≡ new_statement → found ≡ None
 as_none None e = refl
 as_none (Some noted) e = absurd cc
 
@@ -38,11 +38,11 @@ none_in kept transaction index new = by_test (int_eq transaction kept.transactio
     by_test true e = rw e ((is_new kept transaction index new).none e)
     by_test false e = rw e refl
 
-some_from : (notes : List Noted) (index : ℕ) (noted : Noted) → with_index index notes ≡ Some noted → are_some notes ≡ true
+some_from : (notes : List StatementRecord) (index : ℕ) (noted : StatementRecord) → with_index index notes ≡ Some noted → are_some notes ≡ true
 some_from [] index noted e = absurd cc
 some_from (first ∷ notes) index noted e = refl
 
-none_among : (notes : List Noted) (index : ℕ) → are_some notes ≡ false → with_index index notes ≡ None
+none_among : (notes : List StatementRecord) (index : ℕ) → are_some notes ≡ false → with_index index notes ≡ None
 none_among [] index e = refl
 none_among (first ∷ notes) index e = absurd cc
 
@@ -78,7 +78,7 @@ same_transaction kept txn index new i = by_test (int_eq txn kept.transaction) re
     by_test false e = rw (new.not_older, e) refl
 
 -- what a statement is, once a new one was noted
-pub after_note : (old new : Statements) (txn : ℤ) (noted : Noted) → new.transaction ≡ txn →
+pub after_note : (old new : Statements) (txn : ℤ) (noted : StatementRecord) → new.transaction ≡ txn →
     ((q : ℕ) → with_index q new.notes ≡ (if noted.index == q then Some noted else with_index q (notes_in txn old))) →
     seen_among old txn noted.index ≡ new_statement → (t : ℤ) (i : ℕ) → seen_among new t i ≡ seen_after txn noted t i (seen_among old t i)
 after_note old new txn noted is_txn finds was_new t i = by_tests (int_lt t txn) (int_eq txn t) (noted.index == i) refl refl refl

@@ -20,7 +20,7 @@ use Rattle.session_book.proofs.Booked.{Changes}
 one_place : (i j : ℕ) → Some i ≡ Some j → i ≡ j
 one_place i j e = ap (λ (o : Option ℕ). unwrap_or o 0) e
 
-itself : (s : history.Session) → same_session s s ≡ true
+pub itself : (s : history.Session) → same_session s s ≡ true
 itself (client_session id) = (bytes_eq-Decides id id).1 refl
 itself (router_session node life request) = rw (eq-eqb node node refl, eq-eqb life life refl, eq-eqb request request refl) refl
 

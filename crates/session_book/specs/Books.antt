@@ -1,5 +1,5 @@
 -- What the book answers, by what it keeps of each session.
-use Rattle.std.specs.Prelude.{◌≡◌, ℕ, List, Option, Some, None}
+use Rattle.std.specs.Prelude.{◌≡◌, ℕ, Bool, true, false, List, Option, Some, None}
 use Rattle.cluster_base.specs.declared.identity.Session.{Session}
 use Rattle.cluster_base.specs.declared.identity.Stmt.{Stmt}
 use Rattle.cluster_base.specs.declared.time.Time.{Time}
@@ -19,6 +19,10 @@ abbrev pub seen_view : Seen → notes.Seen Reply
 seen_view New = new_statement
 seen_view (Done time reply) = done_before time.0 reply.now
 seen_view (Older transaction) = older_than transaction
+
+abbrev pub is_new : notes.Seen Reply → Bool
+is_new new_statement = true
+is_new seen = false
 
 abbrev pub note_view : Stmt → Time → Reply → Note Reply
 note_view s time reply = record { number = number_view s; time = time.0; told = reply }

@@ -4,7 +4,7 @@ use Rattle.std.specs.Coded.{Coded, code_by, coded×, coded_ℕ, coded_ℤ, coded
 use Rattle.value_compare.specs.Code.{datum_code}
 use Rattle.bson_model.specs.Tree.{Datum}
 use Rattle.value_compare.specs.declared.words.Reply.{Reply}
-use Rattle.session_book.specs.declared.session.Noted.{Noted}
+use Rattle.statement_views.specs.declared.sessions.StatementRecord.{StatementRecord}
 use Rattle.session_book.specs.Statements.{Statements}
 
 abbrev pub ReplyParts : Type 0
@@ -17,12 +17,12 @@ reply_code = code_by ReplyParts (coded× (coded× coded_ℕ coded_ℕ) (coded× 
 abbrev pub NotedParts : Type 0
 NotedParts = (ℕ × ℕ) × Reply
 
-abbrev pub noted_code : Coded Noted
+abbrev pub noted_code : Coded StatementRecord
 noted_code = code_by NotedParts (coded× (coded× coded_ℕ coded_ℕ) reply_code)
     (λ n. ((n.index, n.time.0), n.reply)) (λ p. record { index = p.0.0; time = record { 0 = p.0.1 }; reply = p.1 }) (λ _. refl)
 
 abbrev pub StatementsParts : Type 0
-StatementsParts = (ℤ × ℕ) × List Noted
+StatementsParts = (ℤ × ℕ) × List StatementRecord
 
 abbrev pub statements_code : Coded Statements
 statements_code = code_by StatementsParts (coded× (coded× coded_ℤ coded_ℕ) (coded_list noted_code))

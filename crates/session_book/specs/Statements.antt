@@ -3,55 +3,55 @@ use Rattle.std.specs.Prelude.{◌≡◌, ◌≢◌, ◌+◌, ◌<◌, ◌≤◌,
 use Rattle.std.specs.Ordering.{int_eq}
 use Rattle.history_model.specs.Notes.{Seen, new_statement, done_before, older_than}
 use Rattle.value_compare.specs.declared.words.Reply.{Reply}
-use Rattle.session_book.specs.declared.session.Noted.{Noted}
+use Rattle.statement_views.specs.declared.sessions.StatementRecord.{StatementRecord}
 
 -- the greatest transaction, its statements by their index, and for how many more there is room
 pub record Statements : Type 0 where
   pub transaction : ℤ
-  pub notes : List Noted
+  pub notes : List StatementRecord
   pub room : ℕ
 
 -- the indexes rise
-abbrev pub IsRising : List Noted → Type 0
-IsRising notes = (i j : ℕ) (d : Noted) → i < j → j < length notes → (slice_index_or notes i d).index < (slice_index_or notes j d).index
+abbrev pub IsRising : List StatementRecord → Type 0
+IsRising notes = (i j : ℕ) (d : StatementRecord) → i < j → j < length notes → (slice_index_or notes i d).index < (slice_index_or notes j d).index
 
-abbrev pub are_some : List Noted → Bool
+abbrev pub are_some : List StatementRecord → Bool
 are_some [] = false
 are_some (noted ∷ notes) = true
 
 -- the first statement, and the rest behind it
-abbrev pub notes_with : Option Noted → List Noted → List Noted
+abbrev pub notes_with : Option StatementRecord → List StatementRecord → List StatementRecord
 notes_with None rest = rest
 notes_with (Some first) rest = first ∷ rest
 
 -- where there is no first statement, there is room for it
-abbrev pub room_with : Option Noted → ℕ → ℕ
+abbrev pub room_with : Option StatementRecord → ℕ → ℕ
 room_with None room = room + 1
 room_with (Some first) room = room
 
 -- the indexes rise, and behind no first statement there is none
-pub record IsWhole (first : Option Noted) (rest : List Noted) : Type 0 where
+pub record IsWhole (first : Option StatementRecord) (rest : List StatementRecord) : Type 0 where
   pub rising : IsRising (notes_with first rest)
   pub none : first ≡ None → rest ≡ []
 
 -- the first of that index
-abbrev pub with_index : ℕ → List Noted → Option Noted
+abbrev pub with_index : ℕ → List StatementRecord → Option StatementRecord
 with_index index [] = None
 with_index index (noted ∷ notes) = if noted.index == index then Some noted else with_index index notes
 
 -- the first of that index stands at that place
-pub record Holds (notes : List Noted) (index place : ℕ) : Type 0 where
+pub record Holds (notes : List StatementRecord) (index place : ℕ) : Type 0 where
   pub in_range : place < length notes
-  pub first : (d : Noted) → with_index index notes ≡ Some (slice_index_or notes place d)
+  pub first : (d : StatementRecord) → with_index index notes ≡ Some (slice_index_or notes place d)
   pub some : with_index index notes ≢ None
 
 -- a statement of that index would go to that place: lesser ones before it, and greater ones from it on
-pub record IsGapFor (notes : List Noted) (index place : ℕ) : Type 0 where
+pub record IsGapFor (notes : List StatementRecord) (index place : ℕ) : Type 0 where
   pub in_range : place ≤ length notes
-  pub lesser : (j : ℕ) (d : Noted) → j < place → (slice_index_or notes j d).index < index
-  pub greater : (j : ℕ) (d : Noted) → place ≤ j → j < length notes → index < (slice_index_or notes j d).index
+  pub lesser : (j : ℕ) (d : StatementRecord) → j < place → (slice_index_or notes j d).index < index
+  pub greater : (j : ℕ) (d : StatementRecord) → place ≤ j → j < length notes → index < (slice_index_or notes j d).index
 
-abbrev pub seen_as : Option Noted → Seen Reply
+abbrev pub seen_as : Option StatementRecord → Seen Reply
 seen_as None = new_statement
 seen_as (Some noted) = done_before noted.time.0 noted.reply
 
@@ -63,11 +63,11 @@ seen_among kept transaction index =
     else new_statement
 
 -- those that were done in that transaction, where none was done in a greater one
-abbrev pub notes_in : ℤ → Statements → List Noted
+abbrev pub notes_in : ℤ → Statements → List StatementRecord
 notes_in transaction kept = if int_eq transaction kept.transaction then kept.notes else []
 
 -- what it is once a statement, which was new, was noted in that transaction
-abbrev pub seen_after : ℤ → Noted → ℤ → ℕ → Seen Reply → Seen Reply
+abbrev pub seen_after : ℤ → StatementRecord → ℤ → ℕ → Seen Reply → Seen Reply
 seen_after noted_in noted transaction index was =
     if int_lt transaction noted_in then older_than noted_in
     else if int_eq noted_in transaction && noted.index == index then done_before noted.time.0 noted.reply

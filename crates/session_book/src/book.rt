@@ -1,19 +1,21 @@
 //! The book: what a statement is against those that were noted.
 #![tactic(auto, unfolding(crate::specs::Books::seen_in, crate::specs::Books::room_in))]
 
-ghost use Rattle.std.specs.Prelude.{IsTrue, ◌≡◌, ◌≢◌, ◌≤◌, ◌+◌, ◌++◌, ◌∷◌, List, [], Some, None, OnOk, OnErr, if◌then◌else◌};
+ghost use Rattle.std.specs.Prelude.{IsTrue, ◌≡◌, ◌≢◌, ◌≤◌, ◌+◌, ◌++◌, ◌∷◌, List, [], Some, None, OnOk, OnErr, if◌then◌else◌, IfOk};
 ghost use Rattle.std.specs.Option.{ForSome};
 ghost use Rattle.history_model.specs.History as history;
 ghost use Rattle.history_model.specs.History.{StatementNumber};
 ghost use Rattle.history_model.specs.Notes.{Note, new_statement, same_session, seen_with};
 ghost use Rattle.cluster_base.specs.declared.identity.Session.{Session};
 ghost use Rattle.value_compare.specs.declared.words.Reply.{Reply};
-ghost use Rattle.statement_views.specs.Views.{number_view, session_view};
+ghost use Rattle.statement_views.specs.Views.{number_view, session_view, sessions_view};
+ghost use Rattle.history_model.specs.Sessions.{are_in_order};
 ghost use Rattle.session_book.specs.Places.{AreApart, place_of};
 
-use crate::session::{Kept, Noted};
+use crate::session::{Kept, push_session};
 use bson_values::Memory;
 use cluster_base::{Session, Stmt, Time};
+use statement_views::{Sessions, StatementRecord};
 use std::alloc::Global;
 use std::collections::BTreeMap;
 use value_compare::Reply;
@@ -80,7 +82,8 @@ pub struct Book {
 }
 
 impl Book {
-    ghost use Rattle.session_book.specs.Books.{NotesAre, kept_of, note_view, room_in, seen_in, seen_view};
+    ghost use Rattle.session_book.specs.Books.{NotesAre, is_new, kept_of, note_view, room_in, seen_in, seen_view};
+    ghost use Rattle.session_book.specs.Records.{session_notes};
 
     /// A book in which nothing is noted.
     pub fn new(alloc: Global) -> Book
@@ -102,6 +105,31 @@ impl Book {
             Some(place) => self.kept[place as usize].look(s.txn, s.index),
             None => Seen::New,
         }
+    }
+
+    /// Whether the statement is new.
+    pub fn is_new(&self, s: &Stmt) -> bool
+        ensures { result ≡ is_new (seen_in self.now (number_view s.now)) }
+    {
+        matches!(self.look(s), Seen::New)
+    }
+
+    /// Each session of which a statement was noted, with its greatest transaction and all statements that were noted of that, in the
+    /// order of sessions and of indexes: what the whole book is.
+    ///
+    /// # Errors
+    /// `Memory` when out of memory.
+    pub fn floors(&self) -> Result<Sessions, Memory>
+        ensures notes { IfOk result (λ s. NotesAre self.now (session_notes s.sessions.items)) }
+        ensures order { IfOk result (λ s. IsTrue (are_in_order (sessions_view s))) }
+    {
+        let mut sessions = Vec::new(self.alloc);
+        for (session, place) in &self.places {
+            if let Some(kept) = self.kept.get(*place as usize) {
+                push_session(&mut sessions, *session, kept)?;
+            }
+        }
+        Ok(Sessions { sessions })
     }
 
     // The place of what is kept of a session, if something is.
@@ -183,7 +211,7 @@ impl Book {
             let kept = &mut self.kept[place as usize];
             kept.note(
                 s.txn,
-                Noted {
+                StatementRecord {
                     index: s.index,
                     time,
                     reply,

@@ -2,6 +2,9 @@
 #![tactic(auto)]
 
 mod book;
+mod laws;
+mod merges;
 mod session;
 
 pub use book::{Book, Seen};
+pub use laws::{floors_make_the_book, merged_floors_cover};

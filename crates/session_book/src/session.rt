@@ -1,38 +1,31 @@
 //! What is kept of one session.
 
-ghost use Rattle.std.specs.Prelude.{◌≡◌, ◌<◌, ◌≤◌, ◌+◌, ◌==◌, ℕ, ℤ, [], Some, None, IfOk, IfErr, IfSome, OnOk, if◌then◌else◌};
+ghost use Rattle.std.specs.Prelude.{◌≡◌, ◌<◌, ◌≤◌, ◌+◌, ◌++◌, ◌∷◌, ◌⊎◌, ◌==◌, ℕ, ℤ, [], Some, None, IfOk, IfErr, IfSome, OnOk, if◌then◌else◌};
 ghost use Rattle.std.specs.List.{insert};
 ghost use Rattle.std.specs.Option.{option_map};
 ghost use Rattle.std.specs.Vec.{vec_capacity, vec_len};
 ghost use Rattle.history_model.specs.Notes.{new_statement};
 ghost use Rattle.session_book.specs.Statements.{Holds, IsGapFor, IsRising, notes_in, seen_after, seen_among, with_index};
 ghost use Rattle.session_book.specs.Books.{seen_view};
+ghost use Rattle.session_book.specs.Records.{session_notes, statement_notes};
+ghost use Rattle.statement_views.specs.Views.{session_view};
+ghost use Rattle.statement_views.specs.declared.sessions.SessionRecord.{SessionRecord};
 
 use crate::book::Seen;
 use bson_values::Memory;
-use cluster_base::Time;
+use cluster_base::Session;
+use statement_views::{SessionRecord, StatementRecord};
 use std::alloc::Global;
 use std::marker::Model;
 use value_compare::Reply;
-
-/// A statement that was done.
-#[derive(Drop)]
-pub struct Noted {
-    /// Its index in its command.
-    pub index: u32,
-    /// The time of its entry.
-    pub time: Time,
-    /// What it was told.
-    pub reply: Reply,
-}
 
 /// The statements that were done in the greatest transaction of a session, by their index. The first stands apart, since most sessions
 /// have no other: a look at it then reaches no other memory.
 #[derive(Drop)]
 pub struct Kept {
     txn: i64,
-    first: Option<Noted>,
-    rest: Vec<Noted>,
+    first: Option<StatementRecord>,
+    rest: Vec<StatementRecord>,
 }
 
 impl Model for Kept {
@@ -95,8 +88,28 @@ impl Kept {
         }
     }
 
+    /// The greatest transaction.
+    pub fn transaction(&self) -> i64
+        ensures { result ≡ self.now.transaction }
+    {
+        self.txn
+    }
+
+    /// Copies of the statements. Fails when out of memory.
+    pub fn copies(&self, alloc: Global) -> Result<Vec<StatementRecord>, Memory>
+        ensures copies { IfOk result (λ v. v.items ≡ self.now.notes) }
+        ensures rising { IfOk result (λ v. IsRising v.items) }
+    {
+        let mut copies = Vec::new(alloc);
+        if let Some(first) = &self.first {
+            push_copy(&mut copies, first)?;
+        }
+        push_copies(&mut copies, &self.rest)?;
+        Ok(copies)
+    }
+
     // The statement of that index of the greatest transaction.
-    fn find(&self, index: u32) -> Option<&Noted>
+    fn find(&self, index: u32) -> Option<&StatementRecord>
         ensures { option_map (λ n. n.now) result ≡ with_index index self.now.notes }
     {
         match &self.first {
@@ -129,7 +142,7 @@ impl Kept {
     }
 
     /// Notes a statement that is new, where there is room. Those of a lesser transaction can be told no more, and are dropped.
-    pub fn note(&mut self, txn: i64, noted: Noted)
+    pub fn note(&mut self, txn: i64, noted: StatementRecord)
         requires room { 1 ≤ self.old.room }
         requires new { seen_among self.old txn noted.index ≡ new_statement }
         ensures seen { (t : ℤ) (i : ℕ) → seen_among self.new t i ≡ seen_after txn noted t i (seen_among self.old t i) }
@@ -153,7 +166,7 @@ impl Kept {
     }
 
     // Puts a statement whose index none has, where there is room.
-    fn put(&mut self, noted: Noted)
+    fn put(&mut self, noted: StatementRecord)
         requires room { 1 ≤ self.old.room }
         requires new { with_index noted.index self.old.notes ≡ None }
         ensures notes { (i : ℕ) → with_index i self.new.notes ≡ (if noted.index == i then Some noted else with_index i self.old.notes) }
@@ -176,8 +189,70 @@ impl Kept {
     }
 }
 
+// Adds what is kept of a session, if something is, after others. Fails when out of memory.
+pub fn push_session(
+    sessions: &mut Vec<SessionRecord>,
+    session: Session,
+    kept: &Kept,
+) -> Result<(), Memory>
+    ensures items { OnOk result ((sessions.new.items ≡ sessions.old.items) ⊎ ((r : SessionRecord) × (sessions.new.items ≡ sessions.old.items ++ r ∷ []) × (r.session ≡ session) × IsRising r.statements.items)) }
+    ensures notes { OnOk result (session_notes sessions.new.items ≡ session_notes sessions.old.items ++ statement_notes (session_view session) kept.now.transaction kept.now.notes) }
+{
+    let statements = kept.copies(*sessions.allocator())?;
+    if !statements.is_empty() {
+        sessions.push(SessionRecord {
+            session,
+            txn: kept.transaction(),
+            statements,
+        })?;
+    }
+    Ok(())
+}
+
+// Adds copies of statements after others. Fails when out of memory.
+fn push_copies(
+    copies: &mut Vec<StatementRecord>,
+    statements: &[StatementRecord],
+) -> Result<(), Memory>
+    ensures { OnOk result (copies.new.items ≡ copies.old.items ++ statements.now) }
+{
+    for statement in statements {
+        push_copy(copies, statement)?;
+    }
+    Ok(())
+}
+
+// Adds a copy of a statement after others. Fails when out of memory.
+fn push_copy(copies: &mut Vec<StatementRecord>, statement: &StatementRecord) -> Result<(), Memory>
+    ensures { OnOk result (copies.new.items ≡ copies.old.items ++ statement.now ∷ []) }
+{
+    let reply = copy_of(&statement.reply)?;
+    copies.push(StatementRecord {
+        index: statement.index,
+        time: statement.time,
+        reply,
+    })?;
+    Ok(())
+}
+
+// A copy of what a statement was told. Fails when out of memory.
+fn copy_of(reply: &Reply) -> Result<Reply, Memory>
+    ensures { IfOk result (λ r. r ≡ reply.now) }
+{
+    let upserted = match &reply.upserted {
+        Some(key) => Some(key.copy()?),
+        None => None,
+    };
+    Ok(Reply {
+        n: reply.n,
+        modified: reply.modified,
+        upserted,
+        code: reply.code,
+    })
+}
+
 // The statement of that index.
-fn find_among(notes: &[Noted], index: u32) -> Option<&Noted>
+fn find_among(notes: &[StatementRecord], index: u32) -> Option<&StatementRecord>
     requires { IsRising notes.now }
     ensures { option_map (λ n. n.now) result ≡ with_index index notes.now }
 {
@@ -188,7 +263,7 @@ fn find_among(notes: &[Noted], index: u32) -> Option<&Noted>
 }
 
 // Where a statement would go whose index none has.
-fn gap_among(notes: &[Noted], index: u32) -> usize
+fn gap_among(notes: &[StatementRecord], index: u32) -> usize
     requires rising { IsRising notes.now }
     requires none { with_index index notes.now ≡ None }
     ensures { IsGapFor notes.now index result }
@@ -200,7 +275,7 @@ fn gap_among(notes: &[Noted], index: u32) -> usize
 }
 
 // Where the statement of that index stands, if there is one for each index from the first on: those of most commands were all done.
-fn place_in_row(notes: &[Noted], index: u32) -> Option<usize>
+fn place_in_row(notes: &[StatementRecord], index: u32) -> Option<usize>
     requires { IsRising notes.now }
     ensures { IfSome result (Holds notes.now index) }
 {
@@ -213,7 +288,7 @@ fn place_in_row(notes: &[Noted], index: u32) -> Option<usize>
 }
 
 // Where the statement of that index stands, or where it would go, by a search among all.
-fn search_among(notes: &[Noted], index: u32) -> Result<usize, usize>
+fn search_among(notes: &[StatementRecord], index: u32) -> Result<usize, usize>
     requires { IsRising notes.now }
     ensures found { IfOk result (Holds notes.now index) }
     ensures absent { IfErr result (IsGapFor notes.now index) }
@@ -222,7 +297,7 @@ fn search_among(notes: &[Noted], index: u32) -> Result<usize, usize>
 }
 
 // Where the statement of that index stands, or where it would go.
-fn place_among(notes: &[Noted], index: u32) -> Result<usize, usize>
+fn place_among(notes: &[StatementRecord], index: u32) -> Result<usize, usize>
     requires { IsRising notes.now }
     ensures found { IfOk result (Holds notes.now index) }
     ensures absent { IfErr result (IsGapFor notes.now index) }
@@ -234,7 +309,7 @@ fn place_among(notes: &[Noted], index: u32) -> Result<usize, usize>
 }
 
 // Puts a statement at its place, where there is room.
-fn put_at(notes: &mut Vec<Noted>, at: usize, noted: Noted)
+fn put_at(notes: &mut Vec<StatementRecord>, at: usize, noted: StatementRecord)
     requires place { at ≤ vec_len notes.old }
     requires room { vec_len notes.old < vec_capacity notes.old }
     ensures items { notes.new.items ≡ insert notes.old.items at noted }

@@ -4,6 +4,7 @@ use Rattle.cluster_base.specs.declared.identity.Stmt.{Stmt}
 use Rattle.cluster_base.specs.declared.time.Time.{Time}
 use Rattle.value_compare.specs.declared.words.Reply.{Reply}
 use Rattle.statement_views.specs.Views.{number_view, operation_view}
+pub use Rattle.statement_views.specs.Views.{outcome_view}
 use Rattle.history_model.specs.History.{Operation, insert_operation, update_operation, delete_operation}
 use Rattle.record_model.specs.Records as records
 use Rattle.chunk_model.specs.Catalogue.{Creation}
@@ -17,9 +18,6 @@ abbrev pub operation_lent : WordsRef → Operation
 operation_lent (Lent_insert document) = insert_operation document.now
 operation_lent (Lent_update filter change upsert) = update_operation filter.now change.now upsert
 operation_lent (Lent_delete filter) = delete_operation filter.now
-
-abbrev pub outcome_view : Reply → OutcomeWords
-outcome_view r = record { count = r.n; modified = r.modified; upserted = r.upserted; code = r.code }
 
 abbrev pub entry_view : Time → List ℕ → Stmt → Operation → Reply → EntryWords
 entry_view time namespace statement operation reply = record {

@@ -1,2 +1,7 @@
-//! What the sessions, numbers and words of write statements are by the definitions of the history.
+//! What the sessions, numbers and words of write statements are by the definitions of the history; and what is kept of sessions, as plain
+//! data.
 #![tactic(auto)]
+
+mod sessions;
+
+pub use sessions::{SessionRecord, Sessions, StatementRecord};
