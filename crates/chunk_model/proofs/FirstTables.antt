@@ -1,12 +1,12 @@
 -- A collection's first table has one chunk, of all keys, with one owner.
-use Rattle.std.proofs.Common.{◌≡◌, ◌↔◌, ◌≤◌, ℕ, refl, sym, ap, ◌∙◌, arith}
+use Rattle.std.proofs.Common.{◌≡◌, ◌↔◌, ◌≤◌, ℕ, ap, ◌∙◌, arith}
 use Rattle.std.specs.Prelude.{Bool, true, false, Option, Some, None, nat_le, if◌then◌else◌}
 use Rattle.std.proofs.lemmas.Bool.Decides.{nat_tests}
-use Rattle.value_model.specs.Keys.{is_key, range_span, min_bound, max_bound, inside}
+use Rattle.value_model.specs.Keys.{is_key}
 use Rattle.value_model.proofs.Spans.{whole_inside}
 use Rattle.bson_model.specs.Tree.{Datum}
 use Rattle.chunk_model.specs.Catalogue.{Creation}
-use Rattle.chunk_model.specs.Tables.{Chunk, first_shard, first_chunk, first_table, chunk_of, owner_among, newest, owner_now, owner_at}
+use Rattle.chunk_model.specs.Tables.{Chunk, first_shard, first_chunk, first_table, owner_among, newest, owner_now, owner_at}
 
 -- what the chunk gives, by whether the key stands in it
 abbrev now_by : Creation → Bool → Option ℕ

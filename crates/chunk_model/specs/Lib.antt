@@ -2,5 +2,10 @@ pub mod Catalogue
 pub mod Versions
 pub mod Tables
 pub mod Verdicts
+pub mod Changes
+pub mod Placement
+pub mod Targets
+pub mod Requests
 pub mod SampleCollections
 pub mod SampleTables
+pub mod SampleChanges

@@ -2,7 +2,6 @@
 use Rattle.std.specs.Prelude.{[], ◌∷◌, codes, pos}
 use Rattle.bson_model.specs.Tree.{Datum, int32_value}
 use Rattle.value_model.specs.Keys.{min_bound, key_bound, max_bound}
-use Rattle.chunk_model.specs.Versions.{Version}
 use Rattle.chunk_model.specs.Tables.{Chunk, Table}
 
 -- Of d.c, after one move and one split: the keys below 5 are shard 1's since the beginning, at 10; those from 5 on were its too,

@@ -1,6 +1,6 @@
 -- What a shard finds where a router's version of a table meets its own (MongoDB manual, "Sharded Cluster Query Routing", stale
 -- versions).
-use Rattle.std.specs.Prelude.{ℕ, Bool, Option, Some, None, if◌then◌else◌}
+use Rattle.std.specs.Prelude.{ℕ, Option, Some, None, if◌then◌else◌}
 use Rattle.chunk_model.specs.Versions.{Version, agrees, is_later}
 use Rattle.chunk_model.specs.Tables.{Table, collection_version, shard_version}
 

@@ -2,6 +2,7 @@
 //! a function that does nothing, whose contract is the law.
 #![tactic(auto)]
 
+pub mod changes;
 pub mod examples;
 mod laws;
 

@@ -1,5 +1,5 @@
 -- Chunks that follow one another from below all keys to above them give every key an owner.
-use Rattle.std.proofs.Common.{◌≡◌, ℕ, List, [], ◌∷◌, refl, sym, ap, subst, ◌∙◌, Ordering, Less, Equal, Greater}
+use Rattle.std.proofs.Common.{◌≡◌, ℕ, List, [], ◌∷◌, refl, sym, subst, Ordering, Less, Equal, Greater}
 use Rattle.std.specs.Prelude.{Bool, true, ◌&&◌, Option, Some, None, is_some, if◌then◌else◌}
 use Rattle.std.specs.Ordering.{ordering_reverse, is_le, is_lt, is_eq}
 use Rattle.std.specs.Cmp.{Equal-is}

@@ -1,7 +1,7 @@
 //! Chunks of keys, and who has them (MongoDB manual, "Data Partitioning with Chunks"; that a chunk keeps its owners of the past is
 //! own).
 
-ghost use Rattle.std.specs.Prelude.{◌≡◌, IfOk, map};
+ghost use Rattle.std.specs.Prelude.{◌≡◌, ◌<◌, ◌^◌, ◌∷◌, IfOk, length, map};
 ghost use Rattle.std.specs.Option.{option_map};
 ghost use Rattle.chunk_model.specs.Tables.{chunk_of, chunks_on, greatest_version, is_owner, newest, owner_among};
 ghost use Rattle.chunk_table.specs.Meanings.{chunk_view, owned_view, version_view};
@@ -18,6 +18,9 @@ use std::alloc::Global;
 use std::cmp::Ordering;
 use std::marker::Model;
 use value_compare::{Bound, KeyRange};
+
+/// The most owners of a chunk that a journal can encode.
+const MOST_OWNERS: usize = 0xffff_ffff;
 
 /// A shard has the keys of a chunk, from a time on.
 #[derive(Clone, Copy, Debug, PartialEq, Eq)]
@@ -88,6 +91,20 @@ impl OwnedList {
             Some(owned) => owned.shard == shard,
             None => false,
         }
+    }
+
+    /// A copy of the owners, after one that is newer. Fails out of memory, and where a journal could not encode their number.
+    pub(crate) fn followed_by(&self, alloc: Global, owned: Owned) -> Result<OwnedList, Memory>
+        ensures owners { IfOk result (λ list. list ≡ owned_view owned ∷ self.now) }
+        ensures count { IfOk result (λ list. length list < 2 ^ 32) }
+    {
+        if self.owners.len() >= MOST_OWNERS {
+            return Err(Memory);
+        }
+        let mut owners = Vec::with_capacity(alloc, self.owners.len() + 1)?;
+        owners.push(owned)?;
+        owners.extend_from_slice(&self.owners)?;
+        Ok(OwnedList { owners })
     }
 
     /// The same owners once more. Fails for want of memory.

@@ -2,7 +2,10 @@
 //! Partitioning with Chunks" and "Sharded Cluster Query Routing").
 #![tactic(auto)]
 
+mod changed;
+mod changes;
 mod chunk;
+mod span_targets;
 mod table;
 mod verdict;
 mod version;

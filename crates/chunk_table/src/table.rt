@@ -26,11 +26,11 @@ const FIRST_SHARD: NodeId = NodeId(1);
 /// The chunks of a collection. Each key has an owner, and a journal can spell it.
 #[derive(Drop)]
 pub struct Table {
-    namespace: Namespace,
-    epoch: u64,
-    changes: u64,
-    oldest: Time,
-    chunks: Vec<Chunk>,
+    pub(crate) namespace: Namespace,
+    pub(crate) epoch: u64,
+    pub(crate) changes: u64,
+    pub(crate) oldest: Time,
+    pub(crate) chunks: Vec<Chunk>,
 }
 
 impl Model for Table {

@@ -1,0 +1,10 @@
+pub mod Orders
+pub mod Owners
+pub mod Splits
+pub mod Moves
+pub mod Majors
+pub mod Folds
+pub mod Placed
+pub mod Later
+pub mod SameVersion
+pub mod Requests

@@ -1,0 +1,1 @@
+pub use Rattle.chunk_model.specs.Changes
