@@ -20,7 +20,8 @@ use Rattle.value_compare.proofs.Flat.{order_total}
 use Rattle.history_model.specs.Documents.{ListsDocuments}
 use Rattle.mvcc_collection.specs.Chains.{Past}
 use Rattle.mvcc_collection.specs.Edges.{lower_edge, upper_edge, first_edge, last_edge, IsSpan}
-use Rattle.mvcc_collection.proofs.Rows.{Entries, AreKeys, AreOrdered, at_found, no_key_found, rows_found, rows_in, rows_ordered}
+use Rattle.mvcc_collection.proofs.Rows.{Entries, AreKeys, AreOrdered, at_found, no_key_found, rows_found, rows_ordered}
+use Rattle.mvcc_collection.specs.Present.{rows_in}
 
 above_all : (b : Bound) → order_bounds max_bound b ≡ Less → ⊥
 above_all min_bound less = cc

@@ -3,3 +3,4 @@ pub mod Puts
 pub mod Rows
 pub mod Edges
 pub mod Places
+pub mod Latest

@@ -16,6 +16,7 @@ use Rattle.history_model.specs.Documents.{Rows, AreInOrder, document_under}
 use Rattle.mvcc_collection.specs.Chains.{Past}
 use Rattle.mvcc_collection.specs.Places.{chain_at}
 use Rattle.mvcc_collection.specs.Collections.{document_in}
+use Rattle.mvcc_collection.specs.Present.{row_of, rows_in}
 
 abbrev pub Entries : Type 0
 Entries = List (Datum × ℕ)
@@ -23,21 +24,12 @@ Entries = List (Datum × ℕ)
 abbrev pub AreOrdered : Entries → Type 0
 AreOrdered es = IsStrictlySortedBy order (keys_of es)
 
-abbrev pub row_of : Datum → Option Fields → Rows
-row_of key None = []
-row_of key (Some document) = (key, document) ∷ []
-
 -- the document of the chain at a place at the time
 abbrev pub at_place : List Past → ℕ → ℕ → Option Fields
 at_place chains time place = document_in (slice_get chains place) time
 
 abbrev pub at_found : List Past → ℕ → Option ℕ → Option Fields
 at_found chains time place = document_in (chain_at chains place) time
-
--- the documents at the time
-abbrev pub rows_in : List Past → ℕ → Entries → Rows
-rows_in chains time [] = []
-rows_in chains time (e ∷ es) = row_of e.0 (at_place chains time e.1) ++ rows_in chains time es
 
 above_row : (low key : Datum) (document : Option Fields) (rows : Rows) → order low key ≡ Less → AreAbove order_total low rows →
     AreAbove order_total low (row_of key document ++ rows)

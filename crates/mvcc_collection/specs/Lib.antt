@@ -5,3 +5,4 @@ pub mod Edges
 pub mod Collections
 pub use Rattle.history_model.specs.Documents
 pub use Rattle.history_model.specs.Versions
+pub mod Present

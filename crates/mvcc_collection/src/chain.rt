@@ -86,6 +86,24 @@ impl Chain {
             _ => document_among(&self.older, time),
         }
     }
+
+    /// The time of the last version, if there is one.
+    pub(crate) fn latest(&self) -> Option<Time>
+        ensures { option_map (λ t. t.0) result ≡ last_time self.now.versions }
+    {
+        match &self.last {
+            Some(last) => Some(last.time),
+            None => latest_among(&self.older),
+        }
+    }
+}
+
+// The time of the last of the versions, if there is one.
+fn latest_among(versions: &[Version]) -> Option<Time>
+    ensures { option_map (λ t. t.0) result ≡ last_time (map dated versions.now) }
+{
+    let last = versions.last()?;
+    Some(last.time)
 }
 
 // The document of the last of the versions up to the time, if that is one, found by halving.

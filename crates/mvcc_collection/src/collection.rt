@@ -15,6 +15,8 @@ ghost use Rattle.history_model.specs.Versions.{Put, one_more};
 ghost use Rattle.mvcc_collection.specs.Places.{AreApart};
 ghost use Rattle.mvcc_collection.specs.Edges.{IsSpan, first_edge, last_edge, lower_edge, upper_edge};
 
+mod walk;
+
 use crate::chain::Chain;
 use bson_values::{Document, Memory};
 use cluster_base::Time;

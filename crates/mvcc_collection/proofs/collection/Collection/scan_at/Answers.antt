@@ -7,7 +7,8 @@ use Rattle.value_compare.specs.Order.{order}
 use Rattle.value_compare.specs.Spans.{span_of}
 use Rattle.mvcc_collection.specs.Collections.{at_in}
 use Rattle.mvcc_collection.specs.Edges.{first_edge, last_edge}
-use Rattle.mvcc_collection.proofs.Rows.{AreKeys, rows_in}
+use Rattle.mvcc_collection.proofs.Rows.{AreKeys}
+use Rattle.mvcc_collection.specs.Present.{rows_in}
 use Rattle.mvcc_collection.proofs.Edges.{span_forward, lists_span}
 use Rattle.mvcc_collection.proofs.collection.Collection.scan_at.Goals as goal
 

@@ -1,7 +1,8 @@
 use Rattle.std.proofs.Common.{◌≡◌, ◌++◌, map}
 use Rattle.std.specs.Arc.{arc_value}
 use Rattle.std.specs.Map.{values_of}
-use Rattle.mvcc_collection.proofs.Rows.{AreKeys, rows_in}
+use Rattle.mvcc_collection.proofs.Rows.{AreKeys}
+use Rattle.mvcc_collection.specs.Present.{rows_in}
 use Rattle.mvcc_collection.proofs.collection.Collection.scan_at.Given as goal
 
 -- what was found so far, and what is left to find; and where the keys left are keys, all are

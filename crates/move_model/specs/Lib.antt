@@ -1,0 +1,5 @@
+pub mod Sources
+pub mod Batches
+pub mod Recipients
+pub mod Copies
+pub mod SampleMoves
