@@ -17,6 +17,9 @@ type_mismatch = record { number = 14; name = codes "TypeMismatch" }
 abbrev pub overflow : ErrorCode
 overflow = record { number = 15; name = codes "Overflow" }
 
+abbrev pub illegal_operation : ErrorCode
+illegal_operation = record { number = 20; name = codes "IllegalOperation" }
+
 abbrev pub invalid_bson : ErrorCode
 invalid_bson = record { number = 22; name = codes "InvalidBSON" }
 
@@ -53,6 +56,9 @@ shutdown_in_progress = record { number = 91; name = codes "ShutdownInProgress" }
 abbrev pub operation_failed : ErrorCode
 operation_failed = record { number = 96; name = codes "OperationFailed" }
 
+abbrev pub write_conflict : ErrorCode
+write_conflict = record { number = 112; name = codes "WriteConflict" }
+
 abbrev pub conflicting_operation : ErrorCode
 conflicting_operation = record { number = 117; name = codes "ConflictingOperationInProgress" }
 
@@ -62,11 +68,20 @@ namespace_not_sharded = record { number = 118; name = codes "NamespaceNotSharded
 abbrev pub exceeded_memory_limit : ErrorCode
 exceeded_memory_limit = record { number = 146; name = codes "ExceededMemoryLimit" }
 
+abbrev pub zone_not_found : ErrorCode
+zone_not_found = record { number = 177; name = codes "ZoneNotFound" }
+
+abbrev pub range_overlap_conflict : ErrorCode
+range_overlap_conflict = record { number = 178; name = codes "RangeOverlapConflict" }
+
 abbrev pub transaction_too_old : ErrorCode
 transaction_too_old = record { number = 225; name = codes "TransactionTooOld" }
 
 abbrev pub snapshot_too_old : ErrorCode
 snapshot_too_old = record { number = 239; name = codes "SnapshotTooOld" }
+
+abbrev pub change_stream_history_lost : ErrorCode
+change_stream_history_lost = record { number = 286; name = codes "ChangeStreamHistoryLost" }
 
 abbrev pub query_exceeded_memory : ErrorCode
 query_exceeded_memory = record { number = 292; name = codes "QueryExceededMemoryLimitNoDiskUseAllowed" }

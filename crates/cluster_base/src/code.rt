@@ -13,6 +13,8 @@ pub enum Code {
     TypeMismatch,
     /// A sum is outside the range of its type.
     Overflow,
+    /// The operation is not allowed there: the range is not inside one chunk.
+    IllegalOperation,
     /// The body is no document.
     InvalidBson,
     /// A path leads through a value that is no document.
@@ -37,16 +39,24 @@ pub enum Code {
     ShutdownInProgress,
     /// The command could not be carried out.
     OperationFailed,
+    /// Other transactions held the keys too often.
+    WriteConflict,
     /// Another move is under way.
     ConflictingOperation,
     /// The collection is not there.
     NamespaceNotSharded,
     /// There is not enough memory.
     ExceededMemoryLimit,
+    /// No shard is in that zone.
+    ZoneNotFound,
+    /// The range overlaps another zone's range.
+    RangeOverlapConflict,
     /// The session has a later write command.
     TransactionTooOld,
     /// The history of that time is no longer kept.
     SnapshotTooOld,
+    /// The changes after that point are no longer kept.
+    ChangeStreamHistoryLost,
     /// A result is larger than a query may make it.
     QueryExceededMemory,
     /// A document is too large.
@@ -67,6 +77,7 @@ impl Code {
             Code::FailedToParse => 9,
             Code::TypeMismatch => 14,
             Code::Overflow => 15,
+            Code::IllegalOperation => 20,
             Code::InvalidBson => 22,
             Code::PathNotViable => 28,
             Code::CursorNotFound => 43,
@@ -79,11 +90,15 @@ impl Code {
             Code::InvalidNamespace => 73,
             Code::ShutdownInProgress => 91,
             Code::OperationFailed => 96,
+            Code::WriteConflict => 112,
             Code::ConflictingOperation => 117,
             Code::NamespaceNotSharded => 118,
             Code::ExceededMemoryLimit => 146,
+            Code::ZoneNotFound => 177,
+            Code::RangeOverlapConflict => 178,
             Code::TransactionTooOld => 225,
             Code::SnapshotTooOld => 239,
+            Code::ChangeStreamHistoryLost => 286,
             Code::QueryExceededMemory => 292,
             Code::ObjectTooLarge => 10334,
             Code::DuplicateKey => 11000,
@@ -100,6 +115,7 @@ impl Code {
             Code::FailedToParse => "FailedToParse",
             Code::TypeMismatch => "TypeMismatch",
             Code::Overflow => "Overflow",
+            Code::IllegalOperation => "IllegalOperation",
             Code::InvalidBson => "InvalidBSON",
             Code::PathNotViable => "PathNotViable",
             Code::CursorNotFound => "CursorNotFound",
@@ -112,11 +128,15 @@ impl Code {
             Code::InvalidNamespace => "InvalidNamespace",
             Code::ShutdownInProgress => "ShutdownInProgress",
             Code::OperationFailed => "OperationFailed",
+            Code::WriteConflict => "WriteConflict",
             Code::ConflictingOperation => "ConflictingOperationInProgress",
             Code::NamespaceNotSharded => "NamespaceNotSharded",
             Code::ExceededMemoryLimit => "ExceededMemoryLimit",
+            Code::ZoneNotFound => "ZoneNotFound",
+            Code::RangeOverlapConflict => "RangeOverlapConflict",
             Code::TransactionTooOld => "TransactionTooOld",
             Code::SnapshotTooOld => "SnapshotTooOld",
+            Code::ChangeStreamHistoryLost => "ChangeStreamHistoryLost",
             Code::QueryExceededMemory => "QueryExceededMemoryLimitNoDiskUseAllowed",
             Code::ObjectTooLarge => "BSONObjectTooLarge",
             Code::DuplicateKey => "DuplicateKey",

@@ -1,7 +1,7 @@
 -- What the records of a journal keep: a shard's its entries, and the catalogue's the collections that began.
 use Rattle.std.specs.Prelude.{◌≡◌, ℕ, ℤ, pos, List, [], ◌∷◌, Option, Some, None, if◌then◌else◌}
 use Rattle.std.specs.Ordering.{int_eq}
-use Rattle.base_model.specs.Errors.{ErrorCode, bad_value, failed_to_parse, type_mismatch, overflow, invalid_bson, path_not_viable, cursor_not_found, max_time_expired, command_not_found, shard_key_not_found, immutable_field, shard_not_found, invalid_options, invalid_namespace, shutdown_in_progress, operation_failed, conflicting_operation, namespace_not_sharded, exceeded_memory_limit, transaction_too_old, snapshot_too_old, query_exceeded_memory, object_too_large, duplicate_key, stale_config}
+use Rattle.base_model.specs.Errors.{ErrorCode, bad_value, failed_to_parse, type_mismatch, overflow, illegal_operation, invalid_bson, path_not_viable, cursor_not_found, max_time_expired, command_not_found, shard_key_not_found, immutable_field, shard_not_found, invalid_options, invalid_namespace, shutdown_in_progress, operation_failed, write_conflict, conflicting_operation, namespace_not_sharded, exceeded_memory_limit, zone_not_found, range_overlap_conflict, transaction_too_old, snapshot_too_old, change_stream_history_lost, query_exceeded_memory, object_too_large, duplicate_key, stale_config}
 use Rattle.history_model.specs.History.{Entry}
 use Rattle.chunk_model.specs.Catalogue.{Creation}
 use Rattle.record_model.specs.Records.{EntryWords, Record, table_record, entry_record, create_record, life_record, block_record, code_of, record_of}
@@ -9,10 +9,10 @@ use Rattle.record_model.specs.Records.{EntryWords, Record, table_record, entry_r
 -- the errors that a reply may tell (MongoDB manual, "Error Codes")
 abbrev pub known_errors : List ErrorCode
 known_errors =
-    bad_value ∷ failed_to_parse ∷ type_mismatch ∷ overflow ∷ invalid_bson ∷ path_not_viable ∷ cursor_not_found
+    bad_value ∷ failed_to_parse ∷ type_mismatch ∷ overflow ∷ illegal_operation ∷ invalid_bson ∷ path_not_viable ∷ cursor_not_found
     ∷ max_time_expired ∷ command_not_found ∷ shard_key_not_found ∷ immutable_field ∷ shard_not_found ∷ invalid_options
-    ∷ invalid_namespace ∷ shutdown_in_progress ∷ operation_failed ∷ conflicting_operation ∷ namespace_not_sharded
-    ∷ exceeded_memory_limit ∷ transaction_too_old ∷ snapshot_too_old ∷ query_exceeded_memory ∷ object_too_large
+    ∷ invalid_namespace ∷ shutdown_in_progress ∷ operation_failed ∷ write_conflict ∷ conflicting_operation ∷ namespace_not_sharded
+    ∷ exceeded_memory_limit ∷ zone_not_found ∷ range_overlap_conflict ∷ transaction_too_old ∷ snapshot_too_old ∷ change_stream_history_lost ∷ query_exceeded_memory ∷ object_too_large
     ∷ duplicate_key ∷ stale_config ∷ []
 
 -- the first error of that number
