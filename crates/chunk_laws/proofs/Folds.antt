@@ -75,7 +75,7 @@ sole r e start (c ∷ chunks) up cover f = by_test (same_range c.range r) refl f
         → AllByRecursion (Sole r e) chunks) → Sole r e c × AllByRecursion (Sole r e) chunks
     by_test true is g rest =
         let end : Below r.max c.range.max = eq_le (order (value_of_bound r.max) (value_of_bound c.range.max)) (eq_turned (value_of_bound c.range.max)
-            (value_of_bound r.max) (both _ _ is).1) in
+        (value_of_bound r.max) (both _ _ is).1) in
         (sole_here r e c is g, all_late r e c.range.max chunks up end (all_begin c.range.max chunks cover.2))
     by_test false is g rest =
         let low : Below c.range.max r.min = begins r e c.range.max chunks cover.2 g in

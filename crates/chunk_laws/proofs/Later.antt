@@ -67,8 +67,12 @@ by_change : (ns : List ℕ) (P : List Change → Table → Type 0) → Stays ns 
 by_change ns P stays (create_change c) older t fits is same p =
     let name : c.namespace ≡ ns = same_name _ _ same in
     absurd (let two = sym fits.0.fits.absent ∙ ap (λ n. known_table n older) name ∙ is in cc)
-by_change ns P stays (split_change s) older t fits is same p = record { table = split_table s.middle t; known = rw
-    (same, is) refl; holds = stays.by_split s older t fits is p }
+by_change ns P stays (split_change s) older t fits is same p = record {
+  table = split_table s.middle t;
+  known = rw
+      (same, is) refl;
+  holds = stays.by_split s older t fits is p;
+}
 by_change ns P stays (commit_change c) older t fits is same p =
     let k = commits_here ns older c t same is fits.0.fits in
     record { table = commit_table c t; known = rw (same, is) refl; holds = stays.by_commit c older t k.0 fits is same k.1 p }
@@ -80,8 +84,12 @@ later ns P stays (x ∷ more) older t fits is p = by_name (bytes_eq (namespace_o
   where
     by_name : (b : Bool) → bytes_eq (namespace_of x) ns ≡ b → Later ns P (more ++ older) → Later ns P (x ∷ (more ++ older))
     by_name true same l = by_change ns P stays x (more ++ older) l.table fits l.known same l.holds
-    by_name false differs l = record { table = l.table; known = rw differs l.known; holds = stays.other x
-        (more ++ older) l.table fits l.known differs l.holds }
+    by_name false differs l = record {
+      table = l.table;
+      known = rw differs l.known;
+      holds = stays.other x
+          (more ++ older) l.table fits l.known differs l.holds;
+    }
 
 -- the chunks that overlap the range have greater major numbers
 pub record Passed (r : Range) (n : ℕ) (t : Table) : Type 0 where
@@ -121,8 +129,12 @@ commit_passed r n c t e epochs k p =
     let up : n < (collection_version t).major + 1 = (let h = p.high in omega arith) in
     record {
       high = let h = p.high in let g = commit_top c t e epochs k.range in omega arith;
-      beyond = lowest_all (λ d. overlap d.range r ≡ true → n < d.version.major) c.from (record { epoch = t.epoch; major =
-          (collection_version t).major + 1; minor = 1 })
+      beyond = lowest_all (λ d. overlap d.range r ≡ true → n < d.version.major) c.from (record {
+        epoch = t.epoch;
+        major =
+            (collection_version t).major + 1;
+        minor = 1;
+      })
           (map (moved_chunk c.range (record { epoch = t.epoch; major = (collection_version t).major + 1; minor = 0 })
           (record { since = c.at; shard = c.to })) t.chunks)
           (λ d h over. up)
@@ -156,8 +168,12 @@ passed_by c t e covers epochs k =
     let up : e.version.major < (collection_version t).major + 1 = omega arith in
     record {
       high = let g = commit_top c t e epochs k.range in omega arith;
-      beyond = lowest_all (λ d. overlap d.range c.range ≡ true → e.version.major < d.version.major) c.from (record { epoch = t.epoch; major =
-          (collection_version t).major + 1; minor = 1 })
+      beyond = lowest_all (λ d. overlap d.range c.range ≡ true → e.version.major < d.version.major) c.from (record {
+        epoch = t.epoch;
+        major =
+            (collection_version t).major + 1;
+        minor = 1;
+      })
           (map (moved_chunk c.range (record { epoch = t.epoch; major = (collection_version t).major + 1; minor = 0 })
           (record { since = c.at; shard = c.to })) t.chunks)
           (λ d h over. up)
@@ -190,7 +206,7 @@ passed_for_good c older more t u e fits is f known =
     let p = placed c.namespace older t first.1 is in
     let now : known_table c.namespace (commit_change c ∷ older) ≡ Some (commit_table c t) = rw (same, is) refl in
     let l = later c.namespace (λ changes v. Passed c.range e.version.major v) (passed_stays c.namespace c.range e.version.major) more
-        (commit_change c ∷ older) (commit_table c t) fits now
+    (commit_change c ∷ older) (commit_table c t) fits now
     (passed_by c t e p.covers p.epochs (subst (Commits c t) one k.1)) in
     let end : l.table ≡ u = some_is l.table u (later_is (known_table c.namespace (more ++ commit_change c ∷ older)) l.table u l.known known) in
     subst (λ (v : Table). AllByRecursion (λ d. overlap d.range c.range ≡ true → e.version.major < d.version.major) v.chunks) end l.holds.beyond

@@ -71,7 +71,7 @@ apart r e c chunks key cover with_r has = by_test (inside (range_span c.range) k
     by_test true own =
         let low : Below c.range.max r.min = begins r e c.range.max chunks cover with_r in
         let up : is_le (order (value_of_bound c.range.max) key) ≡ true = le_trans (value_of_bound c.range.max) (value_of_bound r.min) key low
-            (both _ _ has).0 in
+        (both _ _ has).0 in
         let no = not_lt key (value_of_bound c.range.max) up in
         sym (both _ _ own).1 ∙ no
     by_test false own = refl
@@ -112,7 +112,7 @@ late_out r start d end up low =
     by_same : (b : Bool) → same_range d.range r ≡ b → Below r.max d.range.min → b ≡ false
     by_same true same above =
         let high : is_le (order (value_of_bound r.max) (value_of_bound r.min)) ≡ true = below_trans r.max d.range.min r.min above (eq_le _
-            (both _ _ same).0) in
+        (both _ _ same).0) in
         let no = not_lt (value_of_bound r.min) (value_of_bound r.max) high in
         sym (ap is_lt up) ∙ no
     by_same false same above = refl

@@ -48,8 +48,11 @@ at_is t key time = at_found time (chunk_of key t.chunks) ∙ ap (owner_among tim
 pub same_keys : (a b : Range) (key : Datum) → same_range a b ≡ true → inside (range_span a) key ≡ inside (range_span b) key
 same_keys a b key e =
     let s = both _ _ e in
-    rw (order_total.congr (value_of_bound a.min) (value_of_bound b.min) key (equal_is _ s.0), alike_right order_total (value_of_bound a.max)
-        (value_of_bound b.max) key (equal_is _ s.1)) refl
+    rw (
+      order_total.congr (value_of_bound a.min) (value_of_bound b.min) key (equal_is _ s.0),
+      alike_right order_total (value_of_bound a.max)
+          (value_of_bound b.max) key (equal_is _ s.1),
+    ) refl
 
 -- the first bound is not above the second
 abbrev pub Below : Bound → Bound → Type 0

@@ -78,16 +78,22 @@ commit_follows words at changes x later e = by_id (is_committed words.id changes
         (words.from == words.to) refl refl h
 
     by_table : (fresh : is_committed words.id changes ≡ false) (o : Option Table) → known_table words.namespace changes ≡ o
-        → elim o as (λ (p : Option Table). CatalogueAnswer) [ None ↦ no_collection | Some t ↦ elim (chunk_with words.range t.chunks) as (λ
-        (p : Option Chunk). CatalogueAnswer) [ None ↦ not_a_bound | Some c ↦ chunk_answer words at c ] ] ≡ changed x
+        → elim o as (λ (p : Option Table). CatalogueAnswer) [
+          | None ↦ no_collection
+          | Some t ↦ elim (chunk_with words.range t.chunks) as (λ
+              (p : Option Chunk). CatalogueAnswer) [ None ↦ not_a_bound | Some c ↦ chunk_answer words at c ]
+        ] ≡ changed x
         → Follows x changes
     by_table fresh None is h = absurd cc
     by_table fresh (Some t) is h = by_chunk fresh t is (chunk_with words.range t.chunks) refl h
 
     by_id : (b : Bool) → is_committed words.id changes ≡ b
         → (if b then settled true else elim (known_table words.namespace changes) as (λ
-        (o : Option Table). CatalogueAnswer) [ None ↦ no_collection | Some t ↦ elim (chunk_with words.range t.chunks) as (λ
-        (p : Option Chunk). CatalogueAnswer) [ None ↦ not_a_bound | Some c ↦ chunk_answer words at c ] ]) ≡ changed x
+        (o : Option Table). CatalogueAnswer) [
+          | None ↦ no_collection
+          | Some t ↦ elim (chunk_with words.range t.chunks) as (λ
+              (p : Option Chunk). CatalogueAnswer) [ None ↦ not_a_bound | Some c ↦ chunk_answer words at c ]
+        ]) ≡ changed x
         → Follows x changes
     by_id true known h = absurd cc
     by_id false known h = by_table known (known_table words.namespace changes) refl h

@@ -76,8 +76,11 @@ grown_split ns s old a c older t false g = record { high = g.high; how = by_how 
     by_how (inl e) = inl e
     by_how (inr (inl e)) = inr (inl e)
     by_how (inr (inr u)) = inr (inr (same_owner ns s old older (split_change c ∷ older) (λ key valid. refl) (λ key time. refl) u))
-grown_split ns s old a c older t true g = record { high = let k = g.high in let e = split_top c.middle t.chunks t.chunks in
-    omega arith; how = by_how (split_on c.middle s t.chunks t.chunks) g.how }
+grown_split ns s old a c older t true g = record {
+  high = let k = g.high in let e = split_top c.middle t.chunks t.chunks in
+      omega arith;
+  how = by_how (split_on c.middle s t.chunks t.chunks) g.how;
+}
   where
     by_how : top (chunks_on s (split_chunks c.middle t.chunks t.chunks)) ≡ top (chunks_on s t.chunks)
         → (top (chunks_on s t.chunks) ≡ 0) ⊎ ((top a.chunks < top (chunks_on s t.chunks)) ⊎ Unmoved ns s old older)
@@ -132,8 +135,11 @@ not_owner e from s own apart = by_owners e.owners own
 none_on : (r : Range) (e : Chunk) (s : ℕ) (chunks : List Chunk) → is_owner s e.owners ≡ false → AllByRecursion (Sole r e) chunks
     → AllByRecursion (λ d. same_range d.range r ≡ true → is_owner s d.owners ≡ false) chunks
 none_on r e s [] others all = tt
-none_on r e s (d ∷ chunks) others all = (λ same. let i : d ≡ e = all.0.same same in ap (λ (x : Chunk). is_owner s x.owners) i
-    ∙ others, none_on r e s chunks others all.1)
+none_on r e s (d ∷ chunks) others all = (
+  λ same. let i : d ≡ e = all.0.same same in ap (λ (x : Chunk). is_owner s x.owners) i
+      ∙ others,
+  none_on r e s chunks others all.1,
+)
 
 grown_commit : (ns : List ℕ) (s : ℕ) (old : List Change) (a : Table) (c : Commit) (older : List Change) (t : Table) (e : Chunk)
     → bytes_eq c.namespace ns ≡ true → Commits c t e → IsPlaced ns older t → Grown ns s old a older t
@@ -167,7 +173,7 @@ grown_commit ns s old a c older t e same k p g =
     from_donor (inl z) i = inl (ap (λ n. top (chunks_on n (with_lowest c.from w moved))) (sym i) ∙ z)
     from_donor (inr z) i =
         let j : top (chunks_on c.from (with_lowest c.from w moved)) ≡ top (chunks_on s (with_lowest c.from w moved)) = ap (λ n. top (chunks_on n
-            (with_lowest c.from w moved))) i in
+        (with_lowest c.from w moved))) i in
         let h = g.high in let m = is in
         inr (inl (omega arith))
 
@@ -185,9 +191,9 @@ grown_commit ns s old a c older t e same k p g =
     by_test false false d r how =
         let apart : is_owner s e.owners ≡ false = not_owner e c.from s k.owner d in
         let all = none_on c.range e s t.chunks apart (sole c.range e min_bound t.chunks
-            (range_up c.range e min_bound t.chunks p.covers k.range) p.covers k.range) in
+        (range_up c.range e min_bound t.chunks p.covers k.range) p.covers k.range) in
         let kept : top (chunks_on s (with_lowest c.from w moved)) ≡ top (chunks_on s t.chunks) = ap top (lowest_on c.from s w moved d
-            ∙ moved_on c.range v o s t.chunks all r) in
+        ∙ moved_on c.range v o s t.chunks all r) in
         by_how kept how
       where
         by_how : top (chunks_on s (with_lowest c.from w moved)) ≡ top (chunks_on s t.chunks)
@@ -341,8 +347,11 @@ same_version ns s more older a b fits is known same = by_how majors (subst (λ (
     q = placed ns (more ++ older) b fits known
 
     l : Later ns (Grown ns s older a) (more ++ older)
-    l = later ns (Grown ns s older a) (grown_stays ns s older a) more older a fits is (record { high = omega arith; how = inr (inr
-        (unmoved_start ns s older)) })
+    l = later ns (Grown ns s older a) (grown_stays ns s older a) more older a fits is (record {
+      high = omega arith;
+      how = inr (inr
+          (unmoved_start ns s older));
+    })
 
     end : l.table ≡ b
     end = some_is _ _ (sym l.known ∙ known)

@@ -4,6 +4,6 @@
 mod laws;
 
 pub use laws::{
-    answers_follow, chunks_cover, commits_raise_the_version, committed_versions_are_passed, same_version_same_keys,
-    splits_change_no_owner, tables_keep_owners,
+    answers_follow, chunks_cover, commits_raise_the_version, committed_versions_are_passed,
+    same_version_same_keys, splits_change_no_owner, tables_keep_owners,
 };

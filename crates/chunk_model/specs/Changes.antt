@@ -136,14 +136,16 @@ known_table namespace (x ∷ older) =
 abbrev pub creations : List ℕ → List Change → ℕ
 creations namespace [] = 0
 creations namespace (x ∷ older) = elim x [
-  create_change c ↦ if bytes_eq c.namespace namespace then creations namespace older + 1 else creations namespace older |
-  split_change s ↦ creations namespace older |
-  commit_change c ↦ creations namespace older ]
+  | create_change c ↦ if bytes_eq c.namespace namespace then creations namespace older + 1 else creations namespace older
+  | split_change s ↦ creations namespace older
+  | commit_change c ↦ creations namespace older
+]
 
 -- the move of this id is committed
 abbrev pub is_committed : RequestId → List Change → Bool
 is_committed id [] = false
 is_committed id (x ∷ older) = elim x [
-  create_change c ↦ is_committed id older |
-  split_change s ↦ is_committed id older |
-  commit_change c ↦ same_request c.id id || is_committed id older ]
+  | create_change c ↦ is_committed id older
+  | split_change s ↦ is_committed id older
+  | commit_change c ↦ same_request c.id id || is_committed id older
+]

@@ -15,11 +15,12 @@ use Rattle.chunk_model.specs.Changes.{Change, create_change, split_change, commi
 abbrev pub owner : List ℕ → Datum → ℕ → List Change → Option ℕ
 owner namespace key time [] = None
 owner namespace key time (x ∷ older) = elim x [
-  create_change c ↦ if bytes_eq c.namespace namespace && nat_le c.at time then Some first_shard else owner namespace key time older |
-  split_change s ↦ owner namespace key time older |
-  commit_change c ↦
-    if bytes_eq c.namespace namespace && (nat_le c.at time && inside (range_span c.range) key) then Some c.to
-    else owner namespace key time older ]
+  | create_change c ↦ if bytes_eq c.namespace namespace && nat_le c.at time then Some first_shard else owner namespace key time older
+  | split_change s ↦ owner namespace key time older
+  | commit_change c ↦
+      if bytes_eq c.namespace namespace && (nat_le c.at time && inside (range_span c.range) key) then Some c.to
+      else owner namespace key time older
+]
 
 -- a collection may be created where there is none of its name, as the next of that name
 pub record CreationFits (c : Creation) (older : List Change) : Type 0 where

@@ -35,14 +35,16 @@ pub data CatalogueAnswer : Type 0 where
 abbrev pub create_answer : List ℕ → ℕ → List Change → CatalogueAnswer
 create_answer namespace at changes =
     elim (known_table namespace changes) as (λ (o : Option Table). CatalogueAnswer) [
-      None ↦ changed (create_change (record { namespace = namespace; epoch = creations namespace changes + 1; at = at })) |
-      Some t ↦ unchanged ]
+      | None ↦ changed (create_change (record { namespace = namespace; epoch = creations namespace changes + 1; at = at }))
+      | Some t ↦ unchanged
+    ]
 
 abbrev pub split_answer : List ℕ → Datum → ℕ → List Change → CatalogueAnswer
 split_answer namespace middle at changes =
     elim (known_table namespace changes) as (λ (o : Option Table). CatalogueAnswer) [
-      None ↦ no_collection |
-      Some t ↦ if can_split middle t.chunks then changed (split_change (record { namespace = namespace; middle = middle; at = at })) else unchanged ]
+      | None ↦ no_collection
+      | Some t ↦ if can_split middle t.chunks then changed (split_change (record { namespace = namespace; middle = middle; at = at })) else unchanged
+    ]
 
 abbrev pub same_version : Version → Version → Bool
 same_version a b = (a.epoch == b.epoch) && ((a.major == b.major) && (a.minor == b.minor))
@@ -54,13 +56,21 @@ chunk_answer words at c =
     else if not (is_owner words.from c.owners) then not_owner
     else if words.from == words.to then same_shard
     else changed (commit_change (record {
-      id = words.id; namespace = words.namespace; range = words.range; from = words.from; to = words.to; at = at }))
+      id = words.id;
+      namespace = words.namespace;
+      range = words.range;
+      from = words.from;
+      to = words.to;
+      at = at;
+    }))
 
 abbrev pub commit_answer : CommitWords → ℕ → List Change → CatalogueAnswer
 commit_answer words at changes =
     if is_committed words.id changes then settled true
     else elim (known_table words.namespace changes) as (λ (o : Option Table). CatalogueAnswer) [
-      None ↦ no_collection |
-      Some t ↦ elim (chunk_with words.range t.chunks) as (λ (o : Option Chunk). CatalogueAnswer) [
-        None ↦ not_a_bound |
-        Some c ↦ chunk_answer words at c ] ]
+      | None ↦ no_collection
+      | Some t ↦ elim (chunk_with words.range t.chunks) as (λ (o : Option Chunk). CatalogueAnswer) [
+        | None ↦ not_a_bound
+        | Some c ↦ chunk_answer words at c
+      ]
+    ]

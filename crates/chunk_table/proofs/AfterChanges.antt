@@ -20,14 +20,14 @@ pub split_writable : (middle : Datum) (chunks : List Chunk) → IsWritableBound 
     → AllByRecursion IsWritableChunk (split_chunks middle chunks chunks)
 split_writable middle chunks w all =
     split_all IsWritableChunk middle chunks chunks (λ c minor within h.
-        (record { min = h.min; max = w; count = h.count }, record { min = w; max = h.max; count = h.count })) all
+    (record { min = h.min; max = w; count = h.count }, record { min = w; max = h.max; count = h.count })) all
 
 pub split_owned : (middle : Datum) (t u : Table) → u.chunks ≡ split_chunks middle t.chunks t.chunks → ((key : Datum) → is_key key ≡ true
     → is_some (owner_now t key) ≡ true)
     → (key : Datum) → is_key key ≡ true → is_some (owner_now u key) ≡ true
 split_owned middle t u is owned key valid =
     ap is_some (now_is u key ∙ ap (λ l. newest (owners_of key l)) is ∙ ap newest (split_owners middle key t.chunks t.chunks) ∙ sym (now_is t key))
-        ∙ owned key valid
+    ∙ owned key valid
 
 moved_by : (same has : Bool) (v : Version) (o : Owned) (c : Chunk) (mine others : List Owned) → (is_some (newest others) ≡ true
     → is_some (newest mine) ≡ true)
@@ -63,7 +63,7 @@ pub split_whole : (middle : Datum) (xs zs ys : List code.Chunk) (t u : Table) �
     → length ys < 2 ^ 32 → IsWritableBound (key_bound middle) → IsWhole t → u.chunks ≡ map chunk_view ys → IsWhole u
 split_whole middle xs zs ys t u same before after few w whole is =
     let from : map chunk_view ys ≡ split_chunks middle t.chunks t.chunks = after
-        ∙ ap (λ (l : List Chunk). split_chunks middle l l) (ap (λ (l : List code.Chunk). map chunk_view l) same ∙ sym before) in
+    ∙ ap (λ (l : List Chunk). split_chunks middle l l) (ap (λ (l : List code.Chunk). map chunk_view l) same ∙ sym before) in
     record {
       owned = split_owned middle t u (is ∙ from) whole.owned;
       count = subst (λ (l : List Chunk). length l < 2 ^ 32) (sym is) (let n = length-map ys chunk_view in omega arith);
@@ -75,7 +75,7 @@ pub moved_whole : (r : Range) (v w : Version) (o : Owned) (donor : ℕ) (xs zs y
     → AllByRecursion IsWritableChunk (map chunk_view ys) → IsWhole t → u.chunks ≡ map chunk_view ys → IsWhole u
 moved_whole r v w o donor xs zs ys t u same before after count writable whole is =
     let from : map chunk_view ys ≡ with_lowest donor w (map (moved_chunk r v o) t.chunks) = after
-        ∙ ap (λ (l : List Chunk). with_lowest donor w (map (moved_chunk r v o) l)) (ap (λ (l : List code.Chunk). map chunk_view l) same ∙ sym before) in
+    ∙ ap (λ (l : List Chunk). with_lowest donor w (map (moved_chunk r v o) l)) (ap (λ (l : List code.Chunk). map chunk_view l) same ∙ sym before) in
     record {
       owned = moved_owned r v w o donor t u (is ∙ from) whole.owned;
       count = subst (λ (l : List Chunk). length l < 2 ^ 32) (sym is)

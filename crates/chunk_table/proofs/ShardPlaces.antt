@@ -96,4 +96,4 @@ pub added : (items zs new : List NodeId) (place : ℕ) (x : NodeId) → zs ≡ i
     → map shard_number new ≡ with_shard x.0 (map shard_number items)
 added items zs new place x same placed is =
     ap (λ l. map shard_number l) is ∙ map_insert items place x ∙ ap (λ l. insert (map shard_number l) place x.0) (sym same) ∙ sym placed
-        ∙ ap (λ l. with_shard x.0 (map shard_number l)) same
+    ∙ ap (λ l. with_shard x.0 (map shard_number l)) same

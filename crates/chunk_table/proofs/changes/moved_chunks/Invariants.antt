@@ -10,7 +10,7 @@ abbrev pub invariant-loop-chunk : goal.invariant-loop-chunk
 invariant-loop-chunk l = record {
   chunks :
       map chunk_view l.copies.items ++ left_to_move l.is_raised l.donor.0 (version_view l.lowest) (map (moved_chunk l.range (version_view l.moved)
-          (owned_view l.owned)) (map chunk_view (drop l.chunk-index l.chunks)))
+      (owned_view l.owned)) (map chunk_view (drop l.chunk-index l.chunks)))
       ≡ with_lowest l.donor.0 (version_view l.lowest) (map (moved_chunk l.range (version_view l.moved) (owned_view l.owned)) (map chunk_view l.chunks));
   count : length l.copies.items ≡ l.chunk-index;
   writable : AllByRecursion IsWritableChunk (map chunk_view l.copies.items);
