@@ -1,5 +1,5 @@
 -- A line is played.
-use Rattle.std.proofs.Common.{◌≡◌, ◌⊎◌, inl, inr, ℕ, zero, suc, ◌+◌, ◌<◌, Bool, true, false, not, List, [], ◌∷◌, ◌++◌, length, refl, sym, ap, subst, ◌∙◌, arith}
+use Rattle.std.proofs.Common.{◌≡◌, ◌⊎◌, inl, inr, ℕ, zero, suc, ◌+◌, ◌<◌, Bool, true, false, List, [], ◌∷◌, ◌++◌, length, refl, sym, ap, subst, ◌∙◌, arith}
 use Rattle.std.specs.Prelude.{Option, Some, None}
 use Rattle.outside.specs.Logs.{LogFacts}
 use Rattle.opmsg_frames.specs.Outline.{FrameFault}
@@ -29,7 +29,7 @@ use Rattle.pipe_driver.specs.Rounds.{first_router}
 use Rattle.sim_driver.proofs.Deliveries.{but_run}
 use Rattle.sim_driver.proofs.Faults.{cut_as, cut_here, still}
 use Rattle.sim_driver.proofs.Places.{place_at}
-use Rattle.sim_driver.proofs.Plays.{client_is_part, whole_is_part}
+use Rattle.sim_driver.proofs.Plays.{client_is_part}
 
 -- a disk failed or memory ended
 pub is_of_line : (status : Status) → (status ≡ statuses.DiskFailed) ⊎ (status ≡ statuses.OutOfMemory) → IsOfLine status
