@@ -1,6 +1,7 @@
 pub mod Crashes
 pub mod DiskNotes
-pub mod Seats
-pub mod Stepping
+pub mod Moments
 pub mod Moves
 pub mod Runs
+pub mod Seats
+pub mod Stepping

@@ -2,7 +2,7 @@
 
 ghost use Rattle.std.specs.Prelude.{◌≡◌, ℕ, ◌<◌, List, [], ◌∷◌, vec_len, IfErr, OnOk};
 ghost use Rattle.node_model.specs.Schedule.{moments_given, openings};
-ghost use Rattle.node_model.specs.World.{IsRouter, World, client_event};
+ghost use Rattle.node_model.specs.World.{IsRouter, World, client_event, moment_event};
 ghost use Rattle.node_traits.specs.declared.outputs.ToLink.{ToLink};
 ghost use Rattle.driver_steps.specs.Crashes.{Since};
 ghost use Rattle.driver_steps.specs.Seats.{AreOpen, TellsFaults, UnlessDiskFailed, faults_of, places_of, seat_since};
@@ -88,6 +88,41 @@ pub fn give_moments<N: Node, L: Log>(
         }
     }
     Ok(())
+}
+
+/// Gives one node the moment, in milliseconds since 1970.
+///
+/// # Errors
+/// As `happen` has them.
+pub fn give_moment<N: Node, L: Log>(
+    seats: &mut Vec<Seat<N, L>>,
+    network: &mut Network<N::Mail>,
+    at: usize,
+    moment: u64,
+) -> Result<(), StepFault>
+    requires at { at < vec_len seats.old }
+    requires open { AreOpen L.facts.is_open seats.old.items }
+    ensures given { (since : Since L) (w : World) (next : ℕ) (handed : List ToLink) →
+        StandsFor (seat_since N.state L.facts since) seats.old.items
+        (network_view (λ m. N.Mail.letter m) network.old) handed w next →
+        OnOk result (HasHappened (seat_since N.state L.facts since) seats.new.items
+        (network_view (λ m. N.Mail.letter m) network.new) handed w next (moment_event at moment)) }
+    ensures stopped { (since : Since L) (w : World) (next : ℕ) (handed : List ToLink) →
+        StandsFor (seat_since N.state L.facts since) seats.old.items
+        (network_view (λ m. N.Mail.letter m) network.old) handed w next →
+        IfErr result (λ e. HasStopped (seat_since N.state L.facts since) seats.new.items
+        network.new.replies.items handed w (λ events. BeginWith events (moment_event at moment ∷ [])) e) }
+    ensures len { vec_len seats.new ≡ vec_len seats.old }
+    ensures open { UnlessDiskFailed result (AreOpen L.facts.is_open seats.new.items) }
+
+    // Of the logs' disks.
+    ensures faults { TellsFaults result (faults_of L.facts.fault_count seats.old.items) (faults_of L.facts.fault_count seats.new.items) }
+    ensures places { places_of L.facts.place seats.new.items ≡ places_of L.facts.place seats.old.items }
+{
+    match happen(seats, network, at, N::moment(moment)) {
+        Ok(()) => Ok(()),
+        Err(e) => Err(e),
+    }
 }
 
 /// A request comes to the router at a place, on a link; the number is that of its reply.

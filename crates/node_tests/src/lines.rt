@@ -24,6 +24,30 @@ fn messages_are_delivered(rt: HostRuntime) -> Result<(), Fail> {
     Ok(())
 }
 
+#[test]
+fn moments_are_given(rt: HostRuntime) -> Result<(), Fail> {
+    let Line::Moment { node, moment } = read_line(rt.alloc(), b"moment 2 18446744073709551615")?
+    else {
+        return Err(Fail::new("another line"));
+    };
+    assert!(rt; node == 2);
+    assert!(rt; moment == u64::MAX);
+    Ok(())
+}
+
+#[test]
+fn kinds_are_named(rt: HostRuntime) -> Result<(), Fail> {
+    let Line::SettleExcept { kind } = read_line(rt.alloc(), b"settle except WriteDone")? else {
+        return Err(Fail::new("another line"));
+    };
+    assert!(rt; kind.as_slice() == b"WriteDone".as_slice());
+    let Line::Next { kind } = read_line(rt.alloc(), b"next Settled")? else {
+        return Err(Fail::new("another line"));
+    };
+    assert!(rt; kind.as_slice() == b"Settled".as_slice());
+    Ok(())
+}
+
 fn is_refused(alloc: Global, line: &[u8]) -> bool {
     matches!(read_line(alloc, line), Err(LineFault::Refused))
 }
@@ -38,14 +62,21 @@ fn other_lines_are_refused(rt: HostRuntime) -> Result<(), Fail> {
     assert!(rt; is_refused(rt.alloc(), b"client 0 "));
     assert!(rt; is_refused(rt.alloc(), b"client 0 0"));
     assert!(rt; is_refused(rt.alloc(), b"client 0  00"));
+    assert!(rt; is_refused(rt.alloc(), b"moment 2 007"));
+    assert!(rt; is_refused(rt.alloc(), b"settle except"));
+    assert!(rt; is_refused(rt.alloc(), b"settle  except WriteDone"));
+    assert!(rt; is_refused(rt.alloc(), b"settle except writeDone"));
+    assert!(rt; is_refused(rt.alloc(), b"settle except WriteDone "));
+    assert!(rt; is_refused(rt.alloc(), b"next WriteDones"));
+    assert!(rt; is_refused(rt.alloc(), b"next"));
     Ok(())
 }
 
 #[test]
 fn replies_are_printed(rt: HostRuntime) -> Result<(), Fail> {
     let mut text = Vec::new(rt.alloc());
-    put_reply(rt.alloc(), b"\x0a\xbc", &mut text)?;
-    put_closed(&mut text)?;
-    assert!(rt; text.as_slice() == b"reply 0 0abc\nclosed 0\n".as_slice());
+    put_reply(rt.alloc(), 12, b"\x0a\xbc", &mut text)?;
+    put_closed(0, &mut text)?;
+    assert!(rt; text.as_slice() == b"reply 12 0abc\nclosed 0\n".as_slice());
     Ok(())
 }

@@ -6,7 +6,7 @@ use Rattle.std.proofs.lemmas.Fmt.{IsAscii-decimal, decimal_by_steps}
 use Rattle.std.proofs.lemmas.Str.{IsUtf8-from_ascii}
 use Rattle.std.proofs.Math.Seq.{take-suc}
 use Rattle.std.specs.Str.{IsUtf8}
-use Rattle.script_lines.specs.Words.{HasNone, IsCutAt, IsNumber}
+use Rattle.script_lines.specs.Words.{AreNumbers, HasNone, IsCutAt, IsNumber}
 
 pub none_append : (byte : ℕ) (xs ys : List ℕ) → HasNone byte xs → HasNone byte ys → HasNone byte (xs ++ ys)
 none_append byte [] ys first second = second
@@ -42,3 +42,9 @@ number_none word n is =
 
 pub number_utf8 : (word : List ℕ) (n : ℕ) → IsNumber word n → IsUtf8 word
 number_utf8 word n is = subst (λ (l : List ℕ). IsUtf8 l) (sym is.digits) (IsUtf8-from_ascii (decimal n) (IsAscii-decimal n is.fits))
+
+-- two numbers are cut at their space
+pub numbers_cut : (words a b : List ℕ) (m n : ℕ) → IsCutAt 32 words a b → AreNumbers words m n → IsNumber a m × IsNumber b n
+numbers_cut words a b m n cut are =
+    let same = same_cut 32 are.first are.second a b (number_none are.first m are.is_first) cut.first (sym are.whole ∙ cut.whole) in
+    (subst (λ (l : List ℕ). IsNumber l m) same.0 are.is_first, subst (λ (l : List ℕ). IsNumber l n) same.1 are.is_second)

@@ -1,4 +1,5 @@
 pub mod Words
+pub mod Kinds
 pub mod Lines
 pub mod Meanings
 pub mod Output

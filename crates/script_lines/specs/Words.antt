@@ -18,6 +18,14 @@ pub record IsNumber (word : List ℕ) (n : ℕ) : Type 0 where
   pub digits : word ≡ decimal n
   pub fits : n < 2 ^ 64
 
+-- two numbers
+pub record AreNumbers (words : List ℕ) (m n : ℕ) : Type 0 where
+  pub first : List ℕ
+  pub second : List ℕ
+  pub whole : words ≡ first ++ 32 ∷ second
+  pub is_first : IsNumber first m
+  pub is_second : IsNumber second n
+
 -- bytes in hexadecimal, some; in lower or upper case
 pub record IsHex (word : List ℕ) (bytes : List ℕ) : Type 0 where
   pub digits : decode_of word ≡ Ok bytes

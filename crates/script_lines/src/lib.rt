@@ -1,6 +1,7 @@
 //! The lines of a script of events: reading one, and printing what a script answers.
 #![tactic(auto)]
 
+mod kinds;
 mod line;
 mod print;
 mod words;

@@ -1,7 +1,7 @@
 //! Words of a line.
 
 ghost use Rattle.std.specs.Prelude.{◌≡◌, ℕ, Some, IfSome, IsNone};
-ghost use Rattle.script_lines.specs.Words.{HasNone, IsCutAt, IsNumber};
+ghost use Rattle.script_lines.specs.Words.{AreNumbers, HasNone, IsCutAt, IsNumber};
 
 use itoa::Buffer;
 use std::str;
@@ -36,5 +36,22 @@ pub(crate) fn number_of(word: &[u8]) -> Option<u64>
         Some(n)
     } else {
         None
+    }
+}
+
+/// The two numbers that words write.
+pub(crate) fn numbers_of(words: &[u8]) -> Option<(u64, u64)>
+    ensures are { IfSome result (λ x. AreNumbers words.now x.0 x.1) }
+    ensures none { IsNone result → (m n : ℕ) → ¬ AreNumbers words.now m n }
+{
+    let Some((first, second)) = cut_at(b' ', words) else {
+        return None;
+    };
+    let Some(m) = number_of(first) else {
+        return None;
+    };
+    match number_of(second) {
+        Some(n) => Some((m, n)),
+        None => None,
     }
 }

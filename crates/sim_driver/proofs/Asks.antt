@@ -13,7 +13,7 @@ use Rattle.driver_steps.specs.Seats.{SeatView}
 use Rattle.driver_steps.specs.Worlds.{NetworkView, StandsFor}
 use Rattle.driver_steps.specs.Moves.{BeginWith, HasHappened, HasStopped}
 use Rattle.pipe_driver.specs.Progress.{AreAsked}
-use Rattle.pipe_driver.specs.Rounds.{first_router, number_behind, replies_after, replies_behind}
+use Rattle.pipe_driver.specs.Rounds.{number_behind, replies_after, replies_behind}
 use Rattle.pipe_driver.specs.Stops.{IsMalformed, status_for}
 use Rattle.pipe_driver.specs.declared.status.Status.{Status}
 use Rattle.pipe_driver.proofs.Frames.{bytes_of, frames_behind}
@@ -23,28 +23,28 @@ use Rattle.sim_driver.specs.Moves.{HasAsked, IsCut, IsFirstAsked}
 use Rattle.sim_driver.specs.Plays.{client_events}
 use Rattle.sim_driver.proofs.Faults.{cut_behind, cut_here, still}
 
-events_more : (link replied : ℕ) (requests : List Request) (q : Request) → client_events link replied (requests ++ q ∷ [])
-    ≡ client_events link replied requests ++ client_event first_router link (number_behind (replies_behind replied requests)) q ∷ []
-events_more link replied [] q = refl
-events_more link replied (p ∷ requests) q =
-    ap (λ (l : List Event). client_event first_router link (number_behind replied) p ∷ l) (events_more link (replies_after p.more replied) requests q)
+events_more : (at link replied : ℕ) (requests : List Request) (q : Request) → client_events at link replied (requests ++ q ∷ [])
+    ≡ client_events at link replied requests ++ client_event at link (number_behind (replies_behind replied requests)) q ∷ []
+events_more at link replied [] q = refl
+events_more at link replied (p ∷ requests) q =
+    ap (λ (l : List Event). client_event at link (number_behind replied) p ∷ l) (events_more at link (replies_after p.more replied) requests q)
 
 -- so far
 pub record AreAsking {S : Type 0} (view : S → SeatView) (seats : List S) (network : NetworkView) (handed : List ToLink) (before : World)
-    (link replied_before : ℕ) (bytes left : List ℕ) (replied : ℕ) : Type 0 where
+    (at link replied_before : ℕ) (bytes left : List ℕ) (replied : ℕ) : Type 0 where
   pub consumed : List ℕ
   pub requests : List Request
   pub end : World
   pub all : bytes ≡ consumed ++ left
   pub asked : AreAsked consumed requests
-  pub run : Run before (client_events link replied_before requests) end
+  pub run : Run before (client_events at link replied_before requests) end
   pub count : replied ≡ replies_behind replied_before requests
-  pub router : IsRouter end.nodes first_router
+  pub router : IsRouter end.nodes at
   pub stands : StandsFor view seats network handed end 0
 
-module _ {S : Type 0} (view : S → SeatView) (handed : List ToLink) (w : World) (link replied_before : ℕ) (bytes : List ℕ) where
-  pub asking_none : (seats : List S) (network : NetworkView) → IsRouter w.nodes first_router → StandsFor view seats network handed w 0
-      → AreAsking view seats network handed w link replied_before bytes bytes replied_before
+module _ {S : Type 0} (view : S → SeatView) (handed : List ToLink) (w : World) (at link replied_before : ℕ) (bytes : List ℕ) where
+  pub asking_none : (seats : List S) (network : NetworkView) → IsRouter w.nodes at → StandsFor view seats network handed w 0
+      → AreAsking view seats network handed w at link replied_before bytes bytes replied_before
   asking_none seats network router s = record {
     consumed = [];
     requests = [];
@@ -58,17 +58,17 @@ module _ {S : Type 0} (view : S → SeatView) (handed : List ToLink) (w : World)
   }
 
   module _ (seats : List S) (network : NetworkView) (left : List ℕ) (replied : ℕ)
-      (a : AreAsking view seats network handed w link replied_before bytes left replied) where
+      (a : AreAsking view seats network handed w at link replied_before bytes left replied) where
     -- the framer gave no more
     pub asking_ends : (rest : List ℕ) → rest ≡ left → outline rest ≡ partial_outline
-        → HasAsked view seats network handed w link replied_before bytes rest replied false
+        → HasAsked view seats network handed w at link replied_before bytes rest replied false
     asking_ends rest same partial = record {
       requests = a.requests ++ [];
       fault = None;
       end = a.end;
       frames = subst (λ (b : List ℕ). FramesFrom 0 b (a.requests ++ []) rest None) (sym whole)
           (frames_behind 0 a.requests rest [] rest None a.asked.each (ends _ rest partial));
-      run = subst (λ (l : List Request). Run w (client_events link replied_before l) a.end) (sym (append-nil a.requests)) a.run;
+      run = subst (λ (l : List Request). Run w (client_events at link replied_before l) a.end) (sym (append-nil a.requests)) a.run;
       count = a.count ∙ ap (λ (l : List Request). replies_behind replied_before l) (sym (append-nil a.requests));
       ends = refl;
       stands = a.stands;
@@ -78,7 +78,7 @@ module _ {S : Type 0} (view : S → SeatView) (handed : List ToLink) (w : World)
         whole = a.all ∙ (ap (λ (b : List ℕ). b ++ left) a.asked.all ∙ ap (λ (b : List ℕ). bytes_of a.requests ++ b) (sym same))
 
     -- what is left is no request
-    pub asking_fails : (rest : List ℕ) → rest ≡ left → IsMalformed rest → HasAsked view seats network handed w link replied_before bytes rest replied true
+    pub asking_fails : (rest : List ℕ) → rest ≡ left → IsMalformed rest → HasAsked view seats network handed w at link replied_before bytes rest replied true
     asking_fails rest same malformed = record {
       requests = a.requests ++ [];
       fault = Some (malformed.0, 0 + length (bytes_of a.requests));
@@ -86,7 +86,7 @@ module _ {S : Type 0} (view : S → SeatView) (handed : List ToLink) (w : World)
       frames = subst (λ (b : List ℕ). FramesFrom 0 b (a.requests ++ []) rest (Some (malformed.0, 0 + length (bytes_of a.requests)))) (sym whole)
           (frames_behind 0 a.requests rest [] rest (Some (malformed.0, 0 + length (bytes_of a.requests))) a.asked.each
           (fails (0 + length (bytes_of a.requests)) rest malformed.0 malformed.1));
-      run = subst (λ (l : List Request). Run w (client_events link replied_before l) a.end) (sym (append-nil a.requests)) a.run;
+      run = subst (λ (l : List Request). Run w (client_events at link replied_before l) a.end) (sym (append-nil a.requests)) a.run;
       count = a.count ∙ ap (λ (l : List Request). replies_behind replied_before l) (sym (append-nil a.requests));
       ends = refl;
       stands = a.stands;
@@ -96,50 +96,50 @@ module _ {S : Type 0} (view : S → SeatView) (handed : List ToLink) (w : World)
         whole = a.all ∙ (ap (λ (b : List ℕ). b ++ left) a.asked.all ∙ ap (λ (b : List ℕ). bytes_of a.requests ++ b) (sym same))
 
     -- there was no memory for the next one
-    pub asking_cut : (status : Status) → IsCut view seats w (IsFirstAsked link replied_before bytes) status
+    pub asking_cut : (status : Status) → IsCut view seats w (IsFirstAsked at link replied_before bytes) status
     asking_cut status =
-        cut_here view seats w (client_events link replied_before a.requests) a.end (IsFirstAsked link replied_before bytes) status a.run
+        cut_here view seats w (client_events at link replied_before a.requests) a.end (IsFirstAsked at link replied_before bytes) status a.run
         (record {
           consumed = a.consumed;
           rest = left;
           requests = a.requests;
           all = a.all;
           asked = a.asked;
-          first = ([], sym (append-nil (client_events link replied_before a.requests)));
+          first = ([], sym (append-nil (client_events at link replied_before a.requests)));
         }) (still view seats network handed a.end a.stands)
 
     module _ (q asked : Request) (behind : List ℕ) (number : ℤ) (split : left ≡ q.bytes ++ behind) (is : IsRequest q) (same : asked ≡ q)
         (numbered : number ≡ number_behind replied) where
-      event_is : client_event first_router link number asked ≡ client_event first_router link (number_behind (replies_behind replied_before a.requests)) q
-      event_is = ap (λ (z : ℤ). client_event first_router link z asked) (numbered ∙ ap (λ (n : ℕ). number_behind n) a.count)
-          ∙ ap (λ (x : Request). client_event first_router link (number_behind (replies_behind replied_before a.requests)) x) same
+      event_is : client_event at link number asked ≡ client_event at link (number_behind (replies_behind replied_before a.requests)) q
+      event_is = ap (λ (z : ℤ). client_event at link z asked) (numbered ∙ ap (λ (n : ℕ). number_behind n) a.count)
+          ∙ ap (λ (x : Request). client_event at link (number_behind (replies_behind replied_before a.requests)) x) same
 
       all_then : bytes ≡ (a.consumed ++ q.bytes) ++ behind
       all_then = a.all ∙ (ap (λ (b : List ℕ). a.consumed ++ b) split ∙ sym (append_assoc a.consumed q.bytes behind))
 
       -- one request more came
       pub asking_more : (seats_after : List S) (post_after : NetworkView) (after : ℕ)
-          → HasHappened view seats_after post_after handed a.end 0 (client_event first_router link number asked)
+          → HasHappened view seats_after post_after handed a.end 0 (client_event at link number asked)
           → after ≡ replies_after q.more replied
-          → AreAsking view seats_after post_after handed w link replied_before bytes behind after
+          → AreAsking view seats_after post_after handed w at link replied_before bytes behind after
       asking_more seats_after post_after after h counted = record {
         consumed = a.consumed ++ q.bytes;
         requests = a.requests ++ q ∷ [];
         end = h.end;
         all = all_then;
         asked = asked_more a.consumed a.requests q a.asked is;
-        run = subst (λ (l : List Event). Run w l h.end) (sym (events_more link replied_before a.requests q))
-            (run_then w (client_events link replied_before a.requests) a.end
-            (client_event first_router link (number_behind (replies_behind replied_before a.requests)) q ∷ []) h.end a.run
-            (goes a.end h.end h.end (client_event first_router link (number_behind (replies_behind replied_before a.requests)) q) []
+        run = subst (λ (l : List Event). Run w l h.end) (sym (events_more at link replied_before a.requests q))
+            (run_then w (client_events at link replied_before a.requests) a.end
+            (client_event at link (number_behind (replies_behind replied_before a.requests)) q ∷ []) h.end a.run
+            (goes a.end h.end h.end (client_event at link (number_behind (replies_behind replied_before a.requests)) q) []
             (subst (λ (e : Event). Happens a.end e h.end) event_is h.happens) (stands h.end)));
         count = counted ∙ (ap (λ (n : ℕ). replies_after q.more n) a.count ∙ sym (behind_more replied_before a.requests q));
-        router = happens_stays a.end h.end (client_event first_router link number asked) first_router h.happens a.router;
+        router = happens_stays a.end h.end (client_event at link number asked) at h.happens a.router;
         stands = h.stands;
       }
 
-      first_then : (more : List Event) → BeginWith more (client_event first_router link number asked ∷ [])
-          → IsFirstAsked link replied_before bytes (client_events link replied_before a.requests ++ more)
+      first_then : (more : List Event) → BeginWith more (client_event at link number asked ∷ [])
+          → IsFirstAsked at link replied_before bytes (client_events at link replied_before a.requests ++ more)
       first_then more (others, rest) = record {
         consumed = a.consumed ++ q.bytes;
         rest = behind;
@@ -148,18 +148,18 @@ module _ {S : Type 0} (view : S → SeatView) (handed : List ToLink) (w : World)
         asked = asked_more a.consumed a.requests q a.asked is;
         first = (
           others,
-          events_more link replied_before a.requests q
-              ∙ (ap (λ (e : Event). client_events link replied_before a.requests ++ e ∷ []) (sym event_is)
-              ∙ (ap (λ (l : List Event). client_events link replied_before a.requests ++ l) rest
-              ∙ sym (append_assoc (client_events link replied_before a.requests) more others))),
+          events_more at link replied_before a.requests q
+              ∙ (ap (λ (e : Event). client_events at link replied_before a.requests ++ e ∷ []) (sym event_is)
+              ∙ (ap (λ (l : List Event). client_events at link replied_before a.requests ++ l) rest
+              ∙ sym (append_assoc (client_events at link replied_before a.requests) more others))),
         );
       }
 
       -- its step failed
       pub asking_stopped : (seats_after : List S) (replies : List ToLink) (fault : StepFault) (status : Status) → status ≡ status_for fault
-          → HasStopped view seats_after replies handed a.end (λ events. BeginWith events (client_event first_router link number asked ∷ [])) fault
-          → IsCut view seats_after w (IsFirstAsked link replied_before bytes) status
+          → HasStopped view seats_after replies handed a.end (λ events. BeginWith events (client_event at link number asked ∷ [])) fault
+          → IsCut view seats_after w (IsFirstAsked at link replied_before bytes) status
       asking_stopped seats_after replies fault status is_for s =
-          cut_behind view seats_after replies handed w (client_events link replied_before a.requests) a.end
-          (λ events. BeginWith events (client_event first_router link number asked ∷ [])) (IsFirstAsked link replied_before bytes) fault status is_for
+          cut_behind view seats_after replies handed w (client_events at link replied_before a.requests) a.end
+          (λ events. BeginWith events (client_event at link number asked ∷ [])) (IsFirstAsked at link replied_before bytes) fault status is_for
           a.run first_then s

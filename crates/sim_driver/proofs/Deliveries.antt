@@ -1,7 +1,7 @@
 -- Deliveries in order of sending, but for those before.
 use Rattle.std.proofs.Common.{◌≡◌, ◌⊎◌, inl, inr, ℕ, zero, suc, ◌+◌, ◌-◌, ◌*◌, ◌<◌, ◌≤◌, ◌^◌, List, [], ◌∷◌, ◌++◌, length, refl, sym, ap, subst, ◌∙◌, arith}
-use Rattle.std.proofs.Common.{length-append, true, false}
-use Rattle.std.specs.Prelude.{Some}
+use Rattle.std.proofs.Common.{add-one, append-nil, length-append, true, false}
+use Rattle.std.specs.Prelude.{Bool, Option, Some, ◌||◌}
 use Rattle.std.specs.List.{slice_get}
 use Rattle.std.proofs.lemmas.Option.{slice_get_within}
 use Rattle.node_model.specs.Letters.{Letter}
@@ -11,52 +11,66 @@ use Rattle.driver_steps.specs.Seats.{SeatView}
 use Rattle.driver_steps.specs.Worlds.{NetworkView, StandsFor}
 use Rattle.driver_steps.specs.Moves.{DeliversOrLoses}
 use Rattle.pipe_driver.specs.declared.status.Status.{Status}
-use Rattle.sim_driver.specs.Moves.{HasDeliveredOne, HasSettledBut, IsCut, IsPartOfDelivery, PassesOrDelivers}
-use Rattle.sim_driver.specs.Plays.{SettlesBut, IsPartOfSettling, is_early, but_none, but_early, but_next, but_lost}
-use Rattle.sim_driver.proofs.Faults.{cut_then}
+use Rattle.sim_driver.specs.Scripts.{AreDelivered, is_held, marked}
+use Rattle.sim_driver.specs.Moves.{HasDeliveredOne, HasSettledBut, IsCut, IsPartOfDelivery, PassesOrDelivers, has_passed, has_delivered}
+use Rattle.sim_driver.specs.Plays.{SettlesBut, IsPartOfSettling, is_passed, but_none, but_passed, but_next, but_lost}
+use Rattle.sim_driver.proofs.Faults.{cut_here, cut_then, still}
+use Rattle.sim_driver.proofs.Marks.{delivered_at, delivered_length, fewer_delivered}
 
-pub but_run : (early : List ℕ) (u : World) (next : ℕ) (events : List Event) (w : World) (later : ℕ) → SettlesBut early u next events w later → Run u events w
-but_run early _ _ _ _ _ (but_none w next) = stands w
-but_run early _ _ _ _ _ (but_early u w next later events before within more) = but_run early u (next + 1) events w later more
-but_run early _ _ _ _ _ (but_next u v w next later at events new h more) =
-    goes u v w (deliver_event at next) events h (but_run early v (next + 1) events w later more)
-but_run early _ _ _ _ _ (but_lost u w next later m events got none more) = but_run early u (next + 1) events w later more
+module _ (except : Option (List ℕ)) where
+  pub but_run : (u : World) (ds : List Bool) (next : ℕ) (events : List Event) (w : World) (es : List Bool) (later : ℕ)
+      → SettlesBut except u ds next events w es later → Run u events w
+  but_run _ _ _ _ _ _ _ (but_none w ds next) = stands w
+  but_run _ _ _ _ _ _ _ (but_passed u w ds es next later m events got is more) = but_run u ds (next + 1) events w es later more
+  but_run _ _ _ _ _ _ _ (but_next u v w ds es next later m events got new h more) =
+      goes u v w (deliver_event m.receiver next) events h (but_run v (marked next ds) (next + 1) events w es later more)
+  but_run _ _ _ _ _ _ _ (but_lost u w ds es next later m events got new none more) = but_run u (marked next ds) (next + 1) events w es later more
 
-early_more : (early : List ℕ) (u : World) (next : ℕ) (events : List Event) (v : World) (later : ℕ) → SettlesBut early u next events v later
-    → is_early early later ≡ true → later < length v.sent → SettlesBut early u next events v (later + 1)
-early_more early _ _ _ _ _ (but_none w next) is within = but_early w w next (next + 1) [] is within (but_none w (next + 1))
-early_more early _ _ _ _ _ (but_early u w next later events before inside more) is within =
-    but_early u w next (later + 1) events before inside (early_more early u (next + 1) events w later more is within)
-early_more early _ _ _ _ _ (but_next u v w next later at events new h more) is within =
-    but_next u v w next (later + 1) at events new h (early_more early v (next + 1) events w later more is within)
-early_more early _ _ _ _ _ (but_lost u w next later m events got none more) is within =
-    but_lost u w next (later + 1) m events got none (early_more early u (next + 1) events w later more is within)
-
-next_more : (early : List ℕ) (u : World) (next : ℕ) (events : List Event) (v : World) (later at : ℕ) (w : World) → SettlesBut early u next events v later
-    → is_early early later ≡ false → Happens v (deliver_event at later) w → SettlesBut early u next (events ++ deliver_event at later ∷ []) w (later + 1)
-next_more early _ _ _ _ _ at x (but_none w next) new h = but_next w x x next (next + 1) at [] new h (but_none x (next + 1))
-next_more early _ _ _ _ _ at x (but_early u w next later events before inside more) new h =
-    but_early u x next (later + 1) (events ++ deliver_event at later ∷ []) before inside (next_more early u (next + 1) events w later at x more new h)
-next_more early _ _ _ _ _ at x (but_next u v w next later first events fresh here more) new h =
-    but_next u v x next (later + 1) first (events ++ deliver_event at later ∷ []) fresh here (next_more early v (next + 1) events w later at x more new h)
-next_more early _ _ _ _ _ at x (but_lost u w next later m events got none more) new h =
-    but_lost u x next (later + 1) m (events ++ deliver_event at later ∷ []) got none (next_more early u (next + 1) events w later at x more new h)
-
-lost_more : (early : List ℕ) (u : World) (next : ℕ) (events : List Event) (v : World) (later : ℕ) (m : Letter) → SettlesBut early u next events v later
-    → slice_get v.sent later ≡ Some m → length v.nodes ≤ m.receiver → SettlesBut early u next events v (later + 1)
-lost_more early _ _ _ _ _ m (but_none w next) got none = but_lost w w next (next + 1) m [] got none (but_none w (next + 1))
-lost_more early _ _ _ _ _ m (but_early u w next later events before inside more) got none =
-    but_early u w next (later + 1) events before inside (lost_more early u (next + 1) events w later m more got none)
-lost_more early _ _ _ _ _ m (but_next u v w next later at events new h more) got none =
-    but_next u v w next (later + 1) at events new h (lost_more early v (next + 1) events w later m more got none)
-lost_more early _ _ _ _ _ m (but_lost u w next later o events before lost more) got none =
-    but_lost u w next (later + 1) o events before lost (lost_more early u (next + 1) events w later m more got none)
+  -- one run of deliveries behind another
+  pub but_then : (u : World) (ds : List Bool) (next : ℕ) (events : List Event) (v : World) (es : List Bool) (later : ℕ) (more : List Event) (w : World)
+      (fs : List Bool) (last : ℕ) → SettlesBut except u ds next events v es later → SettlesBut except v es later more w fs last
+      → SettlesBut except u ds next (events ++ more) w fs last
+  but_then _ _ _ _ _ _ _ others x fs last (but_none w ds next) then = then
+  but_then _ _ _ _ _ _ _ others x fs last (but_passed u w ds es next later m events got is more) then =
+      but_passed u x ds fs next last m (events ++ others) got is (but_then u ds (next + 1) events w es later others x fs last more then)
+  but_then _ _ _ _ _ _ _ others x fs last (but_next u v w ds es next later m events got new h more) then =
+      but_next u v x ds fs next last m (events ++ others) got new h
+      (but_then v (marked next ds) (next + 1) events w es later others x fs last more then)
+  but_then _ _ _ _ _ _ _ others x fs last (but_lost u w ds es next later m events got new none more) then =
+      but_lost u x ds fs next last m (events ++ others) got new none
+      (but_then u (marked next ds) (next + 1) events w es later others x fs last more then)
 
 -- a message stands at each place
 pub message_at : (letters : List Letter) (at : ℕ) → at < length letters → (m : Letter) × (slice_get letters at ≡ Some m)
 message_at [] at within = absurd (omega (arith, within))
 message_at (m ∷ letters) zero within = (m, refl)
 message_at (m ∷ letters) (suc at) within = message_at letters at (omega (arith, within))
+
+-- one more is passed
+passed_more : (except : Option (List ℕ)) (u : World) (ds : List Bool) (next : ℕ) (events : List Event) (v : World) (es : List Bool) (later : ℕ) (m : Letter)
+    → SettlesBut except u ds next events v es later → slice_get v.sent later ≡ Some m → is_passed except es later m ≡ true
+    → SettlesBut except u ds next events v es (later + 1)
+passed_more except u ds next events v es later m so_far got is =
+    subst (λ (l : List Event). SettlesBut except u ds next l v es (later + 1)) (append-nil events)
+    (but_then except u ds next events v es later [] v es (later + 1) so_far
+    (but_passed v v es es later (later + 1) m [] got is (but_none v es (later + 1))))
+
+-- all before a place were delivered
+passed_before : (except : Option (List ℕ)) (u : World) (ds : List Bool) (n : ℕ) → n ≤ length u.sent → AreDelivered n ds → SettlesBut except u ds 0 [] u ds n
+passed_before except u ds zero within all = but_none u ds 0
+passed_before except u ds (suc n) within all =
+    let here = message_at u.sent n (omega (arith, within)) in
+    subst (λ (k : ℕ). SettlesBut except u ds 0 [] u ds k) (add-one n)
+    (passed_more except u ds 0 [] u ds n here.0 (passed_before except u ds n (omega (arith, within)) (fewer_delivered n ds all)) here.1
+    (ap (λ (b : Bool). b || is_held except here.0) (delivered_at (suc n) ds n all (omega arith))))
+
+-- it is the one that is there
+pub passes_by : (sent : List Letter) (at : ℕ) (m n : Letter) (except : Option (List ℕ)) (ds : List Bool) → slice_get sent at ≡ Some m → slice_get sent at ≡ Some n
+    → is_passed except ds at m ≡ false → is_passed except ds at n ≡ false
+passes_by sent at m n except ds first second is =
+    let both : Some m ≡ Some n = sym first ∙ second in
+    let same : m ≡ n = cc both in
+    subst (λ (l : Letter). is_passed except ds at l ≡ false) same is
 
 -- SO FAR
 
@@ -69,82 +83,98 @@ all_sent view seats network handed u s = s.sent ∙ ap (λ (l : List Letter). l 
     empty [] none = refl
     empty (m ∷ past) none = absurd (omega (arith, none))
 
-pub record IsSettling {S : Type 0} (view : S → SeatView) (seats : List S) (network : NetworkView) (handed : List ToLink) (before : World) (early : List ℕ)
-    (next later : ℕ) : Type 0 where
+pub record IsSettling {S : Type 0} (view : S → SeatView) (seats : List S) (network : NetworkView) (handed : List ToLink) (before : World)
+    (except : Option (List ℕ)) (ds es : List Bool) (later : ℕ) : Type 0 where
   pub events : List Event
   pub end : World
-  pub settles : SettlesBut early before next events end later
+  pub settles : SettlesBut except before ds 0 events end es later
   pub within : later ≤ length end.sent
   pub stands : StandsFor view seats network handed end 0
 
-pub settling_none : {S : Type 0} (view : S → SeatView) (seats : List S) (network : NetworkView) (handed : List ToLink) (u : World) (early : List ℕ) (next : ℕ)
-    → next ≤ length u.sent → StandsFor view seats network handed u 0 → IsSettling view seats network handed u early next next
-settling_none view seats network handed u early next within s =
-    record { events = []; end = u; settles = but_none u next; within = within; stands = s }
-
-settling_early : {S : Type 0} (view : S → SeatView) (seats seats_after : List S) (network post_after : NetworkView) (handed : List ToLink) (u : World)
-    (early : List ℕ) (next later : ℕ) → (s : IsSettling view seats network handed u early next later) → is_early early later ≡ true → later < length network.waiting
-    → StandsFor view seats_after post_after handed s.end 0 → IsSettling view seats_after post_after handed u early next (later + 1)
-settling_early view seats seats_after network post_after handed u early next later s is within there =
-    let all = ap (λ (l : List Letter). length l) (all_sent view seats network handed s.end s.stands) in
-    record {
-      events = s.events;
-      end = s.end;
-      settles = early_more early u next s.events s.end later s.settles is (omega (arith, all, within));
-      within = omega (arith, all, within);
-      stands = there;
-    }
+pub settling_none : {S : Type 0} (view : S → SeatView) (seats : List S) (network : NetworkView) (handed : List ToLink) (u : World)
+    (except : Option (List ℕ)) (ds : List Bool) (first : ℕ) → AreDelivered first ds → length ds ≤ length u.sent → StandsFor view seats network handed u 0
+    → IsSettling view seats network handed u except ds ds first
+settling_none view seats network handed u except ds first all within s =
+    let inside : first ≤ length u.sent = omega (arith, within, delivered_length first ds all) in
+    record { events = []; end = u; settles = passed_before except u ds first inside all; within = inside; stands = s }
 
 deliver_grows : (u v : World) (at which : ℕ) → Happens u (deliver_event at which) v → length u.sent ≤ length v.sent
 deliver_grows _ _ _ _ (delivers u v at which m got to moves) =
     subst (λ (x : World). length u.sent ≤ length x.sent) (sym moves.then) (omega (arith, length-append u.sent moves.f.mail))
 
-settling_on : {S : Type 0} (view : S → SeatView) (seats seats_after : List S) (network post_after : NetworkView) (handed : List ToLink) (u : World)
-    (early : List ℕ) (next later : ℕ) → (s : IsSettling view seats network handed u early next later) → is_early early later ≡ false
-    → HasDeliveredOne view seats_after post_after handed s.end later → IsSettling view seats_after post_after handed u early next (later + 1)
-settling_on view seats seats_after network post_after handed u early next later s new d = by_kind d.delivers
-  where
-    by_kind : DeliversOrLoses s.end later d.message.receiver d.end → IsSettling view seats_after post_after handed u early next (later + 1)
-    by_kind (inl h) = record {
-      events = s.events ++ deliver_event d.message.receiver later ∷ [];
-      end = d.end;
-      settles = next_more early u next s.events s.end later d.message.receiver d.end s.settles new h;
-      within = omega (arith, slice_get_within s.end.sent later d.message d.got, deliver_grows s.end d.end d.message.receiver later h);
-      stands = d.stands;
-    }
-    by_kind (inr (same, none)) = record {
-      events = s.events;
-      end = d.end;
-      settles = subst (λ (x : World). SettlesBut early u next s.events x (later + 1)) (sym same)
-          (lost_more early u next s.events s.end later d.message s.settles d.got none);
-      within = subst (λ (x : World). later + 1 ≤ length x.sent) (sym same) (omega (arith, slice_get_within s.end.sent later d.message d.got));
-      stands = d.stands;
-    }
+module _ {S : Type 0} (view : S → SeatView) (seats_after : List S) (post_after : NetworkView) (handed : List ToLink) (u : World)
+    (except : Option (List ℕ)) (ds es : List Bool) (later : ℕ) where
+  settling_on : (seats : List S) (network : NetworkView) → (s : IsSettling view seats network handed u except ds es later)
+      → (d : HasDeliveredOne view seats_after post_after handed s.end later) → is_passed except es later d.message ≡ false
+      → IsSettling view seats_after post_after handed u except ds (marked later es) (later + 1)
+  settling_on seats network s d new = by_kind d.delivers
+    where
+      by_kind : DeliversOrLoses s.end later d.message.receiver d.end
+          → IsSettling view seats_after post_after handed u except ds (marked later es) (later + 1)
+      by_kind (inl h) = record {
+        events = s.events ++ deliver_event d.message.receiver later ∷ [];
+        end = d.end;
+        settles = but_then except u ds 0 s.events s.end es later (deliver_event d.message.receiver later ∷ []) d.end (marked later es) (later + 1) s.settles
+            (but_next s.end d.end d.end es (marked later es) later (later + 1) d.message [] d.got new h (but_none d.end (marked later es) (later + 1)));
+        within = omega (arith, slice_get_within s.end.sent later d.message d.got, deliver_grows s.end d.end d.message.receiver later h);
+        stands = d.stands;
+      }
+      by_kind (inr (same, none)) = record {
+        events = s.events ++ [];
+        end = d.end;
+        settles = subst (λ (x : World). SettlesBut except u ds 0 (s.events ++ []) x (marked later es) (later + 1)) (sym same)
+            (but_then except u ds 0 s.events s.end es later [] s.end (marked later es) (later + 1) s.settles
+            (but_lost s.end s.end es (marked later es) later (later + 1) d.message [] d.got new none (but_none s.end (marked later es) (later + 1))));
+        within = subst (λ (x : World). later + 1 ≤ length x.sent) (sym same) (omega (arith, slice_get_within s.end.sent later d.message d.got));
+        stands = d.stands;
+      }
 
-pub settling_step : {S : Type 0} (view : S → SeatView) (seats seats_after : List S) (network post_after : NetworkView) (handed : List ToLink) (u : World)
-    (early : List ℕ) (next later : ℕ) → (s : IsSettling view seats network handed u early next later) → later < length network.waiting
-    → PassesOrDelivers view seats_after post_after handed s.end early later → IsSettling view seats_after post_after handed u early next (later + 1)
-settling_step view seats seats_after network post_after handed u early next later s within (inl (is, there)) =
-    settling_early view seats seats_after network post_after handed u early next later s is within there
-settling_step view seats seats_after network post_after handed u early next later s within (inr (new, d)) =
-    settling_on view seats seats_after network post_after handed u early next later s new d
+  pub settling_step : (seats : List S) (network : NetworkView) (fs : List Bool) → (s : IsSettling view seats network handed u except ds es later)
+      → PassesOrDelivers view seats_after post_after handed s.end except later es fs
+      → IsSettling view seats_after post_after handed u except ds fs (later + 1)
+  settling_step seats network fs s (has_passed m got is there same) =
+      subst (λ (l : List Bool). IsSettling view seats_after post_after handed u except ds l (later + 1)) (sym same) (record {
+        events = s.events;
+        end = s.end;
+        settles = passed_more except u ds 0 s.events s.end es later m s.settles got is;
+        within = omega (arith, slice_get_within s.end.sent later m got);
+        stands = there;
+      })
+  settling_step seats network fs s (has_delivered d new same) =
+      subst (λ (l : List Bool). IsSettling view seats_after post_after handed u except ds l (later + 1)) (sym same) (settling_on seats network s d new)
 
 pub settling_cut : {S : Type 0} (view : S → SeatView) (seats seats_after : List S) (network : NetworkView) (handed : List ToLink) (u : World)
-    (early : List ℕ) (next later : ℕ) (status : Status) → (s : IsSettling view seats network handed u early next later)
-    → IsCut view seats_after s.end (IsPartOfDelivery s.end later) status → IsCut view seats_after u (IsPartOfSettling early u next) status
-settling_cut view seats seats_after network handed u early next later status s c =
-    cut_then view seats_after u s.events s.end (IsPartOfDelivery s.end later) (IsPartOfSettling early u next) status
-    (but_run early u next s.events s.end later s.settles)
+    (except : Option (List ℕ)) (ds es : List Bool) (later : ℕ) (status : Status) → (s : IsSettling view seats network handed u except ds es later)
+    → IsCut view seats_after s.end (IsPartOfDelivery s.end later) status → IsCut view seats_after u (IsPartOfSettling except u ds) status
+settling_cut view seats seats_after network handed u except ds es later status s c =
+    cut_then view seats_after u s.events s.end (IsPartOfDelivery s.end later) (IsPartOfSettling except u ds) status
+    (but_run except u ds 0 s.events s.end es later s.settles)
     (λ more part. record {
       before = s.events;
       more = more;
       then = s.end;
+      marks = es;
       later = later;
       at = part.message.receiver;
       settles = s.settles;
       first = part.first;
       all = refl;
     }) c
+
+-- a message was delivered, and there was no memory to note it
+pub delivered_cut : {S : Type 0} (view : S → SeatView) (seats : List S) (network : NetworkView) (handed : List ToLink) (w : World) (which : ℕ) (status : Status)
+    → HasDeliveredOne view seats network handed w which → IsCut view seats w (IsPartOfDelivery w which) status
+delivered_cut view seats network handed w which status d = by_kind d.delivers
+  where
+    by_kind : DeliversOrLoses w which d.message.receiver d.end → IsCut view seats w (IsPartOfDelivery w which) status
+    by_kind (inl h) =
+        cut_here view seats w (deliver_event d.message.receiver which ∷ []) d.end (IsPartOfDelivery w which) status
+        (goes w d.end d.end (deliver_event d.message.receiver which) [] h (stands d.end))
+        (record { message = d.message; got = d.got; first = ([], refl) }) (still view seats network handed d.end d.stands)
+    by_kind (inr (same, none)) =
+        cut_here view seats w [] d.end (IsPartOfDelivery w which) status (subst (λ (x : World). Run w [] x) (sym same) (stands w))
+        (record { message = d.message; got = d.got; first = (deliver_event d.message.receiver which ∷ [], refl) })
+        (still view seats network handed d.end d.stands)
 
 -- a delivery leaves less to do, and a place that is passed too
 pub less_to_do : {M : Type 0} (left left_after at count count_after : ℕ) (waiting after : List M)
@@ -156,15 +186,15 @@ less_to_do {M} left left_after at count count_after waiting after (inr (same, st
     let as_many : length after ≡ length waiting = ap (λ (l : List M). length l) stays in
     omega arith
 
-pub settling_end : {S : Type 0} (view : S → SeatView) (seats : List S) (network : NetworkView) (handed : List ToLink) (u : World) (early : List ℕ)
-    (next later : ℕ) → IsSettling view seats network handed u early next later → length network.waiting ≤ later
-    → HasSettledBut view seats network handed u early next
-settling_end view seats network handed u early next later s past =
+pub settling_end : {S : Type 0} (view : S → SeatView) (seats : List S) (network : NetworkView) (handed : List ToLink) (u : World)
+    (except : Option (List ℕ)) (ds es : List Bool) (later : ℕ) → IsSettling view seats network handed u except ds es later
+    → length network.waiting ≤ later → HasSettledBut view seats network handed u except ds es
+settling_end view seats network handed u except ds es later s past =
     let all = ap (λ (l : List Letter). length l) (all_sent view seats network handed s.end s.stands) in
     let end : later ≡ length s.end.sent = omega (arith, all, past, s.within) in
     record {
       events = s.events;
       end = s.end;
-      settles = subst (λ (n : ℕ). SettlesBut early u next s.events s.end n) end s.settles;
+      settles = subst (λ (n : ℕ). SettlesBut except u ds 0 s.events s.end es n) end s.settles;
       stands = s.stands;
     }

@@ -39,7 +39,7 @@ module _ (routers : ℕ) where
   cause_run limit at_end taken lines left put end _ (write_failed short) = short_run lines left put end short
   cause_run limit at_end taken lines left put end _ (disk_failed came) = came_run lines left put end came
   cause_run limit at_end taken lines left put end _ (no_memory came) = came_run lines left put end came
-  cause_run limit at_end taken lines left put end _ (line_refused bytes others next refused all) = all_run lines put end all
+  cause_run limit at_end taken lines left put end _ (line_refused bytes others next all refused) = all_run lines put end all
   cause_run limit at_end taken lines left put end _ (line_unended ends below some none all) = all_run lines put end all
   cause_run limit at_end taken lines left put end _ (too_long long none all) = all_run lines put end all
 

@@ -3,6 +3,10 @@ pub mod Deliveries
 pub mod Endings
 pub mod Faults
 pub mod Histories
+pub mod LinkAsks
+pub mod Marks
+pub mod NewLinks
+pub mod NextPlaces
 pub mod Places
 pub mod PlayedLines
 pub mod Plays

@@ -18,11 +18,11 @@ there_is a b e = grind (arith, nat_tests)
 there_is_not : (a b : ℕ) → a ≢ b → (a == b) ≡ false
 there_is_not a b other = grind (arith, nat_tests)
 
-taken : (test : Bool) (a b : Option ℕ) → test ≡ true → (if test then a else b) ≡ a
+pub taken : (test : Bool) (a b : Option ℕ) → test ≡ true → (if test then a else b) ≡ a
 taken true a b e = refl
 taken false a b e = absurd (cc e)
 
-not_taken : (test : Bool) (a b : Option ℕ) → test ≡ false → (if test then a else b) ≡ b
+pub not_taken : (test : Bool) (a b : Option ℕ) → test ≡ false → (if test then a else b) ≡ b
 not_taken true a b e = absurd (cc e)
 not_taken false a b e = refl
 
@@ -49,7 +49,7 @@ module _ (xs : List Letter) (at node left receiver : ℕ) (there : IsReceiverAt 
       (place_from (at + 1) node left (drop (suc at) xs)) (there_is there.0.receiver node (sym there.2 ∙ same))
       ∙ taken (left == 0) (Some at) (place_from (at + 1) node (left - 1) (drop (suc at) xs)) (there_is left 0 none))
 
-drop_past : (xs : List Letter) (at : ℕ) → length xs ≤ at → drop at xs ≡ []
+pub drop_past : (xs : List Letter) (at : ℕ) → length xs ≤ at → drop at xs ≡ []
 drop_past [] zero past = refl
 drop_past [] (suc at) past = refl
 drop_past (x ∷ xs) zero past = absurd (omega (arith, past))

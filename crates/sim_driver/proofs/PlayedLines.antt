@@ -1,33 +1,35 @@
 -- A line is played.
-use Rattle.std.proofs.Common.{◌≡◌, ◌⊎◌, inl, inr, ℕ, ◌+◌, ◌<◌, Bool, true, false, not, List, [], ◌∷◌, ◌++◌, length, refl, sym, ap, subst, ◌∙◌, arith}
+use Rattle.std.proofs.Common.{◌≡◌, ◌⊎◌, inl, inr, ℕ, zero, suc, ◌+◌, ◌<◌, Bool, true, false, List, [], ◌∷◌, ◌++◌, length, refl, sym, ap, subst, ◌∙◌, arith}
 use Rattle.std.specs.Prelude.{Option, Some, None}
 use Rattle.outside.specs.Logs.{LogFacts}
 use Rattle.opmsg_frames.specs.Outline.{FrameFault}
 use Rattle.opmsg_frames.specs.Frames.{FramesFrom}
-use Rattle.std.specs.List.{slice_get}
+use Rattle.std.specs.List.{slice_get, slice_set}
 use Rattle.node_model.specs.Letters.{Letter}
 use Rattle.node_model.specs.States.{NodeState}
-use Rattle.node_model.specs.World.{World, Event, deliver_event, Happens, stands, goes}
+use Rattle.node_model.specs.World.{World, Event, deliver_event, moment_event, Happens, Run, stands, goes}
 use Rattle.node_traits.specs.declared.outputs.ToLink.{ToLink}
 use Rattle.driver_steps.specs.declared.seat.Seat.{Seat}
 use Rattle.driver_steps.specs.Crashes.{Since, with_notes}
 use Rattle.driver_steps.specs.Seats.{AreDurable, SeatView, seat_since}
 use Rattle.driver_steps.specs.Worlds.{NetworkView}
-use Rattle.driver_steps.specs.Moves.{BeginWith, DeliversOrLoses}
-use Rattle.script_lines.specs.Lines.{Line, Says, client_line, deliver_line, settle_line}
+use Rattle.driver_steps.specs.Moves.{BeginWith, DeliversOrLoses, HasHappened}
+use Rattle.script_lines.specs.Lines.{Line, Says, client_line, deliver_line, moment_line, settle_line, next_line}
 use Rattle.sim_driver.specs.Moves.{HasAsked, HasFault, HasDeliveredOne, HasSettledBut, AreStill, IsCut, IsFirstAsked, IsPartOfDelivery}
 use Rattle.pipe_driver.proofs.Covers.{note_stands, now_noted}
 use Rattle.pipe_driver.specs.declared.status.Status.{Status}
 use Rattle.pipe_driver.specs.declared.status.Status.TheVariants as statuses
 use Rattle.sim_driver.specs.LineOutcomes.{HasPlayed, HasPlayedBytes, IsOfLine, StopsLine, stops_unplayed, stops_at_disk, stops_at_memory}
 use Rattle.sim_driver.specs.LineOutcomes.{IsPartOfBytes, part_unread, part_read, names_nothing, StopsBytes, bytes_refused, bytes_at_disk, bytes_at_memory}
-use Rattle.sim_driver.specs.Plays.{IsPlayed, plays_client, closes, plays_deliver, plays_settle, IsPartOfLine, part_of_client, part_of_deliver}
-use Rattle.sim_driver.specs.Plays.{client_events}
-use Rattle.sim_driver.specs.Scripts.{ScriptView, place_from}
+use Rattle.sim_driver.specs.Links.{LinkView}
+use Rattle.sim_driver.specs.Plays.{IsPlayed, plays_client, closes, plays_deliver, plays_moment, plays_settle, plays_next, loses_next, events_on}
+use Rattle.sim_driver.specs.Plays.{IsPartOfLine, part_of_client, part_of_deliver, part_of_next}
+use Rattle.sim_driver.specs.Scripts.{ScriptView, marked, next_from, place_from, reopened, with_delivered, with_link}
+use Rattle.pipe_driver.specs.Rounds.{first_router}
 use Rattle.sim_driver.proofs.Deliveries.{but_run}
 use Rattle.sim_driver.proofs.Faults.{cut_as, cut_here, still}
 use Rattle.sim_driver.proofs.Places.{place_at}
-use Rattle.sim_driver.proofs.Plays.{client_is_part, whole_is_part}
+use Rattle.sim_driver.proofs.Plays.{client_is_part}
 
 -- a disk failed or memory ended
 pub is_of_line : (status : Status) → (status ≡ statuses.DiskFailed) ⊎ (status ≡ statuses.OutOfMemory) → IsOfLine status
@@ -45,80 +47,67 @@ stops_either view seats w line old status (inr is) cut =
 
 -- REQUESTS
 
-pub false_if : (b : Bool) → not b ≡ true → b ≡ false
-false_if true e = absurd (cc e)
-false_if false e = refl
-
-pub true_if : (b : Bool) → not b ≡ false → b ≡ true
-true_if true e = refl
-true_if false e = absurd (cc e)
-
 module _ {S : Type 0} (view : S → SeatView) (seats : List S) (network : NetworkView) (handed : List ToLink) (w : World) (s : ScriptView)
-    (bytes all left : List ℕ) (whole : all ≡ s.left ++ bytes) (replied : ℕ) where
-  pub client_played : HasAsked view seats network handed w s.link s.replied all left replied false
-      → HasPlayed view seats network handed w (client_line 0 bytes) s
-      (record { link = s.link; left = left; replied = replied; next = s.next; early = s.early }) false
+    (router : ℕ) (link : LinkView) (here : slice_get s.links router ≡ Some link) (bytes left : List ℕ) (replied : ℕ) where
+  pub client_played : HasAsked view seats network handed w (first_router + router) link.number link.replied (link.left ++ bytes) left replied false
+      → HasPlayed view seats network handed w (client_line router bytes) s
+      (with_link s router (record { number = link.number; left = left; replied = replied })) None
   client_played a = by_fault a.fault a.frames a.ends
     where
-      by_fault : (fault : Option (FrameFault × ℕ)) → FramesFrom 0 all a.requests left fault → HasFault fault false
-          → HasPlayed view seats network handed w (client_line 0 bytes) s
-          (record { link = s.link; left = left; replied = replied; next = s.next; early = s.early }) false
+      by_fault : (fault : Option (FrameFault × ℕ)) → FramesFrom 0 (link.left ++ bytes) a.requests left fault → HasFault fault false
+          → HasPlayed view seats network handed w (client_line router bytes) s
+          (with_link s router (record { number = link.number; left = left; replied = replied })) None
       by_fault (Some fault) frames e = absurd (cc e)
       by_fault None frames e = record {
-        events = client_events s.link s.replied a.requests;
+        events = events_on router link a.requests;
         end = a.end;
         run = a.run;
-        played = subst (λ (n : ℕ). IsPlayed w s (client_line 0 bytes) (client_events s.link s.replied a.requests) a.end
-            (record { link = s.link; left = left; replied = n; next = s.next; early = s.early }) false) (sym a.count)
-            (plays_client bytes left a.requests a.end (subst (λ (b : List ℕ). FramesFrom 0 b a.requests left None) whole frames) a.run);
+        played = subst (λ (n : ℕ). IsPlayed w s (client_line router bytes) (events_on router link a.requests) a.end
+            (with_link s router (record { number = link.number; left = left; replied = n })) None) (sym a.count)
+            (plays_client router link bytes left a.requests a.end here frames a.run);
         stands = a.stands;
       }
 
-  pub client_closed : (fresh : List ℕ) → fresh ≡ [] → HasAsked view seats network handed w s.link s.replied all left replied true
-      → HasPlayed view seats network handed w (client_line 0 bytes) s
-      (record { link = s.link + 1; left = fresh; replied = 0; next = s.next; early = s.early }) true
-  client_closed fresh none a =
-      subst (λ (b : List ℕ). HasPlayed view seats network handed w (client_line 0 bytes) s
-      (record { link = s.link + 1; left = b; replied = 0; next = s.next; early = s.early }) true) (sym none) (by_fault a.fault a.frames a.ends)
+  pub client_closed : HasAsked view seats network handed w (first_router + router) link.number link.replied (link.left ++ bytes) left replied true
+      → HasPlayed view seats network handed w (client_line router bytes) s (reopened s router) (Some router)
+  client_closed a = by_fault a.fault a.frames a.ends
     where
-      by_fault : (fault : Option (FrameFault × ℕ)) → FramesFrom 0 all a.requests left fault → HasFault fault true
-          → HasPlayed view seats network handed w (client_line 0 bytes) s
-          (record { link = s.link + 1; left = []; replied = 0; next = s.next; early = s.early }) true
+      by_fault : (fault : Option (FrameFault × ℕ)) → FramesFrom 0 (link.left ++ bytes) a.requests left fault → HasFault fault true
+          → HasPlayed view seats network handed w (client_line router bytes) s (reopened s router) (Some router)
       by_fault None frames e = absurd (cc e)
       by_fault (Some fault) frames e = record {
-        events = client_events s.link s.replied a.requests;
+        events = events_on router link a.requests;
         end = a.end;
         run = a.run;
-        played = closes bytes left a.requests fault a.end (subst (λ (b : List ℕ). FramesFrom 0 b a.requests left (Some fault)) whole frames) a.run;
+        played = closes router link bytes left a.requests fault a.end here frames a.run;
         stands = a.stands;
       }
 
-  pub client_part : (events : List Event) → IsFirstAsked s.link s.replied all events → IsPartOfLine w s (client_line 0 bytes) events
-  client_part events f = part_of_client bytes f.consumed f.rest f.requests events (sym whole ∙ f.all) f.asked f.first
-
   -- a link can't be numbered any more
-  pub client_full : HasAsked view seats network handed w s.link s.replied all left replied true
-      → IsCut view seats w (IsPartOfLine w s (client_line 0 bytes)) statuses.OutOfMemory
+  pub client_full : HasAsked view seats network handed w (first_router + router) link.number link.replied (link.left ++ bytes) left replied true
+      → IsCut view seats w (IsPartOfLine w s (client_line router bytes)) statuses.OutOfMemory
   client_full a =
-      cut_here view seats w (client_events s.link s.replied a.requests) a.end (IsPartOfLine w s (client_line 0 bytes)) statuses.OutOfMemory a.run
-      (client_is_part w s bytes left a.requests a.fault (subst (λ (b : List ℕ). FramesFrom 0 b a.requests left a.fault) whole a.frames))
+      cut_here view seats w (events_on router link a.requests) a.end (IsPartOfLine w s (client_line router bytes)) statuses.OutOfMemory a.run
+      (client_is_part w s router link bytes left a.requests a.fault here a.frames)
       (still view seats network handed a.end a.stands)
 
-module _ {S : Type 0} (view : S → SeatView) (seats : List S) (w : World) (s : ScriptView) (bytes : List ℕ) where
-  -- no request came
-  pub client_unfed : AreStill view seats w → IsCut view seats w (IsPartOfLine w s (client_line 0 bytes)) statuses.OutOfMemory
-  client_unfed are =
-      cut_here view seats w [] w (IsPartOfLine w s (client_line 0 bytes)) statuses.OutOfMemory (stands w)
-      (part_of_client bytes [] (s.left ++ bytes) [] [] refl (record { all = refl; each = tt }) ([], refl)) are
+pub client_part : (w : World) (s : ScriptView) (router : ℕ) (link : LinkView) (bytes : List ℕ) → slice_get s.links router ≡ Some link
+    → (events : List Event) → IsFirstAsked (first_router + router) link.number link.replied (link.left ++ bytes) events
+    → IsPartOfLine w s (client_line router bytes) events
+client_part w s router link bytes here events f = part_of_client router link bytes f.consumed f.rest f.requests events here f.all f.asked f.first
 
-  module _ (router : ℕ) (first : router ≡ 0) where
-    pub played_at : (network : NetworkView) (handed : List ToLink) (t : ScriptView) (closed : Bool)
-        → HasPlayed view seats network handed w (client_line 0 bytes) s t closed → HasPlayed view seats network handed w (client_line router bytes) s t closed
-    played_at network handed t closed h =
-        subst (λ (n : ℕ). HasPlayed view seats network handed w (client_line n bytes) s t closed) (sym first) h
+-- what the script has, said otherwise
+pub played_to : {S : Type 0} (view : S → SeatView) (seats : List S) (network : NetworkView) (handed : List ToLink) (w : World) (line : Line)
+    (s t other : ScriptView) (closed : Option ℕ) → t ≡ other → HasPlayed view seats network handed w line s t closed
+    → HasPlayed view seats network handed w line s other closed
+played_to view seats network handed w line s t other closed same h =
+    subst (λ (x : ScriptView). HasPlayed view seats network handed w line s x closed) same h
 
-    pub stops_at_link : (status : Status) → StopsLine view seats w (client_line 0 bytes) s status → StopsLine view seats w (client_line router bytes) s status
-    stops_at_link status stops = subst (λ (n : ℕ). StopsLine view seats w (client_line n bytes) s status) (sym first) stops
+-- a link that is set twice
+pub set_twice : {A : Type 0} (items : List A) (at : ℕ) (first last : A) → slice_set (slice_set items at first) at last ≡ slice_set items at last
+set_twice [] at first last = refl
+set_twice (a ∷ items) zero first last = refl
+set_twice {A} (a ∷ items) (suc at) first last = ap (λ (l : List A). a ∷ l) (set_twice items at first last)
 
 -- DELIVERIES
 
@@ -132,38 +121,26 @@ module _ {S : Type 0} (view : S → SeatView) (seats : List S) (network : Networ
       let one : there.2 ≡ m = cc both in
       ap (λ (l : Letter). l.receiver) (sym one) ∙ there.4
 
-  pub deliver_played : (node k which : ℕ) → place_from 0 node k w.sent ≡ Some which → node < length w.nodes
-      → HasDeliveredOne view seats network handed w which
-      → HasPlayed view seats network handed w (deliver_line node k) s
-      (record { link = s.link; left = s.left; replied = s.replied; next = s.next; early = s.early ++ which ∷ [] }) false
-  deliver_played node k which place inside d = by_kind d.delivers
+  pub deliver_played : (node k which : ℕ) (ds : List Bool) → ds ≡ marked which s.delivered → place_from 0 node k w.sent ≡ Some which
+      → node < length w.nodes → HasDeliveredOne view seats network handed w which
+      → HasPlayed view seats network handed w (deliver_line node k) s (with_delivered s ds) None
+  deliver_played node k which ds noted place inside d = by_kind d.delivers
     where
       to : d.message.receiver ≡ node
       to = goes_there node k which d.message place d.got
 
-      by_kind : DeliversOrLoses w which d.message.receiver d.end
-          → HasPlayed view seats network handed w (deliver_line node k) s
-          (record { link = s.link; left = s.left; replied = s.replied; next = s.next; early = s.early ++ which ∷ [] }) false
+      by_kind : DeliversOrLoses w which d.message.receiver d.end → HasPlayed view seats network handed w (deliver_line node k) s (with_delivered s ds) None
       by_kind (inl h) =
           let there : Happens w (deliver_event node which) d.end = subst (λ (n : ℕ). Happens w (deliver_event n which) d.end) to h in
           record {
             events = deliver_event node which ∷ [];
             end = d.end;
             run = goes w d.end d.end (deliver_event node which) [] there (stands d.end);
-            played = plays_deliver node k which d.end place there;
+            played = subst (λ (l : List Bool). IsPlayed w s (deliver_line node k) (deliver_event node which ∷ []) d.end (with_delivered s l) None)
+                (sym noted) (plays_deliver node k which d.end place there);
             stands = d.stands;
           }
       by_kind (inr (same, none)) = absurd (omega (arith, none, to, inside))
-
-  -- and its place is noted
-  pub deliver_noted : (node k which : ℕ) (early : List ℕ) → early ≡ s.early ++ which ∷ [] → place_from 0 node k w.sent ≡ Some which → node < length w.nodes
-      → HasDeliveredOne view seats network handed w which
-      → HasPlayed view seats network handed w (deliver_line node k) s
-      (record { link = s.link; left = s.left; replied = s.replied; next = s.next; early = early }) false
-  deliver_noted node k which early noted place inside d =
-      subst (λ (l : List ℕ). HasPlayed view seats network handed w (deliver_line node k) s
-      (record { link = s.link; left = s.left; replied = s.replied; next = s.next; early = l }) false) (sym noted)
-      (deliver_played node k which place inside d)
 
   pub deliver_part : (node k which : ℕ) (events : List Event) → place_from 0 node k w.sent ≡ Some which → IsPartOfDelivery w which events
       → IsPartOfLine w s (deliver_line node k) events
@@ -171,25 +148,51 @@ module _ {S : Type 0} (view : S → SeatView) (seats : List S) (network : Networ
       part_of_deliver node k which events place
       (subst (λ (n : ℕ). BeginWith events (deliver_event n which ∷ [])) (goes_there node k which p.message place p.got) p.first)
 
-  -- the message was delivered, and there was no memory to note it
-  pub deliver_full : (node k which : ℕ) → place_from 0 node k w.sent ≡ Some which → node < length w.nodes
-      → HasDeliveredOne view seats network handed w which → IsCut view seats w (IsPartOfLine w s (deliver_line node k)) statuses.OutOfMemory
-  deliver_full node k which place inside d =
-      let h = deliver_played node k which place inside d in
-      cut_here view seats w h.events h.end (IsPartOfLine w s (deliver_line node k)) statuses.OutOfMemory h.run
-      (whole_is_part w s (deliver_line node k) h.events h.end _ false h.played) (still view seats network handed h.end h.stands)
+  pub next_played : (kind : List ℕ) (which : ℕ) (ds : List Bool) → ds ≡ marked which s.delivered → next_from 0 kind s.delivered w.sent ≡ Some which
+      → HasDeliveredOne view seats network handed w which → HasPlayed view seats network handed w (next_line kind) s (with_delivered s ds) None
+  next_played kind which ds noted place d = by_kind d.delivers
+    where
+      by_kind : DeliversOrLoses w which d.message.receiver d.end → HasPlayed view seats network handed w (next_line kind) s (with_delivered s ds) None
+      by_kind (inl h) = record {
+        events = deliver_event d.message.receiver which ∷ [];
+        end = d.end;
+        run = goes w d.end d.end (deliver_event d.message.receiver which) [] h (stands d.end);
+        played = subst (λ (l : List Bool). IsPlayed w s (next_line kind) (deliver_event d.message.receiver which ∷ []) d.end (with_delivered s l) None)
+            (sym noted) (plays_next kind which d.message d.end place d.got h);
+        stands = d.stands;
+      }
+      by_kind (inr (same, none)) = record {
+        events = [];
+        end = d.end;
+        run = subst (λ (x : World). Run w [] x) (sym same) (stands w);
+        played = subst (λ (x : World). IsPlayed w s (next_line kind) [] x (with_delivered s ds) None) (sym same)
+            (subst (λ (l : List Bool). IsPlayed w s (next_line kind) [] w (with_delivered s l) None) (sym noted) (loses_next kind which d.message place d.got none));
+        stands = d.stands;
+      }
 
-  pub settle_played : (count : ℕ) (early : List ℕ) → early ≡ [] → (h : HasSettledBut view seats network handed w s.early s.next) → count ≡ length h.end.sent
-      → HasPlayed view seats network handed w settle_line s (record { link = s.link; left = s.left; replied = s.replied; next = count; early = early }) false
-  settle_played count early none h counted = record {
+  pub next_part : (kind : List ℕ) (which : ℕ) (events : List Event) → next_from 0 kind s.delivered w.sent ≡ Some which → IsPartOfDelivery w which events
+      → IsPartOfLine w s (next_line kind) events
+  next_part kind which events place p = part_of_next kind which p.message events place p.got p.first
+
+  pub settle_played : (except : Option (List ℕ)) (ds : List Bool) → (h : HasSettledBut view seats network handed w except s.delivered ds)
+      → HasPlayed view seats network handed w (settle_line except) s (with_delivered s ds) None
+  settle_played except ds h = record {
     events = h.events;
     end = h.end;
-    run = but_run s.early w s.next h.events h.end (length h.end.sent) h.settles;
-    played = subst (λ (l : List ℕ). IsPlayed w s settle_line h.events h.end
-        (record { link = s.link; left = s.left; replied = s.replied; next = count; early = l }) false) (sym none)
-        (subst (λ (n : ℕ). IsPlayed w s settle_line h.events h.end
-        (record { link = s.link; left = s.left; replied = s.replied; next = n; early = [] }) false) (sym counted)
-        (plays_settle h.events h.end h.settles));
+    run = but_run except w s.delivered 0 h.events h.end ds (length h.end.sent) h.settles;
+    played = plays_settle except h.events h.end ds h.settles;
+    stands = h.stands;
+  }
+
+  -- MOMENTS
+
+  pub moment_played : (node moment : ℕ) → HasHappened view seats network handed w 0 (moment_event node moment)
+      → HasPlayed view seats network handed w (moment_line node moment) s s None
+  moment_played node moment h = record {
+    events = moment_event node moment ∷ [];
+    end = h.end;
+    run = goes w h.end h.end (moment_event node moment) [] h.happens (stands h.end);
+    played = plays_moment node moment h.end h.happens;
     stands = h.stands;
   }
 
@@ -212,7 +215,7 @@ bytes_unread view seats w bytes old are =
 
 -- the same of a line that is known
 pub played_as : {S : Type 0} (view : S → SeatView) (seats : List S) (network : NetworkView) (handed : List ToLink) (w : World) (known line : Line)
-    (s t : ScriptView) (closed : Bool) → known ≡ line → HasPlayed view seats network handed w known s t closed
+    (s t : ScriptView) (closed : Option ℕ) → known ≡ line → HasPlayed view seats network handed w known s t closed
     → HasPlayed view seats network handed w line s t closed
 played_as view seats network handed w known line s t closed same h = subst (λ (l : Line). HasPlayed view seats network handed w l s t closed) same h
 
@@ -222,7 +225,7 @@ stops_as view seats w known line old status same stops = subst (λ (l : Line). S
 
 -- a line that was played, with one note more of all disks behind it
 abbrev pub note_played : {N L : Type 0} (facts : LogFacts L) (seats : List (Seat N L)) (count : ℕ) (state : N → NodeState) (since : Since L)
-    (network : NetworkView) (handed : List ToLink) (before : World) (bytes : List ℕ) (old new : ScriptView) (closed : Bool) → AreDurable facts seats
+    (network : NetworkView) (handed : List ToLink) (before : World) (bytes : List ℕ) (old new : ScriptView) (closed : Option ℕ) → AreDurable facts seats
     → (h : HasPlayedBytes (seat_since state facts since) seats network handed before bytes old new closed)
     → HasPlayedBytes (seat_since state facts (with_notes since (now_noted facts seats h.played.end count ∷ since.noted))) seats network handed before bytes
     old new closed

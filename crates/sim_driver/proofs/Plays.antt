@@ -2,30 +2,41 @@
 use Rattle.std.proofs.Common.{◌≡◌, ℕ, zero, suc, ◌+◌, ◌<◌, ◌≤◌, List, [], ◌∷◌, ◌++◌, length, refl, sym, ap, subst, ◌∙◌, arith}
 use Rattle.std.proofs.Common.{length-append, append_assoc, append-nil}
 use Rattle.std.specs.Prelude.{Option, Some, None, Bool}
+use Rattle.std.specs.List.{slice_get, slice_set}
+use Rattle.std.proofs.lemmas.Option.{slice_get_within}
 use Rattle.opmsg_frames.specs.Outline.{FrameFault}
 use Rattle.opmsg_frames.specs.Frames.{FramesFrom, ends, fails, goes_on}
+use Rattle.node_model.specs.Journal.{Kept}
 use Rattle.node_model.specs.Letters.{Input}
 use Rattle.node_model.specs.Requests.{Request}
-use Rattle.node_model.specs.States.{new_router}
-use Rattle.node_model.specs.World.{World, IsRouter, Moves, Event, deliver_event, Happens, comes, delivers, passes, begins as was_opened, Run, stands, goes}
-use Rattle.node_model.specs.World.{start}
+use Rattle.node_model.specs.States.{Router, new_router, router_state}
+use Rattle.node_model.specs.World.{Held, World, IsRouter, Moves, Event, deliver_event, moment_event, Happens, comes, delivers, passes, begins as was_opened}
+use Rattle.node_model.specs.World.{Run, stands, goes, routers_from, start}
 use Rattle.node_model.proofs.Schedules.{run_then}
 use Rattle.pipe_driver.specs.Progress.{AreAsked}
 use Rattle.pipe_driver.specs.Rounds.{first_router}
 use Rattle.pipe_driver.proofs.Routers.{run_stays}
 use Rattle.script_lines.specs.Lines.{Line, client_line}
-use Rattle.sim_driver.specs.Plays.{IsPlayed, plays_client, closes, plays_deliver, plays_settle, client_events}
-use Rattle.sim_driver.specs.Plays.{IsPartOfLine, part_of_client, part_of_deliver, part_of_settle}
-use Rattle.sim_driver.specs.Scripts.{ScriptView}
+use Rattle.sim_driver.specs.Links.{LinkView}
+use Rattle.sim_driver.specs.Moves.{HasRouters}
+use Rattle.sim_driver.specs.Plays.{IsPlayed, plays_client, closes, plays_deliver, plays_moment, plays_settle, plays_next, loses_next, events_on}
+use Rattle.sim_driver.specs.Plays.{SettlesBut, but_none, but_passed, but_next, but_lost, IsPartOfLine, part_of_client, part_of_deliver, part_of_moment}
+use Rattle.sim_driver.specs.Plays.{part_of_settle, part_of_next}
+use Rattle.sim_driver.specs.Scripts.{ScriptView, marked}
 use Rattle.sim_driver.specs.Simulations.{Plays, plays_none, plays_more}
 use Rattle.sim_driver.proofs.Deliveries.{but_run}
+use Rattle.sim_driver.proofs.Marks.{marked_length}
+use Rattle.sim_driver.proofs.Places.{place_at}
 
-pub played_run : (u : World) (s : ScriptView) (line : Line) (events : List Event) (w : World) (t : ScriptView) (closed : Bool)
+pub played_run : (u : World) (s : ScriptView) (line : Line) (events : List Event) (w : World) (t : ScriptView) (closed : Option ℕ)
     → IsPlayed u s line events w t closed → Run u events w
-played_run u s _ _ _ _ _ (plays_client bytes left requests w frames run) = run
-played_run u s _ _ _ _ _ (closes bytes left requests fault w frames run) = run
+played_run u s _ _ _ _ _ (plays_client router link bytes left requests w here frames run) = run
+played_run u s _ _ _ _ _ (closes router link bytes left requests fault w here frames run) = run
 played_run u s _ _ _ _ _ (plays_deliver node k which w place h) = goes u w w (deliver_event node which) [] h (stands w)
-played_run u s _ _ _ _ _ (plays_settle events w settles) = but_run s.early u s.next events w (length w.sent) settles
+played_run u s _ _ _ _ _ (plays_moment node moment w h) = goes u w w (moment_event node moment) [] h (stands w)
+played_run u s _ _ _ _ _ (plays_settle except events w ds settles) = but_run except u s.delivered 0 events w ds (length w.sent) settles
+played_run u s _ _ _ _ _ (plays_next kind which m w place got h) = goes u w w (deliver_event m.receiver which) [] h (stands w)
+played_run u s _ _ _ _ _ (loses_next kind which m place got none) = stands u
 
 pub plays_run : (routers : ℕ) (lines : List (List ℕ)) (events : List Event) (w : World) (s : ScriptView) (out : List ℕ)
     → Plays routers lines events w s out → Run (start routers) events w
@@ -33,16 +44,60 @@ plays_run routers _ _ _ _ _ (plays_none w run) = run
 plays_run routers _ _ _ _ _ (plays_more lines before events u w s t out bytes line closed given earlier says played gave) =
     run_then (start routers) before u events w (plays_run routers lines before u s out earlier) (played_run u s line events w t closed played)
 
--- THE ROUTER
+-- NODES
 
-start_router : (routers : ℕ) → 0 < routers → IsRouter (start routers).nodes first_router
-start_router zero some = absurd (omega arith)
-start_router (suc n) some = (new_router 2, [], refl)
+count_set : (nodes : List Held) (at : ℕ) (h : Held) → length (slice_set nodes at h) ≡ length nodes
+count_set [] at h = refl
+count_set (x ∷ nodes) zero h = refl
+count_set (x ∷ nodes) (suc at) h = omega (arith, count_set nodes at h)
 
-pub plays_router : (routers : ℕ) (lines : List (List ℕ)) (events : List Event) (w : World) (s : ScriptView) (out : List ℕ) → 0 < routers
-    → Plays routers lines events w s out → IsRouter w.nodes first_router
-plays_router routers lines events w s out some plays =
-    run_stays (start routers) events w first_router (plays_run routers lines events w s out plays) (start_router routers some)
+move_count : (w v : World) (at : ℕ) (i : Input) → Moves w at i v → length v.nodes ≡ length w.nodes
+move_count w v at i m =
+    ap (λ (x : World). length x.nodes) m.then ∙ count_set w.nodes at (record { state = m.new; kept = m.old.kept ++ m.f.written })
+
+happens_count : (w v : World) (e : Event) → Happens w e v → length v.nodes ≡ length w.nodes
+happens_count _ _ _ (comes w v at link number request router m) = move_count w v at _ m
+happens_count _ _ _ (delivers w v at which letter got to m) = move_count w v at _ m
+happens_count _ _ _ (passes w v at moment m) = move_count w v at _ m
+happens_count _ _ _ (was_opened w v at m) = move_count w v at _ m
+
+run_count : (u : World) (es : List Event) (w : World) → Run u es w → length w.nodes ≡ length u.nodes
+run_count _ _ _ (stands w) = refl
+run_count _ _ _ (goes u v w e es h run) = run_count v es w run ∙ happens_count u v e h
+
+-- THE ROUTERS
+
+-- each node from a place on is a router
+from_is_router : (first at count : ℕ) → at < count → (r : Router) × (kept : List Kept)
+    × (slice_get (routers_from first count) at ≡ Some (record { state = router_state r; kept = kept }))
+from_is_router first at zero below = absurd (omega (arith, below))
+from_is_router first zero (suc count) below = (new_router first, [], refl)
+from_is_router first (suc at) (suc count) below = from_is_router (first + 1) at count (omega (arith, below))
+
+from_length : (first count : ℕ) → length (routers_from first count) ≡ count
+from_length first zero = refl
+from_length first (suc count) = omega (arith, from_length (first + 1) count)
+
+start_count : (routers : ℕ) → length (start routers).nodes ≡ first_router + routers
+start_count routers = omega (arith, from_length 2 routers)
+
+start_router : (routers router : ℕ) → router < routers → IsRouter (start routers).nodes (first_router + router)
+start_router routers router below =
+    subst (λ (n : ℕ). IsRouter (start routers).nodes n) there (from_is_router 2 router routers below)
+  where
+    there : suc (suc router) ≡ first_router + router
+    there = omega arith
+
+pub plays_count : (routers : ℕ) (lines : List (List ℕ)) (events : List Event) (w : World) (s : ScriptView) (out : List ℕ)
+    → Plays routers lines events w s out → length w.nodes ≡ first_router + routers
+plays_count routers lines events w s out plays =
+    run_count (start routers) events w (plays_run routers lines events w s out plays) ∙ start_count routers
+
+pub plays_routers : (routers : ℕ) (lines : List (List ℕ)) (events : List Event) (w : World) (s : ScriptView) (out : List ℕ)
+    → Plays routers lines events w s out → HasRouters w
+plays_routers routers lines events w s out plays router below =
+    run_stays (start routers) events w (first_router + router) (plays_run routers lines events w s out plays)
+    (start_router routers router (omega (arith, below, plays_count routers lines events w s out plays)))
 
 -- MESSAGES
 
@@ -59,21 +114,42 @@ run_grows : (u : World) (es : List Event) (w : World) → Run u es w → length 
 run_grows _ _ _ (stands w) = omega arith
 run_grows _ _ _ (goes u v w e es h run) = omega (arith, happens_grows u v e h, run_grows v es w run)
 
-played_next : (u : World) (s : ScriptView) (line : Line) (events : List Event) (w : World) (t : ScriptView) (closed : Bool) → s.next ≤ length u.sent
-    → IsPlayed u s line events w t closed → t.next ≤ length w.sent
-played_next u s _ _ _ _ _ before (plays_client bytes left requests w frames run) =
-    omega (arith, before, run_grows u (client_events s.link s.replied requests) w run)
-played_next u s _ _ _ _ _ before (closes bytes left requests fault w frames run) =
-    omega (arith, before, run_grows u (client_events s.link s.replied requests) w run)
-played_next u s _ _ _ _ _ before (plays_deliver node k which w place h) = omega (arith, before, happens_grows u w (deliver_event node which) h)
-played_next u s _ _ _ _ _ before (plays_settle events w settles) = omega arith
+settles_marks : (except : Option (List ℕ)) (u : World) (ds : List Bool) (next : ℕ) (events : List Event) (w : World) (es : List Bool) (later : ℕ)
+    → SettlesBut except u ds next events w es later → length ds ≤ length u.sent → length es ≤ length w.sent
+settles_marks except _ _ _ _ _ _ _ (but_none w ds next) most = most
+settles_marks except _ _ _ _ _ _ _ (but_passed u w ds es next later m events got is more) most =
+    settles_marks except u ds (next + 1) events w es later more most
+settles_marks except _ _ _ _ _ _ _ (but_next u v w ds es next later m events got new h more) most =
+    settles_marks except v (marked next ds) (next + 1) events w es later more
+    (omega (arith, marked_length next (length u.sent) ds most (slice_get_within u.sent next m got), happens_grows u v (deliver_event m.receiver next) h))
+settles_marks except _ _ _ _ _ _ _ (but_lost u w ds es next later m events got new none more) most =
+    settles_marks except u (marked next ds) (next + 1) events w es later more
+    (marked_length next (length u.sent) ds most (slice_get_within u.sent next m got))
+
+played_marks : (u : World) (s : ScriptView) (line : Line) (events : List Event) (w : World) (t : ScriptView) (closed : Option ℕ)
+    → length s.delivered ≤ length u.sent → IsPlayed u s line events w t closed → length t.delivered ≤ length w.sent
+played_marks u s _ _ _ _ _ most (plays_client router link bytes left requests w here frames run) =
+    omega (arith, most, run_grows u (events_on router link requests) w run)
+played_marks u s _ _ _ _ _ most (closes router link bytes left requests fault w here frames run) =
+    omega (arith, most, run_grows u (events_on router link requests) w run)
+played_marks u s _ _ _ _ _ most (plays_deliver node k which w place h) =
+    let there = place_at 0 node k u.sent which place in
+    let inside : which < length u.sent = omega (arith, there.1, slice_get_within u.sent there.0 there.2 there.3) in
+    omega (arith, marked_length which (length u.sent) s.delivered most inside, happens_grows u w (deliver_event node which) h)
+played_marks u s _ _ _ _ _ most (plays_moment node moment w h) = omega (arith, most, happens_grows u w (moment_event node moment) h)
+played_marks u s _ _ _ _ _ most (plays_settle except events w ds settles) =
+    settles_marks except u s.delivered 0 events w ds (length w.sent) settles most
+played_marks u s _ _ _ _ _ most (plays_next kind which m w place got h) =
+    omega (arith, marked_length which (length u.sent) s.delivered most (slice_get_within u.sent which m got), happens_grows u w (deliver_event m.receiver which) h)
+played_marks u s _ _ _ _ _ most (loses_next kind which m place got none) =
+    marked_length which (length u.sent) s.delivered most (slice_get_within u.sent which m got)
 
 -- what was delivered was sent
-pub plays_next : (routers : ℕ) (lines : List (List ℕ)) (events : List Event) (w : World) (s : ScriptView) (out : List ℕ)
-    → Plays routers lines events w s out → s.next ≤ length w.sent
-plays_next routers _ _ _ _ _ (plays_none w run) = omega arith
-plays_next routers _ _ _ _ _ (plays_more lines before events u w s t out bytes line closed given earlier says played gave) =
-    played_next u s line events w t closed (plays_next routers lines before u s out earlier) played
+pub plays_marks : (routers : ℕ) (lines : List (List ℕ)) (events : List Event) (w : World) (s : ScriptView) (out : List ℕ)
+    → Plays routers lines events w s out → length s.delivered ≤ length w.sent
+plays_marks routers _ _ _ _ _ (plays_none w run) = omega arith
+plays_marks routers _ _ _ _ _ (plays_more lines before events u w s t out bytes line closed given earlier says played gave) =
+    played_marks u s line events w t closed (plays_marks routers lines before u s out earlier) played
 
 -- A LINE THAT WAS PLAYED WHOLE, AS A PART
 
@@ -88,26 +164,35 @@ frames_asked place _ _ _ _ (goes_on at bytes behind request requests left fault 
       record { all = ap (λ (b : List ℕ). request.bytes ++ b) r.2.all; each = (first.reads, r.2.each) },
     )
 
-pub client_is_part : (u : World) (s : ScriptView) (bytes left : List ℕ) (requests : List Request) (fault : Option (FrameFault × ℕ))
-    → FramesFrom 0 (s.left ++ bytes) requests left fault → IsPartOfLine u s (client_line 0 bytes) (client_events s.link s.replied requests)
-client_is_part u s bytes left requests fault frames =
-    let r = frames_asked 0 (s.left ++ bytes) requests left fault frames in
-    part_of_client bytes r.0 left requests (client_events s.link s.replied requests) r.1 r.2
-    ([], sym (append-nil (client_events s.link s.replied requests)))
+pub client_is_part : (u : World) (s : ScriptView) (router : ℕ) (link : LinkView) (bytes left : List ℕ) (requests : List Request)
+    (fault : Option (FrameFault × ℕ)) → slice_get s.links router ≡ Some link → FramesFrom 0 (link.left ++ bytes) requests left fault
+    → IsPartOfLine u s (client_line router bytes) (events_on router link requests)
+client_is_part u s router link bytes left requests fault here frames =
+    let r = frames_asked 0 (link.left ++ bytes) requests left fault frames in
+    part_of_client router link bytes r.0 left requests (events_on router link requests) here r.1 r.2
+    ([], sym (append-nil (events_on router link requests)))
 
-pub whole_is_part : (u : World) (s : ScriptView) (line : Line) (events : List Event) (w : World) (t : ScriptView) (closed : Bool)
+pub whole_is_part : (u : World) (s : ScriptView) (line : Line) (events : List Event) (w : World) (t : ScriptView) (closed : Option ℕ)
     → IsPlayed u s line events w t closed → IsPartOfLine u s line events
-whole_is_part u s _ _ _ _ _ (plays_client bytes left requests w frames run) = client_is_part u s bytes left requests None frames
-whole_is_part u s _ _ _ _ _ (closes bytes left requests fault w frames run) = client_is_part u s bytes left requests (Some fault) frames
+whole_is_part u s _ _ _ _ _ (plays_client router link bytes left requests w here frames run) =
+    client_is_part u s router link bytes left requests None here frames
+whole_is_part u s _ _ _ _ _ (closes router link bytes left requests fault w here frames run) =
+    client_is_part u s router link bytes left requests (Some fault) here frames
 whole_is_part u s _ _ _ _ _ (plays_deliver node k which w place h) = part_of_deliver node k which (deliver_event node which ∷ []) place ([], refl)
-whole_is_part u s _ _ _ _ _ (plays_settle events w settles) =
-    part_of_settle events (record {
+whole_is_part u s _ _ _ _ _ (plays_moment node moment w h) = part_of_moment node moment (moment_event node moment ∷ []) ([], refl)
+whole_is_part u s _ _ _ _ _ (plays_settle except events w ds settles) =
+    part_of_settle except events (record {
       before = events;
       more = [];
       then = w;
+      marks = ds;
       later = length w.sent;
       at = 0;
       settles = settles;
       first = (deliver_event 0 (length w.sent) ∷ [], refl);
       all = sym (append-nil events);
     })
+whole_is_part u s _ _ _ _ _ (plays_next kind which m w place got h) =
+    part_of_next kind which m (deliver_event m.receiver which ∷ []) place got ([], refl)
+whole_is_part u s _ _ _ _ _ (loses_next kind which m place got none) =
+    part_of_next kind which m [] place got (deliver_event m.receiver which ∷ [], refl)

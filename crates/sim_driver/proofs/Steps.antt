@@ -1,6 +1,6 @@
 -- A script goes on by one line, or stops at it.
-use Rattle.std.proofs.Common.{◌≡◌, inl, inr, ℕ, ◌+◌, ◌≤◌, IsTrue, List, [], ◌∷◌, ◌++◌, length, refl, arith, length-append, sym, ap, subst, ◌∙◌, append_assoc, append-nil}
-use Rattle.std.specs.Prelude.{Bool}
+use Rattle.std.proofs.Common.{◌≡◌, inl, inr, ℕ, ◌+◌, ◌-◌, ◌≤◌, IsTrue, List, [], ◌∷◌, ◌++◌, length, refl, arith, length-append, sym, ap, subst, ◌∙◌, append_assoc, append-nil}
+use Rattle.std.specs.Prelude.{Bool, Option}
 use Rattle.std.proofs.lemmas.Grind.{flat_map-append}
 use Rattle.outside.specs.Streams.{Put}
 use Rattle.outside.proofs.Relations.{put_then}
@@ -16,7 +16,7 @@ use Rattle.driver_steps.specs.Seats.{SeatView}
 use Rattle.driver_steps.specs.Worlds.{NetworkView, StandsFor, network_view, puts_given}
 use Rattle.driver_steps.specs.Moves.{BeginWith, HasRun, HasStopped, IsUpTo}
 use Rattle.driver_steps.proofs.Crashes.{leads_by, leads_nowhere, leads_on}
-use Rattle.driver_steps.proofs.Seats.{held_kept}
+use Rattle.driver_steps.proofs.Seats.{held_kept, held_len}
 use Rattle.driver_steps.proofs.Runs.{handed_on}
 use Rattle.pipe_driver.specs.Acknowledgements.{AreCovered}
 use Rattle.pipe_driver.specs.Pieces.{PutInPart}
@@ -35,7 +35,7 @@ use Rattle.sim_driver.specs.LineOutcomes.{HasPlayedBytes, IsPartOfBytes, part_re
 use Rattle.sim_driver.specs.Simulations.{newline, bytes_of_lines, plays_none, plays_more, CameTo, came_opening, came_lines, came_part, all_printed}
 use Rattle.sim_driver.specs.Progress.{Playing, StopsAt, at_refused_line, at_write_fault, at_disk_fault, at_no_memory, Stopped}
 use Rattle.sim_driver.proofs.Faults.{run_more, still}
-use Rattle.sim_driver.proofs.Plays.{plays_run, whole_is_part}
+use Rattle.sim_driver.proofs.Plays.{plays_count, plays_run, whole_is_part}
 
 lines_more : (lines : List (List ℕ)) (bytes : List ℕ) → bytes_of_lines (lines ++ bytes ∷ []) ≡ bytes_of_lines lines ++ (bytes ++ newline ∷ [])
 lines_more lines bytes =
@@ -68,7 +68,7 @@ last_in_line status end last events P goes_on on (inr (is, e, has, h)) = inr (is
 module _ {S : Type 0} (view : S → SeatView) (seats : List S) (routers : ℕ) (tells : Bool) (held : List ℕ) (count : ℕ)
     (as_many : count ≡ length (start routers).nodes) where
   pub opened_playing : (network : NetworkView) → HasRun view seats network [] (start routers) 0 (openings 0 count)
-      → Playing view seats network routers tells [] held held new_script []
+      → Playing view seats network routers tells [] held held (new_script routers) []
   opened_playing network r =
       let none : r.end.answered ≡ [] = nothing_told routers count r.end r.run in
       let silent : puts_given r.end.answered ≡ [] = ap puts_given none in
@@ -173,11 +173,11 @@ module _ {S : Type 0} (view : S → SeatView) (seats seats_after : List S) (befo
       → Stopped view seats_after routers tells noted held_before held consumed (bytes ++ newline ∷ others) status
   line_stopped others _ (bytes_refused refused are) =
       stops_here others statuses.BadInput p.world
-      (at_refused_line bytes others (next_line bytes others none) refused (record { events = p.events; script = s; played = p.plays })) are (leads_nowhere p.world)
+      (at_refused_line bytes others (next_line bytes others none) (record { events = p.events; script = s; played = p.plays }) refused) are (leads_nowhere p.world)
   line_stopped others _ (bytes_at_disk c) = stops_within others statuses.DiskFailed c (at_disk_fault (came_in others c.events c.end c.which c.run))
   line_stopped others _ (bytes_at_memory c) = stops_within others statuses.OutOfMemory c (at_no_memory (came_in others c.events c.end c.which c.run))
 
-  module _ {M : Type 0} (letter : M → Letter) (old new : Network M) (t : ScriptView) (closed : Bool)
+  module _ {M : Type 0} (letter : M → Letter) (old new : Network M) (t : ScriptView) (closed : Option ℕ)
       (h : HasPlayedBytes view seats_after (network_view letter old) (puts_given p.world.answered) p.world bytes s t closed) where
     puts_are : puts_given h.played.end.answered ≡ puts_given p.world.answered ++ old.replies.items
     puts_are = h.played.stands.given
@@ -199,10 +199,10 @@ module _ {S : Type 0} (view : S → SeatView) (seats seats_after : List S) (befo
 
     pub covers_line : (moments : List ℕ) → IsTrue tells
         → AreCovered (all_printed routers) (start routers) (record { world = h.played.end; moments = moments; length = length held } ∷ noted) held_before
-        (p.out ++ printed s.link old.replies.items closed) h.played.end
+        (p.out ++ printed s.links old.replies.items closed) h.played.end
     covers_line moments told =
         covered_more (all_printed routers) (start routers) held_before p.world h.played.end noted moments (length held) p.out
-        (printed s.link old.replies.items closed) (p.covered told) (
+        (printed s.links old.replies.items closed) (p.covered told) (
           p.lines ++ bytes ∷ [],
           record {
             events = p.events ++ h.played.events;
@@ -213,34 +213,34 @@ module _ {S : Type 0} (view : S → SeatView) (seats seats_after : List S) (befo
         )
         (leads_on (start routers) p.world h.played.end (p.events, plays_run routers p.lines p.events p.world s p.out p.plays) line_on) line_on (line_few told)
 
-  module _ {M : Type 0} (letter : M → Letter) (old new : Network M) (t : ScriptView) (closed : Bool) (after_view : S → SeatView) (noted_after : List Noted)
+  module _ {M : Type 0} (letter : M → Letter) (old new : Network M) (t : ScriptView) (closed : Option ℕ) (after_view : S → SeatView) (noted_after : List Noted)
       (h : HasPlayedBytes after_view seats_after (network_view letter old) (puts_given p.world.answered) p.world bytes s t closed)
-      (covers : IsTrue tells → AreCovered (all_printed routers) (start routers) noted_after held_before (p.out ++ printed s.link old.replies.items closed)
+      (covers : IsTrue tells → AreCovered (all_printed routers) (start routers) noted_after held_before (p.out ++ printed s.links old.replies.items closed)
       h.played.end) where
     gave : puts_given h.played.end.answered ≡ puts_given p.world.answered ++ old.replies.items
     gave = h.played.stands.given
 
     -- what it prints was put
     pub line_answered : (held' : List ℕ) → new.waiting.items ≡ old.waiting.items → new.replies.items ≡ []
-        → Put tells held (printed s.link old.replies.items closed) held'
+        → Put tells held (printed s.links old.replies.items closed) held'
         → Playing after_view seats_after (network_view letter new) routers tells noted_after held_before held' t (consumed ++ (bytes ++ newline ∷ []))
     line_answered held' waits silent put = record {
       lines = p.lines ++ bytes ∷ [];
       events = p.events ++ h.played.events;
       world = h.played.end;
-      out = p.out ++ printed s.link old.replies.items closed;
+      out = p.out ++ printed s.links old.replies.items closed;
       plays = plays_more p.lines p.events h.played.events p.world h.played.end s t p.out bytes h.line closed old.replies.items p.plays h.says
           h.played.played gave;
       stands = subst (λ (l : List ToLink). StandsFor after_view seats_after (network_view letter new) l h.played.end 0) (sym gave)
           (handed_on after_view letter seats_after (puts_given p.world.answered) h.played.end 0 old new h.played.stands waits silent);
-      put = put_then tells held_before p.out held (printed s.link old.replies.items closed) held' p.put put;
+      put = put_then tells held_before p.out held (printed s.links old.replies.items closed) held' p.put put;
       all = ap (λ (b : List ℕ). b ++ (bytes ++ newline ∷ [])) p.all ∙ sym (lines_more p.lines bytes);
       each = all_more (HasNone newline) p.lines bytes p.each none;
       covered = covers;
     }
 
     -- a prefix of what it prints was put
-    pub line_put_short : (others held' : List ℕ) → PutInPart tells held (printed s.link old.replies.items closed) held'
+    pub line_put_short : (others held' : List ℕ) → PutInPart tells held (printed s.links old.replies.items closed) held'
         → Stopped after_view seats_after routers tells noted_after held_before held' consumed (bytes ++ newline ∷ others) statuses.WriteFailed
     line_put_short others held' (part, prefix, put) = record {
       lines = p.lines;
@@ -275,7 +275,7 @@ module _ {S : Type 0} (view : S → SeatView) (seats seats_after : List S) (befo
       is_last = inl refl;
       crashes = h.played.stands.crashes;
       covered = λ told. covered_part (all_printed routers) (start routers) held_before noted_after (p.out ++ part)
-          (p.out ++ printed s.link old.replies.items closed) h.played.end (
+          (p.out ++ printed s.links old.replies.items closed) h.played.end (
             prefix.0,
             ap (λ (b : List ℕ). p.out ++ b) prefix.1 ∙ sym (append_assoc p.out part prefix.0),
           ) (covers told);
@@ -329,3 +329,10 @@ pub playing_from : {S : Type 0} (view : S → SeatView) (seats : List S) (networ
     → Playing view seats network routers tells noted held_before held t consumed
 playing_from view seats network routers tells noted held_before held consumed s t same p =
     subst (λ (x : ScriptView). Playing view seats network routers tells noted held_before held x consumed) same p
+
+-- so many routers there are
+pub routers_are : {S : Type 0} (view : S → SeatView) (seats : List S) (network : NetworkView) (routers : ℕ) (tells : Bool) (noted : List Noted)
+    (held_before held consumed : List ℕ) (s : ScriptView) → Playing view seats network routers tells noted held_before held s consumed
+    → (count : ℕ) → count ≡ length seats → routers ≡ count - 2
+routers_are view seats network routers tells noted held_before held consumed s p count counted =
+    omega (arith, counted, held_len view seats p.world.nodes p.stands.nodes, plays_count routers p.lines p.events p.world s p.out p.plays)

@@ -1,3 +1,4 @@
+pub mod Links
 pub mod Scripts
 pub mod Plays
 pub mod Moves

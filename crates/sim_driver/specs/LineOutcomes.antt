@@ -1,5 +1,5 @@
 -- A line that was played, or was not.
-use Rattle.std.specs.Prelude.{◌≡◌, ◌⊎◌, ℕ, List, [], Bool}
+use Rattle.std.specs.Prelude.{◌≡◌, ◌⊎◌, ℕ, List, [], Option}
 use Rattle.node_model.specs.World.{World, Event, Run}
 use Rattle.node_traits.specs.declared.outputs.ToLink.{ToLink}
 use Rattle.driver_steps.specs.Seats.{SeatView}
@@ -12,7 +12,7 @@ use Rattle.sim_driver.specs.Plays.{IsPlayed, IsPartOfLine, NamesNothing}
 use Rattle.sim_driver.specs.Moves.{AreStill, IsCut}
 
 pub record HasPlayed {S : Type 0} (view : S → SeatView) (seats : List S) (network : NetworkView) (handed : List ToLink) (before : World) (line : Line)
-    (old new : ScriptView) (closed : Bool) : Type 0 where
+    (old new : ScriptView) (closed : Option ℕ) : Type 0 where
   pub events : List Event
   pub end : World
   pub run : Run before events end
@@ -22,7 +22,7 @@ pub record HasPlayed {S : Type 0} (view : S → SeatView) (seats : List S) (netw
 -- why a line is not played to its end
 pub data StopsLine {S : Type 0} (view : S → SeatView) (seats : List S) (before : World) (line : Line) (old : ScriptView) : Status → Type 0 where
   -- it names what is not there, and nothing happened
-  stops_unplayed : NamesNothing before line → AreStill view seats before → StopsLine view seats before line old statuses.BadInput
+  stops_unplayed : NamesNothing before old line → AreStill view seats before → StopsLine view seats before line old statuses.BadInput
   stops_at_disk : IsCut view seats before (IsPartOfLine before old line) statuses.DiskFailed → StopsLine view seats before line old statuses.DiskFailed
   stops_at_memory : IsCut view seats before (IsPartOfLine before old line) statuses.OutOfMemory → StopsLine view seats before line old statuses.OutOfMemory
 
@@ -33,15 +33,15 @@ IsOfLine status = (status ≡ statuses.BadInput) ⊎ ((status ≡ statuses.DiskF
 
 -- the bytes say a line, which was played
 pub record HasPlayedBytes {S : Type 0} (view : S → SeatView) (seats : List S) (network : NetworkView) (handed : List ToLink) (before : World) (bytes : List ℕ)
-    (old new : ScriptView) (closed : Bool) : Type 0 where
+    (old new : ScriptView) (closed : Option ℕ) : Type 0 where
   pub line : Line
   pub says : Says bytes line
   pub played : HasPlayed view seats network handed before line old new closed
 
 -- the bytes say no line, or one that names what is not there
-pub data IsRefused (u : World) (bytes : List ℕ) : Type 0 where
-  says_none : ((line : Line) → ¬ Says bytes line) → IsRefused u bytes
-  names_nothing : (line : Line) → Says bytes line → NamesNothing u line → IsRefused u bytes
+pub data IsRefused (u : World) (s : ScriptView) (bytes : List ℕ) : Type 0 where
+  says_none : ((line : Line) → ¬ Says bytes line) → IsRefused u s bytes
+  names_nothing : (line : Line) → Says bytes line → NamesNothing u s line → IsRefused u s bytes
 
 -- the first events of the line that the bytes say
 pub data IsPartOfBytes (u : World) (s : ScriptView) (bytes : List ℕ) : List Event → Type 0 where
@@ -50,7 +50,7 @@ pub data IsPartOfBytes (u : World) (s : ScriptView) (bytes : List ℕ) : List Ev
 
 -- why the bytes of a line are not played to their end
 pub data StopsBytes {S : Type 0} (view : S → SeatView) (seats : List S) (before : World) (bytes : List ℕ) (old : ScriptView) : Status → Type 0 where
-  bytes_refused : IsRefused before bytes → AreStill view seats before → StopsBytes view seats before bytes old statuses.BadInput
+  bytes_refused : IsRefused before old bytes → AreStill view seats before → StopsBytes view seats before bytes old statuses.BadInput
   bytes_at_disk : IsCut view seats before (IsPartOfBytes before old bytes) statuses.DiskFailed → StopsBytes view seats before bytes old statuses.DiskFailed
   bytes_at_memory : IsCut view seats before (IsPartOfBytes before old bytes) statuses.OutOfMemory
       → StopsBytes view seats before bytes old statuses.OutOfMemory

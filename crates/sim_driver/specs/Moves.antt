@@ -1,20 +1,21 @@
 -- What calls of a script do to the world that stands for nodes and messages (own).
-use Rattle.std.specs.Prelude.{◌≡◌, ◌⊎◌, ℕ, List, [], ◌∷◌, ◌++◌, length, Some, None, Option, Bool, true, false}
+use Rattle.std.specs.Prelude.{◌≡◌, ◌⊎◌, ℕ, ◌+◌, ◌<◌, List, [], ◌∷◌, ◌++◌, length, Some, None, Option, Bool, true, false, not, ◌&&◌}
 use Rattle.std.specs.List.{slice_get}
 use Rattle.opmsg_frames.specs.Outline.{FrameFault}
 use Rattle.opmsg_frames.specs.Frames.{FramesFrom}
 use Rattle.node_model.specs.Letters.{Letter}
 use Rattle.node_model.specs.Requests.{Request}
-use Rattle.node_model.specs.World.{World, Event, deliver_event, Happens, Run}
+use Rattle.node_model.specs.World.{World, IsRouter, Event, deliver_event, Happens, Run}
 use Rattle.node_traits.specs.declared.outputs.ToLink.{ToLink}
 use Rattle.driver_steps.specs.Seats.{SeatView, AreHeld, AreKept, LeaveKept}
 use Rattle.driver_steps.specs.Worlds.{NetworkView, StandsFor}
 use Rattle.driver_steps.specs.Moves.{BeginWith, DeliversOrLoses}
 use Rattle.pipe_driver.specs.Progress.{AreAsked}
-use Rattle.pipe_driver.specs.Rounds.{replies_behind}
+use Rattle.pipe_driver.specs.Rounds.{first_router, replies_behind}
 use Rattle.pipe_driver.specs.declared.status.Status.{Status}
 use Rattle.pipe_driver.specs.declared.status.Status.TheVariants as statuses
-use Rattle.sim_driver.specs.Plays.{SettlesBut, client_events, is_early}
+use Rattle.sim_driver.specs.Plays.{SettlesBut, client_events, is_passed}
+use Rattle.sim_driver.specs.Scripts.{is_delivered, is_of_kind, marked}
 
 -- the message at a place among all that were sent was delivered, or lost where it goes to no node
 pub record HasDeliveredOne {S : Type 0} (view : S → SeatView) (seats : List S) (network : NetworkView) (handed : List ToLink) (before : World)
@@ -31,18 +32,20 @@ pub record IsPartOfDelivery (u : World) (which : ℕ) (events : List Event) : Ty
   pub got : slice_get u.sent which ≡ Some message
   pub first : BeginWith events (deliver_event message.receiver which ∷ [])
 
--- the message at a place was delivered before, or now
-abbrev pub PassesOrDelivers : {S : Type 0} → (S → SeatView) → List S → NetworkView → List ToLink → World → (early : List ℕ) → (which : ℕ) → Type 0
-PassesOrDelivers view seats network handed before early which =
-    ((is_early early which ≡ true) × StandsFor view seats network handed before 0)
-    ⊎ ((is_early early which ≡ false) × HasDeliveredOne view seats network handed before which)
+-- the message at a place was passed over, or delivered
+pub data PassesOrDelivers {S : Type 0} (view : S → SeatView) (seats : List S) (network : NetworkView) (handed : List ToLink) (before : World)
+    (except : Option (List ℕ)) (which : ℕ) (old new : List Bool) : Type 0 where
+  has_passed : (m : Letter) → slice_get before.sent which ≡ Some m → is_passed except old which m ≡ true → StandsFor view seats network handed before 0
+      → new ≡ old → PassesOrDelivers view seats network handed before except which old new
+  has_delivered : (d : HasDeliveredOne view seats network handed before which) → is_passed except old which d.message ≡ false → new ≡ marked which old
+      → PassesOrDelivers view seats network handed before except which old new
 
--- all that was not delivered was
+-- all that was not delivered was, but for the messages that are passed over
 pub record HasSettledBut {S : Type 0} (view : S → SeatView) (seats : List S) (network : NetworkView) (handed : List ToLink) (before : World)
-    (early : List ℕ) (next : ℕ) : Type 0 where
+    (except : Option (List ℕ)) (old new : List Bool) : Type 0 where
   pub events : List Event
   pub end : World
-  pub settles : SettlesBut early before next events end (length end.sent)
+  pub settles : SettlesBut except before old 0 events end new (length end.sent)
   pub stands : StandsFor view seats network handed end 0
 
 -- nothing happened
@@ -71,27 +74,43 @@ abbrev pub HasFault : Option (FrameFault × ℕ) → Bool → Type 0
 HasFault None malformed = malformed ≡ false
 HasFault (Some fault) malformed = malformed ≡ true
 
--- the whole requests in the bytes of a link came
+-- the whole requests in the bytes of a link came to the router at a place
 pub record HasAsked {S : Type 0} (view : S → SeatView) (seats : List S) (network : NetworkView) (handed : List ToLink) (before : World)
-    (link replied_before : ℕ) (bytes left : List ℕ) (replied : ℕ) (malformed : Bool) : Type 0 where
+    (at link replied_before : ℕ) (bytes left : List ℕ) (replied : ℕ) (malformed : Bool) : Type 0 where
   pub requests : List Request
   pub fault : Option (FrameFault × ℕ)
   pub end : World
   pub frames : FramesFrom 0 bytes requests left fault
-  pub run : Run before (client_events link replied_before requests) end
+  pub run : Run before (client_events at link replied_before requests) end
   pub count : replied ≡ replies_behind replied_before requests
   pub ends : HasFault fault malformed
   pub stands : StandsFor view seats network handed end 0
 
 -- first requests of these bytes came
-pub record IsFirstAsked (link replied : ℕ) (bytes : List ℕ) (events : List Event) : Type 0 where
+pub record IsFirstAsked (at link replied : ℕ) (bytes : List ℕ) (events : List Event) : Type 0 where
   pub consumed : List ℕ
   pub rest : List ℕ
   pub requests : List Request
   pub all : bytes ≡ consumed ++ rest
   pub asked : AreAsked consumed requests
-  pub first : BeginWith events (client_events link replied requests)
+  pub first : BeginWith events (client_events at link replied requests)
+
+-- the nodes from the first router on are routers
+abbrev pub HasRouters : World → Type 0
+HasRouters w = (router : ℕ) → first_router + router < length w.nodes → IsRouter w.nodes (first_router + router)
 
 -- a message at a place goes to this node
 abbrev pub IsReceiverAt : List Letter → (at node : ℕ) → Type 0
 IsReceiverAt letters at node = (m : Letter) × (slice_get letters at ≡ Some m) × (node ≡ m.receiver)
+
+-- whether a message at a place is of the kind
+abbrev pub IsOfKindAt : List Letter → (at : ℕ) → (kind : List ℕ) → Bool → Type 0
+IsOfKindAt letters at kind is = (m : Letter) × (slice_get letters at ≡ Some m) × (is ≡ is_of_kind kind m)
+
+-- whether a message at a place is passed over
+abbrev pub IsPassedAt : List Letter → (at : ℕ) → (except : Option (List ℕ)) → (delivered : List Bool) → Bool → Type 0
+IsPassedAt letters at except delivered is = (m : Letter) × (slice_get letters at ≡ Some m) × (is ≡ is_passed except delivered at m)
+
+-- whether a message at a place is of the kind, and was not delivered
+abbrev pub IsNextAt : List Letter → (at : ℕ) → (kind : List ℕ) → (delivered : List Bool) → Bool → Type 0
+IsNextAt letters at kind delivered is = (m : Letter) × (slice_get letters at ≡ Some m) × (is ≡ (not (is_delivered delivered at) && is_of_kind kind m))

@@ -1,75 +1,101 @@
 -- The events of a line.
-use Rattle.std.specs.Prelude.{◌≡◌, ℕ, ◌+◌, ◌<◌, ◌≤◌, List, [], ◌∷◌, ◌++◌, length, Some, None, Bool, true, false, ◌==◌}
-use Rattle.std.specs.List.{slice_get, list_any}
+use Rattle.std.specs.Prelude.{◌≡◌, ℕ, ◌+◌, ◌≤◌, ◌||◌, List, [], ◌∷◌, ◌++◌, length, Option, Some, None, Bool, true, false}
+use Rattle.std.specs.List.{slice_get}
 use Rattle.opmsg_frames.specs.Outline.{FrameFault}
 use Rattle.opmsg_frames.specs.Frames.{FramesFrom}
 use Rattle.node_model.specs.Letters.{Letter}
 use Rattle.node_model.specs.Requests.{Request}
-use Rattle.node_model.specs.World.{World, Event, client_event, deliver_event, Happens, Run}
+use Rattle.node_model.specs.World.{World, Event, client_event, deliver_event, moment_event, Happens, Run}
 use Rattle.driver_steps.specs.Moves.{BeginWith}
 use Rattle.pipe_driver.specs.Progress.{AreAsked}
 use Rattle.pipe_driver.specs.Rounds.{first_router, number_behind, replies_after, replies_behind}
-use Rattle.script_lines.specs.Lines.{Line, client_line, deliver_line, settle_line}
-use Rattle.sim_driver.specs.Scripts.{ScriptView, after_requests, place_from}
+use Rattle.script_lines.specs.Lines.{Line, client_line, deliver_line, moment_line, settle_line, next_line}
+use Rattle.sim_driver.specs.Links.{LinkView}
+use Rattle.sim_driver.specs.Scripts.{ScriptView, is_delivered, is_held, marked, next_from, place_from, reopened, with_delivered, with_link}
 
--- these requests come on the link, which had so many replies before
-abbrev pub client_events : (link replied : ℕ) → List Request → List Event
-client_events link replied [] = []
-client_events link replied (q ∷ requests) =
-    client_event first_router link (number_behind replied) q ∷ client_events link (replies_after q.more replied) requests
+-- these requests come to the router at a place on the link, which had so many replies before
+abbrev pub client_events : (at link replied : ℕ) → List Request → List Event
+client_events at link replied [] = []
+client_events at link replied (q ∷ requests) =
+    client_event at link (number_behind replied) q ∷ client_events at link (replies_after q.more replied) requests
 
--- the message at a place was delivered before
-abbrev pub is_early : List ℕ → ℕ → Bool
-is_early early n = list_any (λ y. y == n) early
+-- those of a router's link
+abbrev pub events_on : (router : ℕ) → LinkView → List Request → List Event
+events_on router link requests = client_events (first_router + router) link.number link.replied requests
 
--- Messages are delivered in order of sending, but for those that were delivered before, from a place among all that were sent up to a later
--- one; those too that are sent meanwhile. One that goes to no node is lost.
-pub data SettlesBut (early : List ℕ) : World → (next : ℕ) → List Event → World → (later : ℕ) → Type 0 where
-  but_none : (w : World) (next : ℕ) → SettlesBut early w next [] w next
-  but_early : (u w : World) (next later : ℕ) (events : List Event) → is_early early next ≡ true → next < length u.sent
-      → SettlesBut early u (next + 1) events w later → SettlesBut early u next events w later
-  but_next : (u v w : World) (next later at : ℕ) (events : List Event) → is_early early next ≡ false → Happens u (deliver_event at next) v
-      → SettlesBut early v (next + 1) events w later → SettlesBut early u next (deliver_event at next ∷ events) w later
-  but_lost : (u w : World) (next later : ℕ) (m : Letter) (events : List Event) → slice_get u.sent next ≡ Some m → length u.nodes ≤ m.receiver
-      → SettlesBut early u (next + 1) events w later → SettlesBut early u next events w later
+-- the message at a place is passed over: it was delivered before, or those of its kind are
+abbrev pub is_passed : (except : Option (List ℕ)) → (delivered : List Bool) → (place : ℕ) → Letter → Bool
+is_passed except delivered place m = is_delivered delivered place || is_held except m
 
--- The line is played: these events lead from world to world, and from what the script had to what it has; a link may be closed.
-pub data IsPlayed (u : World) (s : ScriptView) : Line → List Event → World → ScriptView → (closed : Bool) → Type 0 where
+-- Messages that were not delivered are delivered in order of sending, but for those of a kind, if there is one, from a place among all that were
+-- sent up to a later one; those too that are sent meanwhile. One that goes to no node is lost.
+pub data SettlesBut (except : Option (List ℕ)) : World → List Bool → (next : ℕ) → List Event → World → List Bool → (later : ℕ) → Type 0 where
+  but_none : (w : World) (ds : List Bool) (next : ℕ) → SettlesBut except w ds next [] w ds next
+  but_passed : (u w : World) (ds es : List Bool) (next later : ℕ) (m : Letter) (events : List Event) → slice_get u.sent next ≡ Some m
+      → is_passed except ds next m ≡ true → SettlesBut except u ds (next + 1) events w es later → SettlesBut except u ds next events w es later
+  but_next : (u v w : World) (ds es : List Bool) (next later : ℕ) (m : Letter) (events : List Event) → slice_get u.sent next ≡ Some m
+      → is_passed except ds next m ≡ false → Happens u (deliver_event m.receiver next) v
+      → SettlesBut except v (marked next ds) (next + 1) events w es later
+      → SettlesBut except u ds next (deliver_event m.receiver next ∷ events) w es later
+  but_lost : (u w : World) (ds es : List Bool) (next later : ℕ) (m : Letter) (events : List Event) → slice_get u.sent next ≡ Some m
+      → is_passed except ds next m ≡ false → length u.nodes ≤ m.receiver → SettlesBut except u (marked next ds) (next + 1) events w es later
+      → SettlesBut except u ds next events w es later
+
+-- The line is played: these events lead from world to world, and from what the script had to what it has; the link of a router may be closed.
+pub data IsPlayed (u : World) (s : ScriptView) : Line → List Event → World → ScriptView → (closed : Option ℕ) → Type 0 where
   -- its whole requests come, in order
-  plays_client : (bytes left : List ℕ) (requests : List Request) (w : World) → FramesFrom 0 (s.left ++ bytes) requests left None
-      → Run u (client_events s.link s.replied requests) w
-      → IsPlayed u s (client_line 0 bytes) (client_events s.link s.replied requests) w (after_requests s left None (replies_behind s.replied requests)) false
-  -- behind them stands what is no request
-  closes : (bytes left : List ℕ) (requests : List Request) (fault : FrameFault × ℕ) (w : World) → FramesFrom 0 (s.left ++ bytes) requests left (Some fault)
-      → Run u (client_events s.link s.replied requests) w
-      → IsPlayed u s (client_line 0 bytes) (client_events s.link s.replied requests) w (after_requests s left (Some fault) 0) true
+  plays_client : (router : ℕ) (link : LinkView) (bytes left : List ℕ) (requests : List Request) (w : World) → slice_get s.links router ≡ Some link
+      → FramesFrom 0 (link.left ++ bytes) requests left None → Run u (events_on router link requests) w
+      → IsPlayed u s (client_line router bytes) (events_on router link requests) w
+      (with_link s router (record { number = link.number; left = left; replied = replies_behind link.replied requests })) None
+  -- after them comes what is no request
+  closes : (router : ℕ) (link : LinkView) (bytes left : List ℕ) (requests : List Request) (fault : FrameFault × ℕ) (w : World)
+      → slice_get s.links router ≡ Some link → FramesFrom 0 (link.left ++ bytes) requests left (Some fault) → Run u (events_on router link requests) w
+      → IsPlayed u s (client_line router bytes) (events_on router link requests) w (reopened s router) (Some router)
   plays_deliver : (node k which : ℕ) (w : World) → place_from 0 node k u.sent ≡ Some which → Happens u (deliver_event node which) w
-      → IsPlayed u s (deliver_line node k) (deliver_event node which ∷ []) w
-      (record { link = s.link; left = s.left; replied = s.replied; next = s.next; early = s.early ++ which ∷ [] }) false
-  plays_settle : (events : List Event) (w : World) → SettlesBut s.early u s.next events w (length w.sent)
-      → IsPlayed u s settle_line events w (record { link = s.link; left = s.left; replied = s.replied; next = length w.sent; early = [] }) false
+      → IsPlayed u s (deliver_line node k) (deliver_event node which ∷ []) w (with_delivered s (marked which s.delivered)) None
+  plays_moment : (node moment : ℕ) (w : World) → Happens u (moment_event node moment) w
+      → IsPlayed u s (moment_line node moment) (moment_event node moment ∷ []) w s None
+  plays_settle : (except : Option (List ℕ)) (events : List Event) (w : World) (delivered : List Bool)
+      → SettlesBut except u s.delivered 0 events w delivered (length w.sent)
+      → IsPlayed u s (settle_line except) events w (with_delivered s delivered) None
+  plays_next : (kind : List ℕ) (which : ℕ) (m : Letter) (w : World) → next_from 0 kind s.delivered u.sent ≡ Some which → slice_get u.sent which ≡ Some m
+      → Happens u (deliver_event m.receiver which) w
+      → IsPlayed u s (next_line kind) (deliver_event m.receiver which ∷ []) w (with_delivered s (marked which s.delivered)) None
+  -- it goes to no node
+  loses_next : (kind : List ℕ) (which : ℕ) (m : Letter) → next_from 0 kind s.delivered u.sent ≡ Some which → slice_get u.sent which ≡ Some m
+      → length u.nodes ≤ m.receiver → IsPlayed u s (next_line kind) [] u (with_delivered s (marked which s.delivered)) None
 
 -- The first events of deliveries of what was not delivered: some of these, and maybe the one that is next.
-pub record IsPartOfSettling (early : List ℕ) (u : World) (next : ℕ) (events : List Event) : Type 0 where
+pub record IsPartOfSettling (except : Option (List ℕ)) (u : World) (delivered : List Bool) (events : List Event) : Type 0 where
   pub before : List Event
   pub more : List Event
   pub then : World
+  pub marks : List Bool
   pub later : ℕ
   pub at : ℕ
-  pub settles : SettlesBut early u next before then later
+  pub settles : SettlesBut except u delivered 0 before then marks later
   pub first : BeginWith more (deliver_event at later ∷ [])
   pub all : events ≡ before ++ more
 
 -- the events of a line that was cut short
 pub data IsPartOfLine (u : World) (s : ScriptView) : Line → List Event → Type 0 where
-  part_of_client : (bytes consumed rest : List ℕ) (requests : List Request) (events : List Event) → s.left ++ bytes ≡ consumed ++ rest
-      → AreAsked consumed requests → BeginWith events (client_events s.link s.replied requests) → IsPartOfLine u s (client_line 0 bytes) events
+  part_of_client : (router : ℕ) (link : LinkView) (bytes consumed rest : List ℕ) (requests : List Request) (events : List Event)
+      → slice_get s.links router ≡ Some link → link.left ++ bytes ≡ consumed ++ rest → AreAsked consumed requests
+      → BeginWith events (events_on router link requests) → IsPartOfLine u s (client_line router bytes) events
   part_of_deliver : (node k which : ℕ) (events : List Event) → place_from 0 node k u.sent ≡ Some which → BeginWith events (deliver_event node which ∷ [])
       → IsPartOfLine u s (deliver_line node k) events
-  part_of_settle : (events : List Event) → IsPartOfSettling s.early u s.next events → IsPartOfLine u s settle_line events
+  part_of_moment : (node moment : ℕ) (events : List Event) → BeginWith events (moment_event node moment ∷ [])
+      → IsPartOfLine u s (moment_line node moment) events
+  part_of_settle : (except : Option (List ℕ)) (events : List Event) → IsPartOfSettling except u s.delivered events
+      → IsPartOfLine u s (settle_line except) events
+  part_of_next : (kind : List ℕ) (which : ℕ) (m : Letter) (events : List Event) → next_from 0 kind s.delivered u.sent ≡ Some which
+      → slice_get u.sent which ≡ Some m → BeginWith events (deliver_event m.receiver which ∷ []) → IsPartOfLine u s (next_line kind) events
 
--- the line names a router, a node or a message that is not there
-pub data NamesNothing (u : World) : Line → Type 0 where
-  no_router : (router : ℕ) (bytes : List ℕ) → 0 < router → NamesNothing u (client_line router bytes)
-  no_node : (node k : ℕ) → length u.nodes ≤ node → NamesNothing u (deliver_line node k)
-  no_message : (node k : ℕ) → place_from 0 node k u.sent ≡ None → NamesNothing u (deliver_line node k)
+-- the line names a router, a node or a message that does not exist
+pub data NamesNothing (u : World) (s : ScriptView) : Line → Type 0 where
+  no_router : (router : ℕ) (bytes : List ℕ) → length u.nodes ≤ first_router + router → NamesNothing u s (client_line router bytes)
+  no_node : (node k : ℕ) → length u.nodes ≤ node → NamesNothing u s (deliver_line node k)
+  no_message : (node k : ℕ) → place_from 0 node k u.sent ≡ None → NamesNothing u s (deliver_line node k)
+  no_node_of_moment : (node moment : ℕ) → length u.nodes ≤ node → NamesNothing u s (moment_line node moment)
+  none_of_kind : (kind : List ℕ) → next_from 0 kind s.delivered u.sent ≡ None → NamesNothing u s (next_line kind)

@@ -31,7 +31,8 @@ pub record Playing {S : Type 0} (view : S → SeatView) (seats : List S) (networ
 
 -- why no further line is played
 pub data StopsAt (routers : ℕ) (lines : List (List ℕ)) (left put : List ℕ) (end : World) : Status → Type 0 where
-  at_refused_line : (bytes others : List ℕ) → IsCutAt newline left bytes others → IsRefused end bytes → AllPlayed routers lines put end
+  at_refused_line : (bytes others : List ℕ) → IsCutAt newline left bytes others → (played : AllPlayed routers lines put end)
+      → IsRefused end played.script bytes
       → StopsAt routers lines left put end statuses.BadInput
   at_write_fault : LastPutShort routers lines left put end → StopsAt routers lines left put end statuses.WriteFailed
   at_disk_fault : CameTo routers lines left put end → StopsAt routers lines left put end statuses.DiskFailed

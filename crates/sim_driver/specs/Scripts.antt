@@ -1,32 +1,74 @@
--- What a script has beside the nodes: the link of its router, and which messages were delivered (own).
-use Rattle.std.specs.Prelude.{ℕ, ◌+◌, ◌-◌, ◌==◌, List, [], ◌∷◌, ◌++◌, Option, Some, None, Bool, if◌then◌else◌}
-use Rattle.std.specs.List.{flat_map}
-use Rattle.opmsg_frames.specs.Outline.{FrameFault}
+-- What a script has beside the nodes: the open links of its routers, and which messages were delivered (own).
+use Rattle.std.specs.Prelude.{◌≡◌, ℕ, zero, suc, ◌+◌, ◌-◌, ◌==◌, ◌&&◌, not, List, [], ◌∷◌, ◌++◌, map, Option, Some, None, Bool, true, false, if◌then◌else◌}
+use Rattle.std.specs.List.{flat_map, slice_set}
+use Rattle.std.specs.Str.{bytes_eq}
 use Rattle.node_model.specs.Letters.{Letter}
+use Rattle.node_traits.specs.Kinds.{kind_of}
 use Rattle.node_traits.specs.declared.outputs.ToLink.{ToLink}
 use Rattle.script_lines.specs.Output.{closed_line, reply_line}
+use Rattle.sim_driver.specs.Links.{LinkView, new_link}
 use Rattle.sim_driver.specs.declared.script.Script.{Script}
 
--- `link` is the number of the link that is open, `left` the bytes on it that begin no whole request, `replied` how many replies its requests get;
--- of the messages that were sent those before `next` were delivered, and of the others those at the places `early`
+-- `links` are those that are open, one of each router, in order; so many links were `opened`, which is the number of the next one; `delivered`
+-- says of the messages, in order of sending, whether they were delivered: those past its end were not
 pub record ScriptView : Type 0 where
-  pub link : ℕ
-  pub left : List ℕ
-  pub replied : ℕ
-  pub next : ℕ
-  pub early : List ℕ
+  pub links : List LinkView
+  pub opened : ℕ
+  pub delivered : List Bool
 
 abbrev pub script_view : Script → ScriptView
-script_view s = record { link = s.link; left = s.framer.bytes; replied = s.replied; next = s.next; early = s.early.items }
+script_view s = record { links = s.links.items; opened = s.opened; delivered = s.delivered }
+
+-- LINKS
+
+-- so many new links, with numbers from this one on
+abbrev pub links_from : (first count : ℕ) → List LinkView
+links_from first zero = []
+links_from first (suc count) = new_link first ∷ links_from (first + 1) count
 
 -- before the first line
-abbrev pub new_script : ScriptView
-new_script = record { link = 0; left = []; replied = 0; next = 0; early = [] }
+abbrev pub new_script : (routers : ℕ) → ScriptView
+new_script routers = record { links = links_from 0 routers; opened = routers; delivered = [] }
 
--- behind the requests of a line: a fault closes the link, and the next bytes open another
-abbrev pub after_requests : ScriptView → (left : List ℕ) → Option (FrameFault × ℕ) → (replied : ℕ) → ScriptView
-after_requests s left None replied = record { link = s.link; left = left; replied = replied; next = s.next; early = s.early }
-after_requests s left (Some fault) replied = record { link = s.link + 1; left = []; replied = 0; next = s.next; early = s.early }
+-- the router's link is this one
+abbrev pub with_link : ScriptView → (router : ℕ) → LinkView → ScriptView
+with_link s router link = record { links = slice_set s.links router link; opened = s.opened; delivered = s.delivered }
+
+-- the router's link was closed, and a new one is open
+abbrev pub reopened : ScriptView → (router : ℕ) → ScriptView
+reopened s router = record { links = slice_set s.links router (new_link s.opened); opened = s.opened + 1; delivered = s.delivered }
+
+-- MESSAGES
+
+abbrev pub with_delivered : ScriptView → List Bool → ScriptView
+with_delivered s delivered = record { links = s.links; opened = s.opened; delivered = delivered }
+
+-- the message at a place was delivered
+abbrev pub is_delivered : List Bool → (place : ℕ) → Bool
+is_delivered [] place = false
+is_delivered (d ∷ delivered) zero = d
+is_delivered (d ∷ delivered) (suc place) = is_delivered delivered place
+
+-- so were all before a place
+abbrev pub AreDelivered : (before : ℕ) → List Bool → Type 0
+AreDelivered zero delivered = Unit {0}
+AreDelivered (suc before) [] = ⊥
+AreDelivered (suc before) (d ∷ delivered) = (d ≡ true) × AreDelivered before delivered
+
+-- so was, now, the one at this place
+abbrev pub marked : (place : ℕ) → List Bool → List Bool
+marked zero [] = true ∷ []
+marked zero (d ∷ delivered) = true ∷ delivered
+marked (suc place) [] = false ∷ marked place []
+marked (suc place) (d ∷ delivered) = d ∷ marked place delivered
+
+abbrev pub is_of_kind : (kind : List ℕ) → Letter → Bool
+is_of_kind kind m = bytes_eq (kind_of m.body) kind
+
+-- the message is passed over, where those of a kind are
+abbrev pub is_held : (except : Option (List ℕ)) → Letter → Bool
+is_held None m = false
+is_held (Some kind) m = is_of_kind kind m
 
 -- the place, among those from n on, of the k-th message to the node
 abbrev pub place_from : (n node k : ℕ) → List Letter → Option ℕ
@@ -34,10 +76,35 @@ place_from n node k [] = None
 place_from n node k (m ∷ letters) =
     if m.receiver == node then (if k == 0 then Some n else place_from (n + 1) node (k - 1) letters) else place_from (n + 1) node k letters
 
--- the lines of the replies to a link
-abbrev pub reply_lines : (link : ℕ) → List ToLink → List ℕ
-reply_lines link replies = flat_map (λ (t : ToLink). if t.link == link then reply_line t.bytes else []) replies
+-- the place, among those from n on, of the first message of the kind that was not delivered
+abbrev pub next_from : (n : ℕ) → (kind : List ℕ) → (delivered : List Bool) → List Letter → Option ℕ
+next_from n kind delivered [] = None
+next_from n kind delivered (m ∷ letters) =
+    if not (is_delivered delivered n) && is_of_kind kind m then Some n else next_from (n + 1) kind delivered letters
 
--- what is printed for a line: the replies to the link that was open, and whether it was closed
-abbrev pub printed : (link : ℕ) → List ToLink → (closed : Bool) → List ℕ
-printed link replies closed = reply_lines link replies ++ (if closed then closed_line else [])
+-- OUTPUT
+
+-- the numbers of links
+abbrev pub numbers_of : List LinkView → List ℕ
+numbers_of links = map (λ (link : LinkView). link.number) links
+
+-- the router whose link has this number, of links with these numbers, from this router on
+abbrev pub router_from : (first : ℕ) → (numbers : List ℕ) → (number : ℕ) → Option ℕ
+router_from first [] number = None
+router_from first (n ∷ numbers) number = if n == number then Some first else router_from (first + 1) numbers number
+
+abbrev pub line_by : (router : Option ℕ) → (reply : List ℕ) → List ℕ
+line_by None reply = []
+line_by (Some router) reply = reply_line router reply
+
+-- the lines of the replies to links with these numbers
+abbrev pub reply_lines : (numbers : List ℕ) → List ToLink → List ℕ
+reply_lines numbers replies = flat_map (λ (t : ToLink). line_by (router_from 0 numbers t.link) t.bytes) replies
+
+abbrev pub closed_lines : (closed : Option ℕ) → List ℕ
+closed_lines None = []
+closed_lines (Some router) = closed_line router
+
+-- what is printed for a line: the replies to the links that were open, in the order in which they were given, and the router whose link was closed
+abbrev pub printed : List LinkView → List ToLink → (closed : Option ℕ) → List ℕ
+printed links replies closed = reply_lines (numbers_of links) replies ++ closed_lines closed

@@ -1,5 +1,5 @@
 -- Scripts that were played, line by line, and how they ended (own).
-use Rattle.std.specs.Prelude.{◌≡◌, ◌≢◌, ℕ, ◌<◌, ◌≤◌, IsTrue, List, [], ◌∷◌, ◌++◌, length, Bool}
+use Rattle.std.specs.Prelude.{◌≡◌, ◌≢◌, ℕ, ◌<◌, ◌≤◌, IsTrue, List, [], ◌∷◌, ◌++◌, length, Option}
 use Rattle.std.specs.List.{flat_map, AllByRecursion}
 use Rattle.outside.specs.Devices.{SourceCall, SinkCall, SourceGave, SinkTook}
 use Rattle.node_model.specs.World.{Held, World, Event, Run, start}
@@ -29,12 +29,12 @@ bytes_of_lines lines = flat_map (λ (l : List ℕ). l ++ newline ∷ []) lines
 pub data Plays (routers : ℕ) : (lines : List (List ℕ)) → List Event → World → ScriptView → (out : List ℕ) → Type 0 where
   -- each node was opened
   plays_none : (w : World) → Run (start routers) (openings 0 (length (start routers).nodes)) w
-      → Plays routers [] (openings 0 (length (start routers).nodes)) w new_script []
+      → Plays routers [] (openings 0 (length (start routers).nodes)) w (new_script routers) []
   -- one line more: what its events gave is printed
   plays_more : (lines : List (List ℕ)) (before events : List Event) (u w : World) (s t : ScriptView) (out : List ℕ) (bytes : List ℕ) (line : Line)
-      (closed : Bool) (given : List ToLink) → Plays routers lines before u s out → Says bytes line → IsPlayed u s line events w t closed
+      (closed : Option ℕ) (given : List ToLink) → Plays routers lines before u s out → Says bytes line → IsPlayed u s line events w t closed
       → puts_given w.answered ≡ puts_given u.answered ++ given
-      → Plays routers (lines ++ bytes ∷ []) (before ++ events) w t (out ++ printed s.link given closed)
+      → Plays routers (lines ++ bytes ∷ []) (before ++ events) w t (out ++ printed s.links given closed)
 
 -- all these lines were played, and what they print was put, and nothing else
 pub record AllPlayed (routers : ℕ) (lines : List (List ℕ)) (put : List ℕ) (end : World) : Type 0 where
@@ -69,7 +69,7 @@ pub record LastPutShort (routers : ℕ) (lines : List (List ℕ)) (left put : Li
   pub bytes : List ℕ
   pub others : List ℕ
   pub line : Line
-  pub closed : Bool
+  pub closed : Option ℕ
   pub given : List ToLink
   pub part : List ℕ
   pub played : Plays routers lines before earlier script out
@@ -77,7 +77,7 @@ pub record LastPutShort (routers : ℕ) (lines : List (List ℕ)) (left put : Li
   pub says : Says bytes line
   pub last : IsPlayed earlier script line events end new closed
   pub gave : puts_given end.answered ≡ puts_given earlier.answered ++ given
-  pub in_part : IsPrefix part (printed script.link given closed)
+  pub in_part : IsPrefix part (printed script.links given closed)
   pub all : put ≡ out ++ part
 
 -- The causes of a status: `lines` were played of the bytes taken, which leaves these, and `at_end` says whether the input is at its end.
@@ -95,7 +95,7 @@ pub data Cause (routers limit : ℕ) (at_end : Type 0) (taken : List ℕ) (lines
   -- there was no memory
   no_memory : CameTo routers lines left put end → Cause routers limit at_end taken lines left put end statuses.OutOfMemory
   -- the next line is refused
-  line_refused : (bytes others : List ℕ) → IsCutAt newline left bytes others → IsRefused end bytes → AllPlayed routers lines put end
+  line_refused : (bytes others : List ℕ) → IsCutAt newline left bytes others → (played : AllPlayed routers lines put end) → IsRefused end played.script bytes
       → Cause routers limit at_end taken lines left put end statuses.BadInput
   -- the input was read to its end, and its last line has no newline
   line_unended : at_end → length taken < limit → left ≢ [] → HasNone newline left → AllPlayed routers lines put end

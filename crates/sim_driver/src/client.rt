@@ -1,6 +1,6 @@
 //! Requests that come on a link.
 
-ghost use Rattle.std.specs.Prelude.{◌≡◌, ◌⊎◌, ℕ, ◌<◌, List, None, false, vec_len, IfErr, OnOk, IfOk, Err};
+ghost use Rattle.std.specs.Prelude.{◌≡◌, ◌≢◌, ◌⊎◌, ◌<◌, List, None, false, vec_len, IfErr, IfOk, Err};
 ghost use Rattle.node_model.specs.World.{IsRouter, World};
 ghost use Rattle.node_traits.specs.declared.outputs.ToLink.{ToLink};
 ghost use Rattle.driver_steps.specs.Crashes.{Since};
@@ -8,7 +8,6 @@ ghost use Rattle.driver_steps.specs.Seats.{AreOpen, faults_of, places_of, seat_s
 ghost use Rattle.driver_steps.specs.Worlds.{StandsFor, network_view};
 ghost use Rattle.pipe_driver.specs.Counts.{HaveRisenWhere};
 ghost use Rattle.pipe_driver.specs.Progress.{AreAskedAsRead};
-ghost use Rattle.pipe_driver.specs.Rounds.{first_router};
 ghost use Rattle.pipe_driver.specs.declared.status.Status.TheVariants as statuses;
 ghost use Rattle.sim_driver.specs.Moves.{HasAsked, IsCut, IsFirstAsked};
 
@@ -18,48 +17,46 @@ use opmsg_frames::{FrameFault, Framer, Request};
 use outside::log::Log;
 use pipe_driver::{Status, next_number, replied_after};
 
-/// The number of the router that takes requests.
-const FIRST_ROUTER: usize = 2;
-
 /// So many replies are not counted on one link.
 const MOST_REPLIES: u64 = 1 << 62;
 
-/// What came of the bytes on a link: how many replies its requests get, and whether what stands behind them is no request.
+/// What came of the bytes on a link: how many replies its requests get, and whether what comes after them is no request.
 #[derive(Clone, Copy, Debug, PartialEq, Eq)]
 pub struct Asked {
     pub replied: u64,
     pub malformed: bool,
 }
 
-/// The whole requests that the framer gives come to the router, in order, on a link whose requests got so many replies.
+/// The whole requests that the framer gives come to the router at a place, in order, on a link whose requests got so many replies.
 ///
 /// # Errors
 /// - `Status::DiskFailed` if a disk failed.
-/// - `Status::OutOfMemory` for want of memory, or where a node is at its last step, or 2^62 requests of the link got a reply.
+/// - `Status::OutOfMemory` if out of memory, or where a node is at its last step, or 2^62 requests of the link got a reply.
 pub fn ask_all<N: Node<Request = Request>, L: Log>(
     framer: &mut Framer,
     seats: &mut Vec<Seat<N, L>>,
     network: &mut Network<N::Mail>,
+    at: usize,
     link: u32,
     replied: u64,
 ) -> Result<Asked, Status>
-    requires at { first_router < vec_len seats.old }
+    requires at { at < vec_len seats.old }
     requires open { AreOpen L.facts.is_open seats.old.items }
     requires fault { framer.old.fault ≡ None }
-    ensures asked { AreAskedAsRead N.asks → (since : Since L) (w : World) (handed : List ToLink) → IsRouter w.nodes first_router →
+    ensures asked { AreAskedAsRead N.asks → (since : Since L) (w : World) (handed : List ToLink) → IsRouter w.nodes at →
         StandsFor (seat_since N.state L.facts since) seats.old.items (network_view
         (λ m. N.Mail.letter m) network.old) handed w 0 →
         IfOk result (λ asked. HasAsked (seat_since N.state L.facts since) seats.new.items (network_view
         (λ m. N.Mail.letter m) network.new) handed w
-        link replied framer.old.bytes framer.new.bytes asked.replied asked.malformed) }
-    ensures cut { AreAskedAsRead N.asks → (since : Since L) (w : World) (handed : List ToLink) → IsRouter w.nodes first_router →
+        at link replied framer.old.bytes framer.new.bytes asked.replied asked.malformed) }
+    ensures cut { AreAskedAsRead N.asks → (since : Since L) (w : World) (handed : List ToLink) → IsRouter w.nodes at →
         StandsFor (seat_since N.state L.facts since) seats.old.items (network_view
         (λ m. N.Mail.letter m) network.old) handed w 0 →
         IfErr result (λ status. IsCut (seat_since N.state L.facts since) seats.new.items w
-        (IsFirstAsked link replied framer.old.bytes) status) }
+        (IsFirstAsked at link replied framer.old.bytes) status) }
     ensures fault { IfOk result (λ asked. asked.malformed ≡ false → framer.new.fault ≡ None) }
     ensures len { vec_len seats.new ≡ vec_len seats.old }
-    ensures open { OnOk result (AreOpen L.facts.is_open seats.new.items) }
+    ensures open { result ≢ Err statuses.DiskFailed → AreOpen L.facts.is_open seats.new.items }
 
     // Of the logs' disks.
     ensures other { IfErr result (λ status. (status ≡ statuses.DiskFailed) ⊎ (status ≡ statuses.OutOfMemory)) }
@@ -85,7 +82,7 @@ pub fn ask_all<N: Node<Request = Request>, L: Log>(
         }
         let more = request.more;
         let number = next_number(replied);
-        match ask(seats, network, FIRST_ROUTER, link, number, request) {
+        match ask(seats, network, at, link, number, request) {
             Ok(()) => replied = replied_after(more, replied),
             Err(e) => return Err(Status::of(e)),
         }

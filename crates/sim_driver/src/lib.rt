@@ -3,7 +3,11 @@
 
 mod client;
 mod deliver;
+mod delivered;
+mod events;
 mod lines;
+mod link;
+mod messages;
 mod play;
 mod report;
 mod script;

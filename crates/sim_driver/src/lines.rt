@@ -1,6 +1,6 @@
 //! The lines of a script, one after another.
 
-ghost use Rattle.std.specs.Prelude.{◌≡◌, ◌≢◌, ℕ, ◌<◌, List, [], ◌∷◌, ◌++◌, None, vec_len, IfErr, OnOk, Err};
+ghost use Rattle.std.specs.Prelude.{◌≡◌, ◌≢◌, ℕ, ◌+◌, ◌<◌, List, [], ◌∷◌, ◌++◌, vec_len, IfErr, OnOk, Err};
 ghost use Rattle.driver_steps.specs.Crashes.{Since, with_notes};
 ghost use Rattle.driver_steps.specs.Seats.{AreOpen, faults_of, places_of, seat_since};
 ghost use Rattle.driver_steps.specs.Worlds.{network_view};
@@ -15,7 +15,7 @@ ghost use Rattle.sim_driver.specs.Scripts.{script_view};
 ghost use Rattle.sim_driver.specs.Simulations.{newline};
 
 use crate::play::play_line;
-use crate::report::{put_text, text_of};
+use crate::report::{numbers_of, put_text, text_of};
 use crate::script::Script;
 use driver_steps::{Network, Seat};
 use node_traits::Node;
@@ -34,7 +34,7 @@ use std::thread::Threads;
 /// - `Status::BadInput` if the bytes say no line, or one that names what is not there; nothing happened.
 /// - `Status::WriteFailed` if a write failed; the line was played.
 /// - `Status::DiskFailed` if a disk failed: of the line nothing was put.
-/// - `Status::OutOfMemory` for want of memory, or where a node is at its last step: of the line nothing was put.
+/// - `Status::OutOfMemory` if out of memory, or where a node is at its last step: of the line nothing was put.
 pub fn answer_line<R: Threads + Sync, N: Node<Request = Request>, L: Log, K: Witness<L::Of>>(
     rt: &R,
     alloc: Global,
@@ -46,7 +46,7 @@ pub fn answer_line<R: Threads + Sync, N: Node<Request = Request>, L: Log, K: Wit
 ) -> Result<(), Status>
     requires at { first_router < vec_len seats.old }
     requires open { AreOpen L.facts.is_open seats.old.items }
-    requires fault { script.old.framer.fault ≡ None }
+    requires links { first_router + vec_len script.old.links ≡ vec_len seats.old }
     requires line { HasNone newline line.now }
     ensures answered { AreAskedAsRead N.asks → (since : Since L) (routers : ℕ) → 0 < routers → (held_before consumed : List ℕ) →
         Playing (seat_since N.state L.facts since) seats.old.items (network_view (λ m. N.Mail.letter m) network.old)
@@ -64,10 +64,9 @@ pub fn answer_line<R: Threads + Sync, N: Node<Request = Request>, L: Log, K: Wit
         (λ noted. Stopped (seat_since N.state L.facts (with_notes since noted)) seats.new.items routers K.tells noted held_before
         (K.held out.new) consumed
         (line.now ++ newline ∷ others) status)) }
-    ensures fault { OnOk result (script.new.framer.fault ≡ None) }
+    ensures links { vec_len script.new.links ≡ vec_len script.old.links }
     ensures len { vec_len seats.new ≡ vec_len seats.old }
-    ensures open { OnOk result (AreOpen L.facts.is_open seats.new.items) }
-    ensures open_err { IfErr result (λ status. status ≢ statuses.DiskFailed → status ≢ statuses.OutOfMemory → AreOpen L.facts.is_open seats.new.items) }
+    ensures open { result ≢ Err statuses.DiskFailed → AreOpen L.facts.is_open seats.new.items }
     ensures other { IfErr result IsOfPlaying }
 
     // Of the devices.
@@ -75,13 +74,16 @@ pub fn answer_line<R: Threads + Sync, N: Node<Request = Request>, L: Log, K: Wit
     ensures disk_fault { HaveRisenWhere (result ≡ Err statuses.DiskFailed) (faults_of L.facts.fault_count seats.old.items) (faults_of L.facts.fault_count seats.new.items) }
     ensures places { places_of L.facts.place seats.new.items ≡ places_of L.facts.place seats.old.items }
 {
-    let link = script.link;
+    let numbers = match numbers_of(alloc, &script.links) {
+        Ok(numbers) => numbers,
+        Err(_) => return Err(Status::OutOfMemory),
+    };
     let closed = match play_line(rt, alloc, line, seats, network, script) {
         Ok(closed) => closed,
         Err(status) => return Err(status),
     };
     let replies = network.hand_on(alloc);
-    let text = match text_of(alloc, link, &replies, closed) {
+    let text = match text_of(alloc, &numbers, &replies, closed) {
         Ok(text) => text,
         Err(_) => return Err(Status::OutOfMemory),
     };
@@ -91,7 +93,7 @@ pub fn answer_line<R: Threads + Sync, N: Node<Request = Request>, L: Log, K: Wit
     }
 }
 
-/// The lines that end in a piece are played, of which the first was begun before; the beginning of one more may stand behind them.
+/// The lines that end in a piece are played, of which the first was begun before; the beginning of one more may come after them.
 ///
 /// # Errors
 /// As `answer_line` has them; `Status::OutOfMemory` also where a line finds no room.
@@ -107,7 +109,7 @@ pub fn play_piece<R: Threads + Sync, N: Node<Request = Request>, L: Log, K: Witn
 ) -> Result<(), Status>
     requires at { first_router < vec_len seats.old }
     requires open { AreOpen L.facts.is_open seats.old.items }
-    requires fault { script.old.framer.fault ≡ None }
+    requires links { first_router + vec_len script.old.links ≡ vec_len seats.old }
     requires begun { HasNone newline begun.old.items }
     ensures played { AreAskedAsRead N.asks → (since : Since L) (routers : ℕ) → 0 < routers → (held_before consumed : List ℕ) →
         Playing (seat_since N.state L.facts since) seats.old.items (network_view (λ m. N.Mail.letter m) network.old)
@@ -126,10 +128,9 @@ pub fn play_piece<R: Threads + Sync, N: Node<Request = Request>, L: Log, K: Witn
         held_before (K.held out.new)
         (consumed ++ (begun.old.items ++ piece.now)) status)) }
     ensures begun { OnOk result (HasNone newline begun.new.items) }
-    ensures fault { OnOk result (script.new.framer.fault ≡ None) }
+    ensures links { vec_len script.new.links ≡ vec_len script.old.links }
     ensures len { vec_len seats.new ≡ vec_len seats.old }
-    ensures open { OnOk result (AreOpen L.facts.is_open seats.new.items) }
-    ensures open_err { IfErr result (λ status. status ≢ statuses.DiskFailed → status ≢ statuses.OutOfMemory → AreOpen L.facts.is_open seats.new.items) }
+    ensures open { result ≢ Err statuses.DiskFailed → AreOpen L.facts.is_open seats.new.items }
     ensures other { IfErr result IsOfPlaying }
 
     // Of the devices.

@@ -1,13 +1,13 @@
 //! What is printed for a line.
 
-ghost use Rattle.std.specs.Prelude.{◌≡◌, ◌==◌, ◌≤◌, ◌++◌, [], length, IsTrue, IfOk, OnOk, OnErr, if◌then◌else◌};
+ghost use Rattle.std.specs.Prelude.{◌≡◌, ◌≤◌, ◌++◌, length, IsTrue, IfOk, OnOk, OnErr};
 ghost use Rattle.outside.specs.Causes.{Rose};
 ghost use Rattle.outside.specs.Streams.{Put};
 ghost use Rattle.driver_steps.specs.Seats.{AreDurable, AreOpen, notes_of};
 ghost use Rattle.pipe_driver.specs.Pieces.{PutInPart};
-ghost use Rattle.script_lines.specs.Output.{reply_line};
-ghost use Rattle.sim_driver.specs.Scripts.{printed, reply_lines};
+ghost use Rattle.sim_driver.specs.Scripts.{closed_lines, line_by, numbers_of, reply_lines, router_from};
 
+use crate::link::Link;
 use bson_values::Memory;
 use driver_steps::{Seat, note_disks};
 use node_traits::{Node, ToLink};
@@ -18,25 +18,56 @@ use pipe_driver::put_all;
 use script_lines::{put_closed, put_reply};
 use std::alloc::Global;
 
-/// Puts the line of a reply behind a text, where it goes to the link. Fails for want of memory.
-fn put_if(alloc: Global, link: u32, reply: &ToLink, text: &mut Vec<u8>) -> Result<(), Memory>
-    ensures { OnOk result (text.new.items ≡ text.old.items ++ (if reply.now.link == link then reply_line reply.now.bytes else [])) }
+/// The numbers of links, in order. Fails if out of memory.
+pub fn numbers_of(alloc: Global, links: &[Link]) -> Result<Vec<u32>, Memory>
+    ensures { IfOk result (λ numbers. numbers.items ≡ numbers_of links.now) }
 {
-    if reply.link != link {
-        return Ok(());
+    let mut numbers = Vec::new(alloc);
+    'links: for link in links {
+        match numbers.push(link.number()) {
+            Ok(()) => {}
+            Err(_) => return Err(Memory),
+        }
     }
-    match put_reply(alloc, reply.bytes.as_slice(), text) {
+    Ok(numbers)
+}
+
+/// The router whose link has this number.
+fn router_of(numbers: &[u32], number: u32) -> Option<usize>
+    ensures { result ≡ router_from 0 numbers.now number }
+{
+    'numbers: for router in 0..numbers.len() {
+        if numbers[router] == number {
+            return Some(router);
+        }
+    }
+    None
+}
+
+/// Appends the line of a reply to a text, if it goes to one of the links. Fails if out of memory.
+fn put_if(alloc: Global, numbers: &[u32], reply: &ToLink, text: &mut Vec<u8>) -> Result<(), Memory>
+    ensures { OnOk result (text.new.items ≡ text.old.items ++ line_by (router_from 0 numbers.now reply.now.link) reply.now.bytes) }
+{
+    let Some(router) = router_of(numbers, reply.link) else {
+        return Ok(());
+    };
+    match put_reply(alloc, router as u64, reply.bytes.as_slice(), text) {
         Ok(()) => Ok(()),
         Err(e) => Err(e),
     }
 }
 
-/// Puts the lines of the replies to a link behind a text. Fails for want of memory.
-fn put_lines(alloc: Global, link: u32, replies: &[ToLink], text: &mut Vec<u8>) -> Result<(), Memory>
-    ensures { OnOk result (text.new.items ≡ text.old.items ++ reply_lines link replies.now) }
+/// Appends the lines of the replies to the links to a text. Fails if out of memory.
+fn put_lines(
+    alloc: Global,
+    numbers: &[u32],
+    replies: &[ToLink],
+    text: &mut Vec<u8>,
+) -> Result<(), Memory>
+    ensures { OnOk result (text.new.items ≡ text.old.items ++ reply_lines numbers.now replies.now) }
 {
     'replies: for reply in replies {
-        match put_if(alloc, link, reply, text) {
+        match put_if(alloc, numbers, reply, text) {
             Ok(()) => {}
             Err(e) => return Err(e),
         }
@@ -44,24 +75,25 @@ fn put_lines(alloc: Global, link: u32, replies: &[ToLink], text: &mut Vec<u8>) -
     Ok(())
 }
 
-/// The text that is printed for a line, which gave these replies while that link was open, and closed it or did not. Fails for want of memory.
+/// The text that is printed for a line, which gave these replies while links with these numbers were open, and closed that router's link or none.
+/// Fails if out of memory.
 pub fn text_of(
     alloc: Global,
-    link: u32,
+    numbers: &[u32],
     replies: &[ToLink],
-    closed: bool,
+    closed: Option<u64>,
 ) -> Result<Vec<u8>, Memory>
-    ensures { IfOk result (λ text. text.items ≡ printed link replies.now closed) }
+    ensures { IfOk result (λ text. text.items ≡ reply_lines numbers.now replies.now ++ closed_lines closed) }
 {
     let mut text = Vec::new(alloc);
-    match put_lines(alloc, link, replies, &mut text) {
+    match put_lines(alloc, numbers, replies, &mut text) {
         Ok(()) => {}
         Err(e) => return Err(e),
     }
-    if !closed {
+    let Some(router) = closed else {
         return Ok(text);
-    }
-    match put_closed(&mut text) {
+    };
+    match put_closed(router, &mut text) {
         Ok(()) => Ok(text),
         Err(e) => Err(e),
     }

@@ -1,38 +1,52 @@
 //! What a script has beside the nodes.
 
-ghost use Rattle.std.specs.Prelude.{◌≡◌, None};
-ghost use Rattle.sim_driver.specs.Scripts.{new_script, script_view};
+ghost use Rattle.std.specs.Prelude.{◌≡◌, IfOk, vec_len};
+ghost use Rattle.sim_driver.specs.Scripts.{links_from, new_script, script_view};
 
-use opmsg_frames::Framer;
+use crate::delivered::Delivered;
+use crate::link::Link;
+use bson_values::Memory;
 use std::alloc::Global;
 
-/// The link of the router that is open, and which messages were delivered.
+/// The node of router 0; that of router r is r more.
+pub const FIRST_ROUTER: usize = 2;
+
+/// The open link of each router, in order, and which messages were delivered.
 #[derive(Drop)]
 pub struct Script {
-    /// The bytes on the link.
-    pub framer: Framer,
-    /// The number of the link.
-    pub link: u32,
-    /// How many replies the requests of the link get.
-    pub replied: u64,
-    /// The messages that were sent before this place were delivered.
-    pub next: usize,
-    /// So were those at these places.
-    pub early: Vec<usize>,
+    pub links: Vec<Link>,
+    /// How many links were opened; the next one has this number.
+    pub opened: u32,
+    pub delivered: Delivered,
+}
+
+/// So many new links, numbered from 0.
+fn new_links(alloc: Global, count: u32) -> Result<Vec<Link>, Memory>
+    ensures { IfOk result (λ links. links.items ≡ links_from 0 count) }
+{
+    let mut links = Vec::new(alloc);
+    'links: for number in 0..count {
+        links.push(Link::new(alloc, number))?;
+    }
+    Ok(links)
 }
 
 impl Script {
-    /// What a script has before its first line.
-    pub fn new(alloc: Global) -> Script
-        ensures view { script_view result ≡ new_script }
-        ensures fault { result.framer.fault ≡ None }
+    /// What a script has before its first line. Fails if out of memory, or where links can't be counted.
+    pub fn new(alloc: Global, routers: usize) -> Result<Script, Memory>
+        ensures view { IfOk result (λ script. script_view script ≡ new_script routers) }
+        ensures links { IfOk result (λ script. vec_len script.links ≡ routers) }
     {
-        Script {
-            framer: Framer::new(alloc),
-            link: 0,
-            replied: 0,
-            next: 0,
-            early: Vec::new(alloc),
+        let Ok(opened) = u32::try_from(routers) else {
+            return Err(Memory);
+        };
+        match new_links(alloc, opened) {
+            Ok(links) => Ok(Script {
+                links,
+                opened,
+                delivered: Delivered::new(alloc),
+            }),
+            Err(e) => Err(e),
         }
     }
 }

@@ -16,7 +16,7 @@ ghost use Rattle.sim_driver.specs.Scripts.{new_script};
 ghost use Rattle.sim_driver.specs.Simulations.{IsSimulated, all_printed};
 
 use crate::lines::play_piece;
-use crate::script::Script;
+use crate::script::{FIRST_ROUTER, Script};
 use driver_steps::{Network, Seat, open_all};
 use node_traits::Node;
 use opmsg_frames::Request;
@@ -28,7 +28,7 @@ use std::alloc::Global;
 use std::marker::Sync;
 use std::thread::Threads;
 
-/// The status of a script whose input gives no more, with this cause, behind the beginning of a line.
+/// The status of a script whose input gives no more, with this cause, after the beginning of a line.
 fn unended(cause: Status, begun: &[u8]) -> Status
     ensures none { begun.now ≡ [] → result ≡ cause }
     ensures some { begun.now ≢ [] → cause ≡ statuses.InputEnded → result ≡ statuses.BadInput }
@@ -70,8 +70,8 @@ pub fn simulate<
         (AreAcknowledgedBy L.facts K.tells (all_printed routers) (start routers) (K.noted out.new) (K.held out.old) seats.new.items)
         routers limit result }
 
-    // But where a disk failed or memory ended, records can be appended to each log.
-    ensures open { result ≢ statuses.DiskFailed → result ≢ statuses.OutOfMemory → AreOpen L.facts.is_open seats.new.items }
+    // But where a disk failed, records can be appended to each log.
+    ensures open { result ≢ statuses.DiskFailed → AreOpen L.facts.is_open seats.new.items }
     ensures len { vec_len seats.new ≡ vec_len seats.old }
 
     // Each fault of a device has its own status.
@@ -101,14 +101,14 @@ fn play_all<R: Threads + Sync, N: Node<Request = Request>, L: Log, S: Source, K:
     requires open { AreOpen L.facts.is_open seats.old.items }
     ensures simulated { AreAskedAsRead N.asks → (since : Since L) (routers : ℕ) → 0 < routers →
         Playing (seat_since N.state L.facts since) seats.old.items (network_view (λ m. N.Mail.letter m) network)
-        routers K.tells since.noted (K.held out.old) (K.held out.old) new_script [] →
+        routers K.tells since.noted (K.held out.old) (K.held out.old) (new_script routers) [] →
         AreNoted K.tells (K.noted out.old) (places_of L.facts.place seats.old.items) since.noted →
         WithNotes K.tells (K.noted out.new) (places_of L.facts.place seats.new.items)
         (λ noted. IsSimulated (source_call S.tells S.left S.fault_count input.old input.new) (sink_call K.tells K.held K.fault_count out.old out.new)
         (AreKept (seat_since N.state L.facts (with_notes since noted)) seats.new.items)
         (LeaveKept (seat_since N.state L.facts (with_notes since noted)) seats.new.items)
         (λ last put. IsTrue K.tells → AreCovered (all_printed routers) (start routers) noted (K.held out.old) put last) routers limit result) }
-    ensures open { result ≢ statuses.DiskFailed → result ≢ statuses.OutOfMemory → AreOpen L.facts.is_open seats.new.items }
+    ensures open { result ≢ statuses.DiskFailed → AreOpen L.facts.is_open seats.new.items }
     ensures len { vec_len seats.new ≡ vec_len seats.old }
     ensures read_fault { RoseWhere (result ≡ statuses.ReadFailed) (S.fault_count input.old) (S.fault_count input.new) }
     ensures write_fault { RoseWhere (result ≡ statuses.WriteFailed) (K.fault_count out.old) (K.fault_count out.new) }
@@ -116,7 +116,9 @@ fn play_all<R: Threads + Sync, N: Node<Request = Request>, L: Log, S: Source, K:
     ensures places { places_of L.facts.place seats.new.items ≡ places_of L.facts.place seats.old.items }
 {
     let mut network = network;
-    let mut script = Script::new(alloc);
+    let Ok(mut script) = Script::new(alloc, seats.len() - FIRST_ROUTER) else {
+        return Status::OutOfMemory;
+    };
     let Ok(mut piece) = new_piece(alloc) else {
         return Status::OutOfMemory;
     };

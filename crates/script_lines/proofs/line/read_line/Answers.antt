@@ -9,4 +9,7 @@ returns-clause-refused c e other =
     word_refused c.args.line.now _ _ c.in-Some.ensures.found
     (λ same. let yes = (slice_eq-Decides Decides-eqb _ _ _ c.eq.ensures).1 (same ∙ sym c.as_slice.ensures) in absurd (cc (yes, c.if-eq.false)))
     (λ same. let yes = (slice_eq-Decides Decides-eqb _ _ _ c.eq-2.ensures).1 (same ∙ sym c.as_slice-2.ensures) in absurd (cc (yes, c.if-eq-2.false)))
+    (λ same. let yes = (slice_eq-Decides Decides-eqb _ _ _ c.eq-3.ensures).1 (same ∙ sym c.as_slice-3.ensures) in absurd (cc (yes, c.if-eq-3.false)))
+    (λ same. let yes = (slice_eq-Decides Decides-eqb _ _ _ c.eq-4.ensures).1 (same ∙ sym c.as_slice-4.ensures) in absurd (cc (yes, c.if-eq-4.false)))
+    (λ same. let yes = (slice_eq-Decides Decides-eqb _ _ _ c.eq-5.ensures).1 (same ∙ sym c.as_slice-5.ensures) in absurd (cc (yes, c.if-eq-5.false)))
     other

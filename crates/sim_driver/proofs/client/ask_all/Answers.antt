@@ -6,6 +6,8 @@ use Rattle.pipe_driver.proofs.Frames.{some_bytes}
 use Rattle.pipe_driver.proofs.Framings.{left_behind, next_given, next_malformed, next_none, same_bytes, still_partial, told_malformed}
 use Rattle.pipe_driver.proofs.Rounds.{number_is}
 use Rattle.sim_driver.proofs.Asks.{asking_cut, asking_ends, asking_fails, asking_more, asking_none, asking_stopped}
+use Rattle.pipe_driver.proofs.Serving.{but_for_disks}
+use Rattle.std.specs.Prelude.{Err}
 use Rattle.sim_driver.proofs.client.ask_all.Goals as goal
 
 pub requests-init : goal.requests-init
@@ -17,7 +19,7 @@ requests-init g c = record {
   places = refl;
   went = λ asks since w handed router s.
       asking_none (seat_since g.N.Node.state g.L.Log.facts since) handed w
-      c.args.link c.args.replied c.args.framer.now.bytes
+      c.args.at c.args.link c.args.replied c.args.framer.now.bytes
       _ _ router s;
 }
 
@@ -26,7 +28,7 @@ returns-in-Ok-None-clause-asked g c asks since w handed router s =
     let was = c.requests.invariant.went asks since w handed router s in
     let told = next_none c.requests.framer c.next.new.self c.in-Ok-None.field-0 c.in-Ok-None.field-0-is c.in-Ok-None.ensures in
     asking_ends (seat_since g.N.Node.state g.L.Log.facts since) handed w
-    c.args.link c.args.replied c.args.framer.now.bytes
+    c.args.at c.args.link c.args.replied c.args.framer.now.bytes
     _ _ _ c.requests.replied was c.next.new.self.bytes (same_bytes c.requests.framer c.next.new.self told.1)
     (still_partial c.requests.framer c.next.new.self told.1 told.0)
 
@@ -36,7 +38,7 @@ returns-in-Err-Malformed-clause-asked g c asks since w handed router s =
     let told = next_malformed c.requests.framer c.next.new.self c.in-Err-Malformed.field-0 c.in-Err-Malformed.field-0-0 c.in-Err-Malformed.field-0-1
     c.in-Err-Malformed.field-0-is c.in-Err-Malformed.ensures in
     asking_fails (seat_since g.N.Node.state g.L.Log.facts since) handed w
-    c.args.link c.args.replied c.args.framer.now.bytes
+    c.args.at c.args.link c.args.replied c.args.framer.now.bytes
     _ _ _ c.requests.replied was c.next.new.self.bytes told.bytes
     (told_malformed c.requests.framer c.next.new.self (fault_view c.in-Err-Malformed.field-0-0) c.in-Err-Malformed.field-0-1
     c.requests.invariant.fault told)
@@ -44,13 +46,13 @@ returns-in-Err-Malformed-clause-asked g c asks since w handed router s =
 pub returns-in-Err-Memory-clause-cut : goal.returns-in-Err-Memory-clause-cut
 returns-in-Err-Memory-clause-cut g c asks since w handed router s =
     asking_cut (seat_since g.N.Node.state g.L.Log.facts since) handed w
-    c.args.link c.args.replied c.args.framer.now.bytes
+    c.args.at c.args.link c.args.replied c.args.framer.now.bytes
     _ _ _ c.requests.replied (c.requests.invariant.went asks since w handed router s) _
 
 pub returns-then-replied-ge-MOST_REPLIES-clause-cut : goal.returns-then-replied-ge-MOST_REPLIES-clause-cut
 returns-then-replied-ge-MOST_REPLIES-clause-cut g c asks since w handed router s =
     asking_cut (seat_since g.N.Node.state g.L.Log.facts since) handed w
-    c.args.link c.args.replied c.args.framer.now.bytes
+    c.args.at c.args.link c.args.replied c.args.framer.now.bytes
     _ _ _ c.requests.replied (c.requests.invariant.went asks since w handed router s) _
 
 pub requests-smaller : goal.requests-smaller
@@ -74,7 +76,7 @@ requests-preserved g c =
       went = λ asks since w handed router s.
           let was = c.requests.invariant.went asks since w handed router s in
           asking_more (seat_since g.N.Node.state g.L.Log.facts since) handed w
-          c.args.link c.args.replied
+          c.args.at c.args.link c.args.replied
           c.args.framer.now.bytes _ _ _ c.requests.replied was given.0 (g.N.Node.asks c.in-Ok-Some.request) c.next.new.self.bytes
           (to_z w32 (of_z w32 c.next_number-number.result)) given.1.first.split given.1.first.reads
           (asks c.in-Ok-Some.request given.0 given.1.meant_is)
@@ -88,9 +90,12 @@ returns-in-Err-clause-cut g c asks since w handed router s =
     let given = next_given c.requests.framer c.next.new.self c.in-Ok-Some.field-0 c.in-Ok-Some.request c.in-Ok-Some.field-0-is c.in-Ok-Some.ensures in
     let was = c.requests.invariant.went asks since w handed router s in
     asking_stopped (seat_since g.N.Node.state g.L.Log.facts since) handed w
-    c.args.link c.args.replied
+    c.args.at c.args.link c.args.replied
     c.args.framer.now.bytes _ _ _ c.requests.replied was given.0 (g.N.Node.asks c.in-Ok-Some.request) c.next.new.self.bytes
     (to_z w32 (of_z w32 c.next_number-number.result)) given.1.first.split given.1.first.reads
     (asks c.in-Ok-Some.request given.0 given.1.meant_is)
     (number_is c.next_number-number.result c.requests.replied c.next_number-number.ensures) _ _ c.in-Err.e _ c.of.ensures
     (c.in-Err.ensures.stopped since was.end 0 handed was.stands was.router)
+
+pub returns-in-Err-clause-open : goal.returns-in-Err-clause-open
+returns-in-Err-clause-open g c = λ disk. but_for_disks c.in-Err.e _ _ c.of.ensures (λ is. disk (ap Err is)) c.in-Err.ensures.«open»

@@ -6,7 +6,6 @@ use Rattle.driver_steps.specs.Crashes.{Since}
 use Rattle.driver_steps.specs.Seats.{AreOpen, faults_of, places_of, seat_since}
 use Rattle.driver_steps.specs.Worlds.{StandsFor, network_view}
 use Rattle.pipe_driver.specs.Progress.{AreAskedAsRead}
-use Rattle.pipe_driver.specs.Rounds.{first_router}
 use Rattle.sim_driver.proofs.Asks.{AreAsking}
 use Rattle.sim_driver.proofs.client.ask_all.Given as goal
 
@@ -20,10 +19,10 @@ invariant-requests g l = record {
   fault : l.framer.fault ≡ None;
   disks_calm : faults_of g.L.Log.facts.fault_count l.seats.items ≡ faults_of g.L.Log.facts.fault_count l.fn.seats.items;
   places : places_of g.L.Log.facts.place l.seats.items ≡ places_of g.L.Log.facts.place l.fn.seats.items;
-  went : AreAskedAsRead g.N.Node.asks → (since : Since g.row.L.Denot) (w : World) (handed : List ToLink) → IsRouter w.nodes first_router
+  went : AreAskedAsRead g.N.Node.asks → (since : Since g.row.L.Denot) (w : World) (handed : List ToLink) → IsRouter w.nodes l.at
       → StandsFor (seat_since g.N.Node.state g.L.Log.facts since)
       l.fn.seats.items
       (network_view (λ m. g.N.Mail.Mail.letter m) l.fn.network) handed w 0
       → AreAsking (seat_since g.N.Node.state g.L.Log.facts since) l.seats.items
-      (network_view (λ m. g.N.Mail.Mail.letter m) l.network) handed w l.link l.fn.replied l.fn.framer.bytes l.framer.bytes l.replied;
+      (network_view (λ m. g.N.Mail.Mail.letter m) l.network) handed w l.at l.link l.fn.replied l.fn.framer.bytes l.framer.bytes l.replied;
 }

@@ -7,6 +7,8 @@ use Rattle.driver_steps.specs.Moves.{BeginWith}
 use Rattle.sim_driver.specs.Moves.{IsPartOfDelivery}
 use Rattle.sim_driver.proofs.Deliveries.{all_sent, message_at}
 use Rattle.sim_driver.proofs.Faults.{cut_behind, cut_here, still}
+use Rattle.pipe_driver.proofs.Serving.{but_for_disks}
+use Rattle.std.specs.Prelude.{Err}
 use Rattle.sim_driver.proofs.deliver.deliver_at.Goals as goal
 
 pub returns-in-Err-clause-cut : goal.returns-in-Err-clause-cut
@@ -35,3 +37,7 @@ returns-in-Err-deliver-clause-cut g c since w handed s =
     (IsPartOfDelivery w c.args.at) c.in-Err-deliver.e _ c.of.ensures (stands w)
     (λ more first. record { message = g.N.Mail.Mail.letter c.in-Ok.message; got = got; first = first })
     (c.in-Err-deliver.ensures.stopped since w 0 c.args.at handed s got)
+
+pub returns-in-Err-deliver-clause-open : goal.returns-in-Err-deliver-clause-open
+returns-in-Err-deliver-clause-open g c = λ disk.
+    but_for_disks c.in-Err-deliver.e _ _ c.of.ensures (λ is. disk (ap Err is)) c.in-Err-deliver.ensures.«open»

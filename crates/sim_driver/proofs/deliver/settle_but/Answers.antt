@@ -1,4 +1,5 @@
 use Rattle.std.proofs.Common.{◌∙◌, ◌<◌, ◌^◌, refl, arith}
+use Rattle.std.specs.Prelude.{option_map}
 use Rattle.std.proofs.lemmas.List.{length-map}
 use Rattle.driver_steps.specs.Seats.{seat_since}
 use Rattle.driver_steps.specs.Worlds.{network_view}
@@ -13,27 +14,21 @@ messages-init g c = record {
   places = refl;
   run = λ since w handed known s.
       settling_none (seat_since g.N.Node.state g.L.Log.facts since) _
-      (network_view (λ m. g.N.Mail.Mail.letter m) c.args.network.now) handed w c.args.early.now c.args.next
-      known s;
+      (network_view (λ m. g.N.Mail.Mail.letter m) c.args.network.now) handed w (option_map (λ k. k.now) c.args.except) c.args.delivered.now c.args.first
+      c.requires.first known s;
 }
 
 pub messages-preserved : goal.messages-preserved
 messages-preserved g c = record {
   len = c.deliver_unless.ensures.len ∙ c.messages.invariant.len;
-  are_open = c.in-Ok.ensures.«open»;
+  are_open = c.in-Ok.ensures.«open» (λ e. cc);
   faults = c.deliver_unless.ensures.disk_fault.1 (λ e. cc) ∙ c.messages.invariant.faults;
   places = c.deliver_unless.ensures.places ∙ c.messages.invariant.places;
   run = λ since w handed known s.
       let so_far = c.messages.invariant.run since w handed known s in
-      settling_step (seat_since g.N.Node.state g.L.Log.facts since) _ _
-      (network_view (λ m. g.N.Mail.Mail.letter m) c.messages.network) _ handed w c.args.early.now c.args.next c.messages.at so_far
-      (omega (
-        arith,
-        c.messages-test.true,
-        c.len.ensures,
-        c.messages.network.waiting.ok.0,
-        length-map c.messages.network.waiting.items (λ m. g.N.Mail.Mail.letter m),
-      ))
+      settling_step (seat_since g.N.Node.state g.L.Log.facts since) _
+      _ handed w (option_map (λ k. k.now) c.args.except) c.args.delivered.now c.messages.delivered c.messages.at
+      c.messages.seats.items (network_view (λ m. g.N.Mail.Mail.letter m) c.messages.network) _ so_far
       (c.in-Ok.ensures.delivered since so_far.end handed so_far.stands);
 }
 
@@ -49,14 +44,16 @@ returns-in-Err-clause-cut g c since w handed known s =
     let so_far = c.messages.invariant.run since w handed known s in
     settling_cut (seat_since g.N.Node.state g.L.Log.facts since)
     c.messages.seats.items _
-    (network_view (λ m. g.N.Mail.Mail.letter m) c.messages.network) handed w c.args.early.now c.args.next c.messages.at c.in-Err.status so_far
+    (network_view (λ m. g.N.Mail.Mail.letter m) c.messages.network) handed w (option_map (λ k. k.now) c.args.except) c.args.delivered.now
+    c.messages.delivered c.messages.at c.in-Err.status so_far
     (c.in-Err.ensures.cut since so_far.end handed so_far.stands)
 
 pub returns-clause-settled : goal.returns-clause-settled
 returns-clause-settled g c since w handed known s =
     settling_end (seat_since g.N.Node.state g.L.Log.facts since)
     c.messages.seats.items
-    (network_view (λ m. g.N.Mail.Mail.letter m) c.messages.network) handed w c.args.early.now c.args.next c.messages.at
+    (network_view (λ m. g.N.Mail.Mail.letter m) c.messages.network) handed w (option_map (λ k. k.now) c.args.except) c.args.delivered.now
+    c.messages.delivered c.messages.at
     (c.messages.invariant.run since w handed known s)
     (omega (
       arith,

@@ -1,5 +1,5 @@
 use Rattle.std.proofs.Common.{◌≡◌, ◌+◌, ◌-◌, ◌*◌, ◌^◌, ◌≤◌, List, length}
-use Rattle.std.specs.Prelude.{vec_len}
+use Rattle.std.specs.Prelude.{option_map, vec_len}
 use Rattle.std.specs.VecDeque.{deque_len}
 use Rattle.node_model.specs.World.{World}
 use Rattle.node_traits.specs.declared.outputs.ToLink.{ToLink}
@@ -18,9 +18,10 @@ invariant-messages g l = record {
   are_open : AreOpen g.L.Log.facts.is_open l.seats.items;
   faults : faults_of g.L.Log.facts.fault_count l.seats.items ≡ faults_of g.L.Log.facts.fault_count l.fn.seats.items;
   places : places_of g.L.Log.facts.place l.seats.items ≡ places_of g.L.Log.facts.place l.fn.seats.items;
-  run : (since : Since g.row.L.Denot) (w : World) (handed : List ToLink) → l.fn.next ≤ length w.sent
+  run : (since : Since g.row.L.Denot) (w : World) (handed : List ToLink) → length l.fn.delivered ≤ length w.sent
       → StandsFor (seat_since g.N.Node.state g.L.Log.facts since)
       l.fn.seats.items (network_view (λ m. g.N.Mail.Mail.letter m) l.fn.network) handed w 0
       → IsSettling (seat_since g.N.Node.state g.L.Log.facts since) l.seats.items
-      (network_view (λ m. g.N.Mail.Mail.letter m) l.network) handed w l.early l.fn.next l.at;
+      (network_view (λ m. g.N.Mail.Mail.letter m) l.network) handed w
+      (option_map (λ k. k.now) l.except) l.fn.delivered l.delivered l.at;
 }

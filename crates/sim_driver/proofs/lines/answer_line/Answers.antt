@@ -1,43 +1,51 @@
-use Rattle.std.proofs.Common.{◌∷◌, List, length}
+use Rattle.std.proofs.Common.{◌∷◌, ◌++◌, List, length}
 use Rattle.driver_steps.specs.Crashes.{Noted, with_notes}
 use Rattle.driver_steps.specs.Seats.{seat_since}
 use Rattle.driver_steps.specs.Worlds.{puts_given}
 use Rattle.pipe_driver.proofs.Covers.{noted_more, noted_places, now_noted}
 use Rattle.sim_driver.specs.Scripts.{script_view}
 use Rattle.sim_driver.proofs.PlayedLines.{note_played}
-use Rattle.sim_driver.proofs.Plays.{plays_next, plays_router}
-use Rattle.sim_driver.proofs.Steps.{covers_line, line_answered, line_put_short, line_stopped, line_unprinted}
+use Rattle.sim_driver.proofs.Plays.{plays_marks, plays_routers}
+use Rattle.sim_driver.proofs.Steps.{covers_line, line_answered, line_put_short, line_stopped, line_unprinted, playing_full}
 use Rattle.sim_driver.proofs.lines.answer_line.Goals as goal
 
 pub returns-in-Err-clause-stopped : goal.returns-in-Err-clause-stopped
-returns-in-Err-clause-stopped g c asks since routers some held_before consumed others p n =
-    let router = plays_router routers p.lines p.events p.world (script_view c.args.script.now) p.out some p.plays in
-    let next = plays_next routers p.lines p.events p.world (script_view c.args.script.now) p.out p.plays in (
+returns-in-Err-clause-stopped g c asks since routers some held_before consumed others p n = (
+  since.noted,
+  n,
+  playing_full (seat_since g.N.Node.state g.L.Log.facts since) _ _ routers _ _ held_before _ consumed (c.args.line.now ++ 10 ∷ others)
+      (script_view c.args.script.now) p,
+)
+
+pub returns-in-Err-play_line-clause-stopped : goal.returns-in-Err-play_line-clause-stopped
+returns-in-Err-play_line-clause-stopped g c asks since routers some held_before consumed others p n =
+    let router = plays_routers routers p.lines p.events p.world (script_view c.args.script.now) p.out p.plays in
+    let next = plays_marks routers p.lines p.events p.world (script_view c.args.script.now) p.out p.plays in (
       since.noted,
       noted_places g.K.Sink.tells _ _ _ since.noted c.play_line.ensures.places n,
       line_stopped (seat_since g.N.Node.state g.L.Log.facts since) _ _ _ routers
           _ _ held_before _ consumed (script_view c.args.script.now) p c.args.line.now
-          c.requires.line others c.in-Err.status (c.in-Err.ensures.stops asks since p.world (puts_given p.world.answered) router next p.stands),
+          c.requires.line others c.in-Err-play_line.status (c.in-Err-play_line.ensures.stops asks since p.world (puts_given p.world.answered) router next p.stands),
     )
 
 pub returns-in-Err-text_of-clause-stopped : goal.returns-in-Err-text_of-clause-stopped
 returns-in-Err-text_of-clause-stopped g c asks since routers some held_before consumed others p n =
-    let router = plays_router routers p.lines p.events p.world (script_view c.args.script.now) p.out some p.plays in
-    let next = plays_next routers p.lines p.events p.world (script_view c.args.script.now) p.out p.plays in
-    let h = c.in-Ok.ensures.played asks since p.world (puts_given p.world.answered) router next p.stands in (
+    let router = plays_routers routers p.lines p.events p.world (script_view c.args.script.now) p.out p.plays in
+    let next = plays_marks routers p.lines p.events p.world (script_view c.args.script.now) p.out p.plays in
+    let h = c.in-Ok-play_line.ensures.played asks since p.world (puts_given p.world.answered) router next p.stands in (
       since.noted,
       noted_places g.K.Sink.tells _ _ _ since.noted c.play_line.ensures.places n,
       line_unprinted (seat_since g.N.Node.state g.L.Log.facts since) _ _ _
           routers _ _ held_before _ consumed (script_view c.args.script.now) p c.args.line.now
-          c.requires.line (λ m. g.N.Mail.Mail.letter m) c.play_line.new.network c.hand_on-replies.new.self (script_view c.play_line.new.script) c.in-Ok.closed
+          c.requires.line (λ m. g.N.Mail.Mail.letter m) c.play_line.new.network c.hand_on-replies.new.self (script_view c.play_line.new.script) c.in-Ok-play_line.closed
           h others,
     )
 
 pub returns-in-Ok-put_text-clause-answered : goal.returns-in-Ok-put_text-clause-answered
 returns-in-Ok-put_text-clause-answered g c asks since routers some held_before consumed p n =
-    let router = plays_router routers p.lines p.events p.world (script_view c.args.script.now) p.out some p.plays in
-    let next = plays_next routers p.lines p.events p.world (script_view c.args.script.now) p.out p.plays in
-    let h = c.in-Ok.ensures.played asks since p.world (puts_given p.world.answered) router next p.stands in
+    let router = plays_routers routers p.lines p.events p.world (script_view c.args.script.now) p.out p.plays in
+    let next = plays_marks routers p.lines p.events p.world (script_view c.args.script.now) p.out p.plays in
+    let h = c.in-Ok-play_line.ensures.played asks since p.world (puts_given p.world.answered) router next p.stands in
     let facts = g.L.Log.facts in
     let seats = c.play_line.new.seats.items in
     let count = length (g.K.Sink.held c.args.out.now) in
@@ -46,23 +54,31 @@ returns-in-Ok-put_text-clause-answered g c asks since routers some held_before c
       noted_more facts seats h.played.end count g.K.Sink.tells _ _ _ since.noted n c.play_line.ensures.places c.put_text.ensures.noted,
       line_answered (seat_since g.N.Node.state facts since) _ _ _ routers
           _ _ held_before _ consumed (script_view c.args.script.now) p c.args.line.now
-          c.requires.line (λ m. g.N.Mail.Mail.letter m) c.play_line.new.network c.hand_on-replies.new.self (script_view c.play_line.new.script) c.in-Ok.closed
+          c.requires.line (λ m. g.N.Mail.Mail.letter m) c.play_line.new.network c.hand_on-replies.new.self (script_view c.play_line.new.script) c.in-Ok-play_line.closed
           (seat_since g.N.Node.state facts (with_notes since noted)) noted
           (note_played facts seats count g.N.Node.state since _ _ _ _ _ _ _ c.put_text.ensures.durable h)
           (covers_line (seat_since g.N.Node.state facts since) _ _ _ routers
           _ _ held_before _ consumed (script_view c.args.script.now) p c.args.line.now
-          c.requires.line (λ m. g.N.Mail.Mail.letter m) c.play_line.new.network c.hand_on-replies.new.self (script_view c.play_line.new.script) c.in-Ok.closed
+          c.requires.line (λ m. g.N.Mail.Mail.letter m) c.play_line.new.network c.hand_on-replies.new.self (script_view c.play_line.new.script) c.in-Ok-play_line.closed
           h _) _
           c.hand_on-replies.ensures.waiting c.hand_on-replies.ensures.none
-          (rw (c.as_slice.ensures.value, c.in-Ok-text_of.ensures, c.deref.ensures.value, c.hand_on-replies.ensures.replies) at
+          (rw (
+            c.as_slice.ensures.value,
+            c.in-Ok-text_of.ensures,
+            c.deref-2.ensures.value,
+            c.in-Ok.ensures,
+            c.deref.ensures.value,
+            c.deref-3.ensures.value,
+            c.hand_on-replies.ensures.replies,
+          ) at
           c.in-Ok-put_text.ensures.put),
     )
 
 pub returns-clause-stopped : goal.returns-clause-stopped
 returns-clause-stopped g c asks since routers some held_before consumed others p n =
-    let router = plays_router routers p.lines p.events p.world (script_view c.args.script.now) p.out some p.plays in
-    let next = plays_next routers p.lines p.events p.world (script_view c.args.script.now) p.out p.plays in
-    let h = c.in-Ok.ensures.played asks since p.world (puts_given p.world.answered) router next p.stands in
+    let router = plays_routers routers p.lines p.events p.world (script_view c.args.script.now) p.out p.plays in
+    let next = plays_marks routers p.lines p.events p.world (script_view c.args.script.now) p.out p.plays in
+    let h = c.in-Ok-play_line.ensures.played asks since p.world (puts_given p.world.answered) router next p.stands in
     let facts = g.L.Log.facts in
     let seats = c.play_line.new.seats.items in
     let count = length (g.K.Sink.held c.args.out.now) in
@@ -72,13 +88,21 @@ returns-clause-stopped g c asks since routers some held_before consumed others p
       line_put_short (seat_since g.N.Node.state facts since) _ _ _
           routers _ _ held_before _ consumed (script_view c.args.script.now) p c.args.line.now
           c.requires.line (λ m. g.N.Mail.Mail.letter m) c.play_line.new.network c.hand_on-replies.new.self
-          (script_view c.play_line.new.script) c.in-Ok.closed
+          (script_view c.play_line.new.script) c.in-Ok-play_line.closed
           (seat_since g.N.Node.state facts (with_notes since noted)) noted
           (note_played facts seats count g.N.Node.state since _ _ _ _ _ _ _ c.put_text.ensures.durable h)
           (covers_line (seat_since g.N.Node.state facts since) _ _ _ routers
           _ _ held_before _ consumed (script_view c.args.script.now) p c.args.line.now
-          c.requires.line (λ m. g.N.Mail.Mail.letter m) c.play_line.new.network c.hand_on-replies.new.self (script_view c.play_line.new.script) c.in-Ok.closed
+          c.requires.line (λ m. g.N.Mail.Mail.letter m) c.play_line.new.network c.hand_on-replies.new.self (script_view c.play_line.new.script) c.in-Ok-play_line.closed
           h _) others _
-          (rw (c.as_slice.ensures.value, c.in-Ok-text_of.ensures, c.deref.ensures.value, c.hand_on-replies.ensures.replies) at
+          (rw (
+            c.as_slice.ensures.value,
+            c.in-Ok-text_of.ensures,
+            c.deref-2.ensures.value,
+            c.in-Ok.ensures,
+            c.deref.ensures.value,
+            c.deref-3.ensures.value,
+            c.hand_on-replies.ensures.replies,
+          ) at
           c.in-Err-put_text.ensures.prefix),
     )

@@ -1,5 +1,5 @@
 use Rattle.std.proofs.Common.{◌≡◌, ℕ, List, ◌<◌, ◌++◌, length}
-use Rattle.std.specs.Prelude.{None, vec_len}
+use Rattle.std.specs.Prelude.{vec_len}
 use Rattle.driver_steps.specs.Crashes.{Since, with_notes}
 use Rattle.driver_steps.specs.Seats.{AreOpen, faults_of, places_of, seat_since}
 use Rattle.driver_steps.specs.Worlds.{network_view}
@@ -20,7 +20,7 @@ invariant-lines g l = record {
   begun : HasNone newline l.begun.items;
   len : vec_len l.seats ≡ vec_len l.fn.seats;
   are_open : AreOpen g.L.Log.facts.is_open l.seats.items;
-  fault : l.script.framer.fault ≡ None;
+  links : vec_len l.script.links ≡ vec_len l.fn.script.links;
   sink_calm : g.K.Sink.fault_count l.out ≡ g.K.Sink.fault_count l.fn.out;
   disks_calm : faults_of g.L.Log.facts.fault_count l.seats.items ≡ faults_of g.L.Log.facts.fault_count l.fn.seats.items;
   places : places_of g.L.Log.facts.place l.seats.items ≡ places_of g.L.Log.facts.place l.fn.seats.items;

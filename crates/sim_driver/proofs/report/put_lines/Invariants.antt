@@ -4,4 +4,4 @@ use Rattle.sim_driver.proofs.report.put_lines.Given as goal
 
 -- the lines of the replies before were put
 abbrev pub invariant-replies : goal.invariant-replies
-invariant-replies l = l.text.items ++ reply_lines l.link (drop l.reply-index l.replies) ≡ l.fn.text.items ++ reply_lines l.link l.replies
+invariant-replies l = l.text.items ++ reply_lines l.numbers (drop l.reply-index l.replies) ≡ l.fn.text.items ++ reply_lines l.numbers l.replies

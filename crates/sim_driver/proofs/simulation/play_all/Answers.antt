@@ -2,6 +2,9 @@ use Rattle.std.proofs.lemmas.List.{length-take-le}
 use Rattle.std.proofs.Common.{◌≡◌, take, ◌∙◌, List, [], ℕ, length, refl, sym, ap, subst, arith, length-append}
 use Rattle.outside.specs.Devices.{sink_call, source_call}
 use Rattle.outside.specs.Streams.{Took}
+use Rattle.std.proofs.Common.{◌+◌, ◌-◌}
+use Rattle.std.specs.Prelude.{vec_len}
+use Rattle.pipe_driver.specs.Rounds.{first_router}
 use Rattle.driver_steps.specs.Crashes.{with_notes}
 use Rattle.driver_steps.specs.Seats.{seat_since}
 use Rattle.driver_steps.specs.Worlds.{network_view}
@@ -10,15 +13,15 @@ use Rattle.pipe_driver.proofs.Counts.{have_risen_by, none_has_risen, rose_by, st
 use Rattle.pipe_driver.proofs.Endings.{took_no_more}
 use Rattle.sim_driver.specs.Scripts.{new_script, script_view}
 use Rattle.sim_driver.proofs.Endings.{ended_at_limit, ended_stopped, ended_taking, ended_within, no_fault_of_disks, no_fault_of_writes, piece_taken, reads_by}
-use Rattle.sim_driver.proofs.Steps.{playing_from, playing_full}
+use Rattle.sim_driver.proofs.Steps.{playing_from, playing_full, routers_are}
 use Rattle.sim_driver.proofs.simulation.play_all.Goals as goal
 
 pub pieces-init : goal.pieces-init
 pieces-init g c = record {
   most = omega arith;
-  room = c.in-Ok.ensures;
+  room = c.in-Ok-new_piece.ensures;
   begun = rw c.new-begun.ensures.items tt;
-  fault = c.new-script.ensures.fault;
+  links = omega (arith, c.in-Ok.ensures.links, c.len.ensures, c.args.seats.now.ok, c.requires.at);
   len = refl;
   are_open = c.requires.«open»;
   source_calm = refl;
@@ -33,8 +36,9 @@ pieces-init g c = record {
       rw c.new-begun.ensures.items refl,
       (λ told. rw c.new-begun.ensures.items refl),
       playing_from (seat_since g.N.Node.state g.L.Log.facts (with_notes since since.noted)) _ _ routers _ since.noted
-          _ _ [] new_script (script_view c.new-script.result)
-          (sym c.new-script.ensures.view) p,
+          _ _ [] (new_script routers) (script_view c.in-Ok.script)
+          (ap new_script (routers_are (seat_since g.N.Node.state g.L.Log.facts since) _ _ routers _ _ _ _ _ _ p (vec_len c.args.seats.now)
+          c.args.seats.now.ok.0) ∙ (ap (λ (n : ℕ). new_script (n - 2)) (sym c.len.ensures) ∙ sym c.in-Ok.ensures.view)) p,
     ),
   );
 }
@@ -49,7 +53,20 @@ returns-in_default-clause-simulated g c asks since routers some p n =
           (sink_call g.K.Sink.tells g.K.Sink.held g.K.Sink.fault_count c.args.out.now c.args.out.now) since.noted routers c.args.limit
           statuses.OutOfMemory [] [] statuses.OutOfMemory refl
           (playing_full view c.args.seats.now.items (network_view (λ m. g.N.Mail.Mail.letter m) c.args.network) routers g.K.Sink.tells since.noted (g.K.Sink.held c.args.out.now)
-          (g.K.Sink.held c.args.out.now) [] [] new_script p) (λ told. refl) (omega arith),
+          (g.K.Sink.held c.args.out.now) [] [] (new_script routers) p) (λ told. refl) (omega arith),
+    )
+
+pub returns-in_default-new_piece-clause-simulated : goal.returns-in_default-new_piece-clause-simulated
+returns-in_default-new_piece-clause-simulated g c asks since routers some p n =
+    let view = seat_since g.N.Node.state g.L.Log.facts (with_notes since since.noted) in (
+      since.noted,
+      n,
+      ended_stopped view c.args.seats.now.items
+          (source_call g.S.Source.tells g.S.Source.left g.S.Source.fault_count c.args.input.now c.args.input.now)
+          (sink_call g.K.Sink.tells g.K.Sink.held g.K.Sink.fault_count c.args.out.now c.args.out.now) since.noted routers c.args.limit
+          statuses.OutOfMemory [] [] statuses.OutOfMemory refl
+          (playing_full view c.args.seats.now.items (network_view (λ m. g.N.Mail.Mail.letter m) c.args.network) routers g.K.Sink.tells since.noted (g.K.Sink.held c.args.out.now)
+          (g.K.Sink.held c.args.out.now) [] [] (new_script routers) p) (λ told. refl) (omega arith),
     )
 
 pub returns-in-Err-clause-simulated : goal.returns-in-Err-clause-simulated
@@ -97,9 +114,9 @@ pieces-preserved g c =
       most = omega (arith, c.in-Ok-take_more.ensures.most, c.min-room.ensures, c.pieces-test.true);
       begun = c.in-Ok-play_piece.ensures.begun;
       room = c.take_more.ensures.len ∙ c.pieces.invariant.room;
-      fault = c.in-Ok-play_piece.ensures.fault;
+      links = ap (λ (n : ℕ). first_router + n) c.play_piece.ensures.links ∙ c.pieces.invariant.links;
       len = c.play_piece.ensures.len ∙ c.pieces.invariant.len;
-      are_open = c.in-Ok-play_piece.ensures.«open»;
+      are_open = c.in-Ok-play_piece.ensures.«open» (λ e. cc);
       source_calm = c.take_more.ensures.fault.1 (λ e. cc) ∙ c.pieces.invariant.source_calm;
       sink_calm = c.play_piece.ensures.write_fault.1 (λ e. cc) ∙ c.pieces.invariant.sink_calm;
       disks_calm = c.play_piece.ensures.disk_fault.1 (λ e. cc) ∙ c.pieces.invariant.disks_calm;

@@ -1,5 +1,6 @@
 use Rattle.std.proofs.Common.{◌≡◌, ℕ, List, [], ◌+◌, ◌-◌, ◌<◌, ◌≤◌, ◌++◌, length}
-use Rattle.std.specs.Prelude.{None, vec_len}
+use Rattle.std.specs.Prelude.{vec_len}
+use Rattle.pipe_driver.specs.Rounds.{first_router}
 use Rattle.outside.specs.Streams.{Took}
 use Rattle.driver_steps.specs.Crashes.{Since, with_notes}
 use Rattle.driver_steps.specs.Seats.{AreOpen, faults_of, places_of, seat_since}
@@ -21,7 +22,7 @@ abbrev pub invariant-pieces : goal.invariant-pieces
 invariant-pieces g l = record {
   most : l.taken ≤ l.limit;
   begun : HasNone newline l.begun.items;
-  fault : l.script.framer.fault ≡ None;
+  links : first_router + vec_len l.script.links ≡ vec_len l.fn.seats;
   room : vec_len l.piece ≡ piece_room;
   len : vec_len l.seats ≡ vec_len l.fn.seats;
   are_open : AreOpen g.L.Log.facts.is_open l.seats.items;
@@ -32,7 +33,7 @@ invariant-pieces g l = record {
   went : AreAskedAsRead g.N.Node.asks → (since : Since g.row.L.Denot) (routers : ℕ) → 0 < routers
       → Playing (seat_since g.N.Node.state g.L.Log.facts since)
       l.fn.seats.items (network_view (λ m. g.N.Mail.Mail.letter m) l.fn.network) routers g.K.Sink.tells since.noted (g.K.Sink.held l.fn.out)
-      (g.K.Sink.held l.fn.out) new_script []
+      (g.K.Sink.held l.fn.out) (new_script routers) []
       → AreNoted g.K.Sink.tells (g.K.Sink.noted l.fn.out) (places_of g.L.Log.facts.place l.fn.seats.items) since.noted
       → WithNotes g.K.Sink.tells (g.K.Sink.noted l.out) (places_of g.L.Log.facts.place l.seats.items)
       (λ noted. (consumed : List ℕ) × (length consumed + length l.begun.items ≡ l.taken)

@@ -11,6 +11,7 @@ use Rattle.pipe_driver.proofs.Openings.{starts}
 use Rattle.sim_driver.specs.Simulations.{all_printed}
 use Rattle.sim_driver.proofs.Endings.{ended_stopped, simulated_as}
 use Rattle.sim_driver.proofs.Steps.{opened_playing, opening_stopped}
+use Rattle.pipe_driver.proofs.Serving.{but_for_disks}
 use Rattle.sim_driver.proofs.simulation.simulate.Goals as goal
 
 pub returns-in-Ok-clause-simulated : goal.returns-in-Ok-clause-simulated
@@ -53,3 +54,6 @@ returns-in-Err-clause-simulated g c = λ asks routers some are.
     c.of.result [] [] c.of.result refl
     (opening_stopped _ _ routers _ _ (vec_len c.args.seats.now) as_many [] _ c.in-Err.e _ c.of.ensures
     (c.in-Err.ensures.stopped since (start routers) 0 [] s)) (λ told. refl) (omega arith))
+
+pub returns-in-Err-clause-open : goal.returns-in-Err-clause-open
+returns-in-Err-clause-open g c = λ disk. but_for_disks c.in-Err.e _ _ c.of.ensures disk c.in-Err.ensures.«open»

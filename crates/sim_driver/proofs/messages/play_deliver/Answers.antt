@@ -5,12 +5,12 @@ use Rattle.driver_steps.proofs.Seats.{held_len}
 use Rattle.script_lines.specs.Lines.{deliver_line}
 use Rattle.sim_driver.specs.Moves.{IsPartOfDelivery}
 use Rattle.sim_driver.specs.Plays.{IsPartOfLine, no_message, no_node}
-use Rattle.sim_driver.specs.LineOutcomes.{stops_unplayed, stops_at_memory}
+use Rattle.sim_driver.specs.LineOutcomes.{stops_unplayed}
 use Rattle.sim_driver.specs.Scripts.{place_from, script_view}
 use Rattle.sim_driver.proofs.Deliveries.{all_sent}
 use Rattle.sim_driver.proofs.Faults.{cut_as, still}
-use Rattle.sim_driver.proofs.PlayedLines.{deliver_full, deliver_noted, deliver_part, stops_either}
-use Rattle.sim_driver.proofs.play.play_deliver.Goals as goal
+use Rattle.sim_driver.proofs.PlayedLines.{deliver_part, deliver_played, stops_either}
+use Rattle.sim_driver.proofs.messages.play_deliver.Goals as goal
 
 pub returns-then-node-len-clause-stops : goal.returns-then-node-len-clause-stops
 returns-then-node-len-clause-stops g c since w handed s =
@@ -43,28 +43,15 @@ returns-in-Err-clause-stops g c since w handed s =
     (script_view c.args.script.now) c.args.node c.args.k c.in-Some.at events place p)
     (c.in-Err.ensures.cut since w handed s))
 
-pub returns-in-Ok-push-clause-played : goal.returns-in-Ok-push-clause-played
-returns-in-Ok-push-clause-played g c since w handed s =
+pub returns-in-Ok-clause-played : goal.returns-in-Ok-clause-played
+returns-in-Ok-clause-played g c since w handed s =
     let count = held_len (seat_since g.N.Node.state g.L.Log.facts since)
     c.args.seats.now.items w.nodes s.nodes in
     let all = all_sent (seat_since g.N.Node.state g.L.Log.facts since) _ _
     handed w s in
     let place = ap (λ l. place_from 0 c.args.node c.args.k l) all ∙ sym c.in-Some.ensures.place in
     let inside : c.args.node < length w.nodes = omega (arith, count, c.args.seats.now.ok.0, c.len.ensures, c.if-node-len.false) in
-    deliver_noted (seat_since g.N.Node.state g.L.Log.facts since)
-    c.deliver_at.new.seats.items
-    (network_view (λ m. g.N.Mail.Mail.letter m) c.deliver_at.new.network) handed w (script_view c.args.script.now) c.args.node c.args.k c.in-Some.at
-    c.push.new.self.items c.in-Ok-push.ensures.items place inside (c.in-Ok.ensures.delivered since w handed s)
-
-pub returns-in-Err-push-clause-stops : goal.returns-in-Err-push-clause-stops
-returns-in-Err-push-clause-stops g c since w handed s =
-    let count = held_len (seat_since g.N.Node.state g.L.Log.facts since)
-    c.args.seats.now.items w.nodes s.nodes in
-    let all = all_sent (seat_since g.N.Node.state g.L.Log.facts since) _ _
-    handed w s in
-    let place = ap (λ l. place_from 0 c.args.node c.args.k l) all ∙ sym c.in-Some.ensures.place in
-    let inside : c.args.node < length w.nodes = omega (arith, count, c.args.seats.now.ok.0, c.len.ensures, c.if-node-len.false) in
-    stops_at_memory (deliver_full (seat_since g.N.Node.state g.L.Log.facts
-    since) c.deliver_at.new.seats.items
-    (network_view (λ m. g.N.Mail.Mail.letter m) c.deliver_at.new.network) handed w (script_view c.args.script.now) c.args.node c.args.k c.in-Some.at
-    place inside (c.in-Ok.ensures.delivered since w handed s))
+    deliver_played (seat_since g.N.Node.state g.L.Log.facts since)
+    c.deliver_and_mark.new.seats.items
+    (network_view (λ m. g.N.Mail.Mail.letter m) c.deliver_and_mark.new.network) handed w (script_view c.args.script.now) c.args.node c.args.k c.in-Some.at
+    c.deliver_and_mark.new.delivered c.in-Ok.ensures.marked place inside (c.in-Ok.ensures.delivered since w handed s)

@@ -1,0 +1,123 @@
+//! Requests and moments that a line gives.
+
+ghost use Rattle.std.specs.Prelude.{◌≡◌, ◌≢◌, ◌+◌, ◌≤◌, List, None, Some, length, vec_len, IfErr, IfOk, OnOk, Err};
+ghost use Rattle.node_model.specs.World.{World};
+ghost use Rattle.node_traits.specs.declared.outputs.ToLink.{ToLink};
+ghost use Rattle.driver_steps.specs.Crashes.{Since};
+ghost use Rattle.driver_steps.specs.Seats.{AreOpen, faults_of, places_of, seat_since};
+ghost use Rattle.driver_steps.specs.Worlds.{StandsFor, network_view};
+ghost use Rattle.pipe_driver.specs.Counts.{HaveRisenWhere};
+ghost use Rattle.pipe_driver.specs.Progress.{AreAskedAsRead};
+ghost use Rattle.pipe_driver.specs.Rounds.{first_router};
+ghost use Rattle.pipe_driver.specs.declared.status.Status.TheVariants as statuses;
+ghost use Rattle.script_lines.specs.Lines.{client_line, moment_line};
+ghost use Rattle.sim_driver.specs.LineOutcomes.{HasPlayed, IsOfLine, StopsLine};
+ghost use Rattle.sim_driver.specs.Moves.{HasRouters};
+ghost use Rattle.sim_driver.specs.Scripts.{script_view};
+
+use crate::link::Link;
+use crate::script::{FIRST_ROUTER, Script};
+use driver_steps::{Network, Seat, give_moment};
+use node_traits::Node;
+use opmsg_frames::Request;
+use outside::log::Log;
+use pipe_driver::Status;
+use std::alloc::Global;
+
+/// Bytes come to a router's link. Returns the router if the link was closed, since what comes after its requests is none.
+///
+/// # Errors
+/// - `Status::BadInput` if the router does not exist; nothing happened.
+/// - `Status::DiskFailed` if a disk failed.
+/// - `Status::OutOfMemory` if out of memory, or where a node is at its last step, or links or replies can't be counted.
+pub fn play_client<N: Node<Request = Request>, L: Log>(
+    alloc: Global,
+    router: u64,
+    bytes: &[u8],
+    seats: &mut Vec<Seat<N, L>>,
+    network: &mut Network<N::Mail>,
+    script: &mut Script,
+) -> Result<Option<u64>, Status>
+    requires open { AreOpen L.facts.is_open seats.old.items }
+    requires links { first_router + vec_len script.old.links ≡ vec_len seats.old }
+    ensures played { AreAskedAsRead N.asks → (since : Since L) (w : World) (handed : List ToLink) → HasRouters w →
+        StandsFor (seat_since N.state L.facts since) seats.old.items (network_view
+        (λ m. N.Mail.letter m) network.old) handed w 0 →
+        IfOk result (λ closed. HasPlayed (seat_since N.state L.facts since) seats.new.items (network_view
+        (λ m. N.Mail.letter m) network.new) handed w
+        (client_line router bytes.now) (script_view script.old) (script_view script.new) closed) }
+    ensures stops { AreAskedAsRead N.asks → (since : Since L) (w : World) (handed : List ToLink) → HasRouters w →
+        StandsFor (seat_since N.state L.facts since) seats.old.items (network_view
+        (λ m. N.Mail.letter m) network.old) handed w 0 →
+        IfErr result (StopsLine (seat_since N.state L.facts since) seats.new.items w (client_line router bytes.now)
+        (script_view script.old)) }
+    ensures len { vec_len seats.new ≡ vec_len seats.old }
+    ensures links { vec_len script.new.links ≡ vec_len script.old.links }
+    ensures open { result ≢ Err statuses.DiskFailed → AreOpen L.facts.is_open seats.new.items }
+    ensures other { IfErr result IsOfLine }
+
+    // Of the logs' disks.
+    ensures disk_fault { HaveRisenWhere (result ≡ Err statuses.DiskFailed) (faults_of L.facts.fault_count seats.old.items) (faults_of L.facts.fault_count seats.new.items) }
+    ensures places { places_of L.facts.place seats.new.items ≡ places_of L.facts.place seats.old.items }
+{
+    if router >= script.links.len() as u64 {
+        return Err(Status::BadInput);
+    }
+    let place = router as usize;
+    let link = &mut script.links[place];
+    let malformed = match link.take(alloc, FIRST_ROUTER + place, bytes, seats, network) {
+        Ok(malformed) => malformed,
+        Err(status) => return Err(status),
+    };
+    if !malformed {
+        return Ok(None);
+    }
+    if script.opened == u32::MAX {
+        return Err(Status::OutOfMemory);
+    }
+    script.links[place] = Link::new(alloc, script.opened);
+    script.opened += 1;
+    Ok(Some(router))
+}
+
+/// A node is given a moment, in milliseconds since 1970.
+///
+/// # Errors
+/// - `Status::BadInput` if the node does not exist; nothing happened.
+/// - `Status::DiskFailed` if a disk failed.
+/// - `Status::OutOfMemory` if out of memory, or where a node is at its last step.
+pub fn play_moment<N: Node, L: Log>(
+    node: u64,
+    moment: u64,
+    seats: &mut Vec<Seat<N, L>>,
+    network: &mut Network<N::Mail>,
+    script: &Script,
+) -> Result<(), Status>
+    requires open { AreOpen L.facts.is_open seats.old.items }
+    ensures played { (since : Since L) (w : World) (handed : List ToLink) →
+        StandsFor (seat_since N.state L.facts since) seats.old.items (network_view
+        (λ m. N.Mail.letter m) network.old) handed w 0 →
+        OnOk result (HasPlayed (seat_since N.state L.facts since) seats.new.items (network_view
+        (λ m. N.Mail.letter m) network.new) handed w
+        (moment_line node moment) (script_view script.now) (script_view script.now) None) }
+    ensures stops { (since : Since L) (w : World) (handed : List ToLink) →
+        StandsFor (seat_since N.state L.facts since) seats.old.items (network_view
+        (λ m. N.Mail.letter m) network.old) handed w 0 →
+        IfErr result (StopsLine (seat_since N.state L.facts since) seats.new.items w (moment_line node moment)
+        (script_view script.now)) }
+    ensures len { vec_len seats.new ≡ vec_len seats.old }
+    ensures open { result ≢ Err statuses.DiskFailed → AreOpen L.facts.is_open seats.new.items }
+    ensures other { IfErr result IsOfLine }
+
+    // Of the logs' disks.
+    ensures disk_fault { HaveRisenWhere (result ≡ Err statuses.DiskFailed) (faults_of L.facts.fault_count seats.old.items) (faults_of L.facts.fault_count seats.new.items) }
+    ensures places { places_of L.facts.place seats.new.items ≡ places_of L.facts.place seats.old.items }
+{
+    if node >= seats.len() as u64 {
+        return Err(Status::BadInput);
+    }
+    match give_moment(seats, network, node as usize, moment) {
+        Ok(()) => Ok(()),
+        Err(e) => Err(Status::of(e)),
+    }
+}
