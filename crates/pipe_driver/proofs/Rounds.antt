@@ -6,7 +6,7 @@ use Rattle.std.proofs.lemmas.List.{map-append}
 use Rattle.std.proofs.lemmas.Int.{fits_signed_from_abs, to_z-of_z}
 use Rattle.std.proofs.lemmas.Grind.{flat_map-append}
 use Rattle.opmsg_frames.specs.Requests.{Request, IsRequest}
-use Rattle.node_model.specs.World.{World, Event, client_event, IsRouter, Happens, Run, goes, start}
+use Rattle.node_model.specs.World.{World, Event, client_event, IsRouter, Happens, Run, goes}
 use Rattle.node_model.specs.Schedule.{moments_given, Round, IsRound, Pipes}
 use Rattle.node_model.proofs.Schedules.{run_then}
 use Rattle.node_laws.proofs.Runs.{happens_keeps, run_keeps}
@@ -20,7 +20,7 @@ use Rattle.driver_steps.specs.Worlds.{NetworkView, StandsFor}
 use Rattle.driver_steps.specs.Moves.{BeginWith, AreDeliveries, HasHappened, HasRun, HasSettled, HasStopped}
 use Rattle.driver_steps.proofs.Runs.{stopped_behind, up_to_more}
 use Rattle.pipe_driver.specs.Progress.{AreAsked}
-use Rattle.pipe_driver.specs.Rounds.{first_link, requests_of, replies_after, replies_behind, number_behind, AreNumbered, AreOfOne}
+use Rattle.pipe_driver.specs.Rounds.{first_router, first_link, requests_of, replies_after, replies_behind, number_behind, AreNumbered, AreOfOne}
 use Rattle.pipe_driver.specs.Schedules.{round_of, IsPart, in_moments, in_deliveries, HasServed}
 use Rattle.pipe_driver.proofs.Frames.{all_more}
 use Rattle.pipe_driver.proofs.Routers.{none_lost, router_there, run_stays}
@@ -28,21 +28,21 @@ use Rattle.pipe_driver.proofs.Routers.{none_lost, router_there, run_stays}
 -- THE EVENTS
 
 module _ {S : Type 0} (view : S → SeatView) (handed : List ToLink) (routers : ℕ) (rounds : List Round) (before : List Event) (w : World) (next count : ℕ)
-    (r : Round) (router : ℕ) (there : IsRouter (start routers).nodes router) (pipes : Pipes routers rounds before w next) (as_many : count ≡ length w.nodes) (place : r.at ≡ router) where
+    (r : Round) (some : 0 < routers) (pipes : Pipes routers rounds before w next) (as_many : count ≡ length w.nodes) (place : r.at ≡ first_router) where
   -- the router is there when the request comes
-  pub router_asked : (given : World) → Run w (moments_given 0 count r.moment) given → IsRouter given.nodes router
-  router_asked given run = run_stays w (moments_given 0 count r.moment) given router run (router_there routers router rounds before w next there pipes)
+  pub router_asked : (given : World) → Run w (moments_given 0 count r.moment) given → IsRouter given.nodes first_router
+  router_asked given run = run_stays w (moments_given 0 count r.moment) given first_router run (router_there routers rounds before w next some pipes)
 
   -- all messages of the round were delivered
   pub round_served : (seats : List S) (network : NetworkView) (given asked : World) → Run w (moments_given 0 count r.moment) given
       → Happens given (client_event r.at r.link r.number r.request) asked → HasSettled view seats network handed asked next
       → HasServed view seats network handed w next r
   round_served seats network given asked run came s =
-      let idle = pipes_idle routers rounds before w next pipes in
+      let there = pipes_idle routers rounds before w next pipes in
       let same : moments_given 0 count r.moment ≡ moments_given 0 (length w.nodes) r.moment = ap (λ (n : ℕ). moments_given 0 n r.moment) as_many in
       let moments : Run w (moments_given 0 (length w.nodes) r.moment) given = subst (λ (l : List Event). Run w l given) same run in
-      let good = run_keeps w given (moments_given 0 (length w.nodes) r.moment) idle.0 moments in
-      let quiet = run_idle w (moments_given 0 (length w.nodes) r.moment) given next (moments_still 0 (length w.nodes) r.moment) idle.1 moments in
+      let good = run_keeps w given (moments_given 0 (length w.nodes) r.moment) there.0 moments in
+      let quiet = run_idle w (moments_given 0 (length w.nodes) r.moment) given next (moments_still 0 (length w.nodes) r.moment) there.1 moments in
       let stage = request_stage given asked good.0.book next r.at r.link r.number r.request good.0.good quiet came in
       record {
         events = moments_given 0 (length w.nodes) r.moment ++ client_event r.at r.link r.number r.request ∷ s.events;
@@ -136,11 +136,11 @@ numbered_more : (replied : ℕ) (rounds : List Round) (r : Round) → AreNumbere
 numbered_more replied [] r all number = (number, tt)
 numbered_more replied (x ∷ rounds) r all number = (all.0, numbered_more (replies_after x.request.more replied) rounds r all.1 number)
 
-pub one_more : (gives : ℕ → Type 0) (router : ℕ) (rounds : List Round) (r : Round) → AreOfOne gives router rounds → gives r.moment → r.at ≡ router → r.link ≡ first_link
-    → r.number ≡ number_behind (replies_behind 0 (requests_of rounds)) → AreOfOne gives router (rounds ++ r ∷ [])
-one_more gives router rounds r one given place link number = record {
+pub one_more : (gives : ℕ → Type 0) (rounds : List Round) (r : Round) → AreOfOne gives rounds → gives r.moment → r.at ≡ first_router → r.link ≡ first_link
+    → r.number ≡ number_behind (replies_behind 0 (requests_of rounds)) → AreOfOne gives (rounds ++ r ∷ [])
+one_more gives rounds r one given place link number = record {
   moments = all_more (λ (x : Round). gives x.moment) rounds r one.moments given;
-  routers = all_more (λ (x : Round). x.at ≡ router) rounds r one.routers place;
+  routers = all_more (λ (x : Round). x.at ≡ first_router) rounds r one.routers place;
   links = all_more (λ (x : Round). x.link ≡ first_link) rounds r one.links link;
   numbers = numbered_more 0 rounds r one.numbers number;
 }

@@ -56,11 +56,15 @@ pub run_stays : (u : World) (es : List Event) (w : World) (at : ℕ) → Run u e
 run_stays _ _ _ at (stands w) is = is
 run_stays _ _ _ at (goes u v w e es h run) is = run_stays v es w at run (happens_stays u v e at h is)
 
+start_router : (routers : ℕ) → 0 < routers → IsRouter (start routers).nodes 2
+start_router zero some = absurd (omega arith)
+start_router (suc n) some = (new_router 2, [], refl)
+
 -- the connection's router is there behind each round
-pub router_there : (routers router : ℕ) (rounds : List Round) (events : List Event) (w : World) (next : ℕ) → IsRouter (start routers).nodes router
-    → Pipes routers rounds events w next → IsRouter w.nodes router
-router_there routers router rounds events w next there pipes =
-    run_stays (start routers) events w router (pipes_run routers rounds events w next pipes) there
+pub router_there : (routers : ℕ) (rounds : List Round) (events : List Event) (w : World) (next : ℕ) → 0 < routers → Pipes routers rounds events w next
+    → IsRouter w.nodes 2
+router_there routers rounds events w next some pipes =
+    run_stays (start routers) events w 2 (pipes_run routers rounds events w next pipes) (start_router routers some)
 
 -- MESSAGES
 

@@ -23,7 +23,7 @@ use Rattle.driver_steps.proofs.Runs.{handed_on}
 use Rattle.pipe_driver.specs.Pieces.{PutInPart}
 use Rattle.pipe_driver.specs.Acknowledgements.{AreCovered}
 use Rattle.pipe_driver.specs.Progress.{AreAsked, Serving, CutShort, PutShort, all_replies}
-use Rattle.pipe_driver.specs.Rounds.{first_link, requests_of, replies_after, replies_behind, number_behind, AreOfOne, bytes_of}
+use Rattle.pipe_driver.specs.Rounds.{first_router, first_link, requests_of, replies_after, replies_behind, number_behind, AreOfOne, bytes_of}
 use Rattle.pipe_driver.specs.Schedules.{round_of, IsLast, IsPart, HasServed, Came, came_whole, came_opening, came_part}
 use Rattle.pipe_driver.specs.Stops.{status_for, StopsAtRequest, at_write_fault, at_disk_fault, at_no_memory}
 use Rattle.pipe_driver.specs.declared.status.Status.{Status}
@@ -61,18 +61,18 @@ last_leads Memory end last P same = subst (λ (w : World). LeadsTo end w) (sym s
 run_one_more : (u : World) (events : List Event) (v : World) (e : Event) (w : World) → Run u events v → Happens v e w → Run u (events ++ e ∷ []) w
 run_one_more u events v e w run more = run_then u events v (e ∷ []) w run (goes v w w e [] more (stands w))
 
-module _ {S : Type 0} (view : S → SeatView) (seats : List S) (gives : ℕ → Type 0) (router routers : ℕ) (tells : Bool) (noted : List Noted) (held_before held consumed : List ℕ) where
+module _ {S : Type 0} (view : S → SeatView) (seats : List S) (gives : ℕ → Type 0) (routers : ℕ) (tells : Bool) (noted : List Noted) (held_before held consumed : List ℕ) where
   pub stops_by : (fault : StepFault) (status : Status) → status ≡ status_for fault
-      → CutShort view seats gives router routers tells noted held_before held consumed (status_for fault)
-      → StopsAtRequest view seats gives router routers tells noted held_before held consumed status
-  stops_by (Disk faults) status is cut = subst (λ (s : Status). StopsAtRequest view seats gives router routers tells noted held_before held consumed s) (sym is)
+      → CutShort view seats gives routers tells noted held_before held consumed (status_for fault)
+      → StopsAtRequest view seats gives routers tells noted held_before held consumed status
+  stops_by (Disk faults) status is cut = subst (λ (s : Status). StopsAtRequest view seats gives routers tells noted held_before held consumed s) (sym is)
       (at_disk_fault cut)
-  stops_by Steps status is cut = subst (λ (s : Status). StopsAtRequest view seats gives router routers tells noted held_before held consumed s) (sym is) (at_no_memory cut)
-  stops_by Memory status is cut = subst (λ (s : Status). StopsAtRequest view seats gives router routers tells noted held_before held consumed s) (sym is) (at_no_memory cut)
+  stops_by Steps status is cut = subst (λ (s : Status). StopsAtRequest view seats gives routers tells noted held_before held consumed s) (sym is) (at_no_memory cut)
+  stops_by Memory status is cut = subst (λ (s : Status). StopsAtRequest view seats gives routers tells noted held_before held consumed s) (sym is) (at_no_memory cut)
 
   -- between two rounds
-  pub cut_between : (network : NetworkView) (replied : ℕ) → Serving view seats network gives router routers tells noted held_before held consumed replied
-      → CutShort view seats gives router routers tells noted held_before held consumed statuses.OutOfMemory
+  pub cut_between : (network : NetworkView) (replied : ℕ) → Serving view seats network gives routers tells noted held_before held consumed replied
+      → CutShort view seats gives routers tells noted held_before held consumed statuses.OutOfMemory
   cut_between network replied s = record {
     rounds = s.rounds;
     under_way = [];
@@ -98,10 +98,10 @@ but_for_disks Memory status holds is other given = given
 
 -- THE START
 
-module _ {S : Type 0} (view : S → SeatView) (seats : List S) (gives : ℕ → Type 0) (router routers : ℕ) (tells : Bool) (held : List ℕ) (count : ℕ)
+module _ {S : Type 0} (view : S → SeatView) (seats : List S) (gives : ℕ → Type 0) (routers : ℕ) (tells : Bool) (held : List ℕ) (count : ℕ)
     (as_many : count ≡ length (start routers).nodes) where
   pub opened_serving : (network : NetworkView) → HasRun view seats network [] (start routers) 0 (openings 0 count)
-      → Serving view seats network gives router routers tells [] held held [] 0
+      → Serving view seats network gives routers tells [] held held [] 0
   opened_serving network r =
       let none : r.end.answered ≡ [] = nothing_told routers count r.end r.run in
       let silent : puts_given r.end.answered ≡ [] = ap puts_given none in
@@ -123,7 +123,7 @@ module _ {S : Type 0} (view : S → SeatView) (seats : List S) (gives : ℕ → 
 
   pub opening_cut : (replies : List ToLink) (fault : StepFault)
       → HasStopped view seats replies [] (start routers) (λ events. BeginWith events (openings 0 count)) fault
-      → CutShort view seats gives router routers tells [] held held [] (status_for fault)
+      → CutShort view seats gives routers tells [] held held [] (status_for fault)
   opening_cut replies fault s = record {
     rounds = [];
     under_way = [];
@@ -136,7 +136,7 @@ module _ {S : Type 0} (view : S → SeatView) (seats : List S) (gives : ℕ → 
     kept = kept_at fault view seats s.end s.nodes;
     last = s.last;
     is_last = last_by fault s.end s.last (λ e. BeginWith (s.events ++ e ∷ []) (openings 0 count))
-        (λ w. Came routers gives router [] [] (start routers) w) s.up_to
+        (λ w. Came routers gives [] [] (start routers) w) s.up_to
         (λ e first more. came_opening (s.events ++ e ∷ []) s.last
         (subst (λ (n : ℕ). BeginWith (s.events ++ e ∷ []) (openings 0 n)) as_many first)
         (run_one_more (start routers) s.events s.end e s.last s.run more));
@@ -153,38 +153,38 @@ round_run u next r events w round =
 
 -- ONE REQUEST
 
-module _ {S : Type 0} (view : S → SeatView) (seats seats_after : List S) (before : NetworkView) (gives : ℕ → Type 0) (router routers : ℕ) (tells : Bool) (noted : List Noted)
-    (held_before held consumed : List ℕ) (replied : ℕ) (s : Serving view seats before gives router routers tells noted held_before held consumed replied)
+module _ {S : Type 0} (view : S → SeatView) (seats seats_after : List S) (before : NetworkView) (gives : ℕ → Type 0) (routers : ℕ) (tells : Bool) (noted : List Noted)
+    (held_before held consumed : List ℕ) (replied : ℕ) (s : Serving view seats before gives routers tells noted held_before held consumed replied)
     (moment : ℕ) (number : ℤ) (asked q : Request) (given : gives moment) (numbered : number ≡ number_behind replied) (same : asked ≡ q) (is : IsRequest q) where
   numbered_behind : number ≡ number_behind (replies_behind 0 (requests_of s.rounds))
   numbered_behind = numbered ∙ ap (λ (n : ℕ). number_behind n) s.count
 
-  round_is : round_of router moment number asked ≡ round_of router moment (number_behind (replies_behind 0 (requests_of s.rounds))) q
-  round_is = ap (λ (z : ℤ). round_of router moment z asked) numbered_behind
-      ∙ ap (λ (x : Request). round_of router moment (number_behind (replies_behind 0 (requests_of s.rounds))) x) same
+  round_is : round_of moment number asked ≡ round_of moment (number_behind (replies_behind 0 (requests_of s.rounds))) q
+  round_is = ap (λ (z : ℤ). round_of moment z asked) numbered_behind
+      ∙ ap (λ (x : Request). round_of moment (number_behind (replies_behind 0 (requests_of s.rounds))) x) same
 
-  rounds_one : AreOfOne gives router (s.rounds ++ round_of router moment number asked ∷ [])
-  rounds_one = one_more gives router s.rounds (round_of router moment number asked) s.one given refl refl numbered_behind
+  rounds_one : AreOfOne gives (s.rounds ++ round_of moment number asked ∷ [])
+  rounds_one = one_more gives s.rounds (round_of moment number asked) s.one given refl refl numbered_behind
 
   asked_then : AreAsked (consumed ++ q.bytes) (requests_of s.rounds ++ q ∷ [])
   asked_then = asked_more consumed (requests_of s.rounds) q s.asked is
 
-  asked_rounds : AreAsked (consumed ++ q.bytes) (requests_of (s.rounds ++ round_of router moment number asked ∷ []))
+  asked_rounds : AreAsked (consumed ++ q.bytes) (requests_of (s.rounds ++ round_of moment number asked ∷ []))
   asked_rounds =
-      let all : requests_of (s.rounds ++ round_of router moment number asked ∷ []) ≡ requests_of s.rounds ++ q ∷ [] =
-      requests_more s.rounds (round_of router moment number asked) ∙ ap (λ (x : Request). requests_of s.rounds ++ x ∷ []) same in
+      let all : requests_of (s.rounds ++ round_of moment number asked ∷ []) ≡ requests_of s.rounds ++ q ∷ [] =
+      requests_more s.rounds (round_of moment number asked) ∙ ap (λ (x : Request). requests_of s.rounds ++ x ∷ []) same in
       subst (λ (l : List Request). AreAsked (consumed ++ q.bytes) l) (sym all) asked_then
 
-  part_in_round : (count : ℕ) (events : List Event) → count ≡ length s.world.nodes → IsPart count (round_of router moment number asked) events
-      → IsPart (length s.world.nodes) (round_of router moment (number_behind (replies_behind 0 (requests_of s.rounds))) q) events
+  part_in_round : (count : ℕ) (events : List Event) → count ≡ length s.world.nodes → IsPart count (round_of moment number asked) events
+      → IsPart (length s.world.nodes) (round_of moment (number_behind (replies_behind 0 (requests_of s.rounds))) q) events
   part_in_round count events as_many part =
-      subst (λ (n : ℕ). IsPart n (round_of router moment (number_behind (replies_behind 0 (requests_of s.rounds))) q) events) as_many
+      subst (λ (n : ℕ). IsPart n (round_of moment (number_behind (replies_behind 0 (requests_of s.rounds))) q) events) as_many
       (subst (λ (r : Round). IsPart count r events) round_is part)
 
   -- a step failed
   pub cut_in_round : (count : ℕ) (replies : List ToLink) (fault : StepFault) → count ≡ length s.world.nodes
-      → HasStopped view seats_after replies (puts_given s.world.answered) s.world (IsPart count (round_of router moment number asked)) fault
-      → CutShort view seats_after gives router routers tells noted held_before held (consumed ++ q.bytes) (status_for fault)
+      → HasStopped view seats_after replies (puts_given s.world.answered) s.world (IsPart count (round_of moment number asked)) fault
+      → CutShort view seats_after gives routers tells noted held_before held (consumed ++ q.bytes) (status_for fault)
   cut_in_round count replies fault as_many h = record {
     rounds = s.rounds;
     under_way = q ∷ [];
@@ -197,8 +197,8 @@ module _ {S : Type 0} (view : S → SeatView) (seats seats_after : List S) (befo
     asked = asked_then;
     kept = kept_at fault view seats_after h.end h.nodes;
     last = h.last;
-    is_last = last_by fault h.end h.last (λ e. IsPart count (round_of router moment number asked) (h.events ++ e ∷ []))
-        (λ w. Came routers gives router s.rounds (q ∷ []) s.world w) h.up_to
+    is_last = last_by fault h.end h.last (λ e. IsPart count (round_of moment number asked) (h.events ++ e ∷ []))
+        (λ w. Came routers gives s.rounds (q ∷ []) s.world w) h.up_to
         (λ e part more. came_part s.rounds s.events (h.events ++ e ∷ []) s.world h.last s.next moment q s.pipes given
         (part_in_round count (h.events ++ e ∷ []) as_many part) (run_one_more s.world h.events h.end e h.last h.run more));
     crashes = h.crashes;
@@ -207,10 +207,10 @@ module _ {S : Type 0} (view : S → SeatView) (seats seats_after : List S) (befo
   }
 
   -- the replies of a round are written after one note more of all disks
-  module _ (network : NetworkView) (h : HasServed view seats_after network (puts_given s.world.answered) s.world s.next (round_of router moment number asked))
+  module _ (network : NetworkView) (h : HasServed view seats_after network (puts_given s.world.answered) s.world s.next (round_of moment number asked))
       (moments : List ℕ) (told : IsTrue tells) where
     round_on : LeadsTo s.world h.end
-    round_on = (h.events, round_run s.world s.next (round_of router moment number asked) h.events h.end h.round)
+    round_on = (h.events, round_run s.world s.next (round_of moment number asked) h.events h.end h.round)
 
     round_few : length held ≤ length held_before + length (bytes_of (puts_given s.world.answered))
     round_few = omega (
@@ -227,7 +227,7 @@ module _ {S : Type 0} (view : S → SeatView) (seats seats_after : List S) (befo
         (leads_on (start routers) s.world h.end (s.events, pipes_run routers s.rounds s.events s.world s.next s.pipes) round_on) round_on round_few
 
   module _ {M : Type 0} (letter : M → Letter) (old new : Network M) (after_view : S → SeatView) (noted_after : List Noted)
-      (h : HasServed after_view seats_after (network_view letter old) (puts_given s.world.answered) s.world s.next (round_of router moment number asked))
+      (h : HasServed after_view seats_after (network_view letter old) (puts_given s.world.answered) s.world s.next (round_of moment number asked))
       (waits : new.waiting.items ≡ old.waiting.items) (none : new.replies.items ≡ [])
       (covers : IsTrue tells → AreCovered all_replies (start routers) noted_after held_before (bytes_of (puts_given s.world.answered)
       ++ bytes_of old.replies.items) h.end) where
@@ -239,13 +239,13 @@ module _ {S : Type 0} (view : S → SeatView) (seats seats_after : List S) (befo
 
     -- all replies of the round were put
     pub served_one : (held' : List ℕ) (after : ℕ) → Put tells held (bytes_of old.replies.items) held' → after ≡ replies_after q.more replied
-        → Serving after_view seats_after (network_view letter new) gives router routers tells noted_after held_before held' (consumed ++ q.bytes) after
+        → Serving after_view seats_after (network_view letter new) gives routers tells noted_after held_before held' (consumed ++ q.bytes) after
     served_one held' after put counted = record {
-      rounds = s.rounds ++ round_of router moment number asked ∷ [];
+      rounds = s.rounds ++ round_of moment number asked ∷ [];
       events = s.events ++ h.events;
       world = h.end;
       next = length h.end.sent;
-      pipes = serves s.rounds (round_of router moment number asked) s.events h.events s.world h.end s.next s.pipes h.round;
+      pipes = serves s.rounds (round_of moment number asked) s.events h.events s.world h.end s.next s.pipes h.round;
       one = rounds_one;
       stands = subst (λ (l : List ToLink). StandsFor after_view seats_after (network_view letter new) l h.end (length h.end.sent)) (sym puts_are)
           (handed_on after_view letter seats_after (puts_given s.world.answered) h.end (length h.end.sent) old new h.stands waits none);
@@ -255,16 +255,16 @@ module _ {S : Type 0} (view : S → SeatView) (seats seats_after : List S) (befo
       count = counted ∙ (ap (λ (n : ℕ). replies_after q.more n) s.count
           ∙ (sym (behind_more 0 (requests_of s.rounds) q)
           ∙ ap (λ (l : List Request). replies_behind 0 l)
-          (ap (λ (x : Request). requests_of s.rounds ++ x ∷ []) (sym same) ∙ sym (requests_more s.rounds (round_of router moment number asked)))));
+          (ap (λ (x : Request). requests_of s.rounds ++ x ∷ []) (sym same) ∙ sym (requests_more s.rounds (round_of moment number asked)))));
       covered = λ told. subst (λ (b : List ℕ). AreCovered all_replies (start routers) noted_after held_before b h.end) (sym bytes_are) (covers told);
     }
 
     -- a prefix of them was put
     pub put_short : (held' : List ℕ) → PutInPart tells held (bytes_of old.replies.items) held'
-        → PutShort after_view seats_after gives router routers tells noted_after held_before held' (consumed ++ q.bytes)
+        → PutShort after_view seats_after gives routers tells noted_after held_before held' (consumed ++ q.bytes)
     put_short held' (part, (others, prefix), put) = record {
       earlier = s.rounds;
-      last = round_of router moment number asked;
+      last = round_of moment number asked;
       events = s.events;
       more = h.events;
       before = s.world;

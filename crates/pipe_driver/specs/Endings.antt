@@ -29,12 +29,12 @@ pub record AllServed (routers : ℕ) (put : List ℕ) (requests : List Request) 
   pub replied : put ≡ bytes_of (puts_given end.answered)
 
 -- The first requests had their rounds, and all replies of these were put, and nothing else. One request more may be under way.
-pub record SomeServed (routers : ℕ) (gives : ℕ → Type 0) (router : ℕ) (put : List ℕ) (requests : List Request) (rounds : List Round) (end : World) : Type 0 where
+pub record SomeServed (routers : ℕ) (gives : ℕ → Type 0) (put : List ℕ) (requests : List Request) (rounds : List Round) (end : World) : Type 0 where
   pub under_way : List Request
   pub others : List Request
   pub whole : World
   pub asked : requests ≡ (requests_of rounds ++ under_way) ++ others
-  pub came : Came routers gives router rounds under_way whole end
+  pub came : Came routers gives rounds under_way whole end
   pub replied : put ≡ bytes_of (puts_given whole.answered)
 
 -- The first requests had their rounds, all replies but those of the last round were put, and a prefix of these.
@@ -72,11 +72,11 @@ pub data Cause (limit : ℕ) (at_end : Type 0) (taken : List ℕ) (fault : Optio
   -- as many bytes were taken as may be
   too_long : length taken ≡ limit → fault ≡ None → all → Cause limit at_end taken fault all some short statuses.InputTooLong
 
--- One connection was served by the schedule, all by one router, from empty journals: these bytes were taken and put, and these rounds led to this world. `kept`
+-- One connection was served by the schedule, from empty journals: these bytes were taken and put, and these rounds led to this world. `kept`
 -- says of the nodes of that world that the journals keep what they keep; and `leaves` of a world that a crash at any moment since the start
 -- left, of each log, what it might have left before, or a file in which an opening finds what that node kept in a world on the way; and `owed` of that
 -- world and the bytes that were put what the journals owed before each of these was put.
-pub record IsPiped (source : SourceCall) (sink : SinkCall) (gives : ℕ → Type 0) (router : ℕ) (kept : List Held → Type 0) (leaves : World → Type 0)
+pub record IsPiped (source : SourceCall) (sink : SinkCall) (gives : ℕ → Type 0) (kept : List Held → Type 0) (leaves : World → Type 0)
     (owed : World → (put : List ℕ) → Type 0) (routers limit : ℕ) (status : Status) (rest : ℕ) : Type 0 where
   pub taken : List ℕ
   pub put : List ℕ
@@ -90,11 +90,11 @@ pub record IsPiped (source : SourceCall) (sink : SinkCall) (gives : ℕ → Type
   pub frames : Frames taken requests left fault
   pub rest_left : rest ≡ length left
   pub most : length taken ≤ limit
-  pub one : AreOfOne gives router rounds
+  pub one : AreOfOne gives rounds
   pub cause : Cause limit (IsTrue source.tells → source.left_after ≡ []) taken fault (AllServed routers put requests rounds end)
-      (SomeServed routers gives router put requests rounds end) (LastCutShort routers put requests rounds end) status
+      (SomeServed routers gives put requests rounds end) (LastCutShort routers put requests rounds end) status
   pub files : kept end.nodes
   pub last : World
-  pub is_last : IsLast status (λ w. SomeServed routers gives router put requests rounds w) end last
+  pub is_last : IsLast status (λ w. SomeServed routers gives put requests rounds w) end last
   pub crashes : leaves last
   pub acknowledged : owed last put

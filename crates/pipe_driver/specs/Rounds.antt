@@ -5,11 +5,10 @@ use Rattle.node_model.specs.Requests.{Request}
 use Rattle.node_model.specs.Schedule.{Round}
 use Rattle.node_traits.specs.declared.outputs.ToLink.{ToLink}
 
--- the first router: nodes before it are the catalogue and the shard
+-- the router that the connection goes to, and its link
 abbrev pub first_router : ℕ
 first_router = 2
 
--- the link of a connection
 abbrev pub first_link : ℕ
 first_link = 0
 
@@ -34,10 +33,10 @@ abbrev pub AreNumbered : (replied : ℕ) → List Round → Type 0
 AreNumbered replied [] = Unit {0}
 AreNumbered replied (r ∷ rounds) = (r.number ≡ number_behind replied) × AreNumbered (replies_after r.request.more replied) rounds
 
--- the rounds of one connection to this router, at moments of the clock
-pub record AreOfOne (gives : ℕ → Type 0) (router : ℕ) (rounds : List Round) : Type 0 where
+-- the rounds of one connection, at moments of the clock
+pub record AreOfOne (gives : ℕ → Type 0) (rounds : List Round) : Type 0 where
   pub moments : AllByRecursion (λ (r : Round). gives r.moment) rounds
-  pub routers : AllByRecursion (λ (r : Round). r.at ≡ router) rounds
+  pub routers : AllByRecursion (λ (r : Round). r.at ≡ first_router) rounds
   pub links : AllByRecursion (λ (r : Round). r.link ≡ first_link) rounds
   pub numbers : AreNumbered 0 rounds
 

@@ -8,13 +8,13 @@ use Rattle.node_traits.specs.declared.outputs.ToLink.{ToLink}
 use Rattle.driver_steps.specs.Seats.{SeatView}
 use Rattle.driver_steps.specs.Worlds.{NetworkView, StandsFor}
 use Rattle.driver_steps.specs.Moves.{BeginWith, AreDeliveries}
-use Rattle.pipe_driver.specs.Rounds.{first_link, number_behind, replies_behind, requests_of}
+use Rattle.pipe_driver.specs.Rounds.{first_router, first_link, number_behind, replies_behind, requests_of}
 use Rattle.pipe_driver.specs.declared.status.Status.{Status}
 use Rattle.pipe_driver.specs.declared.status.Status.TheVariants as statuses
 
--- a round of this router, by the first link
-abbrev pub round_of : (router moment : ℕ) → ℤ → Request → Round
-round_of router moment number request = record { moment = moment; at = router; link = first_link; number = number; request = request }
+-- a round of the first router and link
+abbrev pub round_of : (moment : ℕ) → ℤ → Request → Round
+round_of moment number request = record { moment = moment; at = first_router; link = first_link; number = number; request = request }
 
 -- The events of a round that was cut short: the first of its moments; or all of these, the request and deliveries.
 pub data IsPart (count : ℕ) (r : Round) : List Event → Type 0 where
@@ -31,17 +31,17 @@ pub record HasServed {S : Type 0} (view : S → SeatView) (seats : List S) (netw
   pub stands : StandsFor view seats network handed end (length end.sent)
 
 -- The schedule came to an end of rounds, to the world behind them (`whole`), and then to the last one (`end`), with no request under way, or with one.
-pub data Came (routers : ℕ) (gives : ℕ → Type 0) (router : ℕ) : (rounds : List Round) → (under_way : List Request) → (whole end : World) → Type 0 where
+pub data Came (routers : ℕ) (gives : ℕ → Type 0) : (rounds : List Round) → (under_way : List Request) → (whole end : World) → Type 0 where
   -- with the last round
-  came_whole : (rounds : List Round) (events : List Event) (w : World) (next : ℕ) → Pipes routers rounds events w next → Came routers gives router rounds [] w w
+  came_whole : (rounds : List Round) (events : List Event) (w : World) (next : ℕ) → Pipes routers rounds events w next → Came routers gives rounds [] w w
   -- within the openings
   came_opening : (events : List Event) (w : World) → BeginWith events (openings 0 (length (start routers).nodes)) → Run (start routers) events w
-      → Came routers gives router [] [] (start routers) w
+      → Came routers gives [] [] (start routers) w
   -- within a round, at a moment of the clock
   came_part : (rounds : List Round) (before events : List Event) (u w : World) (next moment : ℕ) (request : Request) → Pipes routers rounds before u next
       → gives moment
-      → IsPart (length u.nodes) (round_of router moment (number_behind (replies_behind 0 (requests_of rounds))) request) events → Run u events w
-      → Came routers gives router rounds (request ∷ []) u w
+      → IsPart (length u.nodes) (round_of moment (number_behind (replies_behind 0 (requests_of rounds))) request) events → Run u events w
+      → Came routers gives rounds (request ∷ []) u w
 
 -- The world up to which a crash may have left what the nodes keep: the end, and where a disk failed maybe one event more, with which the
 -- schedule goes on.

@@ -2,7 +2,7 @@
 
 ghost use Rattle.std.specs.Prelude.{◌≡◌, ◌≢◌, ℕ, ◌<◌, ◌≤◌, [], IsTrue, vec_len};
 ghost use Rattle.outside.specs.Devices.{sink_call, source_call};
-ghost use Rattle.node_model.specs.World.{IsRouter, start};
+ghost use Rattle.node_model.specs.World.{start};
 ghost use Rattle.driver_steps.specs.Crashes.{Since, with_notes};
 ghost use Rattle.driver_steps.specs.Seats.{AreHeld, AreKept, AreOpen, LeaveKept, faults_of, places_of, seat_since, seat_view, since_then};
 ghost use Rattle.driver_steps.specs.Worlds.{network_view};
@@ -10,6 +10,7 @@ ghost use Rattle.pipe_driver.specs.Acknowledgements.{AreAcknowledgedBy, AreCover
 ghost use Rattle.pipe_driver.specs.Counts.{HaveRisenWhere, RoseWhere};
 ghost use Rattle.pipe_driver.specs.Endings.{IsPiped, most_taken};
 ghost use Rattle.pipe_driver.specs.Progress.{AreAskedAsRead, Serving, all_replies};
+ghost use Rattle.pipe_driver.specs.Rounds.{first_router};
 ghost use Rattle.pipe_driver.specs.declared.status.Status.TheVariants as statuses;
 
 use crate::requests::answer_all;
@@ -46,7 +47,7 @@ fn ended(status: Status, rest: usize) -> Ending
 
 /// Serves one connection from `input` to `out`, in which at most `limit` bytes are taken, by the nodes in order of their numbers, whose logs
 /// are open and empty at the start. All nodes are opened; then each whole request is served in a round of its own, at one moment of the clock,
-/// by the router with this number, before more is taken, and what the round gives is put.
+/// before more is taken, and what the round gives is put.
 ///
 /// The status is `DiskFailed` where the disk of a log failed: the logs must be opened again. It is `OutOfMemory` also where a node is at its
 /// last step.
@@ -64,16 +65,15 @@ pub fn pipe<
     out: &mut K,
     seats: &mut Vec<Seat<N, L>>,
     clock: &C,
-    router: usize,
     limit: u64,
 ) -> Ending
-    requires at { router < vec_len seats.old }
+    requires at { first_router < vec_len seats.old }
     requires open { AreOpen L.facts.is_open seats.old.items }
     requires limit { limit ≤ most_taken }
-    ensures piped { AreAskedAsRead N.asks → (routers : ℕ) → IsRouter (start routers).nodes router →
+    ensures piped { AreAskedAsRead N.asks → (routers : ℕ) → 0 < routers →
         AreHeld (seat_view N.state L.facts) seats.old.items (start routers).nodes →
         IsPiped (source_call S.tells S.left S.fault_count input.old input.new) (sink_call K.tells K.held K.fault_count out.old out.new)
-        (C.gives clock.now) router (AreKept (seat_view N.state L.facts) seats.new.items)
+        (C.gives clock.now) (AreKept (seat_view N.state L.facts) seats.new.items)
         (LeaveKept (seat_since N.state L.facts (since_then seats.old.items (start routers))) seats.new.items)
         (AreAcknowledgedBy L.facts K.tells all_replies (start routers) (K.noted out.new) (K.held out.old) seats.new.items)
         routers limit result.status result.rest }
@@ -91,7 +91,7 @@ pub fn pipe<
 {
     let mut network = Network::new(alloc);
     match open_all(seats, &mut network) {
-        Ok(()) => serve(rt, alloc, input, out, seats, network, clock, router, limit),
+        Ok(()) => serve(rt, alloc, input, out, seats, network, clock, limit),
         Err(e) => ended(Status::of(e), 0),
     }
 }
@@ -112,19 +112,18 @@ fn serve<
     seats: &mut Vec<Seat<N, L>>,
     network: Network<N::Mail>,
     clock: &C,
-    router: usize,
     limit: u64,
 ) -> Ending
-    requires at { router < vec_len seats.old }
+    requires at { first_router < vec_len seats.old }
     requires open { AreOpen L.facts.is_open seats.old.items }
     requires limit { limit ≤ most_taken }
-    ensures piped { AreAskedAsRead N.asks → (since : Since L) (routers : ℕ) → IsRouter (start routers).nodes router →
+    ensures piped { AreAskedAsRead N.asks → (since : Since L) (routers : ℕ) → 0 < routers →
         Serving (seat_since N.state L.facts since) seats.old.items (network_view (λ m. N.Mail.letter m) network)
-        (C.gives clock.now) router routers K.tells since.noted (K.held out.old) (K.held out.old) [] 0 →
+        (C.gives clock.now) routers K.tells since.noted (K.held out.old) (K.held out.old) [] 0 →
         AreNoted K.tells (K.noted out.old) (places_of L.facts.place seats.old.items) since.noted →
         WithNotes K.tells (K.noted out.new) (places_of L.facts.place seats.new.items)
         (λ noted. IsPiped (source_call S.tells S.left S.fault_count input.old input.new) (sink_call K.tells K.held K.fault_count out.old out.new)
-        (C.gives clock.now) router (AreKept (seat_since N.state L.facts (with_notes since noted)) seats.new.items)
+        (C.gives clock.now) (AreKept (seat_since N.state L.facts (with_notes since noted)) seats.new.items)
         (LeaveKept (seat_since N.state L.facts (with_notes since noted)) seats.new.items)
         (λ last put. IsTrue K.tells → AreCovered all_replies (start routers) noted (K.held out.old) put last) routers limit
         result.status result.rest) }
@@ -166,7 +165,6 @@ fn serve<
             puts,
             out,
             clock,
-            router,
         ) {
             Ok(after) => puts = after,
             Err(status) => return ended(status, unframed(framer.rest())),

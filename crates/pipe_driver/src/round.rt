@@ -2,12 +2,13 @@
 
 ghost use Rattle.std.specs.Prelude.{◌≡◌, ℕ, ◌<◌, List, vec_len, IfErr, OnOk};
 ghost use Rattle.node_model.specs.Schedule.{Pipes, Round};
-ghost use Rattle.node_model.specs.World.{Event, IsRouter, World, start};
+ghost use Rattle.node_model.specs.World.{Event, World};
 ghost use Rattle.node_traits.specs.declared.outputs.ToLink.{ToLink};
 ghost use Rattle.driver_steps.specs.Crashes.{Since};
 ghost use Rattle.driver_steps.specs.Seats.{AreOpen, TellsFaults, UnlessDiskFailed, faults_of, places_of, seat_since};
 ghost use Rattle.driver_steps.specs.Moves.{HasStopped};
 ghost use Rattle.driver_steps.specs.Worlds.{StandsFor, network_view};
+ghost use Rattle.pipe_driver.specs.Rounds.{first_router};
 ghost use Rattle.pipe_driver.specs.Schedules.{HasServed, IsPart, round_of};
 
 use driver_steps::{Network, Seat, ask, give_moments, settle};
@@ -17,13 +18,13 @@ use std::alloc::Global;
 use std::marker::Sync;
 use std::thread::Threads;
 
-/// The number of the first router.
-pub const FIRST_ROUTER: usize = 2;
+/// The number of the router that the connection goes to.
+const FIRST_ROUTER: usize = 2;
 
-/// The number of the connection's link.
+/// The number of its link.
 const FIRST_LINK: u32 = 0;
 
-/// A round: all nodes are given the moment, in milliseconds since 1970, the router with this number takes the request, whose reply has this number, and all
+/// A round: all nodes are given the moment, in milliseconds since 1970, the router takes the request, whose reply has this number, and all
 /// messages are delivered. The replies wait to be handed on.
 ///
 /// # Errors
@@ -33,26 +34,25 @@ pub fn serve_round<R: Threads + Sync, N: Node, L: Log>(
     alloc: Global,
     seats: &mut Vec<Seat<N, L>>,
     network: &mut Network<N::Mail>,
-    router: usize,
     moment: u64,
     number: i32,
     request: N::Request,
 ) -> Result<(), StepFault>
-    requires at { router < vec_len seats.old }
+    requires at { first_router < vec_len seats.old }
     requires open { AreOpen L.facts.is_open seats.old.items }
     ensures served { (since : Since L) (routers : ℕ) (rounds : List Round) (events : List Event) (w : World) (next : ℕ) (handed : List ToLink) →
-        IsRouter (start routers).nodes router → Pipes routers rounds events w next →
+        0 < routers → Pipes routers rounds events w next →
         StandsFor (seat_since N.state L.facts since) seats.old.items
         (network_view (λ m. N.Mail.letter m) network.old) handed w next →
         OnOk result (HasServed (seat_since N.state L.facts since) seats.new.items
         (network_view (λ m. N.Mail.letter m) network.new) handed w next
-        (round_of router moment number (N.asks request))) }
+        (round_of moment number (N.asks request))) }
     ensures stopped { (since : Since L) (routers : ℕ) (rounds : List Round) (events : List Event) (w : World) (next : ℕ) (handed : List ToLink) →
-        IsRouter (start routers).nodes router → Pipes routers rounds events w next →
+        0 < routers → Pipes routers rounds events w next →
         StandsFor (seat_since N.state L.facts since) seats.old.items
         (network_view (λ m. N.Mail.letter m) network.old) handed w next →
         IfErr result (λ e. HasStopped (seat_since N.state L.facts since) seats.new.items
-        network.new.replies.items handed w (IsPart (vec_len seats.old) (round_of router moment number (N.asks request))) e) }
+        network.new.replies.items handed w (IsPart (vec_len seats.old) (round_of moment number (N.asks request))) e) }
     ensures len { vec_len seats.new ≡ vec_len seats.old }
     ensures open { UnlessDiskFailed result (AreOpen L.facts.is_open seats.new.items) }
 
@@ -64,7 +64,7 @@ pub fn serve_round<R: Threads + Sync, N: Node, L: Log>(
         Ok(()) => {}
         Err(e) => return Err(e),
     }
-    match ask(seats, network, router, FIRST_LINK, number, request) {
+    match ask(seats, network, FIRST_ROUTER, FIRST_LINK, number, request) {
         Ok(()) => {}
         Err(e) => return Err(e),
     }

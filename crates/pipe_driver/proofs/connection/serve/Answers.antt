@@ -36,7 +36,7 @@ returns-in_default-clause-piped g c = λ asks since routers some s n. (
   ended_full (seat_since g.N.Node.state g.L.Log.facts (with_notes since since.noted))
       c.args.seats.now.items
       (source_call g.S.Source.tells g.S.Source.left g.S.Source.fault_count c.args.input.now c.args.input.now)
-      (sink_call g.K.Sink.tells g.K.Sink.held g.K.Sink.fault_count c.args.out.now c.args.out.now) (g.C.Clock.gives c.args.clock.now) c.args.router since.noted routers c.args.limit
+      (sink_call g.K.Sink.tells g.K.Sink.held g.K.Sink.fault_count c.args.out.now c.args.out.now) (g.C.Clock.gives c.args.clock.now) since.noted routers c.args.limit
       c.ended.result.rest c.ended.result.status [] [] _ 0 c.ended.ensures.status s (λ told. refl) (omega arith) refl c.ended.ensures.rest,
 )
 
@@ -50,7 +50,7 @@ returns-then-is_err-clause-piped g c = λ asks since routers some s n.
       ended_full (seat_since g.N.Node.state g.L.Log.facts (with_notes since went.0))
           c.pieces.seats.items
           (source_call g.S.Source.tells g.S.Source.left g.S.Source.fault_count c.args.input.now c.pieces.input)
-          (sink_call g.K.Sink.tells g.K.Sink.held g.K.Sink.fault_count c.args.out.now c.pieces.out) (g.C.Clock.gives c.args.clock.now) c.args.router went.0 routers c.args.limit
+          (sink_call g.K.Sink.tells g.K.Sink.held g.K.Sink.fault_count c.args.out.now c.pieces.out) (g.C.Clock.gives c.args.clock.now) went.0 routers c.args.limit
           c.ended-then-is_err.result.rest c.ended-then-is_err.result.status went.2.0 c.pieces.framer.bytes _ c.pieces.puts c.ended-then-is_err.ensures.status went.2.3
           went.2.2 (omega (arith, went.2.1, c.pieces.invariant.most)) c.pieces.invariant.partial counted,
     )
@@ -67,7 +67,7 @@ returns-in-Err-clause-piped g c = λ asks since routers some s n.
       ended_taking (seat_since g.N.Node.state g.L.Log.facts (with_notes since went.0))
           c.pieces.seats.items
           (source_call g.S.Source.tells g.S.Source.left g.S.Source.fault_count c.args.input.now c.take_more.new.input)
-          (sink_call g.K.Sink.tells g.K.Sink.held g.K.Sink.fault_count c.args.out.now c.pieces.out) (g.C.Clock.gives c.args.clock.now) c.args.router went.0 routers c.args.limit
+          (sink_call g.K.Sink.tells g.K.Sink.held g.K.Sink.fault_count c.args.out.now c.pieces.out) (g.C.Clock.gives c.args.clock.now) went.0 routers c.args.limit
           c.ended-in-Err.result.rest c.ended-in-Err.result.status went.2.0 c.pieces.framer.bytes _ c.pieces.puts c.in-Err.status
           c.ended-in-Err.ensures.status c.in-Err.ensures.taken.1 went.2.3
           (took_no_more _ _ _ _ _ went.2.2 c.in-Err.ensures.taken.0) below c.pieces.invariant.partial counted,
@@ -243,7 +243,7 @@ returns-in-Err-answer_all-clause-piped g c = λ asks since routers some s n.
       ended_serving (seat_since g.N.Node.state g.L.Log.facts (with_notes since round.0))
           c.answer_all.new.seats.items
           (source_call g.S.Source.tells g.S.Source.left g.S.Source.fault_count c.args.input.now c.take_more.new.input)
-          (sink_call g.K.Sink.tells g.K.Sink.held g.K.Sink.fault_count c.args.out.now c.answer_all.new.out) (g.C.Clock.gives c.args.clock.now) c.args.router round.0 routers c.args.limit
+          (sink_call g.K.Sink.tells g.K.Sink.held g.K.Sink.fault_count c.args.out.now c.answer_all.new.out) (g.C.Clock.gives c.args.clock.now) round.0 routers c.args.limit
           c.ended-in-Err-answer_all.result.rest c.ended-in-Err-answer_all.result.status round.2.0 rest _ c.in-Err-answer_all.status
           c.ended-in-Err-answer_all.ensures.status round.2.2 took (omega (arith, sum, most)) counted,
     )
@@ -272,7 +272,7 @@ returns-clause-piped g c = λ asks since routers some s n.
       ended_at_limit (seat_since g.N.Node.state g.L.Log.facts (with_notes since went.0))
           c.pieces.seats.items
           (source_call g.S.Source.tells g.S.Source.left g.S.Source.fault_count c.args.input.now c.pieces.input)
-          (sink_call g.K.Sink.tells g.K.Sink.held g.K.Sink.fault_count c.args.out.now c.pieces.out) (g.C.Clock.gives c.args.clock.now) c.args.router went.0 routers c.args.limit
+          (sink_call g.K.Sink.tells g.K.Sink.held g.K.Sink.fault_count c.args.out.now c.pieces.out) (g.C.Clock.gives c.args.clock.now) went.0 routers c.args.limit
           c.ended-2.result.rest c.ended-2.result.status went.2.0 c.pieces.framer.bytes _ c.pieces.puts c.ended-2.ensures.status went.2.3 went.2.2
           (omega (arith, went.2.1, c.pieces.invariant.most, c.pieces-test.false)) c.pieces.invariant.partial counted,
     )

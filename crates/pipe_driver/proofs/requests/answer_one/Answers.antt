@@ -20,9 +20,9 @@ returns-in-Err-clause-served g c asks q is reads since routers some held_before 
       since.noted,
       noted_places g.K.Sink.tells _ _ _ since.noted c.serve_round.ensures.places n,
       stops_by (seat_since g.N.Node.state g.L.Log.facts since)
-          _ _ c.args.router routers _ _ held_before _ _ c.in-Err.e _ c.of.ensures
+          _ _ routers _ _ held_before _ _ c.in-Err.e _ c.of.ensures
           (cut_in_round (seat_since g.N.Node.state g.L.Log.facts since)
-          _ _ _ (g.C.Clock.gives c.args.clock.now) c.args.router routers _ _ held_before _
+          _ _ _ (g.C.Clock.gives c.args.clock.now) routers _ _ held_before _
           consumed
           c.args.replied s c.now-moment.result (to_z w32 (of_z w32 c.next_number-number.result)) (g.N.Node.asks c.args.request) q c.now-moment.ensures
           (number_is c.next_number-number.result c.args.replied c.next_number-number.ensures) (asks c.args.request q is) reads (vec_len c.args.seats.now) _
@@ -42,7 +42,7 @@ returns-in-Ok-put_replies-clause-served g c asks q is reads since routers some h
       noted,
       noted_more facts seats h.end count g.K.Sink.tells _ _ _ since.noted n c.serve_round.ensures.places c.put_replies.ensures.noted,
       served_one (seat_since g.N.Node.state facts since)
-          _ _ _ (g.C.Clock.gives c.args.clock.now) c.args.router routers _ _ held_before _ consumed
+          _ _ _ (g.C.Clock.gives c.args.clock.now) routers _ _ held_before _ consumed
           c.args.replied s c.now-moment.result (to_z w32 (of_z w32 c.next_number-number.result)) (g.N.Node.asks c.args.request) q c.now-moment.ensures
           numbered same reads
           (λ m. g.N.Mail.Mail.letter m) c.serve_round.new.network c.hand_on-replies.new.self
@@ -50,7 +50,7 @@ returns-in-Ok-put_replies-clause-served g c asks q is reads since routers some h
           (note_served facts seats count g.N.Node.state since _ _ _ _ _ c.put_replies.ensures.durable h)
           c.hand_on-replies.ensures.waiting c.hand_on-replies.ensures.none
           (covers_round (seat_since g.N.Node.state facts since)
-          _ _ _ (g.C.Clock.gives c.args.clock.now) c.args.router routers _ _ held_before _ consumed
+          _ _ _ (g.C.Clock.gives c.args.clock.now) routers _ _ held_before _ consumed
           c.args.replied s c.now-moment.result (to_z w32 (of_z w32 c.next_number-number.result)) (g.N.Node.asks c.args.request) q c.now-moment.ensures
           numbered same reads _ h _) _ _
           (rw (c.deref.ensures.value, c.hand_on-replies.ensures.replies) at c.in-Ok-put_replies.ensures.put)
@@ -69,7 +69,7 @@ returns-clause-served g c asks q is reads since routers some held_before consume
       noted,
       noted_more facts seats h.end count g.K.Sink.tells _ _ _ since.noted n c.serve_round.ensures.places c.put_replies.ensures.noted,
       at_write_fault (put_short (seat_since g.N.Node.state facts since)
-          _ _ _ (g.C.Clock.gives c.args.clock.now) c.args.router routers _ _ held_before _ consumed
+          _ _ _ (g.C.Clock.gives c.args.clock.now) routers _ _ held_before _ consumed
           c.args.replied s c.now-moment.result (to_z w32 (of_z w32 c.next_number-number.result)) (g.N.Node.asks c.args.request) q c.now-moment.ensures
           numbered same reads
           (λ m. g.N.Mail.Mail.letter m) c.serve_round.new.network c.hand_on-replies.new.self
@@ -77,7 +77,7 @@ returns-clause-served g c asks q is reads since routers some held_before consume
           (note_served facts seats count g.N.Node.state since _ _ _ _ _ c.put_replies.ensures.durable h)
           c.hand_on-replies.ensures.waiting c.hand_on-replies.ensures.none
           (covers_round (seat_since g.N.Node.state facts since)
-          _ _ _ (g.C.Clock.gives c.args.clock.now) c.args.router routers _ _ held_before _ consumed
+          _ _ _ (g.C.Clock.gives c.args.clock.now) routers _ _ held_before _ consumed
           c.args.replied s c.now-moment.result (to_z w32 (of_z w32 c.next_number-number.result)) (g.N.Node.asks c.args.request) q c.now-moment.ensures
           numbered same reads _ h _) _
           (rw (c.deref.ensures.value, c.hand_on-replies.ensures.replies) at c.in-Err-put_replies.ensures.prefix)),

@@ -13,7 +13,7 @@ pub returns-in-Err-clause-stopped : goal.returns-in-Err-clause-stopped
 returns-in-Err-clause-stopped g c since routers rounds events w next handed some pipes s =
     stopped_in_moments (seat_since g.N.Node.state g.L.Log.facts since)
     _ _ handed w (vec_len c.args.seats.now)
-    (round_of c.args.router c.args.moment c.args.number (g.N.Node.asks c.args.request)) _ (c.in-Err.ensures.stopped since w next handed s)
+    (round_of c.args.moment c.args.number (g.N.Node.asks c.args.request)) _ (c.in-Err.ensures.stopped since w next handed s)
 
 pub returns-in-Err-ask-clause-stopped : goal.returns-in-Err-ask-clause-stopped
 returns-in-Err-ask-clause-stopped g c since routers rounds events w next handed some pipes s =
@@ -24,14 +24,14 @@ returns-in-Err-ask-clause-stopped g c since routers rounds events w next handed 
     let r = c.in-Ok.ensures.given since w next handed s in
     let router = router_asked (seat_since g.N.Node.state g.L.Log.facts since)
     handed routers rounds events w next
-    (vec_len c.args.seats.now) (round_of c.args.router c.args.moment c.args.number (g.N.Node.asks c.args.request)) c.args.router some pipes as_many refl r.end r.run in
+    (vec_len c.args.seats.now) (round_of c.args.moment c.args.number (g.N.Node.asks c.args.request)) some pipes as_many refl r.end r.run in
     subst (λ (z : ℤ). HasStopped
     (seat_since g.N.Node.state g.L.Log.facts since) c.ask.new.seats.items
     c.ask.new.network.replies.items handed w
-    (IsPart (vec_len c.args.seats.now) (round_of c.args.router c.args.moment z (g.N.Node.asks c.args.request))) c.in-Err-ask.e) same
+    (IsPart (vec_len c.args.seats.now) (round_of c.args.moment z (g.N.Node.asks c.args.request))) c.in-Err-ask.e) same
     (stopped_in_asking (seat_since g.N.Node.state g.L.Log.facts since)
     _ _ handed w (vec_len c.args.seats.now)
-    (round_of c.args.router c.args.moment (to_z w32 (of_z w32 c.args.number)) (g.N.Node.asks c.args.request)) _ r.end r.run
+    (round_of c.args.moment (to_z w32 (of_z w32 c.args.number)) (g.N.Node.asks c.args.request)) _ r.end r.run
     (c.in-Err-ask.ensures.stopped since r.end next handed r.stands router))
 
 pub returns-in-Err-settle-clause-stopped : goal.returns-in-Err-settle-clause-stopped
@@ -43,15 +43,15 @@ returns-in-Err-settle-clause-stopped g c since routers rounds events w next hand
     let r = c.in-Ok.ensures.given since w next handed s in
     let router = router_asked (seat_since g.N.Node.state g.L.Log.facts since)
     handed routers rounds events w next
-    (vec_len c.args.seats.now) (round_of c.args.router c.args.moment c.args.number (g.N.Node.asks c.args.request)) c.args.router some pipes as_many refl r.end r.run in
+    (vec_len c.args.seats.now) (round_of c.args.moment c.args.number (g.N.Node.asks c.args.request)) some pipes as_many refl r.end r.run in
     let a = c.in-Ok-ask.ensures.asked since r.end next handed r.stands router in
     subst (λ (z : ℤ). HasStopped
     (seat_since g.N.Node.state g.L.Log.facts since) c.settle.new.seats.items
     c.settle.new.network.replies.items handed w
-    (IsPart (vec_len c.args.seats.now) (round_of c.args.router c.args.moment z (g.N.Node.asks c.args.request))) c.in-Err-settle.e) same
+    (IsPart (vec_len c.args.seats.now) (round_of c.args.moment z (g.N.Node.asks c.args.request))) c.in-Err-settle.e) same
     (stopped_in_deliveries (seat_since g.N.Node.state g.L.Log.facts since)
     _ _ handed w (vec_len c.args.seats.now)
-    (round_of c.args.router c.args.moment (to_z w32 (of_z w32 c.args.number)) (g.N.Node.asks c.args.request)) _ r.end a.end r.run a.happens
+    (round_of c.args.moment (to_z w32 (of_z w32 c.args.number)) (g.N.Node.asks c.args.request)) _ r.end a.end r.run a.happens
     (c.in-Err-settle.ensures.stopped since a.end next handed a.stands))
 
 pub returns-in-Ok-settle-clause-served : goal.returns-in-Ok-settle-clause-served
@@ -63,13 +63,13 @@ returns-in-Ok-settle-clause-served g c since routers rounds events w next handed
     let r = c.in-Ok.ensures.given since w next handed s in
     let router = router_asked (seat_since g.N.Node.state g.L.Log.facts since)
     handed routers rounds events w next
-    (vec_len c.args.seats.now) (round_of c.args.router c.args.moment c.args.number (g.N.Node.asks c.args.request)) c.args.router some pipes as_many refl r.end r.run in
+    (vec_len c.args.seats.now) (round_of c.args.moment c.args.number (g.N.Node.asks c.args.request)) some pipes as_many refl r.end r.run in
     let a = c.in-Ok-ask.ensures.asked since r.end next handed r.stands router in
     subst (λ (z : ℤ). HasServed
     (seat_since g.N.Node.state g.L.Log.facts since) c.settle.new.seats.items
-    (network_view (λ m. g.N.Mail.Mail.letter m) c.settle.new.network) handed w next (round_of c.args.router c.args.moment z (g.N.Node.asks c.args.request))) same
+    (network_view (λ m. g.N.Mail.Mail.letter m) c.settle.new.network) handed w next (round_of c.args.moment z (g.N.Node.asks c.args.request))) same
     (round_served (seat_since g.N.Node.state g.L.Log.facts since)
     handed routers rounds events w next
-    (vec_len c.args.seats.now) (round_of c.args.router c.args.moment (to_z w32 (of_z w32 c.args.number)) (g.N.Node.asks c.args.request))
-    c.args.router some pipes as_many refl _ _ r.end a.end r.run a.happens
+    (vec_len c.args.seats.now) (round_of c.args.moment (to_z w32 (of_z w32 c.args.number)) (g.N.Node.asks c.args.request))
+    some pipes as_many refl _ _ r.end a.end r.run a.happens
     (c.in-Ok-settle.ensures.settled since a.end next handed a.stands))
