@@ -8,12 +8,7 @@ use itoa::Buffer;
 use std::alloc::Global;
 
 /// Appends the line of a router's reply to a text. If out of memory the text may have a part of it.
-pub fn put_reply(
-    alloc: Global,
-    router: u64,
-    reply: &[u8],
-    text: &mut Vec<u8>,
-) -> Result<(), Memory>
+pub fn put_reply(alloc: Global, router: u64, reply: &[u8], text: &mut Vec<u8>) -> Result<(), Memory>
     ensures { OnOk result (text.new.items ≡ text.old.items ++ reply_line router reply.now) }
 {
     let digits = hex::encode(alloc, reply)?;
