@@ -159,7 +159,7 @@ def refused(words, line, routers=1, before=()):
     return play.rows([[], []] + lives(routers), 9)
 
 
-def refusals():
+def refusals(routers):
     listed = [
         ("a kind in another case", "settle except writeDone", 1), ("a kind that is none", "next WriteDones", 1), ("two spaces", "settle  except WriteDone", 1),
         ("no kind", "settle except", 1), ("no message of that kind", "next WriteDone", 1), ("a router that does not exist", "client 1 00", 1),
@@ -168,8 +168,10 @@ def refusals():
         ("a number past 64 bits", "moment 2 18446744073709551616", 1), ("an odd number of digits", "client 0 000", 1), ("no bytes", "client 0 ", 1),
         ("a word after the kind", "next WriteDone 1", 1),
     ]
-    rows_ = [line for words, line, routers in listed for line in refused(words, line, routers)]
-    return rows_ + refused("a line that is none, after others", "moments 2 5", 3, ("moment 4 1", "settle except Batch", "settle"))
+    lines = [line for words, line, count in listed if count == routers for line in refused(words, line, count)]
+    if routers == 1:
+        return lines + refused("a line that is none, after others", "moments 2 5", 1, ("moment 2 1", "settle except Batch", "settle"))
+    return lines
 
 
 def greatest_moment():
@@ -181,6 +183,11 @@ def greatest_moment():
     return play.rows([[], []] + lives(1))
 
 
+def one_router():
+    """The rows of scripts with one router."""
+    return moment_asks_again() + held_answer(1) + held_answer(2) + held_and_settled() + refusals(1) + greatest_moment()
+
+
 def rows():
-    lines = two_routers() + own_times() + moment_asks_again() + held_answer(1) + held_answer(2) + held_and_settled()
-    return lines + numbered_by_both() + refusals() + greatest_moment()
+    """The rows of scripts with several."""
+    return two_routers() + own_times() + numbered_by_both() + refusals(2)

@@ -1,4 +1,4 @@
-use Rattle.std.proofs.Common.{◌≡◌, ◌∙◌, List, ap, arith, length}
+use Rattle.std.proofs.Common.{◌∙◌, List, ap, arith, length}
 use Rattle.sim_driver.specs.Links.{LinkView}
 use Rattle.sim_driver.proofs.NewLinks.{links_count}
 use Rattle.sim_driver.proofs.script.Script.new.Goals as goal
