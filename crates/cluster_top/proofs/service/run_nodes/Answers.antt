@@ -183,7 +183,7 @@ serve-requires-clause-journals g c =
     omega (arith, same, c.requires.disks, c.in-Ok-true.ensures.len, c.are_empty.new.disks.ok, c.args.disks.ok, c.in-Ok-open_all.opened.journals.ok)
 
 pub serve-requires-clause-open : goal.serve-requires-clause-open
-serve-requires-clause-open g c = opened_open (disk_facts g.D.Disk.tells g.D.Disk.content g.D.Disk.may_leave g.D.Disk.moment g.D.Disk.left_since g.D.Disk.place g.D.Disk.fault_count) c.are_empty.new.disks.items c.in-Ok-open_all.opened.journals.items c.in-Ok-open_all.ensures.opened
+serve-requires-clause-open g c κs within = opened_open (disk_facts g.D.Disk.tells g.D.Disk.content g.D.Disk.may_leave g.D.Disk.moment g.D.Disk.left_since g.D.Disk.place g.D.Disk.fault_count) c.are_empty.new.disks.items c.in-Ok-open_all.opened.journals.items c.in-Ok-open_all.ensures.opened
 
 pub returns-in-Err-open_all-clause-damaged : goal.returns-in-Err-open_all-clause-damaged
 returns-in-Err-open_all-clause-damaged g c = λ is.

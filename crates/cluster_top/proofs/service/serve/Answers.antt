@@ -70,7 +70,7 @@ pub returns-then-is_err-clause-places : goal.returns-then-is_err-clause-places
 returns-then-is_err-clause-places g c = rw c.untouched.ensures.disks (ap (λ (ds : List g.row.D.Denot). map g.D.Disk.place ds) c.close_all.ensures.disks)
 
 pub drive-ending-requires-clause-open : goal.drive-ending-requires-clause-open
-drive-ending-requires-clause-open g c = rw c.put_in.ensures.items (seats_open c.args.nodes.items c.args.opened.journals.items c.requires.«open»)
+drive-ending-requires-clause-open g c κs within = rw c.put_in.ensures.items (seats_open c.args.nodes.items c.args.opened.journals.items c.requires.«open»)
 
 pub returns-clause-headline : goal.returns-clause-headline
 returns-clause-headline g c = λ asked new fresh disks first.
