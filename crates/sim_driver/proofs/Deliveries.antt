@@ -1,7 +1,7 @@
 -- Deliveries in order of sending, but for those before.
 use Rattle.std.proofs.Common.{◌≡◌, ◌⊎◌, inl, inr, ℕ, zero, suc, ◌+◌, ◌-◌, ◌*◌, ◌<◌, ◌≤◌, ◌^◌, List, [], ◌∷◌, ◌++◌, length, refl, sym, ap, subst, ◌∙◌, arith}
 use Rattle.std.proofs.Common.{add-one, append-nil, length-append, true, false}
-use Rattle.std.specs.Prelude.{Bool, Option, Some, None, ◌||◌}
+use Rattle.std.specs.Prelude.{Bool, Option, Some, ◌||◌}
 use Rattle.std.specs.List.{slice_get}
 use Rattle.std.proofs.lemmas.Option.{slice_get_within}
 use Rattle.node_model.specs.Letters.{Letter}

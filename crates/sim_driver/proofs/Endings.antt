@@ -22,7 +22,6 @@ use Rattle.sim_driver.specs.Scripts.{ScriptView}
 use Rattle.sim_driver.specs.Simulations.{newline, all_printed, AllPlayed, CameTo, Cause, input_ended, read_failed, write_failed, disk_failed, no_memory}
 use Rattle.sim_driver.specs.Simulations.{line_refused, line_unended, too_long, IsSimulated}
 use Rattle.sim_driver.specs.Progress.{Playing, StopsAt, at_refused_line, at_write_fault, at_disk_fault, at_no_memory, Stopped, HasStoppedIn}
-use Rattle.sim_driver.proofs.Steps.{playing_full}
 
 module _ {S : Type 0} (view : S → SeatView) (seats : List S) (source : SourceCall) (sink : SinkCall) (noted : List Noted) (routers limit : ℕ)
     (status : Status) (consumed left : List ℕ) where

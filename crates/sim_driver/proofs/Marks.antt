@@ -1,8 +1,8 @@
 -- Marks of messages that were delivered.
-use Rattle.std.proofs.Common.{◌≡◌, ◌⊎◌, inl, inr, ℕ, zero, suc, ◌+◌, ◌<◌, ◌≤◌, List, [], ◌∷◌, ◌++◌, length, get_or, refl, sym, ap, subst, ◌∙◌, arith, true, false}
+use Rattle.std.proofs.Common.{◌≡◌, ℕ, zero, suc, ◌+◌, ◌<◌, ◌≤◌, List, [], ◌∷◌, ◌++◌, length, get_or, refl, sym, ap, subst, arith, true, false}
 use Rattle.std.proofs.Common.{add-one}
-use Rattle.std.specs.Prelude.{Bool, Some}
-use Rattle.std.specs.List.{slice_get, slice_set}
+use Rattle.std.specs.Prelude.{Bool}
+use Rattle.std.specs.List.{slice_set}
 use Rattle.sim_driver.specs.Scripts.{AreDelivered, is_delivered, marked}
 
 pub delivered_length : (before : ℕ) (ds : List Bool) → AreDelivered before ds → before ≤ length ds

@@ -1,5 +1,5 @@
 -- Links that are opened, one after another.
-use Rattle.std.proofs.Common.{◌≡◌, ℕ, zero, suc, ◌+◌, List, [], ◌∷◌, ◌++◌, refl, sym, ap, ◌∙◌, arith, add-one}
+use Rattle.std.proofs.Common.{◌≡◌, ℕ, zero, suc, ◌+◌, List, [], ◌∷◌, ◌++◌, refl, sym, ap, ◌∙◌, arith, add-one, length}
 use Rattle.sim_driver.specs.Links.{LinkView, new_link}
 use Rattle.sim_driver.specs.Scripts.{links_from}
 
@@ -16,3 +16,7 @@ links_next count links grown link are is grows =
     let same : 0 + count ≡ count = omega arith in
     grows ∙ (ap (λ (l : List LinkView). l ++ link ∷ []) are ∙ (ap (λ (x : LinkView). links_from 0 count ++ x ∷ []) (is ∙ ap (λ (n : ℕ). new_link n) (sym same))
     ∙ (sym (one_more 0 count) ∙ ap (λ (n : ℕ). links_from 0 n) (sym (add-one count)))))
+
+pub links_count : (first count : ℕ) → length (links_from first count) ≡ count
+links_count first zero = refl
+links_count first (suc count) = ap suc (links_count (first + 1) count)

@@ -1,6 +1,6 @@
 -- The place of the next message of a kind.
 use Rattle.std.proofs.Common.{◌≡◌, ℕ, zero, suc, ◌+◌, ◌<◌, ◌≤◌, Bool, true, false, List, [], ◌∷◌, length, drop, refl, sym, ap, subst, ◌∙◌, arith, add-one, not}
-use Rattle.std.specs.Prelude.{Option, Some, None, ◌&&◌, if◌then◌else◌}
+use Rattle.std.specs.Prelude.{Some, None, ◌&&◌}
 use Rattle.std.specs.List.{slice_get}
 use Rattle.node_model.specs.Letters.{Letter}
 use Rattle.sim_driver.specs.Scripts.{AreDelivered, is_delivered, is_of_kind, next_from}

@@ -1,5 +1,5 @@
 -- A line is played.
-use Rattle.std.proofs.Common.{◌≡◌, ◌⊎◌, inl, inr, ℕ, ◌+◌, ◌<◌, Bool, true, false, not, List, [], ◌∷◌, ◌++◌, length, refl, sym, ap, subst, ◌∙◌, arith}
+use Rattle.std.proofs.Common.{◌≡◌, ◌⊎◌, inl, inr, ℕ, zero, suc, ◌+◌, ◌<◌, Bool, true, false, List, [], ◌∷◌, ◌++◌, length, refl, sym, ap, subst, ◌∙◌, arith}
 use Rattle.std.specs.Prelude.{Option, Some, None}
 use Rattle.outside.specs.Logs.{LogFacts}
 use Rattle.opmsg_frames.specs.Outline.{FrameFault}
@@ -29,7 +29,7 @@ use Rattle.pipe_driver.specs.Rounds.{first_router}
 use Rattle.sim_driver.proofs.Deliveries.{but_run}
 use Rattle.sim_driver.proofs.Faults.{cut_as, cut_here, still}
 use Rattle.sim_driver.proofs.Places.{place_at}
-use Rattle.sim_driver.proofs.Plays.{client_is_part, whole_is_part}
+use Rattle.sim_driver.proofs.Plays.{client_is_part}
 
 -- a disk failed or memory ended
 pub is_of_line : (status : Status) → (status ≡ statuses.DiskFailed) ⊎ (status ≡ statuses.OutOfMemory) → IsOfLine status
@@ -46,14 +46,6 @@ stops_either view seats w line old status (inr is) cut =
     (stops_at_memory (subst (λ (n : Status). IsCut view seats w (IsPartOfLine w old line) n) is cut))
 
 -- REQUESTS
-
-pub false_if : (b : Bool) → not b ≡ true → b ≡ false
-false_if true e = absurd (cc e)
-false_if false e = refl
-
-pub true_if : (b : Bool) → not b ≡ false → b ≡ true
-true_if true e = refl
-true_if false e = absurd (cc e)
 
 module _ {S : Type 0} (view : S → SeatView) (seats : List S) (network : NetworkView) (handed : List ToLink) (w : World) (s : ScriptView)
     (router : ℕ) (link : LinkView) (here : slice_get s.links router ≡ Some link) (bytes left : List ℕ) (replied : ℕ) where
@@ -111,11 +103,11 @@ pub played_to : {S : Type 0} (view : S → SeatView) (seats : List S) (network :
 played_to view seats network handed w line s t other closed same h =
     subst (λ (x : ScriptView). HasPlayed view seats network handed w line s x closed) same h
 
--- links that were set
-pub link_set : (s : ScriptView) (router : ℕ) (link : LinkView) (links : List LinkView) → links ≡ slice_set s.links router link
-    → with_link s router link ≡ record { links = links; opened = s.opened; delivered = s.delivered }
-link_set s router link links same =
-    ap (λ (l : List LinkView). record { links = l; opened = s.opened; delivered = s.delivered }) (sym same)
+-- a link that is set twice
+pub set_twice : {A : Type 0} (items : List A) (at : ℕ) (first last : A) → slice_set (slice_set items at first) at last ≡ slice_set items at last
+set_twice [] at first last = refl
+set_twice (a ∷ items) zero first last = refl
+set_twice {A} (a ∷ items) (suc at) first last = ap (λ (l : List A). a ∷ l) (set_twice items at first last)
 
 -- DELIVERIES
 

@@ -108,7 +108,15 @@ pub fn play_settle<R: Threads + Sync, N: Node, L: Log>(
     ensures places { places_of L.facts.place seats.new.items ≡ places_of L.facts.place seats.old.items }
 {
     let first = script.delivered.next();
-    match settle_but(rt, alloc, seats, network, first, except, &mut script.delivered) {
+    match settle_but(
+        rt,
+        alloc,
+        seats,
+        network,
+        first,
+        except,
+        &mut script.delivered,
+    ) {
         Ok(()) => Ok(()),
         Err(status) => Err(status),
     }

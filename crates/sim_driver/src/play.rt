@@ -91,14 +91,7 @@ pub fn play_said<R: Threads + Sync, N: Node<Request = Request>, L: Log>(
                 Err(status) => Err(status),
             }
         }
-        Line::Next { kind } => match play_next(
-            rt,
-            alloc,
-            kind.as_slice(),
-            seats,
-            network,
-            script,
-        ) {
+        Line::Next { kind } => match play_next(rt, alloc, kind.as_slice(), seats, network, script) {
             Ok(()) => Ok(None),
             Err(status) => Err(status),
         },

@@ -58,7 +58,12 @@ fn put_if(alloc: Global, numbers: &[u32], reply: &ToLink, text: &mut Vec<u8>) ->
 }
 
 /// Appends the lines of the replies to the links to a text. Fails if out of memory.
-fn put_lines(alloc: Global, numbers: &[u32], replies: &[ToLink], text: &mut Vec<u8>) -> Result<(), Memory>
+fn put_lines(
+    alloc: Global,
+    numbers: &[u32],
+    replies: &[ToLink],
+    text: &mut Vec<u8>,
+) -> Result<(), Memory>
     ensures { OnOk result (text.new.items ≡ text.old.items ++ reply_lines numbers.now replies.now) }
 {
     'replies: for reply in replies {

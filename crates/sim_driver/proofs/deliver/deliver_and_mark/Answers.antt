@@ -1,4 +1,3 @@
-use Rattle.std.proofs.Common.{[], ◌∷◌, refl}
 use Rattle.driver_steps.specs.Seats.{seat_since}
 use Rattle.pipe_driver.specs.declared.status.Status.TheVariants as statuses
 use Rattle.sim_driver.proofs.Deliveries.{delivered_cut}

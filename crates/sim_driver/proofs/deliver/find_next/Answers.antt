@@ -1,4 +1,4 @@
-use Rattle.std.proofs.Common.{◌∙◌, map, sym, arith}
+use Rattle.std.proofs.Common.{◌∙◌, map, sym}
 use Rattle.sim_driver.proofs.NextPlaces.{next_here, next_other, next_passed}
 use Rattle.sim_driver.proofs.deliver.find_next.Goals as goal
 

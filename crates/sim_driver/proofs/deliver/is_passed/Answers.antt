@@ -14,6 +14,9 @@ returns-then-has g c =
 pub returns-in-None : goal.returns-in-None
 returns-in-None g c =
     let m = message_at (map (λ m. g.M.Mail.letter m) c.args.sent.now.items) c.args.at
-    (omega (arith, c.requires, c.args.sent.now.ok.0, length-map c.args.sent.now.items (λ m. g.M.Mail.letter m))) in
-    (m.0, m.1, sym (ap (λ (b : Bool). b || is_held (option_map (λ k. k.now) c.args.except) m.0) (sym c.has.ensures ∙ c.if-has.false)
-    ∙ ap (λ e. is_held (option_map (λ k. k.now) e) m.0) c.in-None.is))
+    (omega (arith, c.requires, c.args.sent.now.ok.0, length-map c.args.sent.now.items (λ m. g.M.Mail.letter m))) in (
+      m.0,
+      m.1,
+      sym (ap (λ (b : Bool). b || is_held (option_map (λ k. k.now) c.args.except) m.0) (sym c.has.ensures ∙ c.if-has.false)
+          ∙ ap (λ e. is_held (option_map (λ k. k.now) e) m.0) c.in-None.is),
+    )

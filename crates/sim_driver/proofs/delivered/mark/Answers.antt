@@ -1,4 +1,4 @@
-use Rattle.std.proofs.Common.{◌≤◌, ◌<◌, ◌∷◌, [], ◌∙◌, length, false, true, ap, subst, sym, arith, List}
+use Rattle.std.proofs.Common.{◌≤◌, ◌<◌, ◌∙◌, length, ap, subst, sym, arith, List}
 use Rattle.std.specs.Prelude.{Bool}
 use Rattle.sim_driver.specs.Scripts.{AreDelivered, marked}
 use Rattle.sim_driver.proofs.Marks.{kept_marked, kept_more, marked_more, marked_set}

@@ -1,4 +1,4 @@
-use Rattle.std.proofs.Common.{◌∙◌, ◌∷◌, [], ◌<◌, length, ap, arith}
+use Rattle.std.proofs.Common.{◌∷◌, [], ap, arith}
 use Rattle.std.specs.Prelude.{Err}
 use Rattle.node_model.specs.World.{moment_event, stands}
 use Rattle.driver_steps.specs.Seats.{seat_since}

@@ -62,7 +62,15 @@ returns-in-Ok-put_text-clause-answered g c asks since routers some held_before c
           c.requires.line (λ m. g.N.Mail.Mail.letter m) c.play_line.new.network c.hand_on-replies.new.self (script_view c.play_line.new.script) c.in-Ok-play_line.closed
           h _) _
           c.hand_on-replies.ensures.waiting c.hand_on-replies.ensures.none
-          (rw (c.as_slice.ensures.value, c.in-Ok-text_of.ensures, c.deref.ensures.value, c.hand_on-replies.ensures.replies) at
+          (rw (
+            c.as_slice.ensures.value,
+            c.in-Ok-text_of.ensures,
+            c.deref-2.ensures.value,
+            c.in-Ok.ensures,
+            c.deref.ensures.value,
+            c.deref-3.ensures.value,
+            c.hand_on-replies.ensures.replies,
+          ) at
           c.in-Ok-put_text.ensures.put),
     )
 
@@ -87,6 +95,14 @@ returns-clause-stopped g c asks since routers some held_before consumed others p
           _ _ held_before _ consumed (script_view c.args.script.now) p c.args.line.now
           c.requires.line (λ m. g.N.Mail.Mail.letter m) c.play_line.new.network c.hand_on-replies.new.self (script_view c.play_line.new.script) c.in-Ok-play_line.closed
           h _) others _
-          (rw (c.as_slice.ensures.value, c.in-Ok-text_of.ensures, c.deref.ensures.value, c.hand_on-replies.ensures.replies) at
+          (rw (
+            c.as_slice.ensures.value,
+            c.in-Ok-text_of.ensures,
+            c.deref-2.ensures.value,
+            c.in-Ok.ensures,
+            c.deref.ensures.value,
+            c.deref-3.ensures.value,
+            c.hand_on-replies.ensures.replies,
+          ) at
           c.in-Err-put_text.ensures.prefix),
     )

@@ -1,4 +1,4 @@
-use Rattle.std.proofs.Common.{◌≡◌, ◌∙◌, sym, ap}
+use Rattle.std.proofs.Common.{◌∙◌, sym, ap}
 use Rattle.driver_steps.specs.Seats.{seat_since}
 use Rattle.driver_steps.specs.Worlds.{network_view}
 use Rattle.script_lines.specs.Lines.{next_line}
