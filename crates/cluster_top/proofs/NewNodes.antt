@@ -26,3 +26,9 @@ new_more {N} state nodes new node n m count more is are =
     ∙ (ap (λ (l : List NodeState). l ++ state node ∷ []) are
     ∙ (ap (λ (s : NodeState). states_of (start n).nodes ++ s ∷ []) is
     ∙ (sym (start_more n) ∙ ap (λ (k : ℕ). states_of (start k).nodes) (sym count)))))
+
+-- the first two nodes are those of the start without routers
+pub new_start : {N : Type 0} (state : N → NodeState) (none one two : List N) (catalogue shard : N) → none ≡ [] → one ≡ none ++ catalogue ∷ []
+    → two ≡ one ++ shard ∷ [] → state catalogue ≡ catalogue_state (new_catalogue 0) → state shard ≡ shard_state (new_shard 1)
+    → map state two ≡ states_of (start 0).nodes
+new_start {N} state none one two catalogue shard empty first second a b = rw (second, first, empty, a, b) refl

@@ -25,7 +25,7 @@ false_unless false never = refl
 own : IsNumeralModel (λ ds. all_ascii_digits ds ≡ true) (digits_value 10)
 own = numerals_by_value (λ ds. all_ascii_digits ds ≡ true) tells_all_ascii_digits
 
-is_number : List ℕ → Bool
+abbrev is_number : List ℕ → Bool
 is_number ds = (nat_lt 0 (length ds) && all_ascii_digits ds) && nat_lt (digits_value 10 ds) (2 ^ 64)
 
 told : (ds : List ℕ) → IsNumeral 10 ds × (digits_value 10 ds < 2 ^ 64) → is_number ds ≡ true

@@ -34,7 +34,7 @@ module _ {D : Type 0} (facts : DiskFacts D) (disks : List D) where
   pub all_opened : (journals : List (JournalView D)) (unopened : List D) → AreOpenedUpTo facts disks [] None journals unopened
       → InPairs (IsOpened facts) disks journals
   all_opened _ _ (opened_so_far done journals are opened) =
-      subst (λ (ds : List D). InPairs (IsOpened facts) ds journals) (sym (are ∙ sym (append-nil done))) opened
+      subst (λ (ds : List D). InPairs (IsOpened facts) ds journals) (sym (are ∙ append-nil done)) opened
 
   pub has_stopped : (journals : List (JournalView D)) (unopened : List D) (status : Status) → AreOpenedUpTo facts disks [] (Some status) journals unopened
       → HasStopped facts status disks (disks_of journals ++ unopened)
@@ -44,7 +44,7 @@ module _ {D : Type 0} (facts : DiskFacts D) (disks : List D) where
     journals = journals;
     disk = first;
     back = after;
-    were = are ∙ ap (λ (l : List D). done ++ first ∷ l) (sym (append-nil others));
+    were = are ∙ ap (λ (l : List D). done ++ first ∷ l) (append-nil others);
     are = refl;
     opened = opened;
     unopened = is;

@@ -206,12 +206,12 @@ module _ {D : Type 0} (facts : DiskFacts D) where
 
   -- HANDED BACK
 
-  record IsBack (before after : D) : Type 0 where
-    none : IsEmpty facts.tells (facts.content before) → IsTrue facts.tells → Stands (facts.content after) []
-    leaves : IsEmpty facts.tells (facts.content before) → IsTrue facts.tells
+  pub record IsBack (before after : D) : Type 0 where
+    pub none : IsEmpty facts.tells (facts.content before) → IsTrue facts.tells → Stands (facts.content after) []
+    pub leaves : IsEmpty facts.tells (facts.content before) → IsTrue facts.tells
         → LeavesAlso facts.moment facts.left_since before after (λ file. Stands file [])
-    later : facts.fault_count before ≤ facts.fault_count after
-    place : facts.place after ≡ facts.place before
+    pub later : facts.fault_count before ≤ facts.fault_count after
+    pub place : facts.place after ≡ facts.place before
 
   back_alone : (disks : List D) → InPairs IsBack disks disks
   back_alone [] = tt

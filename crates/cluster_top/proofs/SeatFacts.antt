@@ -1,6 +1,7 @@
 -- Nodes with their journals: at the start, and behind a connection.
 use Rattle.std.specs.Prelude.{◌≡◌, ◌≢◌, ℕ, zero, suc, ◌+◌, Bool, IsTrue, List, [], ◌∷◌, length, map}
 use Rattle.std.proofs.Common.{refl, sym, ap, subst, ◌∙◌, arith}
+use Rattle.std.specs.List.{AllByRecursion}
 use Rattle.outside.specs.Devices.{SourceCall, SinkCall, NoneFell, OneRose}
 use Rattle.outside.proofs.Relations.{none_fell_self}
 use Rattle.outside.specs.Disks.{Outcomes}
@@ -23,7 +24,7 @@ use Rattle.cluster_top.specs.declared.arguments.Command.{Command}
 use Rattle.cluster_top.specs.declared.arguments.Command.TheVariants.{Pipe, Sim}
 use Rattle.cluster_top.specs.Journals.{AreJournals}
 use Rattle.cluster_top.specs.Nodes.{AreNew}
-use Rattle.cluster_top.specs.OpenJournals.{AreFresh, HaveNoRecord, IsFresh, disks_of}
+use Rattle.cluster_top.specs.OpenJournals.{AreAllOpen, AreFresh, HaveNoRecord, IsFresh, disks_of}
 use Rattle.cluster_top.specs.Seats.{seats_of}
 use Rattle.cluster_top.specs.Statuses.{of_connection}
 use Rattle.cluster_top.specs.declared.status.Status.{Status}
@@ -94,6 +95,20 @@ told_before {N = N} {D = D} {X = X} f nodes journals seats is count = ap (λ (ss
     each [] (j ∷ js) count = absurd (omega (arith, count))
     each (n ∷ ns) [] count = absurd (omega (arith, count))
     each (n ∷ ns) (j ∷ js) count = ap (λ (xs : List X). f j.disk ∷ xs) (each ns js (omega (arith, count)))
+
+pub seat_disks : {N D : Type 0} (nodes : List N) (journals : List (JournalView D)) → length nodes ≡ length journals
+    → map {B = D} (λ s. s.log.disk) (seats_of nodes journals) ≡ disks_of journals
+seat_disks [] [] count = refl
+seat_disks [] (j ∷ journals) count = absurd (omega (arith, count))
+seat_disks (n ∷ nodes) [] count = absurd (omega (arith, count))
+seat_disks {D = D} (n ∷ nodes) (j ∷ journals) count = ap (λ (ds : List D). j.disk ∷ ds) (seat_disks nodes journals (omega (arith, count)))
+
+-- where the journals are open, so are those of the seats
+pub seats_open : {N D : Type 0} (nodes : List N) (journals : List (JournalView D)) → AreAllOpen journals
+    → AllByRecursion (λ s. IsTrue s.log.is_open) (seats_of nodes journals)
+seats_open [] journals are = tt
+seats_open (n ∷ nodes) [] are = tt
+seats_open (n ∷ nodes) (j ∷ journals) are = (are.0, seats_open nodes journals are.1)
 
 -- and behind it
 pub told_after : {N D X : Type 0} (f : D → X) (disks : List D) (seats : List (Seat N (JournalView D))) → disks ≡ map (λ s. s.log.disk) seats → map (λ s. f s.log.disk) seats ≡ map f disks

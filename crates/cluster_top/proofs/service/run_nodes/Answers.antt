@@ -8,12 +8,12 @@ use Rattle.pipe_driver.proofs.Counts.{none_fell_after, still}
 use Rattle.cluster_top.specs.Crashes.{AreDurableBefore, IsOfTheWay, LeaveTheWay}
 use Rattle.cluster_top.specs.Arguments.{routers_of}
 use Rattle.cluster_top.specs.Disks.{IsEmptyAll}
-use Rattle.cluster_top.specs.Openings.{disk_facts}
+use Rattle.cluster_top.specs.Openings.{IsOpened, disk_facts}
 use Rattle.cluster_top.specs.OpenJournals.{disks_of}
 use Rattle.cluster_top.specs.Stops.{at_opening_fault, at_opening_memory}
 use Rattle.cluster_top.specs.declared.status.Status.TheVariants as statuses
 use Rattle.cluster_top.proofs.Crashes.{all_then, all_weaker, never_of, none_owed, of_the_start}
-use Rattle.cluster_top.proofs.Openings.{opened_calm, opened_fresh, opened_leave, opened_places, unopened_fault, unopened_later, unopened_leave, unopened_len, unopened_none, unopened_places, unopened_stops}
+use Rattle.cluster_top.proofs.Openings.{opened_calm, opened_fresh, opened_leave, opened_open, opened_places, pairs_len, unopened_damaged, unopened_fault, unopened_later, unopened_leave, unopened_len, unopened_none, unopened_places, unopened_stops}
 use Rattle.cluster_top.proofs.NotBegun.{not_begun}
 use Rattle.cluster_top.proofs.Counts.{all_still, one_of_them_rose, one_rose_after, one_rose_as}
 use Rattle.cluster_top.proofs.Unserved.{all_empty_kept, no_record, none_kept, none_of_bytes, opening_not_refused, still_empty, unopened}
@@ -140,23 +140,23 @@ pub returns-in-Ok-open_all-clause-places : goal.returns-in-Ok-open_all-clause-pl
 returns-in-Ok-open_all-clause-places g c = c.serve.ensures.places ∙ (opened_places (disk_facts g.D.Disk.tells g.D.Disk.content g.D.Disk.may_leave g.D.Disk.moment g.D.Disk.left_since g.D.Disk.place g.D.Disk.fault_count) c.are_empty.new.disks.items c.in-Ok-open_all.opened.journals.items c.in-Ok-open_all.ensures.opened ∙ c.in-Ok-true.ensures.places)
 
 -- there was no memory for the nodes
-pub returns-in-Err-Memory-clause-headline : goal.returns-in-Err-Memory-clause-headline
-returns-in-Err-Memory-clause-headline g c = λ asked new empty other.
-    rw (c.untouched-in-Err-Memory.ensures.disks, c.untouched-in-Err-Memory.ensures.status)
+pub returns-in-Err-nodes-clause-headline : goal.returns-in-Err-nodes-clause-headline
+returns-in-Err-nodes-clause-headline g c = λ asked new empty other.
+    rw (c.untouched-in-Err-nodes.ensures.disks, c.untouched-in-Err-nodes.ensures.status)
     (unopened (source_call g.S.Source.tells g.S.Source.left g.S.Source.fault_count c.args.input.now c.args.input.now) (sink_call g.K.Sink.tells g.K.Sink.held g.K.Sink.fault_count c.args.out.now c.args.out.now)
     g.D.Disk.tells (map g.D.Disk.content c.are_empty.new.disks.items) (LeaveTheWay (routers_of c.args.command) g.D.Disk.tells g.D.Disk.moment g.D.Disk.left_since c.args.disks.items c.are_empty.new.disks.items)
     (AreDurableBefore g.K.Sink.tells g.D.Disk.tells g.D.Disk.place g.D.Disk.moment g.D.Disk.left_since c.args.command (g.K.Sink.noted c.args.out.now) (g.K.Sink.held c.args.out.now) c.are_empty.new.disks.items)
     (g.C.Clock.gives c.args.clock.now) _ c.args.command statuses.OutOfMemory at_opening_memory (λ e. cc)
-    c.untouched-in-Err-Memory.ensures.rest (λ told. refl) (λ told. sym (append-nil (g.K.Sink.held c.args.out.now)))
+    c.untouched-in-Err-nodes.ensures.rest (λ told. refl) (λ told. sym (append-nil (g.K.Sink.held c.args.out.now)))
     (λ told. all_empty_kept (routers_of c.args.command) (map g.D.Disk.content c.are_empty.new.disks.items)
     (still_empty g.D.Disk.tells (map g.D.Disk.content c.args.disks.items) (map g.D.Disk.content c.are_empty.new.disks.items) c.in-Ok-true.ensures.same empty told)
     (length-map c.are_empty.new.disks.items g.D.Disk.content ∙ omega (arith, c.requires.disks, c.in-Ok-true.ensures.len, c.are_empty.new.disks.ok, c.args.disks.ok)))
     (λ told. all_weaker g.D.Disk.moment g.D.Disk.left_since (λ at file. ⊥) (λ at file. IsOfTheWay (routers_of c.args.command) (start (routers_of c.args.command)) at file) c.args.disks.items c.are_empty.new.disks.items (never_of (routers_of c.args.command)) (c.in-Ok-true.ensures.leaves told))
     (none_owed g.K.Sink.tells g.D.Disk.tells g.D.Disk.place g.D.Disk.moment g.D.Disk.left_since c.args.command (g.K.Sink.noted c.args.out.now) (g.K.Sink.held c.args.out.now) _ (start (routers_of c.args.command))))
 
-pub returns-in-Err-Memory-clause-durable : goal.returns-in-Err-Memory-clause-durable
-returns-in-Err-Memory-clause-durable g c = λ told empty failed.
-    rw (c.untouched-in-Err-Memory.ensures.disks, c.untouched-in-Err-Memory.ensures.status)
+pub returns-in-Err-nodes-clause-durable : goal.returns-in-Err-nodes-clause-durable
+returns-in-Err-nodes-clause-durable g c = λ told empty failed.
+    rw (c.untouched-in-Err-nodes.ensures.disks, c.untouched-in-Err-nodes.ensures.status)
     (inr (
       refl,
       record {
@@ -167,14 +167,32 @@ returns-in-Err-Memory-clause-durable g c = λ told empty failed.
       },
     ))
 
-pub returns-in-Err-Memory-clause-not_empty : goal.returns-in-Err-Memory-clause-not_empty
-returns-in-Err-Memory-clause-not_empty g c = λ told bytes. absurd (none_of_bytes (map g.D.Disk.content c.args.disks.items) (c.in-Ok-true.ensures.empty told c.in-Ok-true.field-0-test) bytes)
-
-pub returns-in-Err-Memory-clause-disk_fault : goal.returns-in-Err-Memory-clause-disk_fault
-returns-in-Err-Memory-clause-disk_fault g c =
-    rw c.untouched-in-Err-Memory.ensures.disks
-    (all_still _ (map g.D.Disk.fault_count c.args.disks.items) (map g.D.Disk.fault_count c.are_empty.new.disks.items)
-    (λ is. let clash : statuses.OutOfMemory ≡ statuses.DiskFailed = sym c.untouched-in-Err-Memory.ensures.status ∙ is in cc) c.in-Ok-true.ensures.calm)
+pub returns-in-Err-nodes-clause-not_empty : goal.returns-in-Err-nodes-clause-not_empty
+returns-in-Err-nodes-clause-not_empty g c = λ told bytes. absurd (none_of_bytes (map g.D.Disk.content c.args.disks.items) (c.in-Ok-true.ensures.empty told c.in-Ok-true.field-0-test) bytes)
 
 pub returns-in-Err-open_all-clause-not_empty : goal.returns-in-Err-open_all-clause-not_empty
 returns-in-Err-open_all-clause-not_empty g c = λ told bytes. absurd (none_of_bytes (map g.D.Disk.content c.args.disks.items) (c.in-Ok-true.ensures.empty told c.in-Ok-true.field-0-test) bytes)
+
+pub returns-in-Ok-false-clause-durable : goal.returns-in-Ok-false-clause-durable
+returns-in-Ok-false-clause-durable g c = λ told empty failed.
+    absurd (none_of_bytes (map g.D.Disk.content c.args.disks.items) (empty told) (c.in-Ok-false.ensures.some told c.in-Ok-false.field-0-test))
+
+pub serve-requires-clause-journals : goal.serve-requires-clause-journals
+serve-requires-clause-journals g c =
+    let same = pairs_len (IsOpened (disk_facts g.D.Disk.tells g.D.Disk.content g.D.Disk.may_leave g.D.Disk.moment g.D.Disk.left_since g.D.Disk.place g.D.Disk.fault_count)) c.are_empty.new.disks.items c.in-Ok-open_all.opened.journals.items c.in-Ok-open_all.ensures.opened in
+    omega (arith, same, c.requires.disks, c.in-Ok-true.ensures.len, c.are_empty.new.disks.ok, c.args.disks.ok, c.in-Ok-open_all.opened.journals.ok)
+
+pub serve-requires-clause-open : goal.serve-requires-clause-open
+serve-requires-clause-open g c κs within = opened_open (disk_facts g.D.Disk.tells g.D.Disk.content g.D.Disk.may_leave g.D.Disk.moment g.D.Disk.left_since g.D.Disk.place g.D.Disk.fault_count) c.are_empty.new.disks.items c.in-Ok-open_all.opened.journals.items c.in-Ok-open_all.ensures.opened
+
+pub returns-in-Err-open_all-clause-damaged : goal.returns-in-Err-open_all-clause-damaged
+returns-in-Err-open_all-clause-damaged g c = λ is.
+    let empty : IsEmptyAll g.D.Disk.tells (map g.D.Disk.content c.are_empty.new.disks.items) =
+    still_empty g.D.Disk.tells (map g.D.Disk.content c.args.disks.items) (map g.D.Disk.content c.are_empty.new.disks.items) c.in-Ok-true.ensures.same
+    (λ told. c.in-Ok-true.ensures.empty told c.in-Ok-true.field-0-test) in (
+      c.untouched-in-Err-open_all.ensures.rest,
+      (λ told. refl, refl),
+      (λ told. sym (append-nil (g.K.Sink.held c.args.out.now)), refl),
+      λ told. absurd (unopened_damaged (disk_facts g.D.Disk.tells g.D.Disk.content g.D.Disk.may_leave g.D.Disk.moment g.D.Disk.left_since g.D.Disk.place g.D.Disk.fault_count) c.in-Err-open_all.field-0.status c.are_empty.new.disks.items c.in-Err-open_all.field-0.disks.items c.in-Err-open_all.ensures.unopened empty
+          (sym c.untouched-in-Err-open_all.ensures.status ∙ is) told),
+    )

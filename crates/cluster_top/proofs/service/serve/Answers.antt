@@ -20,7 +20,7 @@ use Rattle.cluster_top.specs.declared.status.Status.TheVariants as statuses
 use Rattle.pipe_driver.specs.declared.status.Status.TheVariants as ended
 use Rattle.cluster_top.proofs.Counts.{all_still}
 use Rattle.cluster_top.proofs.Crashes.{all_weaker, disks_owed, none_owed, of_the_start, seats_leave}
-use Rattle.cluster_top.proofs.SeatFacts.{driven_as, files_len, fresh_files, has_ending, held_at_start, kept_in_files, later_of, moved, of_no_other, one_rose_of, rose_of, told_after, told_before}
+use Rattle.cluster_top.proofs.SeatFacts.{driven_as, files_len, fresh_files, has_ending, held_at_start, kept_in_files, later_of, moved, of_no_other, one_rose_of, rose_of, seat_disks, seats_open, told_after, told_before}
 use Rattle.cluster_top.proofs.Unserved.{headline_of, memory_unopened, none_kept, unopened}
 use Rattle.cluster_top.proofs.service.serve.Goals as goal
 
@@ -69,6 +69,9 @@ returns-then-is_err-clause-later g c =
 pub returns-then-is_err-clause-places : goal.returns-then-is_err-clause-places
 returns-then-is_err-clause-places g c = rw c.untouched.ensures.disks (ap (λ (ds : List g.row.D.Denot). map g.D.Disk.place ds) c.close_all.ensures.disks)
 
+pub drive-ending-requires-clause-open : goal.drive-ending-requires-clause-open
+drive-ending-requires-clause-open g c κs within = rw c.put_in.ensures.items (seats_open c.args.nodes.items c.args.opened.journals.items c.requires.«open»)
+
 pub returns-clause-headline : goal.returns-clause-headline
 returns-clause-headline g c = λ asked new fresh disks first.
     let source = (source_call g.S.Source.tells g.S.Source.left g.S.Source.fault_count c.args.input.now c.drive-ending.new.input) in
@@ -85,7 +88,9 @@ returns-clause-headline g c = λ asked new fresh disks first.
     → LeaveTheWay (routers_of c.args.command) g.D.Disk.tells g.D.Disk.moment g.D.Disk.left_since disks c.take_disks.new.back.items w =
     λ w leave told. subst (λ (ds : List g.row.D.Denot). LeaveSuch g.D.Disk.moment g.D.Disk.left_since (λ at file. IsOfTheWay (routers_of c.args.command) w at file) disks ds) (sym c.take_disks.ensures.disks)
     (seats_leave g.N.Node.state g.D.Disk.tells g.D.Disk.content g.D.Disk.moment g.D.Disk.left_since g.D.Disk.fault_count g.D.Disk.place (routers_of c.args.command) w told disks c.put_in.new.seats.items c.drive-ending.new.seats.items
-    (subst (λ seats. LeaveSuch g.D.Disk.moment g.D.Disk.left_since (λ at file. Stands file []) disks (map (λ s. s.log.disk) seats)) (sym c.put_in.ensures.items) (first told))
+    (subst (λ seats. LeaveSuch g.D.Disk.moment g.D.Disk.left_since (λ at file. Stands file []) disks (map (λ s. s.log.disk) seats)) (sym c.put_in.ensures.items)
+    (subst (λ (ds : List g.row.D.Denot). LeaveSuch g.D.Disk.moment g.D.Disk.left_since (λ at file. Stands file []) disks ds)
+    (sym (seat_disks c.args.nodes.items c.args.opened.journals.items (omega (arith, c.requires.nodes, c.requires.journals, c.args.nodes.ok, c.args.opened.journals.ok)))) (first told)))
     (omega (arith, c.put_in.new.seats.ok, c.drive-ending.new.seats.ok, c.drive-ending.ensures.len)) leave) in
     let pays : (w : World) (put : List ℕ) → AreAcknowledgedBy facts g.K.Sink.tells (output_of c.args.command) (start (routers_of c.args.command)) (g.K.Sink.noted c.drive-ending.new.out) (g.K.Sink.held c.args.out.now) c.drive-ending.new.seats.items w put
     → AreDurableBefore g.K.Sink.tells g.D.Disk.tells g.D.Disk.place g.D.Disk.moment g.D.Disk.left_since c.args.command (g.K.Sink.noted c.drive-ending.new.out) (g.K.Sink.held c.args.out.now) c.take_disks.new.back.items w put =
