@@ -51,7 +51,7 @@ impl Model for Table {
 }
 
 impl Table {
-    /// The table of a collection that begins at `at`, as the collection of this epoch. Fails for want of memory.
+    /// The table of a collection that begins at `at`, as the collection of this epoch. Returns `Memory` if memory runs out.
     pub fn first(alloc: Global, namespace: Namespace, epoch: u64, at: Time) -> Result<Table, Memory>
         ensures { IfOk result (λ table. table ≡ first_table (record { namespace = namespace; epoch = epoch; at = at.0 })) }
     {
@@ -112,7 +112,7 @@ impl Table {
         }
     }
 
-    /// The same table once more. Fails for want of memory.
+    /// The same table once more. Returns `Memory` if memory runs out.
     pub fn copy(&self, alloc: Global) -> Result<Table, Memory>
         ensures { IfOk result (λ table. table ≡ self.now) }
     {

@@ -173,7 +173,7 @@ impl Namespace {
         self.text.as_str()
     }
 
-    /// The same namespace once more. Fails for want of memory.
+    /// The same namespace once more. Returns `Memory` if memory runs out.
     pub fn copy(&self) -> Result<Namespace, Memory>
         ensures { IfOk result (λ n. n ≡ self.now) }
     {

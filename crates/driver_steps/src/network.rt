@@ -41,7 +41,7 @@ impl<M: Drop> Network<M> {
         }
     }
 
-    /// Takes in what a step gives out. Fails for want of memory; then messages or replies of that step may be missing.
+    /// Takes in what a step gives out. Returns `Memory` if memory runs out; then messages or replies of that step may be missing.
     pub fn take(&mut self, outputs: Outputs<M>) -> Result<(), Memory>
         ensures waiting { OnOk result (self.new.waiting.items ≡ self.old.waiting.items ++ outputs.mail) }
         ensures replies { OnOk result (self.new.replies.items ≡ self.old.replies.items ++ outputs.replies) }

@@ -76,7 +76,7 @@ impl Expr {
     }
 }
 
-// The key that a query asks for. Fails for want of memory.
+// The key that a query asks for. Returns `Memory` if memory runs out.
 fn key_of(query: &Clauses) -> Result<Option<Key>, Memory>
     ensures { IfOk result (λ k. k ≡ key_equal query.now) }
 {

@@ -63,7 +63,7 @@ pub fn key_asked(query: &Clauses) -> Option<&Value>
     None
 }
 
-/// A copy of a value as a key; none where it is no key. Fails for want of memory.
+/// A copy of a value as a key; none where it is no key. Returns `Memory` if memory runs out.
 pub fn as_key(value: &Value) -> Result<Option<Key>, Memory>
     ensures { IfOk result (λ k. k ≡ (if is_key (datum_of value.now) then Some (datum_of value.now) else None)) }
 {

@@ -37,7 +37,7 @@ impl Model for OperandList {
 }
 
 impl OperandList {
-    /// The values of an array. Fails for want of memory.
+    /// The values of an array. Returns `Memory` if memory runs out.
     pub fn of(alloc: Global, array: &Array) -> Result<OperandList, Memory>
         ensures { IfOk result (λ o. o ≡ array.now) }
     {
@@ -64,7 +64,7 @@ impl OperandList {
     }
 }
 
-// The values of an array. Fails for want of memory.
+// The values of an array. Returns `Memory` if memory runs out.
 fn copies(alloc: Global, array: &Array) -> Result<Vec<Value>, Memory>
     ensures { IfOk result (λ s. map (λ v. datum_of v) s.items ≡ elements array.now) }
 {

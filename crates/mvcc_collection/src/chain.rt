@@ -54,7 +54,7 @@ impl Chain {
         }
     }
 
-    /// Makes room for one version more. Fails for want of memory.
+    /// Makes room for one version more. Returns `Memory` if memory runs out.
     pub(crate) fn reserve(&mut self) -> Result<(), Memory>
         ensures room { OnOk result (1 ≤ self.new.room) }
         ensures rooms { self.old.room ≤ self.new.room }

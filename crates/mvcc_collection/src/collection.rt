@@ -52,7 +52,7 @@ impl Collection {
         }
     }
 
-    /// Makes room for one version more under the key. Fails for want of memory, and at a new key where 2^32 have a chain. Either way
+    /// Makes room for one version more under the key. Returns `Memory` if memory runs out, and at a new key where 2^32 have a chain. Either way
     /// nothing else is to be seen of it.
     pub fn reserve(&mut self, key: &Key) -> Result<(), Memory>
         ensures room { OnOk result (1 ≤ room_in self.new key.now) }

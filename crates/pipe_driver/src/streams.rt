@@ -32,7 +32,7 @@ pub fn put_all<K: Sink>(out: &mut K, piece: &[u8]) -> Result<(), Failed>
     Ok(())
 }
 
-/// A piece that bytes are taken into, again and again: it is made once, and has room for `PIECE` bytes. Fails for want of memory.
+/// A piece that bytes are taken into, again and again: it is made once, and has room for `PIECE` bytes. Returns `Memory` if memory runs out.
 pub fn new_piece(alloc: Global) -> Result<Vec<u8>, AllocError>
     ensures { IfOk result (λ piece. vec_len piece ≡ piece_room) }
 {

@@ -183,7 +183,7 @@ fn record_in(alloc: Global, bytes: &[u8]) -> Result<Record, RecordFault>
     }
 }
 
-/// Whether the bytes are the record's one spelling. Fails for want of memory.
+/// Whether the bytes are the record's one spelling. Returns `Memory` if memory runs out.
 #[tactic(auto, using(crate::proofs::Held::held_writable))]
 fn is_spelled(alloc: Global, kept: &Record, bytes: &[u8]) -> Result<bool, Memory>
     requires { IsHeld (record_view kept.now) }

@@ -49,7 +49,7 @@ impl Asker {
         }
     }
 
-    /// What a write asks the catalogue for: its table, and that its collection begins. Fails for want of memory.
+    /// What a write asks the catalogue for: its table, and that its collection begins. Returns `Memory` if memory runs out.
     pub fn asks_to_begin(self, time: Time, namespace: &Namespace) -> Result<Message, Memory>
         ensures { IfOk result (λ m. letter_of m ≡ rows.says (asker_view self) 0 time.0 (table_ask namespace.now true no_time)) }
     {
@@ -61,7 +61,7 @@ impl Asker {
         Ok(self.says(CATALOGUE, time, Body::TableAsk(ask)))
     }
 
-    /// What a read at a time asks the catalogue for: its table. Fails for want of memory.
+    /// What a read at a time asks the catalogue for: its table. Returns `Memory` if memory runs out.
     pub fn asks_table_at(
         self,
         time: Time,

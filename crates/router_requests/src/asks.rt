@@ -29,7 +29,7 @@ use std::sync::Arc;
 /// The turn of a request that met no stale table.
 const FIRST_TURN: u32 = 1;
 
-/// Whether a statement goes to a shard. Fails for want of memory.
+/// Whether a statement goes to a shard. Returns `Memory` if memory runs out.
 fn goes_to(
     alloc: Global,
     table: &Table,
@@ -43,7 +43,7 @@ fn goes_to(
     Ok(owner.0 == shard.0)
 }
 
-/// The first of the statements, as far as they go to a shard; their documents are shared. Fails for want of memory.
+/// The first of the statements, as far as they go to a shard; their documents are shared. Returns `Memory` if memory runs out.
 fn run_to(
     alloc: Global,
     table: &Table,
@@ -78,7 +78,7 @@ fn unanswered<'a>(statements: &'a [Statement], answers: &[Done]) -> &'a [Stateme
 }
 
 impl Asker {
-    /// What these statements of a write ask the shard for that has the first of them. Fails for want of memory.
+    /// What these statements of a write ask the shard for that has the first of them. Returns `Memory` if memory runs out.
     pub(crate) fn asks_to_write(
         self,
         alloc: Global,
@@ -111,7 +111,7 @@ impl Asker {
         Ok(Some(self.says(shard, time, Body::WriteAsk(ask))))
     }
 
-    /// What a read asks the shard for that had what it reads, if one had it. Fails for want of memory.
+    /// What a read asks the shard for that had what it reads, if one had it. Returns `Memory` if memory runs out.
     pub(crate) fn asks_to_read(
         self,
         time: Time,
@@ -138,7 +138,7 @@ impl Asker {
         Ok(Some(self.says(shard, time, Body::ReadAsk(ask))))
     }
 
-    /// What work asks the shards for, by a table. Fails for want of memory.
+    /// What work asks the shards for, by a table. Returns `Memory` if memory runs out.
     pub fn asks_shards(
         self,
         alloc: Global,
@@ -170,7 +170,7 @@ impl Asker {
         }
     }
 
-    /// What work asks the catalogue for: its table, and a write that its collection begins. Fails for want of memory.
+    /// What work asks the catalogue for: its table, and a write that its collection begins. Returns `Memory` if memory runs out.
     pub fn asks_table(
         self,
         time: Time,
@@ -187,7 +187,7 @@ impl Asker {
     }
 
     /// What the statements of a write that are not answered ask for, by its table, if that is there: the shard that has the first of
-    /// them, or else the catalogue. Fails for want of memory.
+    /// them, or else the catalogue. Returns `Memory` if memory runs out.
     pub fn asks_rest(
         self,
         alloc: Global,

@@ -87,7 +87,7 @@ impl OpenList {
         place
     }
 
-    /// Makes room for one request more. Fails for want of memory. The requests are the same either way.
+    /// Makes room for one request more. Returns `Memory` if memory runs out. The requests are the same either way.
     pub fn reserve(&mut self) -> Result<(), Memory>
         ensures room { OnOk result (has_room self.new ≡ true) }
         ensures taken { taken_of self.new ≡ taken_of self.old }

@@ -35,7 +35,7 @@ fn key_asked(words: &OpWords) -> Option<&Value>
     }
 }
 
-/// The key that a change writes. Fails for want of memory.
+/// The key that a change writes. Returns `Memory` if memory runs out.
 #[tactic(auto, using(crate::proofs::Keys::key_by_words))]
 fn key_changed(change: &NewChange) -> Result<Key, Memory>
     ensures { IfOk result (λ key. key_written change.now ≡ Some key) }
@@ -50,7 +50,7 @@ fn key_changed(change: &NewChange) -> Result<Key, Memory>
     }
 }
 
-/// The key that an operation writes. Fails for want of memory.
+/// The key that an operation writes. Returns `Memory` if memory runs out.
 #[tactic(auto, using(crate::proofs::Keys::key_by_document))]
 fn key_of_operation(alloc: Global, operation: &Operation) -> Result<Key, Memory>
     ensures { IfOk result (λ key. key_written (protocol.operation_view operation.now) ≡ Some key) }

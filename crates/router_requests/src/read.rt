@@ -31,7 +31,7 @@ impl Parts {
     ghost use Rattle.pipeline_lang.specs.Halves.{half_of, merge_of};
     ghost use Rattle.router_requests.specs.Works.{stages_of};
 
-    /// A pipeline with its parts. Fails for want of memory.
+    /// A pipeline with its parts. Returns `Memory` if memory runs out.
     pub fn of(alloc: Global, pipeline: Pipeline) -> Result<Parts, Memory>
         ensures { IfOk result (λ parts. stages_of parts ≡ pipeline) }
     {

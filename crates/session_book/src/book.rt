@@ -178,7 +178,7 @@ impl Book {
         Ok(())
     }
 
-    // Keeps this of a session of which nothing is kept. Fails for want of memory, and where 2^32 are known; then all is as it was.
+    // Keeps this of a session of which nothing is kept. Returns `Memory` if memory runs out, and where 2^32 are known; then all is as it was.
     fn begin(&mut self, s: Session, kept: Kept) -> Result<(), Memory>
         requires { place_of self.old.places.entries (session_view s) ≡ None }
         ensures ok { OnOk result ((x : history.Session) → kept_of self.new x ≡ (if same_session (session_view s) x then Some kept else kept_of self.old x)) }

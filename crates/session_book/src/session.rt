@@ -56,7 +56,7 @@ impl Kept {
         }
     }
 
-    /// A session in which nothing was done yet, with room for so many statements. Fails for want of memory.
+    /// A session in which nothing was done yet, with room for so many statements. Returns `Memory` if memory runs out.
     pub fn with_room(alloc: Global, txn: i64, count: usize) -> Result<Kept, Memory>
         ensures none { IfOk result (λ k. k.notes ≡ []) }
         ensures room { IfOk result (λ k. count ≤ k.room) }
@@ -119,7 +119,7 @@ impl Kept {
         }
     }
 
-    /// Makes room for a statement. Fails for want of memory. What was done stays.
+    /// Makes room for a statement. Returns `Memory` if memory runs out. What was done stays.
     pub fn reserve(&mut self) -> Result<(), Memory>
         ensures room { OnOk result (1 ≤ self.new.room) }
         ensures no_less { self.old.room ≤ self.new.room }
@@ -130,7 +130,7 @@ impl Kept {
         Ok(())
     }
 
-    /// Makes room for so many statements. Fails for want of memory. What was done stays.
+    /// Makes room for so many statements. Returns `Memory` if memory runs out. What was done stays.
     pub fn reserve_run(&mut self, count: usize) -> Result<(), Memory>
         ensures room { OnOk result (count ≤ self.new.room) }
         ensures no_less { self.old.room ≤ self.new.room }

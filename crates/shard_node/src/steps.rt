@@ -168,7 +168,7 @@ impl ShardNode {
         }
     }
 
-    // Makes room for what was planned. Fails for want of memory. The shard is the same either way.
+    // Makes room for what was planned. Returns `Memory` if memory runs out. The shard is the same either way.
     fn make_room(&mut self, change: &Change) -> Result<(), Memory>
         ensures room { OnOk result (HasRoomFor self.new change.now) }
         ensures same { shard_view self.new ≡ shard_view self.old }

@@ -27,7 +27,7 @@ use std::sync::Arc;
 const CATALOGUE: NodeId = NodeId(0);
 
 impl ShardNode {
-    // The ask for a table. Fails for want of memory.
+    // The ask for a table. Returns `Memory` if memory runs out.
     fn ask_table(&self, time: Time, namespace: &Namespace) -> Result<Message, Memory>
         ensures { IfOk result (λ m. letter_of m ≡ asks_table (shard_view self.now) time.0 namespace.now) }
     {
@@ -39,7 +39,7 @@ impl ShardNode {
         Ok(self.message(CATALOGUE, time, Body::TableAsk(ask)))
     }
 
-    // An ask that wants a table waits for it, and the table is asked for once. Fails for want of memory.
+    // An ask that wants a table waits for it, and the table is asked for once. Returns `Memory` if memory runs out.
     pub(crate) fn plan_wait(&self, time: Time, message: Message) -> Result<StepPlan, Memory>
         requires time { time.0 ≡ heard (shard_view self.now) (letter_of message) }
         requires unseen { was_seen (letter_of message).body (shard_view self.now).entries ≡ false }
@@ -84,7 +84,7 @@ impl ShardNode {
         StepPlan::of_message(self.alloc, time, told)
     }
 
-    // Asks for the table of an ask that waits, behind other messages. Fails for want of memory.
+    // Asks for the table of an ask that waits, behind other messages. Returns `Memory` if memory runs out.
     fn ask_again(
         &self,
         time: Time,
@@ -99,7 +99,7 @@ impl ShardNode {
         Ok(())
     }
 
-    // At a moment the table of each ask that waits is asked again. Fails for want of memory.
+    // At a moment the table of each ask that waits is asked again. Returns `Memory` if memory runs out.
     pub(crate) fn plan_moment(&self, moment: u64) -> Result<StepPlan, Memory>
         ensures planned { IfOk result (λ p. IsPlanned (shard_view self.now) (moment_input moment) p) }
         ensures follows { IfOk result (λ p. Follows self.now p) }
@@ -112,7 +112,7 @@ impl ShardNode {
         Ok(StepPlan::of_mail(self.alloc, time, mail))
     }
 
-    // What waited is tried again, if it waited for this table, behind other messages. Fails for want of memory.
+    // What waited is tried again, if it waited for this table, behind other messages. Returns `Memory` if memory runs out.
     fn try_again(
         &self,
         time: Time,
@@ -130,7 +130,7 @@ impl ShardNode {
         Ok(())
     }
 
-    // All that waited for the table of a collection, in order, as messages to the shard itself. Fails for want of memory.
+    // All that waited for the table of a collection, in order, as messages to the shard itself. Returns `Memory` if memory runs out.
     fn tries(&self, time: Time, namespace: &Namespace) -> Result<MailList<Message>, Memory>
         ensures { IfOk result (λ mail. map letter_of mail
             ≡ tries (shard_view self.now) time.0 (filter (wants_table namespace.now) (shard_view self.now).parked)) }
@@ -142,7 +142,7 @@ impl ShardNode {
         Ok(mail)
     }
 
-    // A table is told: one that is news is kept, and what waited for it is tried again. Fails for want of memory.
+    // A table is told: one that is news is kept, and what waited for it is tried again. Returns `Memory` if memory runs out.
     pub(crate) fn plan_table(
         &self,
         time: Time,
@@ -158,7 +158,7 @@ impl ShardNode {
         Ok(StepPlan::of_time(self.alloc, time))
     }
 
-    // A table that is news is kept, and what waited for it is tried again. Fails for want of memory.
+    // A table that is news is kept, and what waited for it is tried again. Returns `Memory` if memory runs out.
     fn learn(&self, time: Time, table: Arc<Table, Global>) -> Result<StepPlan, Memory>
         requires news { is_news (arc_value table) (table_of (arc_value table).namespace self.now.tables.tables) ≡ true }
         ensures planned { (m : Letter) (namespace : List ℕ) (create : Bool) (at : letters.At) → m.body ≡ table_told namespace create at (Some (arc_value table))

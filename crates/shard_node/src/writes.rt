@@ -34,7 +34,7 @@ use shard_store::{EntryPlan as Entries, StatementOutcome, statement_number};
 const MOST_SERVED: usize = 100_000;
 
 impl ShardNode {
-    // Serves a statement behind the entries of the shard and those that are planned, or leaves it for later. Fails for want of memory,
+    // Serves a statement behind the entries of the shard and those that are planned, or leaves it for later. Returns `Memory` if memory runs out,
     // and what was planned is of no more use then.
     fn serve(
         &self,
@@ -89,7 +89,7 @@ impl ShardNode {
     }
 
     // Serves one statement more of an ask, behind what was served of it, and tells whether more may be served behind it in this step.
-    // Fails for want of memory.
+    // Returns `Memory` if memory runs out.
     fn serve_next(
         &self,
         entries: &mut Entries,
@@ -127,7 +127,7 @@ impl ShardNode {
         Ok(!ended)
     }
 
-    // Serves the statements of an ask in order, as many as one step may, and at least one of them. Fails for want of memory.
+    // Serves the statements of an ask in order, as many as one step may, and at least one of them. Returns `Memory` if memory runs out.
     fn serve_all(&self, entries: &mut Entries, ask: &WriteAsk) -> Result<WriteReply, Memory>
         requires plan { IsPlan (entries_of self.now.store) (last_of self.now.store) ask.now.namespace entries.old }
         requires id { entries.old.id ≡ ask.now.id }

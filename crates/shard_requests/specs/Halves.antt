@@ -1,4 +1,4 @@
--- What is told of a half.
+-- What is returned for a half.
 use Rattle.std.specs.Prelude.{◌≡◌, ℕ, List, Result, Ok, Err, Some, None}
 use Rattle.bson_model.specs.Tree.{Fields}
 use Rattle.node_model.specs.Letters.{HalfFault, half_overflow, half_excess}

@@ -1,4 +1,4 @@
--- How messages stand to the tables that a shard knows.
+-- How messages relate to the tables that a shard knows.
 use Rattle.std.specs.Prelude.{◌≡◌, ℕ, List, Some, None}
 use Rattle.chunk_table.specs.Meanings.{version_view}
 use Rattle.chunk_model.specs.Tables.{Table, table_of}

@@ -1,4 +1,4 @@
-//! What statements that were served are told.
+//! Outcomes of statements that were served.
 
 ghost use Rattle.std.specs.Prelude.{◌≡◌, ◌++◌, ◌∷◌, [], IfOk, OnOk, Some};
 ghost use Rattle.std.specs.Arc.{arc_value};
@@ -17,21 +17,21 @@ use std::alloc::Global;
 use std::sync::Arc;
 use value_compare::{Key, Reply};
 
-/// A statement that was served: what it is told, and the record of the entry that it makes, if it makes one.
+/// A statement that was served: its outcome, and the record of the entry that it makes, if it makes one.
 #[derive(Drop)]
 pub struct StatementResult {
     pub done: Done,
     pub record: Option<Blob>,
 }
 
-/// What the statements that were served are told, and the records of their entries.
+/// The outcomes of the statements that were served, and the records of their entries.
 #[derive(Drop)]
 pub struct WriteReply {
     pub dones: DoneList,
     pub records: Vec<Blob>,
 }
 
-// The key, to be shared, if there is one. Fails for want of memory.
+// Returns the key, to be shared, if there is one. Returns `Memory` if memory runs out.
 fn share_key(alloc: Global, key: Option<Key>) -> Result<Option<Arc<Key, Global>>, Memory>
     ensures { IfOk result (λ shared. option_map (λ k. arc_value k) shared ≡ key) }
 {
@@ -41,7 +41,7 @@ fn share_key(alloc: Global, key: Option<Key>) -> Result<Option<Arc<Key, Global>>
     }
 }
 
-// What an entry tells, as a message tells it. Fails for want of memory.
+// Returns the outcome of an entry as a message has it, or `Memory` if memory runs out.
 fn outcome_of(alloc: Global, outcome: EntryOutcome) -> Result<Outcome, Memory>
     ensures { IfOk result (λ o. messages.outcome_view o ≡ outcome_view outcome) }
 {
@@ -61,7 +61,7 @@ fn outcome_of(alloc: Global, outcome: EntryOutcome) -> Result<Outcome, Memory>
     })
 }
 
-// What a statement is told, as a message tells it. Fails for want of memory.
+// Returns the outcome of a statement as a message has it, or `Memory` if memory runs out.
 fn answer_of(alloc: Global, told: StatementOutcome) -> Result<ToldAnswer, Memory>
     ensures { IfOk result (λ a. answer_view a ≡ outcomes.answer_view told) }
 {
@@ -74,7 +74,7 @@ fn answer_of(alloc: Global, told: StatementOutcome) -> Result<ToldAnswer, Memory
     }
 }
 
-/// What a statement with this index is told, as a message tells it. Fails for want of memory.
+/// Returns the outcome of the statement with this index as a message has it, or `Memory` if memory runs out.
 pub fn done_of(alloc: Global, index: u32, told: StatementOutcome) -> Result<Done, Memory>
     ensures { IfOk result (λ d. done_view d ≡ outcomes.done_view index told) }
 {
@@ -82,7 +82,7 @@ pub fn done_of(alloc: Global, index: u32, told: StatementOutcome) -> Result<Done
     Ok(Done { index, answer })
 }
 
-/// Whether a statement that is told this ends an ordered command.
+/// Returns whether a statement with this outcome ends an ordered command.
 pub fn ends(ordered: bool, done: &Done) -> bool
     ensures { result ≡ ends ordered (done_view done.now) }
 {
@@ -101,7 +101,7 @@ impl WriteReply {
         }
     }
 
-    /// Puts one more behind the others. Fails for want of memory.
+    /// Appends one. Returns `Memory` if memory runs out.
     pub fn push(&mut self, served: StatementResult) -> Result<(), Memory>
         ensures dones { OnOk result (self.new.dones.items ≡ self.old.dones.items ++ served.done ∷ []) }
         ensures records { OnOk result (self.new.records.items ≡ self.old.records.items ++ record_in (Some served)) }

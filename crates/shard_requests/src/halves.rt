@@ -13,7 +13,7 @@ use protocol_model::HalfFault;
 use std::alloc::Global;
 use std::sync::Arc;
 
-/// What a half gives of documents: its rows, or why there are none. Fails for want of memory.
+/// Returns the rows of a half of documents, or why there are none. Returns `Memory` if memory runs out.
 pub fn answer_half(
     alloc: Global,
     half: &Half,

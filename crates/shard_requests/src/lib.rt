@@ -1,4 +1,4 @@
-//! What a shard makes of one ask: which it is, how it stands to the tables, what is told of it, and the records of what it changes.
+//! What a shard makes of one request: which it is, how it relates to the tables, its outcome, and the records of what it changes.
 #![tactic(auto)]
 
 mod answers;

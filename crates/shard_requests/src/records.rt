@@ -44,7 +44,7 @@ pub fn lend_words(operation: &Operation) -> LentWords<'_>
     }
 }
 
-/// The record of the entry of a statement that was told this. Fails for want of memory.
+/// Returns the record of the entry of a statement with this outcome, or `Memory` if memory runs out.
 pub fn entry_bytes(
     alloc: Global,
     told: &EntryResult,
@@ -63,7 +63,7 @@ pub fn entry_bytes(
     Blob::of(alloc, &bytes)
 }
 
-// The record of a table. Fails for want of memory.
+// Returns the record of a table, or `Memory` if memory runs out.
 fn table_bytes(alloc: Global, table: &Table) -> Result<Blob, Memory>
     ensures { IfOk result (λ b. (b ≡ spelled 1 (table_record table.now)) × IsSound (table_record table.now)) }
 {
@@ -72,7 +72,7 @@ fn table_bytes(alloc: Global, table: &Table) -> Result<Blob, Memory>
     Blob::of(alloc, &bytes)
 }
 
-/// The records of a step that keeps a table. Fails for want of memory.
+/// Returns the records of a step that stores a table, or `Memory` if memory runs out.
 pub fn table_records(alloc: Global, table: &Table) -> Result<Vec<Blob>, Memory>
     ensures records { IfOk result (λ records. records.items ≡ spelled 1 (table_record table.now) ∷ []) }
     ensures sound { IfOk result (λ records. IsSound (table_record table.now)) }

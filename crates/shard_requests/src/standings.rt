@@ -1,4 +1,4 @@
-//! How asks and tables stand to the tables and the time of a shard.
+//! How requests and tables relate to the tables and the time of a shard.
 
 ghost use Rattle.std.specs.Prelude.{◌≡◌, max};
 ghost use Rattle.chunk_model.specs.Tables.{table_of};
@@ -14,9 +14,9 @@ use cluster_base::{Namespace, NodeId, Time};
 use known_tables::TableList;
 use protocol_model::Body;
 
-/// How a message stands to the tables that a shard knows.
+/// How a message relates to the tables that a shard knows.
 pub enum Standing {
-    /// It asks for no documents that stand on a table.
+    /// It requests no documents that depend on a table.
     NoAsk,
     /// It was sent with the table that the shard knows.
     Fits,
@@ -39,7 +39,7 @@ fn verdict_on(me: NodeId, tables: &TableList, namespace: &Namespace, sent: &Sent
     }
 }
 
-/// How a message stands to the tables that a shard knows.
+/// Returns how a message relates to the tables that a shard knows.
 pub fn standing_of(me: NodeId, tables: &TableList, body: &Body) -> Standing
     ensures { Stands me.0 tables.now.tables result (body_view body.now) }
 {
@@ -53,7 +53,7 @@ pub fn standing_of(me: NodeId, tables: &TableList, body: &Body) -> Standing
     }
 }
 
-/// Whether a table is news: there is none of its collection, or it has seen more changes.
+/// Returns whether a table is newer than the one that is known: there is none of its collection, or it has seen more changes.
 pub fn is_news(tables: &TableList, table: &Table) -> bool
     ensures { result ≡ is_news table.now (table_of table.now.namespace tables.now.tables) }
 {

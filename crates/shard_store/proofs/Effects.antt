@@ -64,7 +64,7 @@ pub some_mapped : {A B : Type 0} (f : A → B) (o : Option A) (p : Option B) →
 some_mapped f None p e = ap (λ x. is_some x) e
 some_mapped f (Some a) p e = ap (λ x. is_some x) e
 
--- WHAT MET NOTHING LEAVES WHAT STOOD
+-- WHERE NOTHING MATCHES, THE DOCUMENT IS UNCHANGED
 
 makes_one : (made : Result Fields edits.WriteFault) (make : Fields → Effect) (e : Effect) → ((after : Fields) → (make after).count ≡ 1) →
     (made >>= λ after. Ok (make after)) ≡ Ok e → e.count ≡ 0 → ⊥

@@ -56,7 +56,7 @@ same_rooms c m n ps qs name same all =
     subst (λ (l : List ℕ). AllByRecursion (λ (p : Planned). 1 ≤ room_under c l p.key) qs) name
     (subst (λ (l : List Planned). AllByRecursion (λ (p : Planned). 1 ≤ room_under c m p.key) l) same all)
 
--- NOTHING STANDS UNDER WHAT IS NO KEY
+-- NOTHING IS STORED UNDER WHAT IS NO KEY
 
 other_key : (written : Option Datum) (d : Datum) → is_key d ≡ false → ((key : Datum) → written ≡ Some key → is_key key ≡ true) → same_key written (Some d) ≡ false
 other_key None d none own = refl

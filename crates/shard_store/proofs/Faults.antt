@@ -10,7 +10,7 @@ use Rattle.shard_store.specs.declared.outcome.EntryOutcome.{EntryOutcome}
 use Rattle.shard_store.specs.declared.fault.WriteFault.{WriteFault}
 use Rattle.shard_store.specs.declared.fault.WriteFault.TheVariants.{Duplicate, Immutable, Overflow, TooLarge, NotNumber, NotDocument}
 
--- a number tells its fault
+-- a number determines its fault
 pub told_back : (fault : Option WriteFault) → fault_told (code_told fault) ≡ fault
 told_back None = refl
 told_back (Some Duplicate) = refl
@@ -23,7 +23,7 @@ told_back (Some NotDocument) = refl
 abbrev as_outcome : Reply → Option WriteFault → Outcome
 as_outcome r fault = record { count = r.n; modified = r.modified; upserted = r.upserted; error = option_map error_view fault }
 
--- a reply tells the outcome that it was made of
+-- a reply has the outcome that it was made of
 pub reply_back : (o : EntryOutcome) (r : Reply) (told : Outcome) → r ≡ reply_view (outcome_view o) →
     told ≡ record { count = r.n; modified = r.modified; upserted = r.upserted; error = option_map error_view (fault_told r.code) } →
     told ≡ outcome_view o

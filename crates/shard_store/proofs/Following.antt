@@ -37,7 +37,7 @@ and_false : (a : Bool) → (a && false) ≡ false
 and_false true = refl
 and_false false = refl
 
--- where the same stands an entry does the same
+-- where the same document is stored, an entry does the same
 effect_on : (namespace : List ℕ) (entries more : List Entry) (q : Planned) → document_left namespace (Some q.key) entries ≡ document_left namespace (Some q.key) more →
     IsEffect entries namespace (operation_of q.words) q.key q.left q.outcome → IsEffect more namespace (operation_of q.words) q.key q.left q.outcome
 effect_on namespace entries more q same does = record {
@@ -52,7 +52,7 @@ same_transaction given id s t first second =
     ap (λ (x : Stmt). x.txn) first ∙ transactions_same given id s.index t.index ∙ sym (ap (λ (x : Stmt). x.txn) second)
 
 module _ (shard : ℕ) (namespace : List ℕ) where
-  -- one that comes behind another may follow it
+  -- one that comes after another may follow it
   item_on : (entries : List Entry) (last : ℕ) (p q : Planned) → IsNext entries last namespace p → IsNext entries last namespace q → IsBehind p q →
       p.statement.txn ≡ q.statement.txn → IsNext (entries ++ entry_view shard namespace p ∷ []) p.time.0 namespace q
   item_on entries last p q first next behind transaction =
@@ -81,7 +81,7 @@ module _ (shard : ℕ) (namespace : List ℕ) where
     own = next.own.1;
   }
 
-  -- behind all others the last does what it was planned to do, and was not seen
+  -- after all others the last does what it was planned to do, and was not applied before
   pub record StandsLast (entries : List Entry) (q : Planned) : Type 0 where
     pub does : IsEffect entries namespace (operation_of q.words) q.key q.left q.outcome
     pub unseen : seen_before (number_view q.statement) entries ≡ None
@@ -96,7 +96,7 @@ module _ (shard : ℕ) (namespace : List ℕ) where
 
   -- SERVING
 
-  -- what a statement of the request is told without an entry it is told behind those that are planned too
+  -- the outcome of a statement of the request without an entry is its outcome after those that are planned too
   told_on : (entries : List Entry) (last : ℕ) (given : Option ClientNumber) (id : RequestId) (ps : List Planned) (s : Stmt) (d : Done) →
       AreNext entries last namespace given id ps → s ≡ statement_of given id s.index → seen_before (number_view s) entries ≡ Some d →
       seen_before (number_view s) (entries ++ map (entry_view shard namespace) ps) ≡ Some d

@@ -9,7 +9,7 @@ use Rattle.mvcc_collection.specs.declared.collection.Collection.{Collection}
 pub turned_bytes : (a b : List ℕ) → bytes_eq a b ≡ bytes_eq b a
 turned_bytes a b = same_from_decides (bytes_eq a b) (bytes_eq b a) (bytes_eq-Decides a b) (Decides-like (bytes_eq b a) sym sym (bytes_eq-Decides b a))
 
--- another collection stands in the place of one
+-- another collection takes the place of one
 pub changed_at : {A : Type 0} (see : Option Collection → A) (P : A → A → Type 0) (here : Bool) (old new : Option Collection) (before : Option Collection) (c : Collection) →
     (here ≡ true → old ≡ before) → new ≡ (if here then Some c else old) →
     (here ≡ true → P (see (Some c)) (see before)) → (here ≡ false → P (see old) (see old)) → P (see new) (see old)

@@ -34,7 +34,7 @@ filter_whole time [] all = refl
 filter_whole time (e ∷ es) all =
     rw (le-leb e.time time (all e (in_first e es))) (ap (λ (l : List Entry). e ∷ l) (filter_whole time es (λ d i. all d (in_later d e es i))))
 
--- at a time that no entry is behind, all of them count
+-- at a time that no entry is later than, all of them count
 pub left_at : (es : List Entry) (last time : ℕ) → ((e : Entry) → IsIn e es → e.time ≤ last) → last ≤ time → (namespace : List ℕ) (key : Option Datum) →
     document_at es namespace key time ≡ document_left namespace key es
 left_at es last time past le namespace key =
@@ -54,7 +54,7 @@ at_push n key t es e =
     by_test true = document_after_push n key None before e
     by_test false = ap (λ (l : List Entry). document_left n key l) (append-nil before)
 
--- what stands at a time, by whether another is left, and writes here and up to then
+-- what is stored at a time, by whether another is left, and writes here and up to then
 by_tests : (left : Left) (name same early : Bool) (was d after : Option Fields) → was ≡ d → (name ≡ true → same ≡ true → early ≡ true → left_behind left d ≡ after) →
     (if is_other left && name then (if same && early then left_behind left None else was) else was) ≡ (if early then (if name && same then after else d) else d)
 by_tests (Other document) true true true was d after e h = h refl refl refl

@@ -23,13 +23,13 @@ use Rattle.shard_store.specs.declared.outcome.StatementOutcome.TheVariants.{WasD
 use Rattle.shard_store.specs.Outcomes.{outcome_view, reply_view, done_view, statement_of}
 use Rattle.shard_store.specs.Entries.{Kept, entries_kept, notes_kept}
 
--- THE SAME IS SEEN, WHATEVER IS TOLD
+-- A STATEMENT IS FOUND, WHATEVER ITS OUTCOME
 
 abbrev itself : Kept → Kept
 itself k = k
 
 module _ {A : Type 0} (tell : Kept → A) where
-  -- the note of an entry, which tells this of it
+  -- the note of an entry, with this outcome
   abbrev note_telling : Kept → Note A
   note_telling k = record { number = number_view k.1.statement; time = k.1.time.0; told = tell k }
 
@@ -82,7 +82,7 @@ module _ {A : Type 0} (tell : Kept → A) where
       ∙ ap (λ (found : Option (Note A)). seen_beside number (greatest_of number.session (notes_telling itself kept)) found) (noted_same number kept)
       ∙ beside_same number (greatest_of number.session (notes_telling itself kept)) (noted number (notes_telling itself kept))
 
--- WHAT THE BOOK SEES AND WHAT THE ENTRIES TELL
+-- WHAT THE BOOK FINDS AND WHAT THE ENTRIES SAY
 
 abbrev outcome_told : Kept → Outcome
 outcome_told k = outcome_view k.1.outcome
@@ -115,7 +115,7 @@ new_kept shard number kept none = seen_same reply_told number kept ∙ by_found 
     by_found (older_than greatest) e = absurd cc
 
 module _ (shard : ℕ) (number : StatementNumber) (kept : List Kept) where
-  -- what is new is told nothing
+  -- what is new has no outcome yet
   pub look_new : seen (notes_kept kept) number ≡ new_statement → None ≡ seen_before number (entries_kept shard kept)
   look_new new = by_found (found_among kept number) (sym (seen_same reply_told number kept) ∙ new) ∙ sym (told_is shard number kept)
     where
@@ -124,7 +124,7 @@ module _ (shard : ℕ) (number : StatementNumber) (kept : List Kept) where
       by_found (done_before time k) e = absurd cc
       by_found (older_than greatest) e = absurd cc
 
-  -- what was done is told again
+  -- what was done gets its outcome again
   pub look_done : (told : EntryResult) (reply : Reply) → seen (notes_kept kept) number ≡ done_before told.time.0 reply →
       ((k : Kept) → reply ≡ reply_view (outcome_view k.1.outcome) → outcome_view told.outcome ≡ outcome_view k.1.outcome) →
       Some (done_view number.index (WasDone told)) ≡ seen_before number (entries_kept shard kept)
@@ -208,7 +208,7 @@ seen_aside entries e number new same other =
     by_tests true less hit l h = rw (l, h) refl
     by_tests false less hit l h = refl
 
--- what was told without an entry was not the number of a new one
+-- what had an outcome without an entry was not the number of a new one
 pub other_than_new : (entries : List Entry) (new number : StatementNumber) (d : Done) → seen_before new entries ≡ None → seen_before number entries ≡ Some d →
     same_number new number ≡ false
 other_than_new entries new number d none told = by_test (same_number new number) refl

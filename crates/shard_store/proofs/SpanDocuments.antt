@@ -1,4 +1,4 @@
--- The documents of a collection that may stand in a span are those that stand under the keys inside it.
+-- The documents of a collection that may be in a span are those that are stored under the keys inside it.
 use Rattle.std.proofs.Common.{◌≡◌, ℕ, List, [], ◌∷◌, refl, sym, ap, subst, ◌∙◌}
 use Rattle.std.specs.Prelude.{Bool, true, false, cond, Option, Some, None, Result, Ok, Err, filter, nat_le, if◌then◌else◌}
 use Rattle.std.specs.List.Sorted.{IsStrictlySortedBy}
@@ -68,7 +68,7 @@ module _ (span : List Span) where
       elim (elim found as (λ o. Result Datum KeyFault) [ None ↦ Err absent_key | Some d ↦ if is_key d then Ok d else Err wrong_kind ])
       as (λ r. Bool) [ Ok key ↦ inside_some span key | Err fault ↦ true ]
 
-  -- a document that stands under a key may stand in the span where the key is inside
+  -- a document that is stored under a key may be in the span where the key is inside
   stands_inside : (key : Datum) (document : Fields) → is_key key ≡ true → IsUnder key (Some document) → may_stand_in span document ≡ inside_some span key
   stands_inside key document valid under =
       ap by_key under.1 ∙ inside_if_valid key under.0 (is_key under.0) refl (same_is_key under.0 key under.2 ∙ valid) under.2
@@ -100,13 +100,13 @@ module _ (span : List Span) where
           shown = sym (shown_kept (may_stand_in span) all.rows ∙ ap (filter (may_stand_in span)) (sym all.shown));
         }
 
-    -- what lists the documents under the keys inside lists those that may stand in the span
+    -- what lists the documents under the keys inside lists those that may be in the span
     pub span_documents : (documents : List Fields) →
         ListsDocuments (λ key. if inside_some span key then document_at entries namespace (Some key) time else None) documents →
         documents ≡ filter (may_stand_in span) (documents_at entries namespace time)
     span_documents documents listed = one_listing _ documents _ listed lists_span
 
--- under each key stands the same
+-- under each key the same is stored
 pub same_listing : (under other : Datum → Option Fields) (documents : List Fields) → ((key : Datum) → under key ≡ other key) → ListsDocuments under documents →
     ListsDocuments other documents
 same_listing under other documents same listed = record {
@@ -116,7 +116,7 @@ same_listing under other documents same listed = record {
   shown = listed.shown;
 }
 
--- where nothing stands, nothing is listed
+-- where nothing is stored, nothing is listed
 pub nothing_listed : (inside_it : Datum → Bool) (under : Datum → Option Fields) (documents : List Fields) → ((key : Datum) → under key ≡ None) →
     documents ≡ [] → ListsDocuments (λ key. if inside_it key then under key else None) documents
 nothing_listed inside_it under documents none no_documents = record {

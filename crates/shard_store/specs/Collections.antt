@@ -1,4 +1,4 @@
--- What contracts see of collections: what stands in a namespace under a key at a time, the time of that key's last version, and for
+-- What contracts see of collections: what is stored in a namespace under a key at a time, the time of that key's last version, and for
 -- how many more there is room (MongoDB manual, "Databases and Collections", "Document Field Order and the `_id` Field").
 use Rattle.std.specs.Prelude.{ℕ, List, Option, Some, None}
 use Rattle.std.specs.BTreeMap.{get_by_text}
@@ -19,7 +19,7 @@ abbrev pub room_of : Option Collection → Datum → ℕ
 room_of None key = 0
 room_of (Some c) key = room_in c key
 
--- what stands in the namespace under the key at the time
+-- what is stored in the namespace under the key at the time
 unfoldable pub shown_in : Collections → List ℕ → Datum → ℕ → Option Fields
 shown_in c namespace key time = at_of (get_by_text c.by_name namespace) key time
 

@@ -30,7 +30,7 @@ abbrev pub operation_in : LentWords → Operation
 operation_in (lent.Insert document) = insert_operation (arc_value document.now)
 operation_in (lent.Change words) = operation_view (arc_value words.now)
 
--- what stands once a statement left this, where that stood before
+-- what is stored after a statement that left this, where that was stored before
 abbrev pub left_behind : Left → Option Fields → Option Fields
 left_behind Same before = before
 left_behind (Other document) before = option_map arc_value document
@@ -56,7 +56,7 @@ entries_kept shard kept = map (λ (k : Kept). entry_view shard k.0 k.1) kept
 abbrev pub note_kept : Kept → Note Reply
 note_kept k = note_view k.1.statement k.1.time (reply_view (outcome_view k.1.outcome))
 
--- what the statements were told, in order
+-- the outcomes of the statements, in order
 abbrev pub notes_kept : List Kept → List (Note Reply)
 notes_kept kept = map note_kept kept
 
@@ -65,6 +65,6 @@ abbrev pub is_other : Left → Bool
 is_other Same = false
 is_other (Other document) = true
 
--- from this time on what is left stands under the key
+-- from this time on what is left is stored under the key
 abbrev pub put_of : Datum → Time → Left → Put
 put_of key time left = record { key = key; time = time.0; document = left_behind left None }

@@ -1,4 +1,4 @@
--- Why statements change nothing, by the errors that they are told (MongoDB manual, "Error Codes").
+-- Why statements change nothing, by the errors that they return (MongoDB manual, "Error Codes").
 use Rattle.std.specs.Prelude.{◌≡◌, ℤ, pos, Option, Some, None, if◌then◌else◌}
 use Rattle.std.specs.Option.{option_map}
 use Rattle.std.specs.Ordering.{int_eq}
@@ -9,7 +9,7 @@ use Rattle.update_ops.specs.declared.fault.ApplyFault.TheVariants as applied
 use Rattle.shard_store.specs.declared.fault.WriteFault.{WriteFault}
 use Rattle.shard_store.specs.declared.fault.WriteFault.TheVariants.{Duplicate, Immutable, Overflow, TooLarge, NotNumber, NotDocument}
 
--- the error that is told
+-- the error that is returned
 abbrev pub error_view : WriteFault → ErrorCode
 error_view Duplicate = duplicate_key
 error_view Immutable = immutable_field
@@ -33,7 +33,7 @@ fault_told code =
     else if int_eq code (pos 28) then Some NotDocument
     else None
 
--- the fault that a statement tells, where it is no want of memory
+-- the fault that a statement returns, where memory does not run out
 abbrev pub applied_as : WriteFault → ApplyFault
 applied_as Duplicate = applied.Duplicate
 applied_as Immutable = applied.Immutable

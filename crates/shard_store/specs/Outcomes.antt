@@ -1,4 +1,4 @@
--- What statements are told, in the words of the history and of a reply.
+-- Outcomes of statements, in the terms of the history and of a reply.
 use Rattle.std.specs.Prelude.{ℕ, pos, Option, Some, None}
 use Rattle.std.specs.Option.{option_map}
 use Rattle.cluster_base.specs.declared.identity.RequestId.{RequestId}
@@ -24,7 +24,7 @@ outcome_view o = record {
       error_view o.fault;
 }
 
--- the reply that tells an outcome: its error by its number, or 0
+-- the reply with an outcome: its error by its number, or 0
 abbrev pub reply_view : history.Outcome → Reply
 reply_view o = record { n = o.count; modified = o.modified; upserted = o.upserted; code = code_of o.error }
 
@@ -32,7 +32,7 @@ abbrev pub answer_view : StatementOutcome → answers.StatementOutcome
 answer_view (WasDone told) = was_done told.time.0 (outcome_view told.outcome)
 answer_view (Older greatest) = is_older greatest
 
--- the statement with this index is told that
+-- the statement with this index has that outcome
 abbrev pub done_view : (index : ℕ) → StatementOutcome → Done
 done_view index told = record { index = index; answer = answer_view told }
 

@@ -1,4 +1,4 @@
--- Plans: the entries that a shard is about to make in one collection for one request, behind those that it has.
+-- Plans: the entries that a shard is about to make in one collection for one request, after those that it has.
 use Rattle.std.specs.Prelude.{◌≡◌, ◌<◌, ◌≤◌, ◌+◌, ℕ, List, [], ◌∷◌, map, false, Option, Some, None, is_some}
 use Rattle.std.specs.BTreeMap.{get_by}
 use Rattle.std.specs.List.{AllByRecursion, list_any}
@@ -18,13 +18,13 @@ use Rattle.shard_store.specs.declared.entry.Left.{Left}
 use Rattle.shard_store.specs.declared.entry.Planned.{Planned}
 use Rattle.shard_store.specs.declared.outcome.EntryOutcome.{EntryOutcome}
 
--- behind these entries the operation acts under this key, leaves this there, and is told this
+-- after these entries the operation acts under this key, leaves this there, and has this outcome
 pub record IsEffect (entries : List Entry) (namespace : List ℕ) (operation : Operation) (key : Datum) (left : Left) (outcome : EntryOutcome) : Type 0 where
   pub under : key_written operation ≡ Some key
   pub leaves : left_behind left (document_left namespace (Some key) entries) ≡ (effect operation (document_left namespace (Some key) entries)).0
   pub told : outcome_view outcome ≡ (effect operation (document_left namespace (Some key) entries)).1
 
--- The entry may follow these, the last of which is no later than `last`: it does what its operation does behind them, and its statement
+-- The entry may follow these, the last of which is no later than `last`: it does what its operation does after them, and its statement
 -- is none of theirs.
 pub record IsNext (entries : List Entry) (last : ℕ) (namespace : List ℕ) (p : Planned) : Type 0 where
   pub later : last < p.time.0
@@ -37,7 +37,7 @@ pub record IsBehind (p q : Planned) : Type 0 where
   pub index : p.statement.index < q.statement.index
   pub key : same_value p.key q.key ≡ false
 
--- each comes behind those before it
+-- each comes after those before it
 abbrev pub AreInTurn : List Planned → Type 0
 AreInTurn [] = Unit {0}
 AreInTurn (p ∷ planned) = AllByRecursion (IsBehind p) planned × AreInTurn planned
@@ -46,14 +46,14 @@ AreInTurn (p ∷ planned) = AllByRecursion (IsBehind p) planned × AreInTurn pla
 abbrev pub IsOf : Option ClientNumber → RequestId → Planned → Type 0
 IsOf number id p = p.statement ≡ statement_of number id p.statement.index
 
--- These may be made behind the entries: all of one request, each behind those before it.
+-- These may be made after the entries: all of one request, each after those before it.
 pub record AreNext (entries : List Entry) (last : ℕ) (namespace : List ℕ) (number : Option ClientNumber) (id : RequestId)
     (planned : List Planned) : Type 0 where
   pub each : AllByRecursion (IsNext entries last namespace) planned
   pub turn : AreInTurn planned
   pub own : AllByRecursion (IsOf number id) planned
 
--- A plan of entries behind these. What it says of itself is so: its time, the least index that is free, the keys that are taken.
+-- A plan of entries after these. What it says of itself is so: its time, the least index that is free, the keys that are taken.
 pub record IsPlan (entries : List Entry) (last : ℕ) (namespace : List ℕ) (plan : EntryPlan) : Type 0 where
   pub next : AreNext entries last namespace plan.number plan.id plan.planned.items
   pub before : last ≤ plan.last.0
@@ -66,14 +66,14 @@ pub record IsPlan (entries : List Entry) (last : ℕ) (namespace : List ℕ) (pl
 abbrev pub made_by : (shard : ℕ) → (namespace : List ℕ) → EntryPlan → List Entry
 made_by shard namespace plan = map (entry_view shard namespace) plan.planned.items
 
--- the time of its last entry, or that behind which its first comes
+-- the time of its last entry, or that after which its first comes
 abbrev pub time_of : EntryPlan → ℕ
 time_of plan = plan.last.0
 
 abbrev pub planned_in : EntryPlan → List Planned
 planned_in plan = plan.planned.items
 
--- A statement is served behind these entries at this time: it is told what it was told before, or that it is older; or it is new, and makes
+-- A statement is served after these entries at this time: it gets its outcome again, or the error that it is older; or it is new, and makes
 -- an entry at the next time; or it is left for later.
 pub data IsServed (shard : ℕ) (namespace : List ℕ) (entries : List Entry) (time : ℕ) (s : Statement) :
     Option Done → (made : List Entry) → (after : ℕ) → Type 0 where

@@ -10,7 +10,7 @@ use Rattle.shard_store.specs.declared.plan.EntryPlan.{EntryPlan}
 use Rattle.shard_store.specs.declared.entry.Planned.{Planned}
 use Rattle.shard_store.specs.declared.store.ShardStore.{ShardStore}
 
--- the entries so far, in order
+-- the entries, in order
 abbrev pub entries_of : ShardStore → List Entry
 entries_of store = entries_kept store.shard.0 store.entries.items
 

@@ -44,7 +44,7 @@ impl Collections {
         }
     }
 
-    /// The document that stands in the namespace under the key at the time, if there is one.
+    /// Returns the document that is stored in the namespace under the key at the time, if there is one.
     pub fn get_at(&self, namespace: &str, key: &Key, time: Time) -> Option<&Arc<Document, Global>>
         ensures { option_map (λ d. arc_value d.now) result ≡ shown_in self.now namespace.now key.now time.0 }
     {
@@ -67,8 +67,8 @@ impl Collections {
         }
     }
 
-    /// Makes room for one version more in the namespace under the key. Fails for want of memory. Either way nothing else is to be
-    /// seen of it.
+    /// Makes room for one version more in the namespace under the key. Returns `Memory` if memory runs out. In both cases nothing else
+    /// changes that can be observed.
     pub fn reserve(&mut self, namespace: &str, key: &Key) -> Result<(), Memory>
         ensures room { OnOk result (1 ≤ room_under self.new namespace.now key.now) }
         ensures rooms { (n : List ℕ) (k : Datum) → room_under self.old n k ≤ room_under self.new n k }
@@ -85,8 +85,8 @@ impl Collections {
         Ok(())
     }
 
-    /// Makes room for one version more in the namespace under each key that is planned. Fails for want of memory. Either way nothing
-    /// else is to be seen of it.
+    /// Makes room for one version more in the namespace under each key that is planned. Returns `Memory` if memory runs out. In both cases nothing
+    /// else changes that can be observed.
     pub fn reserve_all(&mut self, namespace: &str, planned: &[Planned]) -> Result<(), Memory>
         ensures room { OnOk result (AllByRecursion (λ p. 1 ≤ room_under self.new namespace.now p.key) planned.now) }
         ensures rooms { (n : List ℕ) (k : Datum) → room_under self.old n k ≤ room_under self.new n k }
@@ -99,7 +99,7 @@ impl Collections {
         Ok(())
     }
 
-    // From this time on this document, or none, stands in the namespace under the key.
+    // From this time on this document, or none, is stored in the namespace under the key.
     fn put(
         &mut self,
         namespace: &str,
@@ -121,8 +121,8 @@ impl Collections {
         }
     }
 
-    /// From this time on what a statement left stands in the namespace under the key. There is room for it, and all that was put under
-    /// the key before is earlier. Takes no memory.
+    /// From this time on the result of a statement is stored in the namespace under the key. There is room for it, and each version under
+    /// the key is earlier. Takes no memory.
     pub fn enter(&mut self, namespace: &str, key: &Key, time: Time, left: Left)
         requires room { 1 ≤ room_under self.old namespace.now key.now }
         requires later { IfSome (last_under self.old namespace.now key.now) (λ t. t < time.0) }

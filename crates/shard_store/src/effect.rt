@@ -27,7 +27,7 @@ use value_compare::{Key, key_of};
 /// A document that is kept has at most so many bytes (MongoDB manual, "MongoDB Limits and Thresholds", BSON document size).
 const MOST_BYTES: usize = 16_777_216;
 
-/// What a statement does: the key that it acts under, what it leaves there, and what it is told.
+/// What a statement does: the key that it acts under, what it leaves there, and its outcome.
 #[derive(Drop)]
 pub(crate) struct Effect {
     pub(crate) key: Key,
@@ -35,7 +35,7 @@ pub(crate) struct Effect {
     pub(crate) outcome: EntryOutcome,
 }
 
-/// The key that a statement acts under. Fails for want of memory; one without a key is none to be kept.
+/// Returns the key that a statement acts under, or `Memory` if memory runs out; a statement without a key gets one that is never stored.
 pub(crate) fn key_of_op(alloc: Global, op: &Op) -> Result<Key, Memory>
     ensures { IfOk result (λ key. write_key (write_of op.now) ≡ Some key) }
 {
@@ -49,7 +49,7 @@ pub(crate) fn key_of_op(alloc: Global, op: &Op) -> Result<Key, Memory>
     }
 }
 
-// The key that a filter asks for. Fails for want of memory.
+// Returns the key that a filter requests, or `Memory` if memory runs out.
 fn asked_key(filter: &Expr) -> Result<Key, Memory>
     ensures { IfOk result (λ key. key_equal filter.now ≡ Some key) }
 {
@@ -59,7 +59,7 @@ fn asked_key(filter: &Expr) -> Result<Key, Memory>
     }
 }
 
-// What a statement left that met, put in or took out so many documents. Fails for want of memory.
+// Returns the result of a statement that matched, inserted or removed so many documents. Returns `Memory` if memory runs out.
 fn left_of(alloc: Global, count: u32, after: Option<Document>) -> Result<Left, Memory>
     ensures { (before : Option Fields) → (count ≡ 0 → after ≡ before) → IfOk result (λ left. left_behind left before ≡ after) }
 {
@@ -88,7 +88,7 @@ impl Effect {
         }
     }
 
-    // What was made of a document. Fails for want of memory.
+    // Returns what was made of a document, or `Memory` if memory runs out.
     fn done(alloc: Global, key: Key, applied: Applied) -> Result<Effect, Memory>
         ensures key { IfOk result (λ e. e.key ≡ key) }
         ensures does { (write : Write) (before : Option Fields) → effect_of write before ≡ Ok (effect_shown applied) →
@@ -103,7 +103,7 @@ impl Effect {
         })
     }
 
-    /// What an insert of a document with this key does, where a document stands under it or none does. Fails for want of memory.
+    /// Returns what an insert of a document with this key does, where a document is stored under it or none is. Returns `Memory` if memory runs out.
     pub(crate) fn of_insert(
         key: Key,
         document: &Arc<Document, Global>,
@@ -128,7 +128,7 @@ impl Effect {
         })
     }
 
-    /// What a statement does under its key, where this document stands, or none. Fails for want of memory.
+    /// Returns what a statement does under its key, where this document is stored, or none. Returns `Memory` if memory runs out.
     pub(crate) fn of_op(
         alloc: Global,
         key: Key,

@@ -33,7 +33,7 @@ impl LentWords<'_> {
     ghost use Rattle.std.specs.Prelude.{◌≡◌, IfOk};
     ghost use Rattle.shard_store.specs.Entries.{operation_in, operation_of};
 
-    // The same words, shared. Fails for want of memory.
+    // The same words, shared. Returns `Memory` if memory runs out.
     pub(crate) fn share(self) -> Result<Words, Memory>
         ensures { IfOk result (λ words. operation_of words ≡ operation_in self.entry) }
     {
@@ -47,7 +47,7 @@ impl LentWords<'_> {
 /// What a statement leaves under its key.
 #[derive(Drop)]
 pub enum Left {
-    /// What stood there.
+    /// What was stored there.
     Same,
     /// This document, or none.
     Other(Option<Arc<Document, Global>>),
@@ -66,7 +66,7 @@ pub struct Planned {
     pub key: Key,
     /// What it leaves there.
     pub left: Left,
-    /// What it is told.
+    /// Its outcome.
     pub outcome: EntryOutcome,
 }
 

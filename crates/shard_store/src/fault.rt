@@ -25,7 +25,7 @@ pub enum WriteFault {
     NotDocument,
 }
 
-// The number of the error that is told, or 0.
+// Returns the number of the error that is returned, or 0.
 pub(crate) fn code_of(fault: Option<WriteFault>) -> i32
     ensures { result ≡ code_told fault }
 {
@@ -41,7 +41,7 @@ pub(crate) fn code_of(fault: Option<WriteFault>) -> i32
 }
 
 impl WriteFault {
-    /// The error that is told.
+    /// Returns the error that is returned.
     pub fn error(self) -> Code
         ensures { meaning_of result ≡ error_view self }
     {
@@ -76,7 +76,7 @@ impl WriteFault {
         }
     }
 
-    // The fault of a statement that was done; want of memory is none.
+    // Returns the fault of a statement that was done; `Memory` is none.
     pub(crate) fn of(fault: ApplyFault) -> Result<WriteFault, Memory>
         ensures { IfOk result (λ f. IsFault f fault) }
     {

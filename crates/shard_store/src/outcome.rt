@@ -1,4 +1,4 @@
-//! What statements are told (MongoDB manual, "insert", "update", "delete").
+//! Outcomes of statements (MongoDB manual, "insert", "update", "delete").
 
 ghost use Rattle.std.specs.Prelude.{◌≡◌, IfOk, None};
 ghost use Rattle.std.specs.Option.{option_map};
@@ -11,7 +11,7 @@ use bson_values::Memory;
 use cluster_base::{Code, Time};
 use value_compare::{Key, Reply};
 
-/// What a statement is told: how many documents it put in, met or took out, how many it changed, the key that it put in having met none,
+/// The outcome of a statement: how many documents it inserted, matched or removed, how many it changed, the key that it inserted having matched none,
 /// and why it changed nothing.
 #[derive(Drop)]
 pub struct EntryOutcome {
@@ -21,16 +21,16 @@ pub struct EntryOutcome {
     ghost told: { reply.code ≡ code_told fault },
 }
 
-/// A statement was done at a time, and was told this.
+/// A statement was done at a time, with this outcome.
 #[derive(Drop)]
 pub struct EntryResult {
     /// The time of its entry.
     pub time: Time,
-    /// What it was told.
+    /// Its outcome.
     pub outcome: EntryOutcome,
 }
 
-/// What a statement is told.
+/// The outcome of a statement.
 #[derive(Drop)]
 pub enum StatementOutcome {
     /// It was done.
@@ -39,7 +39,7 @@ pub enum StatementOutcome {
     Older(i64),
 }
 
-// The same key once more, if there is one. Fails for want of memory.
+// Returns a copy of a key, if there is one. Returns `Memory` if memory runs out.
 fn copy_key(key: &Option<Key>) -> Result<Option<Key>, Memory>
     ensures { IfOk result (λ copy. copy ≡ key.now) }
 {
@@ -79,7 +79,7 @@ impl EntryOutcome {
         EntryOutcome::new(0, 0, None, Some(fault))
     }
 
-    // What a reply tells beside its code: there was no fault.
+    // Returns the outcome of a reply without a fault.
     pub(crate) fn done(reply: Reply) -> EntryOutcome
         ensures { outcome_view result ≡ record { count = reply.n; modified = reply.modified; upserted = reply.upserted; error = None } }
     {
@@ -92,7 +92,7 @@ impl EntryOutcome {
         EntryOutcome::new(n, modified, upserted, None)
     }
 
-    // What a reply tells. Fails for want of memory.
+    // Returns the outcome of a reply, or `Memory` if memory runs out.
     pub(crate) fn of(reply: &Reply) -> Result<EntryOutcome, Memory>
         ensures { (outcome : EntryOutcome) → reply.now ≡ reply_view (outcome_view outcome) →
             IfOk result (λ told. outcome_view told ≡ outcome_view outcome) }
@@ -102,7 +102,7 @@ impl EntryOutcome {
         Ok(EntryOutcome::new(reply.n, reply.modified, upserted, fault))
     }
 
-    // The same once more. Fails for want of memory.
+    // Returns a copy of it, or `Memory` if memory runs out.
     pub(crate) fn copy(&self) -> Result<EntryOutcome, Memory>
         ensures { IfOk result (λ outcome. outcome_view outcome ≡ outcome_view self.now) }
     {
@@ -111,7 +111,7 @@ impl EntryOutcome {
         Ok(EntryOutcome::new(reply.n, reply.modified, upserted, self.fault))
     }
 
-    /// The error that is told, if one is.
+    /// Returns the error of it, if there is one.
     pub fn error(&self) -> Option<Code>
         ensures { option_map meaning_of result ≡ (outcome_view self.now).error }
     {
@@ -121,14 +121,14 @@ impl EntryOutcome {
         }
     }
 
-    /// The reply that tells it.
+    /// Returns the reply with it.
     pub fn reply(&self) -> &Reply
         ensures { result.now ≡ reply_view (outcome_view self.now) }
     {
         &self.reply
     }
 
-    /// The reply that tells it; nothing else is left.
+    /// Returns the reply with it; nothing else is left.
     pub fn into_reply(self) -> Reply
         ensures { result ≡ reply_view (outcome_view self) }
     {

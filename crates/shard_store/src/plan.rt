@@ -14,12 +14,12 @@ use std::collections::BTreeMap;
 use value_compare::Key;
 
 /// The entries that a shard is about to make in one collection for one request, in order: each at a later time, of a greater index
-/// and under another key than those before it. So none of them changes what another is told.
+/// and under another key than those before it. So none of them changes the outcome of another.
 #[derive(Drop)]
 pub struct EntryPlan {
     pub(crate) number: Option<ClientNumber>,
     pub(crate) id: RequestId,
-    // The time of the last entry, or that behind which the first comes.
+    // The time of the last entry, or that after which the first comes.
     pub(crate) last: Time,
     // The least index that is free.
     pub(crate) free: u64,
@@ -30,7 +30,7 @@ pub struct EntryPlan {
 impl EntryPlan {
     ghost use Rattle.shard_store.specs.Plans.{IsNext, IsOf, IsPlan, planned_in, time_of};
 
-    /// A plan of no entries for a request with the number that its client gave, if it gave one. The first is to come behind this time.
+    /// Returns a plan of no entries for a request with the number that its client gave, if it gave one. The first is to come after this time.
     pub fn new(alloc: Global, number: Option<ClientNumber>, id: RequestId, time: Time) -> EntryPlan
         ensures plan { (entries : List Entry) (last : ℕ) (namespace : List ℕ) → last ≤ time.0 → IsPlan entries last namespace result }
         ensures empty { planned_in result ≡ [] }
@@ -55,7 +55,7 @@ impl EntryPlan {
         &self.planned
     }
 
-    /// The time of the last entry, or that behind which the first comes.
+    /// Returns the time of the last entry, or that after which the first comes.
     pub fn time(&self) -> Time
         ensures { result.0 ≡ time_of self.now }
     {
@@ -70,7 +70,7 @@ impl EntryPlan {
         self.keys.contains_key(key)
     }
 
-    // Puts an entry behind the others. Fails for want of memory, and the plan is of no more use then.
+    // Appends an entry. Returns `Memory` if memory runs out, and the plan is of no more use then.
     pub(crate) fn push(&mut self, entry: Planned) -> Result<(), Memory>
         requires later { self.old.last.0 < entry.time.0 }
         requires index { self.old.free ≤ entry.statement.index }

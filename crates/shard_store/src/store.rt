@@ -37,9 +37,9 @@ use std::sync::Arc;
 use update_ops::Op;
 use value_compare::{Key, OpWords, SpanList, key_of};
 
-/// What a shard keeps of its entries: the documents that they leave, with their past, and what each statement was told.
+/// What a shard stores of its entries: the documents that they result in, with their past, and the outcome of each statement.
 ///
-/// The entries themselves are in no memory: `entries` is read by proofs alone.
+/// The entries themselves are not in memory: `entries` is read by proofs alone.
 #[derive(Drop)]
 pub struct ShardStore {
     shard: NodeId,
@@ -54,7 +54,7 @@ pub struct ShardStore {
     ghost shown: { AreShown collections (entries_kept shard.0 entries.items) } by { shown-prop collections (entries_kept shard.0 entries.items) },
     // No version is later than the last entry.
     ghost versions: { (n : List ℕ) (k : Datum) (t : ℕ) → last_under collections n k ≡ Some t → t ≤ last.0 },
-    // The book has what the statements were told.
+    // The book has the outcomes of the statements.
     ghost noted: { NotesAre book (notes_kept entries.items) } by { noted-prop book (notes_kept entries.items) },
 }
 
@@ -76,9 +76,9 @@ impl ShardStore {
         }
     }
 
-    /// What the statement with this index of a request, to which its client gave this number or none, is told unless it is new: what it was
-    /// told before, or that its session has a greater transaction. Fails for want of memory.
-    // Inlined, so that the number is read where it stands.
+    /// Returns the outcome of the statement with this index of a request, to which its client gave this number or none, unless it is new: its original
+    /// outcome, or that its session has a greater transaction. Returns `Memory` if memory runs out.
+    // Inlined, so that the number is read where it is.
     #[inline(always)]
     pub fn look(
         &self,
@@ -120,7 +120,7 @@ impl ShardStore {
         self.collections.scan_at(namespace.as_str(), span, time)
     }
 
-    // What an insert does behind the entries. Fails for want of memory.
+    // Returns what an insert does after the entries, or `Memory` if memory runs out.
     fn insert(
         &self,
         alloc: Global,
@@ -138,7 +138,7 @@ impl ShardStore {
         Effect::of_insert(key, document, stands)
     }
 
-    // What words do behind the entries. Fails for want of memory.
+    // Returns what a statement with these operands does after the entries, or `Memory` if memory runs out.
     fn change(
         &self,
         alloc: Global,
@@ -161,7 +161,7 @@ impl ShardStore {
         }
     }
 
-    // What a statement does behind the entries. Fails for want of memory.
+    // Returns what a statement does after the entries, or `Memory` if memory runs out.
     fn effect(
         &self,
         alloc: Global,
@@ -177,9 +177,9 @@ impl ShardStore {
         }
     }
 
-    /// Serves a statement behind the entries of the store and those of the plan: tells it what it is told unless it is new, or plans its entry
+    /// Serves a statement after the entries of the store and those of the plan: returns its outcome unless it is new, or plans its entry
     /// at the next time; or leaves it for later, where its index is not greater than those of the plan, or its key is one of theirs.
-    /// Fails for want of memory, and the plan is of no more use then.
+    /// Returns `Memory` if memory runs out, and the plan is of no more use then.
     pub fn serve(
         &self,
         plan: &mut EntryPlan,
@@ -228,7 +228,7 @@ impl ShardStore {
         Ok(Some(StatementOutcome::WasDone(told)))
     }
 
-    /// Makes room for the entries of a plan. Fails for want of memory. Either way nothing else is to be seen of it.
+    /// Makes room for the entries of a plan. Returns `Memory` if memory runs out. Either way nothing else is to be seen of it.
     pub fn reserve(&mut self, namespace: &Namespace, plan: &EntryPlan) -> Result<(), Memory>
         ensures room { OnOk result (HasRoom self.new namespace.now plan.now) }
         ensures entries { entries_of self.new ≡ entries_of self.old }

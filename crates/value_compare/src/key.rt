@@ -110,7 +110,7 @@ impl Key {
         &self.value
     }
 
-    /// The same key once more. Fails for want of memory.
+    /// The same key once more. Returns `Memory` if memory runs out.
     pub fn copy(&self) -> Result<Key, Memory>
         ensures { IfOk result (λ k. k ≡ self.now) }
     {

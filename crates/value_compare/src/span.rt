@@ -68,7 +68,7 @@ impl Bound {
         }
     }
 
-    /// The same bound once more. Fails for want of memory.
+    /// The same bound once more. Returns `Memory` if memory runs out.
     pub fn copy(&self) -> Result<Bound, Memory>
         ensures { IfOk result (λ b. bound_of b ≡ bound_of self.now) }
     {
@@ -146,7 +146,7 @@ impl KeyRange {
         self.min.compare_to_value(value).is_le() && self.max.compare_to_value(value).is_gt()
     }
 
-    /// The same range once more. Fails for want of memory.
+    /// The same range once more. Returns `Memory` if memory runs out.
     pub fn copy(&self) -> Result<KeyRange, Memory>
         ensures { IfOk result (λ r. r ≡ self.now) }
     {
@@ -166,7 +166,7 @@ pub enum Span {
 }
 
 impl Span {
-    /// The same span once more. Fails for want of memory.
+    /// The same span once more. Returns `Memory` if memory runs out.
     pub fn copy(&self) -> Result<Span, Memory>
         ensures { IfOk result (λ s. span_of s ≡ span_of self.now) }
     {
