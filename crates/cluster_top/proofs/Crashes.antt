@@ -38,7 +38,7 @@ module _ {D : Type 0} (moment : D → ℕ) (left_since : D → ℕ → Outcomes)
       first (inl y) = inl y
       first (inr p) = inr (p_is p)
 
-  -- one call behind another
+  -- one call after another
   pub leaves_then : (a b c : D) (P Q S : Outcomes) → LeavesAlso moment left_since a b P → LeavesAlso moment left_since b c Q
       → ((file : List ℕ) → P file → S file) → ((file : List ℕ) → Q file → S file) → LeavesAlso moment left_since a c S
   leaves_then a b c P Q S first second p_is q_is = record {

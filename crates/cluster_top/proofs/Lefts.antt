@@ -7,7 +7,7 @@ pub none_left : {X : Type 0} (l : List X) → length l ≡ 0 → l ≡ []
 none_left [] is = refl
 none_left (x ∷ l) is = absurd (omega (arith, is))
 
--- one more of these was put behind the others
+-- one more of these was appended
 pub one_less : {X : Type 0} (all new left rest whole : List X) (x : X) → new ≡ all ++ x ∷ [] → left ≡ x ∷ rest → all ++ left ≡ whole → new ++ rest ≡ whole
 one_less {X} all new left rest whole x more first are =
     ap (λ (l : List X). l ++ rest) more ∙ append_assoc all (x ∷ []) rest ∙ ap (λ (l : List X). all ++ l) (sym first) ∙ are

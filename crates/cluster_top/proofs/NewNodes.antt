@@ -17,7 +17,7 @@ routers_more first (suc n) =
 start_more : (n : ℕ) → states_of (start (suc n)).nodes ≡ states_of (start n).nodes ++ router_state (new_router (2 + n)) ∷ []
 start_more n = ap (λ (l : List NodeState). catalogue_state (new_catalogue 0) ∷ shard_state (new_shard 1) ∷ l) (routers_more 2 n)
 
--- one router was put behind the others
+-- one router was appended
 pub new_more : {N : Type 0} (state : N → NodeState) (nodes new : List N) (node : N) (n m : ℕ) → m ≡ n + 1 → new ≡ nodes ++ node ∷ []
     → state node ≡ router_state (new_router (2 + n)) → map state nodes ≡ states_of (start n).nodes → map state new ≡ states_of (start m).nodes
 new_more {N} state nodes new node n m count more is are =

@@ -1,4 +1,4 @@
--- Numbers of the arguments, and what stands after the first bytes of a word.
+-- Numbers of the arguments, and what comes after the first bytes of a word.
 use Rattle.std.specs.Prelude.{◌≡◌, ℕ, ◌≤◌, ◌<◌, ◌^◌, ◌&&◌, Bool, true, false, List, length, take, drop, Option, Some, None, eqb, nat_le, nat_lt, if◌then◌else◌, IfSome, Result, Ok, Err}
 use Rattle.std.proofs.Common.{refl, sym, ap, subst, ◌∙◌}
 use Rattle.std.specs.List.{starts_with}

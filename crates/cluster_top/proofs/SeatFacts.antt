@@ -1,4 +1,4 @@
--- Nodes with their journals: at the start, and behind a connection.
+-- Nodes with their journals: at the start, and after a connection.
 use Rattle.std.specs.Prelude.{◌≡◌, ◌≢◌, ℕ, zero, suc, ◌+◌, Bool, IsTrue, List, [], ◌∷◌, length, map}
 use Rattle.std.proofs.Common.{refl, sym, ap, subst, ◌∙◌, arith}
 use Rattle.std.specs.List.{AllByRecursion}
@@ -110,7 +110,7 @@ seats_open [] journals are = tt
 seats_open (n ∷ nodes) [] are = tt
 seats_open (n ∷ nodes) (j ∷ journals) are = (are.0, seats_open nodes journals are.1)
 
--- and behind it
+-- and after it
 pub told_after : {N D X : Type 0} (f : D → X) (disks : List D) (seats : List (Seat N (JournalView D))) → disks ≡ map (λ s. s.log.disk) seats → map (λ s. f s.log.disk) seats ≡ map f disks
 told_after {N = N} {D = D} {X = X} f disks seats is = each seats ∙ ap (λ (ds : List D). map f ds) (sym is)
   where

@@ -112,7 +112,7 @@ module _ (source : SourceCall) (sink : SinkCall) (tells : Bool) (files_after : L
     acknowledged = debts;
   })
 
-  -- there was no memory before anything was served
+  -- memory ran out before anything was served
   pub memory_unopened : rest ≡ 0 → SourceGave source [] → SinkTook sink [] → (IsTrue tells → AreJournals files_after (start 1).nodes) → leaves (start 1) → owed (start 1) [] → Headline source sink tells files_after leaves owed gives ended.OutOfMemory rest
   memory_unopened none took put files crashes debts = headline_from ended.OutOfMemory (record {
     taken = [];

@@ -23,7 +23,7 @@ abbrev pub within : (least most : ℕ) → Option ℕ → Option ℕ
 within least most None = None
 within least most (Some number) = if nat_le least number && nat_le number most then Some number else None
 
--- what stands in a word after these first bytes, if it begins with them
+-- what comes in a word after these first bytes, if it begins with them
 abbrev pub rest_after : (first word : List ℕ) → Option (List ℕ)
 rest_after first word = if starts_with eqb word first then Some (drop (length first) word) else None
 

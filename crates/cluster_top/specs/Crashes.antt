@@ -24,7 +24,7 @@ LeaveSuch moment left_since P befores afters = ⊥
 abbrev pub IsOfTheWay : (routers : ℕ) → World → ℕ → Outcomes
 IsOfTheWay routers w at file = Passes (start routers) w (λ v. Stands file (spellings (journal_at v.nodes at)))
 
--- such files, of disks that tell theirs
+-- such files, of disks whose files are observable
 abbrev pub LeaveTheWay : {D : Type 0} → (routers : ℕ) → Bool → (D → ℕ) → (D → ℕ → Outcomes) → List D → List D → World → Type 0
 LeaveTheWay routers tells moment left_since befores afters w =
     IsTrue tells → LeaveSuch moment left_since (λ at file. IsOfTheWay routers w at file) befores afters

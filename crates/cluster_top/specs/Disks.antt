@@ -11,7 +11,7 @@ abbrev pub SomeFile : List (List ℕ) → Type 0
 SomeFile [] = ⊥
 SomeFile (file ∷ files) = (file ≢ []) ⊎ SomeFile files
 
--- the file is empty, where it is told
+-- the file is empty, where it is observable
 abbrev pub IsEmpty : Bool → List ℕ → Type 0
 IsEmpty tells file = IsTrue tells → file ≡ []
 

@@ -10,7 +10,7 @@ use Rattle.sim_driver.specs.Simulations.{IsSimulated, all_printed}
 use Rattle.cluster_top.specs.declared.arguments.Command.{Command}
 use Rattle.cluster_top.specs.declared.arguments.Command.TheVariants.{Pipe, Sim}
 
--- one connection was served, or a script was played, of which no rest is told
+-- one connection was served, or a script was played, for which no rest is returned
 abbrev pub IsDriven : Command → SourceCall → SinkCall → (ℕ → Type 0) → (List Held → Type 0) → (World → Type 0) → (World → List ℕ → Type 0) → Status
     → (rest : ℕ) → Type 0
 IsDriven Pipe source sink gives kept leaves owed status rest = IsPiped source sink gives first_router kept leaves owed 1 most_taken status rest

@@ -18,9 +18,9 @@ abbrev pub MakesOneHistory : World → Type 0
 MakesOneHistory end = OneHistory end.given (creations_kept (journal_at end.nodes 0)) (entries_kept (journal_at end.nodes first_shard)) end.asked end.answered
 
 -- The bytes taken are requests and a rest, and the bytes put are the replies of a run of the nodes with one router, by the schedule, whose journals
--- the disks keep. Whatever clients send, what the catalogue and the shard keep then is one legal history of an unsharded collection with each
--- statement at most once, of which each reply is a right one. `tells` is whether the disks tell their files; `leaves` says what a crash at any
--- moment of the call left, of the world up to which the run may go on; and `owed` that each byte was put only after what it says was durable.
+-- the disks store. For all inputs, what the catalogue and the shard store then is one legal history of an unsharded collection with each
+-- statement at most once, in which each reply is a right one. `tells` is whether the files of the disks are observable; `leaves` gives the files after a
+-- crash at any moment of the call, of the world up to which the run may proceed; and `owed` says that each byte was put only after what it says was durable.
 pub record Headline (source : SourceCall) (sink : SinkCall) (tells : Bool) (files : List (List ℕ)) (leaves : World → Type 0)
     (owed : World → List ℕ → Type 0) (gives : ℕ → Type 0) (status : Status) (rest : ℕ) : Type 0 where
   pub piped : IsPiped source sink gives first_router (λ nodes. IsTrue tells → AreJournals files nodes) leaves owed 1 most_taken status rest

@@ -9,7 +9,7 @@ use Rattle.node_model.specs.Tables.{first_shard}
 use Rattle.node_model.specs.World.{Held, journal_at}
 use Rattle.node_traits.specs.Effects.{AreSound, spellings}
 
--- an opening of the file finds the spelling of each record that is kept, and nothing else
+-- an opening of the file finds the encoding of each record that is stored, and nothing else
 pub record IsJournal (file : List ℕ) (kept : List Kept) : Type 0 where
   pub stands : Stands file (spellings kept)
   pub sound : AreSound kept

@@ -11,7 +11,7 @@ use Rattle.cluster_top.specs.Stops.{StopsOpening}
 use Rattle.cluster_top.specs.declared.status.Status.{Status}
 use Rattle.cluster_top.specs.declared.status.Status.TheVariants as statuses
 
--- what the type of the disks tells of one
+-- what the type of the disks says of one
 pub record DiskFacts (D : Type 0) : Type 1 where
   pub tells : Bool
   pub content : D → List ℕ
@@ -79,11 +79,11 @@ pub record HasStopped {D : Type 0} (facts : DiskFacts D) (status : Status) (befo
   pub opened : InPairs (IsOpened facts) done journals
   pub unopened : IsUnopened facts status disk back
 
--- The journals were not opened, with this status: there was no memory for the list of them, and no disk was touched; or one was not opened.
+-- The journals were not opened, with this status: memory ran out for the list of them, and no disk was touched; or one was not opened.
 abbrev pub AreUnopened : {D : Type 0} → DiskFacts D → Status → (before after : List D) → Type 0
 AreUnopened facts status before after = ((status ≡ statuses.OutOfMemory) × (after ≡ before)) ⊎ HasStopped facts status before after
 
--- So far the disks before these were opened, in order; or one was not, with this status, and those after it are left alone.
+-- The disks before these were opened, in order; or one was not, with this status, and those after it are left alone.
 pub data AreOpenedUpTo {D : Type 0} (facts : DiskFacts D) (disks left : List D) : Option Status → List (JournalView D) → (unopened : List D) → Type 0 where
   opened_so_far : (done : List D) (journals : List (JournalView D)) → disks ≡ done ++ left → InPairs (IsOpened facts) done journals
       → AreOpenedUpTo facts disks left None journals []

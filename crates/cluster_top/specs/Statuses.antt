@@ -1,4 +1,4 @@
--- The statuses that a run ends with: their numbers, and the lines that tell of them.
+-- The statuses that a run ends with: their numbers, and their lines.
 use Rattle.std.specs.Prelude.{◌≡◌, ◌==◌, ℕ, List, Option, Some, None, codes, if◌then◌else◌}
 use Rattle.pipe_driver.specs.declared.status.Status as connections
 use Rattle.pipe_driver.specs.declared.status.Status.TheVariants as ended
@@ -32,7 +32,7 @@ with_number number =
     else if number == 10 then Some InputTooLong
     else None
 
--- the line that tells of a status, if it is not that of the end
+-- the line of a status, if it is not that of the end
 abbrev pub line_of : Status → Option (List ℕ)
 line_of InputEnded = None
 line_of BadArguments = Some (codes "cluster: bad words")

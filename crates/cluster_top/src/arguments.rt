@@ -67,8 +67,8 @@ fn value_in(option: &str) -> Option<&str>
     option.strip_prefix("--routers=")
 }
 
-/// The command that the arguments are: `pipe`, or `sim` with one router, or `sim --routers m` or `sim --routers=m` with m routers, from 1 to
-/// 8. It takes no memory. `None` where they are refused: no word, another word, the option with `pipe` or twice, `--`, or a value that is
+/// Returns the command that the arguments are: `pipe`, or `sim` with one router, or `sim --routers m` or `sim --routers=m` with m routers, from 1 to
+/// 8. It takes no memory. Returns `None` where they are refused: no argument, another one, the option with `pipe` or twice, `--`, or a value that is
 /// no number or not in range.
 pub fn read_command(words: &[Text]) -> Option<Command>
     ensures command { result ≡ command_of words.now }

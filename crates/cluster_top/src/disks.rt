@@ -186,7 +186,7 @@ fn open_some<D: Disk>(
     stopped
 }
 
-/// Puts the disks behind those that a vector has, which has room for them.
+/// Appends disks to those that a vector has, which has room for them.
 fn put_behind<D: Drop>(disks: Vec<D>, all: &mut Vec<D>)
     requires { vec_len all.old + vec_len disks ≤ vec_capacity all.old }
     ensures { all.new.items ≡ all.old.items ++ disks.items }
@@ -223,7 +223,7 @@ pub struct Opened<D: Disk> {
     pub back: Vec<D>,
 }
 
-/// Opens the journals on the disks, in order of their nodes. Where one is not opened, or there is no memory, all disks come back, each in its
+/// Opens the journals on the disks, in order of their nodes. Where one is not opened, or memory runs out, all disks are returned, each in its
 /// place.
 pub fn open_all<D: Disk>(alloc: Global, disks: Vec<D>) -> Result<Opened<D>, AllUnopened<D>>
     ensures opened { IfOk result (λ all.

@@ -12,10 +12,10 @@ use router_node::RouterNode;
 use shard_node::ShardNode;
 use std::alloc::Global;
 
-/// New nodes, in order of their numbers: node 0 is the catalogue, node 1 the shard, and the routers follow, so many.
+/// Returns new nodes, in order of their numbers: node 0 is the catalogue, node 1 the shard, and the routers follow, so many.
 ///
 /// # Errors
-/// `Memory` where there is no memory for the list of them.
+/// `Memory` if memory runs out.
 pub fn new_nodes(alloc: Global, routers: u32) -> Result<Vec<AnyNode>, Memory>
     requires { routers ≤ 64 }
     ensures new { IfOk result (λ nodes. AreNew state_of routers nodes.items) }

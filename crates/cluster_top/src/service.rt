@@ -33,7 +33,7 @@ use std::alloc::Global;
 use std::marker::Sync;
 use std::thread::Threads;
 
-/// How it ended: its status, how many of the bytes taken stand after the last whole request, and the disks.
+/// How it ended: its status, how many of the bytes taken come after the last whole request, and the disks.
 #[derive(Drop)]
 pub struct RunEnd<D: Drop> {
     pub status: Status,
@@ -54,8 +54,8 @@ fn untouched<D: Drop>(status: Status, disks: Vec<D>) -> RunEnd<D>
 }
 
 /// Serves one connection, or plays a script, to its end by new nodes, in order of their numbers, each with the disk in its place. All files must be
-/// empty at the start; then they are opened as journals, and what the nodes keep stands in them. `nodes` is an error where there was no memory for
-/// them: then the disks are asked whether they are empty, and the status is `OutOfMemory` if they are.
+/// empty at the start; then they are opened as journals, which store what the nodes write. `nodes` is an error where memory ran out for
+/// them: then the disks are checked for whether they are empty, and the status is `OutOfMemory` if they are.
 pub fn run_nodes<
     R: Threads + Sync,
     N: Node<Request = Request>,

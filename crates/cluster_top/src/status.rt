@@ -21,7 +21,7 @@ pub enum Status {
     DiskFailed,
     /// A journal was not empty at the start.
     DamagedJournal,
-    /// There was no memory, or a node was at its last step.
+    /// Out of memory, or a node was at its last step.
     OutOfMemory,
     /// No link could be accepted.
     AcceptFailed,
@@ -84,7 +84,7 @@ impl Status {
         }
     }
 
-    /// The line that tells of the status on standard error, if it is not that of the end.
+    /// Returns the line of the status on standard error, if it is not that of the end.
     pub fn line(self) -> Option<&'static str>
         ensures { option_map (λ line. line.now) result ≡ line_of self }
     {

@@ -27,7 +27,7 @@ use std::alloc::Global;
 use std::sync::Wait;
 use std::thread::Threads;
 
-/// What a call leaves: the number of its status, how many of the bytes taken stand after the last whole request, the disks in order of
+/// The result of a call: the number of its status, how many of the bytes taken come after the last whole request, the disks in order of
 /// their nodes, and what was said on each link.
 #[derive(Drop)]
 pub struct Ended<D: Drop, L: Drop> {
@@ -38,7 +38,7 @@ pub struct Ended<D: Drop, L: Drop> {
 }
 
 /// Runs the cluster as the arguments say: with `pipe` one connection from `input` to `out` is served to its end, with `sim` the script in `input`
-/// is played to its end, by one router or by as many as `--routers` says. What the requests leave stands on the disks, one for each node, whose
+/// is played to its end, by one router or by as many as `--routers` says. What the requests change is stored on the disks, one for each node, whose
 /// files must be empty at the start. The acceptor and the gate are not used. `Status` has the statuses; with 2 and 6 nothing was taken or put, and with 10
 /// 2^40 bytes were taken.
 pub fn run<R, S, K, A, D, C, G>(
@@ -84,8 +84,8 @@ where
     ensures none_fell { NoneFell (map D.fault_count disks.items) (map D.fault_count result.disks.items) }
 
     // The headline: a run of the nodes, by the schedule or as a script says, took these bytes and put these replies, its journals are what the
-    // disks keep, and they tell one legal history, of which each reply is a right one. A crash at any moment of the call left of each disk what
-    // it might have left before, or what the disk's node kept in a world on the way of that run.
+    // disks store, and they form one legal history, in which each reply is a right one. The file of each disk after a crash at any moment of the call is one
+    // that was possible before, or what the disk's node wrote in a world on the way of that run.
     ensures headline { IfSome (command_of words.now) (λ command. IsEmptyAll D.tells (map D.content disks.items) → result.status ≢ 6 →
         OfStatus result.status (λ status. OfConnection status (λ ending. HeadlineOf command
         (source_call S.tells S.left S.fault_count input.old input.new)

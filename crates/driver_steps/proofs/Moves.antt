@@ -34,14 +34,14 @@ module _ {S M : Type 0} (view : S → SeatView) (letter : M → Letter) (seats s
     };
   }
 
-  -- the replies that were given behind a step that was taken or not
+  -- the replies that were given after a step that was taken or not
   given_or_not : (end : World) → MovesOrNot w at i end → (missing : List ToLink) × (puts_given end.answered ≡ (handed ++ old.replies.items) ++ missing)
   given_or_not end (inl same) = ([], ap (λ (x : World). puts_given x.answered) same ∙ (stands.given ∙ sym (append-nil (handed ++ old.replies.items))))
   given_or_not end (inr m) =
       let more = puts_moved w at i end m in
       (more.0, more.1 ∙ ap (λ (l : List ToLink). l ++ more.0) stands.given)
 
-  -- of a step at which a disk failed, the logs keep what they keep before it or behind it
+  -- of a step at which a disk failed, the logs store what they store before it or after it
   step_or_not : (b : IsBroken view seats_after w at i) → (b.end ≡ w) ⊎ (b.end ≡ b.last) → MovesOrNot w at i b.end
   step_or_not b (inl before) = inl before
   step_or_not b (inr behind) = inr (subst (λ (x : World). Moves w at i x) (sym behind) b.moves)
@@ -90,7 +90,7 @@ module _ {S M : Type 0} (view : S → SeatView) (letter : M → Letter) (seats s
         given = more.1;
       }
 
-  -- a step was taken, and replies or messages found no room
+  -- a step was taken, and memory ran out for replies or messages
   pub found_no_room : (mail : List Letter) (replies kept : List ToLink) → HasStepped view seats_after w at i mail replies
       → (missing : List ToLink) × (old.replies.items ++ replies ≡ kept ++ missing) → IsCutShort view seats_after kept handed w at i Memory
   found_no_room mail replies kept h (missing, e) = record {

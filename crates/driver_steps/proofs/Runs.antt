@@ -227,7 +227,7 @@ stopped_behind view seats replies handed u events w P Q fault run all s = record
 
 -- ALL THAT WAITED
 
--- so far
+-- after some of the deliveries
 pub record IsSettling {S : Type 0} (view : S → SeatView) (seats : List S) (network : NetworkView) (handed : List ToLink) (before : World) (next : ℕ) : Type 0 where
   pub events : List Event
   pub end : World
@@ -476,7 +476,7 @@ module _ (P : World → (next : ℕ) → Type 0) (there : (v : World) (n : ℕ) 
 
 -- HANDING ON
 
--- the replies were handed on behind the others
+-- the replies were appended to the others
 pub handed_on : {S M : Type 0} (view : S → SeatView) (letter : M → Letter) (seats : List S) (handed : List ToLink) (w : World) (next : ℕ) (old new : Network M)
     → StandsFor view seats (network_view letter old) handed w next → new.waiting.items ≡ old.waiting.items → new.replies.items ≡ []
     → StandsFor view seats (network_view letter new) (handed ++ old.replies.items) w next

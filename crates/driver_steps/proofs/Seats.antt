@@ -41,7 +41,7 @@ module _ {S : Type 0} (view : S → SeatView) where
   held_set (x ∷ seats) (g ∷ held) zero s h are is = (is, are.1)
   held_set (x ∷ seats) (g ∷ held) (suc at) s h are is = (are.0, held_set seats held at s h are.1 is)
 
-  -- the node that stands there still is what it was
+  -- the node at that place is still what it was
   pub held_still : (seats : List S) (held : List Held) (at : ℕ) (s : S) (h : Held) → AreHeld view seats held → slice_get held at ≡ Some h
       → IsHeld (view s) h → AreHeld view (slice_set seats at s) held
   held_still [] held at s h are got is = are

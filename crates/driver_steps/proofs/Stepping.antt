@@ -44,7 +44,7 @@ sound_append : (kept more : List Kept) → AreSound kept → AreSound more → A
 sound_append [] more all rest = rest
 sound_append (k ∷ kept) more all rest = (all.0, sound_append kept more all.1 rest)
 
--- what is put behind a step
+-- what is put after a step
 pub puts_moved : (w : World) (at : ℕ) (i : Input) (v : World) → Moves w at i v → (more : List ToLink) ×
     (puts_given v.answered ≡ puts_given w.answered ++ more)
 puts_moved w at i v m = (

@@ -56,6 +56,6 @@ abbrev pub LeavesSinceNotes : {L : Type 0} → LogFacts L → List Noted → L �
 LeavesSinceNotes facts noted new at w =
     (k : ℕ) (n : Noted) (moment : ℕ) → slice_get noted k ≡ Some n → slice_get n.moments at ≡ Some moment → LeavesNoLess facts n.world moment new at w
 
--- both, of a log whose type tells its records
+-- both, of a log whose records are observable
 abbrev pub leaves_kept : {L : Type 0} → LogFacts L → Since L → L → ℕ → World → Type 0
 leaves_kept facts since new at w = IsTrue facts.tells → LeavesSinceStart facts since new at w × LeavesSinceNotes facts since.noted new at w

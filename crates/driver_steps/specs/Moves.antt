@@ -1,4 +1,4 @@
--- What calls of a driver do to the world that stands for it (own).
+-- What calls of a driver do to the world that models it (own).
 use Rattle.std.specs.Prelude.{◌≡◌, ◌⊎◌, ℕ, ◌+◌, ◌≤◌, Some, List, [], ◌∷◌, ◌++◌, length}
 use Rattle.std.specs.List.{slice_get, AllByRecursion}
 use Rattle.node_model.specs.Letters.{Letter, Input}
@@ -27,7 +27,7 @@ pub record HasStepped {S : Type 0} (view : S → SeatView) (seats : List S) (bef
 abbrev pub MovesOrNot : World → (at : ℕ) → Input → World → Type 0
 MovesOrNot before at i end = (end ≡ before) ⊎ Moves before at i end
 
--- A disk failed in the step: the logs keep what they keep behind it (`last`), or before it. A crash meanwhile may have left either.
+-- A disk failed in the step: the logs store what they store after it (`last`), or before it. A crash meanwhile may have left either.
 pub record IsBroken {S : Type 0} (view : S → SeatView) (seats : List S) (before : World) (at : ℕ) (i : Input) : Type 0 where
   pub end : World
   pub last : World
@@ -47,7 +47,7 @@ pub record HasMoved {S : Type 0} (view : S → SeatView) (seats : List S) (netwo
 abbrev pub IsUpTo : StepFault → (end last : World) → (more : Type 0) → Type 0
 IsUpTo fault end last more = ByStepFault fault (λ faults. (last ≡ end) ⊎ more) (last ≡ end)
 
--- A fault came in the step, or messages or replies found no room: replies may be missing, and of what waits nothing is said.
+-- A fault came in the step, or memory ran out for messages or replies: replies may be missing, and of what waits nothing is said.
 pub record IsCutShort {S : Type 0} (view : S → SeatView) (seats : List S) (replies handed : List ToLink) (before : World) (at : ℕ) (i : Input)
     (fault : StepFault) : Type 0 where
   pub end : World

@@ -12,7 +12,7 @@ use Rattle.node_traits.specs.declared.outputs.StepFault.{StepFault}
 use Rattle.driver_steps.specs.Crashes.{Since, leaves_kept}
 use Rattle.driver_steps.specs.declared.seat.Seat.{Seat}
 
--- What is told of a node with its log: its state; whether the log's type tells its records, and these; whether an opening of the log
+-- What contracts see of a node with its log: its state; whether the log's records are observable, and these; whether an opening of the log
 -- would find a list; and what is said of crashes, at a place among the nodes of a world.
 pub record SeatView : Type 1 where
   pub state : NodeState

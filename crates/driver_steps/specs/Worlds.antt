@@ -1,4 +1,4 @@
--- The world that nodes, logs, messages and replies stand for (own).
+-- The world that models nodes, logs, messages and replies (own).
 use Rattle.std.specs.Prelude.{◌≡◌, ℕ, List, [], ◌∷◌, ◌++◌, length, map, if◌then◌else◌}
 use Rattle.node_model.specs.Exchanges.{Answered, reply_put}
 use Rattle.node_model.specs.Letters.{Letter}
@@ -22,7 +22,7 @@ abbrev pub network_view : {M : Type 0} → (M → Letter) → Network M → Netw
 network_view letter network = record { waiting = map letter network.waiting.items; replies = network.replies.items }
 
 -- The nodes with their logs are those of the world, also as for crashes; of all messages that were sent those from a place on wait; and
--- the replies were given behind those that were handed on.
+-- the replies were given after those that were handed on.
 pub record StandsFor {S : Type 0} (view : S → SeatView) (seats : List S) (network : NetworkView) (handed : List ToLink) (w : World) (next : ℕ) : Type 0 where
   pub nodes : AreHeld view seats w.nodes
   pub crashes : LeaveKept view seats w

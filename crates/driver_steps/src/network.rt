@@ -16,7 +16,7 @@ pub struct Network<M> {
     pub replies: Vec<ToLink>,
 }
 
-/// Puts messages behind others, in order. After an `Err` some may stand there.
+/// Appends messages to others, in order. After an `Err` some may have been appended.
 fn put_behind<M: Drop>(mail: MailList<M>, waiting: &mut VecDeque<M>) -> Result<(), Memory>
     ensures { OnOk result (waiting.new.items ≡ waiting.old.items ++ mail) }
 {

@@ -15,7 +15,7 @@ use crate::steps::happen;
 use node_traits::{Node, StepFault};
 use outside::log::Log;
 
-/// Tells each node that it was opened, in order of their numbers.
+/// Reports to each node that it was opened, in order of their numbers.
 ///
 /// # Errors
 /// The first fault, as `happen` has it.

@@ -52,10 +52,10 @@ pub fn step_node<N: Node, L: Log>(
     }
 }
 
-/// The node at a place takes a step on the input; what it gives out is taken in.
+/// The node at a place takes a step on the input; what it sends and returns is queued.
 ///
 /// # Errors
-/// The fault of the step, or `StepFault::Memory` where its messages or replies found no room.
+/// The fault of the step, or `StepFault::Memory` where memory runs out for its messages or replies.
 pub fn happen<N: Node, L: Log>(
     seats: &mut Vec<Seat<N, L>>,
     network: &mut Network<N::Mail>,

@@ -10,7 +10,7 @@ journal_here [] at old new here = absurd (cc)
 journal_here (h ∷ nodes) zero old new here = refl
 journal_here (h ∷ nodes) (suc at) old new here = journal_here nodes at old new here
 
--- and of a node that stands there
+-- and of the node at that place
 pub journal_got : (nodes : List Held) (at : ℕ) (old : Held) → slice_get nodes at ≡ Some old → journal_at nodes at ≡ old.kept
 journal_got [] at old here = absurd (cc)
 journal_got (h ∷ nodes) zero old here = let same : h ≡ old = cc in ap (λ (x : Held). x.kept) same

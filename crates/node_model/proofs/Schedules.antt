@@ -3,7 +3,7 @@ use Rattle.std.proofs.Common.{ℕ, ◌+◌, List, [], ◌∷◌, ◌++◌, lengt
 use Rattle.node_model.specs.World.{World, Event, client_event, deliver_event, Happens, Run, stands, goes, start}
 use Rattle.node_model.specs.Schedule.{moments_given, Delivers, delivers_none, delivers_next, Round, Pipes, opens, serves}
 
--- one run behind another
+-- one run after another
 pub run_then : (u : World) (es : List Event) (v : World) (fs : List Event) (w : World) → Run u es v → Run v fs w → Run u (es ++ fs) w
 run_then _ _ _ fs w (stands u) more = more
 run_then _ _ _ fs w (goes u v x e es h run) more = goes u v w e (es ++ fs) h (run_then v es x fs w run more)

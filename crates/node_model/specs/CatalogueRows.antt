@@ -31,7 +31,7 @@ pub data CatalogueRow : Catalogue → Input → Effect → Catalogue → Type 0 
       → CatalogueRow c (letter_input m)
       (writes (kept_creation (begun_at namespace (heard c m + 1)) ∷ []) (told c m (heard c m + 1) namespace true at (Some (first_table (begun_at namespace (heard c m + 1)))) ∷ []))
       (record { me = c.me; time = heard c m + 1; tables = c.tables ++ first_table (begun_at namespace (heard c m + 1)) ∷ [] })
-  -- what table there is is told
+  -- sends the table that there is, if there is one
   catalogue_tell : (c : Catalogue) (m : Letter) (namespace : List ℕ) (create : Bool) (at : At) → m.body ≡ table_ask namespace create at → (create ≡ false) ⊎ IsSome (table_of namespace c.tables)
       → CatalogueRow c (letter_input m) (sends (told c m (heard c m) namespace create at (table_of namespace c.tables) ∷ [])) (record { me = c.me; time = heard c m; tables = c.tables })
   -- a message of another kind has no effect

@@ -1,4 +1,4 @@
--- What nodes tell each other, and what a node takes and gives in one step. Nodes are numbered: the catalogue is 0, shards and then
+-- What nodes send each other, and what a node takes and returns in one step. Nodes are numbered: the catalogue is 0, shards and then
 -- routers follow.
 use Rattle.std.specs.Prelude.{ℕ, ℤ, List, [], ◌∷◌, ◌++◌, Bool, Option, Result}
 use Rattle.reply_model.specs.Tree.{Fields}
@@ -74,7 +74,7 @@ pub record Taken : Type 0 where
   pub moment : ℕ
   pub request : Request
 
--- what a request is told, at which time of the router
+-- what a request is answered with, at which time of the router
 pub record Reply : Type 0 where
   pub id : RequestId
   pub link : ℕ
@@ -83,8 +83,8 @@ pub record Reply : Type 0 where
   pub time : ℕ
   pub document : Fields
 
--- What a step leaves beside the node: what it wrote in the journal, the messages that it sent, the requests that it took, and what it
--- told.
+-- What a step results in beside the node: what it wrote in the journal, the messages that it sent, the requests that it took, and its
+-- replies.
 pub record Effect : Type 0 where
   pub written : List Kept
   pub mail : List Letter
@@ -100,6 +100,6 @@ sends mail = record { written = []; mail = mail; taken = []; replies = [] }
 abbrev pub writes : List Kept → List Letter → Effect
 writes written mail = record { written = written; mail = mail; taken = []; replies = [] }
 
--- one effect behind another
+-- one effect after another
 abbrev pub both : Effect → Effect → Effect
 both f g = record { written = f.written ++ g.written; mail = f.mail ++ g.mail; taken = f.taken ++ g.taken; replies = f.replies ++ g.replies }

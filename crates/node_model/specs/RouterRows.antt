@@ -95,7 +95,7 @@ unanswered statements answers = drop (length answers) statements
 abbrev pub says : Router → (to time : ℕ) → Body → Letter
 says r to time body = record { sender = r.me; receiver = to; time = time; body = body }
 
--- the next statements go to the shard that owns the first of them; turn 1 is the only one so far
+-- the next statements go to the shard that owns the first of them; turn 1 is currently the only one
 abbrev pub asks_to_write : Router → ℕ → RequestId → (namespace : List ℕ) → Table → Bool → List Statement → List Letter
 asks_to_write r time id namespace t ordered [] = []
 asks_to_write r time id namespace t ordered (s ∷ statements) = elim (owner_of_statement t s) [
@@ -103,7 +103,7 @@ asks_to_write r time id namespace t ordered (s ∷ statements) = elim (owner_of_
   | Some shard ↦ says r shard time (write_ask id 1 ordered namespace (run_to t shard (s ∷ statements)) (sent_by t shard)) ∷ []
 ]
 
--- so far one shard owns all keys, so that a span goes to the owner of the least key, whatever its ranges and points are
+-- currently one shard owns all keys, so that a span goes to the owner of the least key, whatever its ranges and points are
 abbrev pub owner_of_span : Table → ℕ → List Span → Option ℕ
 owner_of_span t at span = owner_at t null_value at
 
@@ -136,7 +136,7 @@ enough_of (Some t) work = if is_enough t work then Some t else None
 abbrev pub table_for : List Table → (namespace : List ℕ) → Work → Option Table
 table_for tables namespace work = enough_of (table_of namespace tables) work
 
--- the time of every shard is asked: so far there is one
+-- requests the time of every shard: currently there is one
 abbrev pub asks_times : Router → ℕ → RequestId → List Letter
 asks_times r time id = says r first_shard time (time_ask id) ∷ []
 
@@ -174,13 +174,13 @@ opened_request r link number request namespace work = record { count = r.count +
 abbrev pub taken_now : Router → (link : ℕ) → (number : ℤ) → Request → Taken
 taken_now r link number request = record { id = id_of r (r.count + 1); link = link; number = number; time = r.time; moment = r.moment; request = request }
 
--- WHAT IS TOLD
+-- REPLIES
 
--- an open request is told something at a time of the router
+-- an open request gets a reply at a time of the router
 abbrev pub reply_to : Router → ℕ → Open → Answer → Reply
 reply_to r time q answer = record { id = id_of r q.count; link = q.link; number = q.number; request = q.request; time = time; document = answer_document answer }
 
--- the answers with those that are told next, in the order of the statements
+-- the outcomes with those that arrive next, in the order of the statements
 abbrev pub noted : List Done → List Done → List Done
 noted answers [] = answers
 noted answers (d ∷ dones) = if d.index == length answers then noted (answers ++ d ∷ []) dones else noted answers dones
@@ -198,20 +198,20 @@ with_work q wait work = record { count = q.count; link = q.link; number = q.numb
 abbrev pub going_on : Router → ℕ → Open → Work → Open
 going_on r time q work = with_work q (wait_of r time q.namespace work) work
 
--- A TABLE THAT IS TOLD
+-- A TABLE THAT ARRIVES
 
 -- the answer is that to a read of this time
 abbrev pub is_for : At → ℕ → Bool
 is_for no_time at = false
 is_for (at_time told) at = told == at
 
--- what becomes of an open request where a table is told: it stays, and asks the shards where it can go on; or it is told that nothing
--- is there, where it reads at the time of the answer, and no table says who owned that
+-- what becomes of an open request after a table arrives: it waits; or it sends to the shards and proceeds; or it is answered that nothing
+-- is there, where it reads at the time of the table, and no table says who owned that
 pub data Next : Type 0 where
   stays : Open → List Letter → Next
   is_told : Reply → Next
 
--- what is told of a collection that is not there
+-- the reply about a collection that is not there
 abbrev pub empty_answer : Open → ℕ → Telling → Answer
 empty_answer q at (in_batches size single) = first_answer (record { cursor = pos 0; namespace = q.namespace; documents = []; time = at })
 empty_answer q at as_number = count_answer 0 at
@@ -252,7 +252,7 @@ abbrev pub adopted : Option Table → List Table → List Table
 adopted None tables = tables
 adopted (Some t) tables = with_table t tables
 
--- the router after a table was told
+-- the router after a table arrived
 abbrev pub knows : Router → ℕ → List Table → List Open → Router
 knows r time tables requests = record { me = r.me; time = time; life = r.life; begun = r.begun; moment = r.moment; count = r.count; tables = tables; requests = requests; cursors = r.cursors; blocks = r.blocks; gave = r.gave }
 
@@ -268,7 +268,7 @@ asks_again r time q = elim q.wait [
 
 -- THE ROWS
 
--- a message that tells nothing to a router
+-- a message that carries nothing for a router
 abbrev pub TellsNothing : Body → Type 0
 TellsNothing (table_told namespace create at table) = ⊥
 TellsNothing (write_done id dones) = ⊥
@@ -281,22 +281,22 @@ TellsNothing body = Unit {0}
 abbrev pub open_of : Router → RequestId → Option Open
 open_of r id = if same_request id (id_of r id.count) then open_with id.count r.requests else None
 
--- outcomes are news to an open write where they answer more of its statements
+-- outcomes are new to an open write where they answer more of its statements
 abbrev pub AreNoNews : Option Open → List Done → Type 0
 AreNoNews None dones = Unit {0}
 AreNoNews (Some q) dones = elim q.work [ writing kind ordered statements answers ↦ noted answers dones ≡ answers | reading named at stages telling ↦ Unit {0} ]
 
--- rows are news to an open read, of the turn that it is in
+-- rows are new to an open read of the turn that it is in
 abbrev pub IsNoRead : Option Open → (turn : ℕ) → Type 0
 IsNoRead None turn = Unit {0}
 IsNoRead (Some q) turn = elim q.work [ writing kind ordered statements answers ↦ Unit {0} | reading named at stages telling ↦ turn ≢ 1 ]
 
--- a time is news to a read that waits for it
+-- a time is new to a read that waits for it
 abbrev pub IsNotAwaited : Option Open → Type 0
 IsNotAwaited None = Unit {0}
 IsNotAwaited (Some q) = elim q.work [ writing kind ordered statements answers ↦ Unit {0} | reading named at stages telling ↦ q.wait ≢ for_time ]
 
--- a message comes too late for what it tells
+-- a message is late: what it carries changes nothing
 abbrev pub IsLate : Router → Body → Type 0
 IsLate r (write_done id dones) = AreNoNews (open_of r id) dones
 IsLate r (read_rows id turn rows) = IsNoRead (open_of r id) turn
@@ -362,7 +362,7 @@ new_cursor r q at rest = record { router = r.me; life = r.life; number = pos (ne
 abbrev pub batch_of : Open → (at : ℕ) → (cursor : ℤ) → List Fields → Batch
 batch_of q at cursor documents = record { cursor = cursor; namespace = q.namespace; documents = documents; time = at }
 
--- what an open read is told of an outcome, and which cursors there are then
+-- what an open read returns for an outcome, and which cursors there are then
 pub data Tells (r : Router) (q : Open) (at : ℕ) : Telling → Outcome → Answer → Opened → Type 0 where
   tells_overflow : (telling : Telling) → Tells r q at telling overflowed (refusal_answer (without_evidence overflow)) (as_before r)
   tells_excess : (telling : Telling) (documents : List Fields) (n : ℕ) → excess_of_answer documents ≡ Some n
@@ -406,7 +406,7 @@ pub data RouterRow : Router → Input → Effect → Router → Type 0 where
       → RouterRow r (client_input link number request)
       (record { written = []; mail = asks_for r r.time (r.count + 1) namespace work; taken = taken_now r link number request ∷ []; replies = [] })
       (takes r (opened_request r link number request namespace work ∷ []))
-  -- a table is told: a longer one is kept, and what waits for it goes on
+  -- a table arrives: a longer one is stored, and what waits for it proceeds
   router_learn : (r : Router) (m : Letter) (namespace : List ℕ) (create : Bool) (at : At) (table : Option Table) → m.body ≡ table_told namespace create at table
       → RouterRow r (letter_input m)
       (record {
@@ -421,7 +421,7 @@ pub data RouterRow : Router → Input → Effect → Router → Type 0 where
       → open_of r id ≡ Some q → q.work ≡ reading named at stages telling → q.wait ≡ for_time → at ≤ heard r m
       → RouterRow r (letter_input m) (sends (asks_for r (heard r m) q.count q.namespace (reached (heard r m) q.work)))
       (knows r (heard r m) r.tables (replaced (going_on r (heard r m) q (reached (heard r m) q.work)) r.requests))
-  -- every shard told its time, and the time of the read is ahead
+  -- every shard returned its time, and the time of the read is ahead
   router_ahead : (r : Router) (m : Letter) (id : RequestId) (q : Open) (named : Bool) (at : ℕ) (stages : List Stage) (telling : Telling) → m.body ≡ time_told id
       → open_of r id ≡ Some q → q.work ≡ reading named at stages telling → q.wait ≡ for_time → heard r m < at
       → RouterRow r (letter_input m) (answers_now (reply_to r (heard r m) q (refusal_answer (time_ahead (heard r m)))))

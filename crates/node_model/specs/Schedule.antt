@@ -29,7 +29,7 @@ pub record Round : Type 0 where
   pub number : ℤ
   pub request : Request
 
--- the events of a round, where all messages before this place were delivered; behind it none is left
+-- the events of a round, where all messages before this place were delivered; after it none is left
 pub record IsRound (u : World) (next : ℕ) (r : Round) (events : List Event) (w : World) : Type 0 where
   pub given : World
   pub asked : World
@@ -39,7 +39,7 @@ pub record IsRound (u : World) (next : ℕ) (r : Round) (events : List Event) (w
   pub comes : Happens given (client_event r.at r.link r.number r.request) asked
   pub settles : Delivers asked next deliveries w (length w.sent)
 
--- these events, which lead to this world, are those of these rounds, behind the openings; all messages before the place were delivered
+-- these events, which lead to this world, are those of these rounds, after the openings; all messages before the place were delivered
 pub data Pipes (routers : ℕ) : List Round → List Event → World → (next : ℕ) → Type 0 where
   opens : (w : World) → Run (start routers) (openings 0 (length (start routers).nodes)) w → Pipes routers [] (openings 0 (length (start routers).nodes)) w 0
   serves : (rounds : List Round) (r : Round) (before events : List Event) (u w : World) (next : ℕ) → Pipes routers rounds before u next

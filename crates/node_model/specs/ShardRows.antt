@@ -26,7 +26,7 @@ heard s m = max s.time m.time
 abbrev pub at_later : Shard → ℕ → Shard
 at_later s time = record { me = s.me; time = time; tables = s.tables; entries = s.entries; parked = s.parked }
 
--- what a shard tells at a time
+-- what a shard sends at a time
 abbrev pub says : Shard → (to time : ℕ) → Body → Letter
 says s to time body = record { sender = s.me; receiver = to; time = time; body = body }
 
@@ -69,7 +69,7 @@ is_ask a m = elim (ask_in m.body) [ None ↦ false | Some b ↦ same_ask b a ]
 abbrev pub is_parked : Ask → List Letter → Bool
 is_parked a parked = list_any (is_ask a) parked
 
--- the first statement was seen before
+-- the first statement was applied before
 abbrev pub was_seen : Body → List Entry → Bool
 was_seen (write_ask id turn ordered namespace (s ∷ statements) sent) entries = is_some (seen_before s.number entries)
 was_seen body entries = false
@@ -89,17 +89,17 @@ abbrev pub asks_again : Shard → (time : ℕ) → List Letter → List Letter
 asks_again s time [] = []
 asks_again s time (m ∷ parked) = elim (ask_in m.body) [ None ↦ asks_again s time parked | Some a ↦ asks_table s time a.namespace ∷ asks_again s time parked ]
 
--- the table is news: there is none of its collection, or it has seen more changes
+-- the table is new: there is none of its collection, or it has seen more changes
 abbrev pub is_news : Table → Option Table → Bool
 is_news t None = true
 is_news t (Some own) = is_longer t own
 
--- the shard's part of a table that is told, if it is news
+-- the shard's part of a table that arrives, if it is new
 abbrev pub IsNoNews : Option Table → Shard → List ℕ → Type 0
 IsNoNews None s namespace = Unit {0}
 IsNoNews (Some t) s namespace = is_news t (table_of t.namespace s.tables) ≡ false
 
--- A length is told exactly below 2^63; of others a reply shows no more than that they are not below.
+-- A length below 2^63 is returned exactly; of others a reply shows no more than that they are not below.
 abbrev pub IsTold : (length n : ℕ) → Type 0
 IsTold length n = (n ≡ length) ⊎ ((2 ^ 63 ≤ length) × (2 ^ 63 ≤ n))
 
@@ -110,7 +110,7 @@ pub data ShardRow : Shard → Input → Effect → Shard → Type 0 where
       → Serves s.me namespace ordered s.entries (heard s m) statements (d ∷ dones) made last
       → ShardRow s (letter_input m) (writes (map kept_entry made) (says s id.router last (write_done id (d ∷ dones)) ∷ []))
       (record { me = s.me; time = last; tables = s.tables; entries = s.entries ++ made; parked = s.parked })
-  -- statements that were seen before are answered on any table
+  -- statements that were applied before are answered on any table
   shard_repeat : (s : Shard) (m : Letter) (id : RequestId) (turn : ℕ) (ordered : Bool) (namespace : List ℕ) (statements : List Statement) (sent : Sent) (d : Done) (dones : List Done)
       → m.body ≡ write_ask id turn ordered namespace statements sent → verdict_of sent s.me (table_of namespace s.tables) ≢ fits
       → Repeats ordered s.entries statements (d ∷ dones)
@@ -146,10 +146,10 @@ pub data ShardRow : Shard → Input → Effect → Shard → Type 0 where
   shard_overflow : (s : Shard) (m : Letter) (id : RequestId) (turn : ℕ) (namespace : List ℕ) (at : ℕ) (half : Half) (documents : List Fields)
       → m.body ≡ half_ask id turn namespace at half documents → Runs half.stages documents overflowed
       → ShardRow s (letter_input m) (sends (says s id.router (heard s m) (read_rows id turn (Err half_overflow)) ∷ [])) (at_later s (heard s m))
-  -- the time is told
+  -- the time is returned
   shard_time : (s : Shard) (m : Letter) (id : RequestId) → m.body ≡ time_ask id
       → ShardRow s (letter_input m) (sends (says s id.router (heard s m) (time_told id) ∷ [])) (at_later s (heard s m))
-  -- a table that is news is kept, and what waited for it is tried again
+  -- a table that is new is stored, and what waited for it is tried again
   shard_learn : (s : Shard) (m : Letter) (namespace : List ℕ) (create : Bool) (at : At) (t : Table)
       → m.body ≡ table_told namespace create at (Some t) → is_news t (table_of t.namespace s.tables) ≡ true
       → ShardRow s (letter_input m) (writes (kept_table t ∷ []) (tries s (heard s m) (filter (wants_table t.namespace) s.parked)))

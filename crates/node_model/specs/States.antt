@@ -22,15 +22,15 @@ pub record Shard : Type 0 where
   pub entries : List Entry
   pub parked : List Letter
 
--- how what is read is told: in batches, of which the first has so many documents at most, and is the only one where `single`; or as the
+-- how the result of a read is returned: in batches, of which the first has so many documents at most, and is the only one where `single`; or as the
 -- number of documents
 pub data Telling : Type 0 where
   in_batches : (size : ℕ) → (single : Bool) → Telling
   as_number : Telling
 
--- what a request has to do before it is told
+-- what a request has to do before it is answered
 pub data Work : Type 0 where
-  -- the statements of a write of this kind, and what the first of them were told
+  -- the statements of a write of this kind, and the outcomes of the first of them
   writing : WriteKind → (ordered : Bool) → (statements : List Statement) → (answers : List Done) → Work
   -- what stages make of the documents at a time; where none is `named` it is that of the router that reaches this one
   reading : (named : Bool) → (at : ℕ) → List Stage → Telling → Work
@@ -41,7 +41,7 @@ pub data Wait : Type 0 where
   for_table : Wait
   for_shards : Wait
 
--- a request that is not told yet
+-- a request that is not answered yet
 pub record Open : Type 0 where
   pub count : ℕ
   pub link : ℕ

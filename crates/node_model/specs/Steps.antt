@@ -1,4 +1,4 @@
--- One step of a node: a row of its kind; where a router's life did not begin, it begins in front of a request or a moment. A message to
+-- One step of a node: a transition of its kind; where a router's life did not begin, it begins before a request or a moment. A message to
 -- another node has no effect.
 use Rattle.std.specs.Prelude.{◌≡◌, ◌≢◌, ℕ, [], ◌∷◌, false}
 use Rattle.node_model.specs.Letters.{Letter, Input, client_input, letter_input, moment_input, opened_input, Effect, nothing, writes, both}
@@ -20,7 +20,7 @@ IsFor me (client_input link number request) = Unit {0}
 IsFor me (moment_input moment) = Unit {0}
 IsFor me opened_input = Unit {0}
 
--- a life begins in front of these
+-- a life begins before these
 abbrev pub BeginsBefore : Input → Type 0
 BeginsBefore (client_input link number request) = Unit {0}
 BeginsBefore (moment_input moment) = Unit {0}

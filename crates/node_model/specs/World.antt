@@ -64,7 +64,7 @@ pub record Moves (w : World) (at : ℕ) (i : Input) (v : World) : Type 0 where
   pub step : Step old.state i f new
   pub then : v ≡ tick (after (is_given w at i) at old f new)
 
--- a router stands at a place
+-- there is a router at a place
 abbrev pub IsRouter : List Held → ℕ → Type 0
 IsRouter nodes at = (r : Router) × (kept : List Kept) × (slice_get nodes at ≡ Some (record { state = router_state r; kept = kept }))
 
@@ -91,7 +91,7 @@ abbrev pub routers_from : ℕ → ℕ → List Held
 routers_from at zero = []
 routers_from at (suc n) = record { state = router_state (new_router at); kept = [] } ∷ routers_from (at + 1) n
 
--- so far there is one shard, and any number of routers
+-- currently there is one shard, and any number of routers
 abbrev pub start : (routers : ℕ) → World
 start routers = record {
   nodes = record { state = catalogue_state (new_catalogue 0); kept = [] } ∷ record { state = shard_state (new_shard 1); kept = [] } ∷ routers_from 2 routers;

@@ -10,7 +10,7 @@ take_prefix (suc m) zero xs h = absurd (omega arith)
 take_prefix (suc m) (suc n) [] h = refl
 take_prefix (suc m) (suc n) (x ∷ xs) h = ap (λ ys. x ∷ ys) (take_prefix m n xs (omega arith))
 
--- at its front stand the bytes that were taken
+-- at its front are the bytes that were taken
 pub front_taken : (count whole : ℕ) (buf network tail : List ℕ) → count ≤ length buf → count ≤ whole
     → take count (take whole ((buf ++ network) ++ tail)) ≡ take count buf
 front_taken count whole buf network tail fits below =

@@ -92,7 +92,7 @@ module _ {N L : Type 0} (facts : LogFacts L) (seats : List (Seat N L)) (w : Worl
   noted_more tells notes notes' places noted are same more told =
       noted_each notes notes' (more told) tells told noted (subst (λ (p : List (List ℕ)). AreNoted tells notes p noted) (sym same) are)
 
-  -- hosted nodes stand for the world as before
+  -- the world models the hosted nodes as before
   pub note_stands : (state : N → NodeState) (since : Since L) (network : NetworkView) (handed : List ToLink) (next : ℕ) → AreDurable facts seats
       → StandsFor (seat_since state facts since) seats network handed w next
       → StandsFor (seat_since state facts (with_notes since (now_noted ∷ since.noted))) seats network handed w next

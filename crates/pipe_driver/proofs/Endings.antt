@@ -244,7 +244,7 @@ module _ {S : Type 0} (view : S → SeatView) (seats : List S) (source : SourceC
         acknowledged = s.covered;
       }
 
-  -- there was no memory, between two rounds
+  -- memory ran out, between two rounds
   pub ended_full : (network : NetworkView) (replied : ℕ) → status ≡ statuses.OutOfMemory
       → Serving view seats network gives router routers sink.tells noted sink.held_before sink.held_after consumed replied
       → Took source.tells source.left_before (consumed ++ rest) source.left_after → length consumed + length rest ≤ limit
@@ -301,7 +301,7 @@ pub taking_stops : (tells : Bool) (left : List ℕ) (status : Status) → EndsTa
 taking_stops tells left status (at_source_end at_end) = (λ e. cc, λ e. cc)
 taking_stops tells left status at_read_fault = (λ e. cc, λ e. cc)
 
--- told otherwise of what the journals keep
+-- the same with another view of what the journals store
 pub piped_with : (source : SourceCall) (sink : SinkCall) (gives : ℕ → Type 0) (router : ℕ) (kept plain : List Held → Type 0) (leaves leaves' : World → Type 0)
     (owed owed' : World → List ℕ → Type 0) (routers limit : ℕ) (status : Status) (rest : ℕ)
     → IsPiped source sink gives router kept leaves owed routers limit status rest

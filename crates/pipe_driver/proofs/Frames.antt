@@ -17,11 +17,11 @@ all_more P (y ∷ xs) x all one = (all.0, all_more P xs x all.1 one)
 abbrev pub bytes_of : List Request → List ℕ
 bytes_of requests = flat_map (λ (r : Request). r.bytes) requests
 
--- a request stands first in its bytes, whatever stands behind them
+-- a request is first in its bytes, whatever comes after them
 pub stands_first : (r : Request) (behind : List ℕ) → IsRequest r → IsFirst (r.bytes ++ behind) r behind
 stands_first r behind is = record { whole = whole_stays r.bytes behind (length r.bytes) (spelled_outline r is); split = refl; reads = is }
 
--- requests in front of bytes that are read so
+-- requests before bytes that are read so
 pub frames_behind : (place : ℕ) (requests : List Request) (bytes : List ℕ) (more : List Request) (rest : List ℕ) (fault : Option (FrameFault × ℕ))
     → AllByRecursion IsRequest requests → FramesFrom (place + length (bytes_of requests)) bytes more rest fault
     → FramesFrom place (bytes_of requests ++ bytes) (requests ++ more) rest fault

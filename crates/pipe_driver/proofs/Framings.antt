@@ -31,7 +31,7 @@ same_bytes old new same = ap (λ (f : FramerView). f.bytes) same
 pub still_partial : (old new : FramerView) → new ≡ old → outline old.bytes ≡ partial_outline → outline new.bytes ≡ partial_outline
 still_partial old new same partial = ap (λ (b : List ℕ). outline b) (same_bytes old new same) ∙ partial
 
--- a fault that is told for the first time stands at the beginning of the bytes
+-- a fault that is reported for the first time is at the beginning of the bytes
 pub told_malformed : (old new : FramerView) (fault : FrameFault) (place : ℕ) → old.fault ≡ None → Told old new fault place → IsMalformed new.bytes
 told_malformed old new fault place none told = by_cause told.cause
   where

@@ -1,4 +1,4 @@
--- Openings: nothing is told in them, and what stands behind them.
+-- Openings: nothing is replied in them, and what comes after them.
 use Rattle.std.proofs.Common.{◌≡◌, ℕ, zero, suc, ◌+◌, List, [], ◌∷◌, ◌++◌, map, refl, sym, ap, subst, ◌∙◌, append-nil}
 use Rattle.std.specs.List.{AllByRecursion}
 use Rattle.node_model.specs.Letters.{Letter, opened_input, Effect, Reply}
@@ -15,7 +15,7 @@ use Rattle.driver_steps.specs.declared.network.Network.{Network}
 use Rattle.driver_steps.specs.Seats.{SeatView, AreHeld, LeaveKept}
 use Rattle.driver_steps.specs.Worlds.{StandsFor, network_view, puts_given}
 
--- NOTHING IS TOLD
+-- NOTHING IS REPLIED
 
 opened_tells : (s : NodeState) (f : Effect) (t : NodeState) → Step s opened_input f t → f.replies ≡ []
 opened_tells _ _ _ (catalogue_step _ _ _ _ own (catalogue_opened c)) = refl

@@ -20,7 +20,7 @@ put_nothing tells held told = sym (append-nil held)
 pub put_no_more : (tells : Bool) (held bytes held' held'' : List ℕ) → Put tells held bytes held' → Put tells held' [] held'' → Put tells held bytes held''
 put_no_more tells held bytes held' held'' put none told = none told ∙ (append-nil held' ∙ put told)
 
--- behind bytes that were put
+-- after bytes that were put
 pub part_behind : (tells : Bool) (held bytes held' more held'' : List ℕ) → Put tells held bytes held' → PutInPart tells held' more held''
     → PutInPart tells held (bytes ++ more) held''
 part_behind tells held bytes held' more held'' put (part, (others, is), puts) =
@@ -34,7 +34,7 @@ part_before tells held piece more held' (part, (others, is), puts) =
 pub bytes_then : (a b : List ToLink) → bytes_of (a ++ b) ≡ bytes_of a ++ bytes_of b
 bytes_then a b = flat_map-append (λ (t : ToLink). t.bytes) a b
 
--- WHILE REPLIES ARE PUT: what is left to put, put behind what was put, is all
+-- WHILE REPLIES ARE PUT: what is left to put, put after what was put, is all
 
 abbrev pub PutsRest : Bool → (held_before held : List ℕ) → (all rest : List ToLink) → Type 0
 PutsRest tells held_before held all rest =

@@ -12,7 +12,7 @@ use Rattle.opmsg_frames.proofs.SomeReading.{some_request}
 use Rattle.opmsg_frames.proofs.WholeMessages.{is_whole}
 use Rattle.pipe_driver.specs.Rest.{Unframed}
 
--- what stands behind the last whole request of the rest stands behind that of all bytes
+-- what comes after the last whole request of the rest comes after that of all bytes
 abbrev pub Leads : List ℕ → List ℕ → Type 0
 Leads bytes rest = (count : ℕ) → Unframed rest count → Unframed bytes count
 
@@ -39,7 +39,7 @@ none_left (Faulty fault) rest e other place = ([], rest, Some (fault_view fault,
 pub message_fits : (n : ℕ) (rest : List ℕ) → message_outline n ≡ outline rest → n ≤ length rest
 message_fits n rest seen = (is_whole n rest (sym seen)).fits
 
--- what stands behind it is shorter than all
+-- what comes after it is shorter than all
 pub rest_shorter : (n : ℕ) (rest : List ℕ) → message_outline n ≡ outline rest → length (take (length rest - n) (drop n rest)) < length rest
 rest_shorter n rest seen =
     let whole = is_whole n rest (sym seen) in

@@ -56,7 +56,7 @@ pub run_stays : (u : World) (es : List Event) (w : World) (at : ℕ) → Run u e
 run_stays _ _ _ at (stands w) is = is
 run_stays _ _ _ at (goes u v w e es h run) is = run_stays v es w at run (happens_stays u v e at h is)
 
--- the connection's router is there behind each round
+-- the connection's router is there after each round
 pub router_there : (routers router : ℕ) (rounds : List Round) (events : List Event) (w : World) (next : ℕ) → IsRouter (start routers).nodes router
     → Pipes routers rounds events w next → IsRouter w.nodes router
 router_there routers router rounds events w next there pipes =

@@ -38,7 +38,7 @@ pub record IsAcknowledged {D : Type 0} (finds : List ℕ → List (List ℕ) →
   pub each : (at : ℕ) (disk : D) → slice_get disks at ≡ Some disk
       → IsNotedBefore finds place moment left_since notes (length held_before + offset) given last at disk
 
--- so is each byte, where the sink tells its bytes and the disks tell their files
+-- so is each byte, where the bytes of the sink and the files of the disks are observable
 abbrev pub AreAcknowledged : {D : Type 0} → (tells_bytes tells_files : Bool) → (List ℕ → List (List ℕ) → Type 0) → (D → List ℕ) → (D → ℕ)
     → (D → ℕ → Outcomes) → (World → List ℕ → Type 0) → World → List Note → List ℕ → List D → World → List ℕ → Type 0
 AreAcknowledged tells_bytes tells_files finds place moment left_since output start notes held_before disks last put =

@@ -1,4 +1,4 @@
--- What stands in a piece after taking.
+-- What a piece has after taking.
 use Rattle.std.specs.Prelude.{◌≡◌, ℕ, ◌<◌, Bool, IsTrue, List, [], take, Result, Ok, Err}
 use Rattle.outside.specs.Streams.{Took}
 use Rattle.pipe_driver.specs.declared.status.Status.{Status}
@@ -8,7 +8,7 @@ use Rattle.pipe_driver.specs.declared.status.Status.TheVariants as statuses
 abbrev pub piece_room : ℕ
 piece_room = 65536
 
--- so many bytes were taken, and stand at the front of the piece
+-- so many bytes were taken, and are at the front of the piece
 pub record TookBytes (count : ℕ) (piece : List ℕ) (tells : Bool) (left left_after : List ℕ) : Type 0 where
   pub took : Took tells left (take count piece) left_after
   pub some : 0 < count

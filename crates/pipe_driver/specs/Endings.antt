@@ -53,7 +53,7 @@ pub record LastCutShort (routers : ℕ) (put : List ℕ) (requests : List Reques
   pub earlier_put : IsPrefix (bytes_of (puts_given before.answered)) put
   pub in_part : IsPrefix put (bytes_of (puts_given end.answered))
 
--- The causes of a status. `fault` is that of the bytes behind the requests, if there is one, with its offset, and `at_end` whether the input is
+-- The causes of a status. `fault` is that of the bytes after the requests, if there is one, with its offset, and `at_end` whether the input is
 -- at its end.
 pub data Cause (limit : ℕ) (at_end : Type 0) (taken : List ℕ) (fault : Option (FrameFault × ℕ)) (all : Type 0) (some : Type 0) (short : Type 0) : Status
     → Type 0 where
@@ -65,7 +65,7 @@ pub data Cause (limit : ℕ) (at_end : Type 0) (taken : List ℕ) (fault : Optio
   write_failed : short → Cause limit at_end taken fault all some short statuses.WriteFailed
   -- a disk failed
   disk_failed : some → Cause limit at_end taken fault all some short statuses.DiskFailed
-  -- there was no memory
+  -- memory ran out
   no_memory : some → Cause limit at_end taken fault all some short statuses.OutOfMemory
   -- the next bytes are no request
   no_request : IsSome fault → all → Cause limit at_end taken fault all some short statuses.BadInput

@@ -29,7 +29,7 @@ pub record AreAsked (bytes : List ℕ) (requests : List Request) : Type 0 where
 abbrev pub all_replies : World → List ℕ → Type 0
 all_replies w out = out ≡ bytes_of (puts_given w.answered)
 
--- These bytes were served, in whole rounds: nodes, logs and messages are those of the world behind them, and all replies were put.
+-- These bytes were served, in whole rounds: nodes, logs and messages are those of the world after them, and all replies were put.
 pub record Serving {S : Type 0} (view : S → SeatView) (seats : List S) (network : NetworkView) (gives : ℕ → Type 0) (router routers : ℕ) (tells : Bool) (noted : List Noted)
     (held_before held consumed : List ℕ) (replied : ℕ) : Type 0 where
   pub rounds : List Round

@@ -16,16 +16,16 @@ first_link = 0
 abbrev pub requests_of : List Round → List Request
 requests_of rounds = map (λ (r : Round). r.request) rounds
 
--- how many replies there are behind one more request: one with moreToCome gets none
+-- how many replies there are after one more request: one with moreToCome gets none
 abbrev pub replies_after : (more : Bool) → ℕ → ℕ
 replies_after more replied = if more then replied else replied + 1
 
--- and behind requests
+-- and after requests
 abbrev pub replies_behind : ℕ → List Request → ℕ
 replies_behind replied [] = replied
 replies_behind replied (q ∷ requests) = replies_behind (replies_after q.more replied) requests
 
--- the number of the reply that comes behind so many; the first one has 1
+-- the number of the reply that comes after so many; the first one has 1
 abbrev pub number_behind : (replied : ℕ) → ℤ
 number_behind replied = pos ((replied + 1) % 2 ^ 31)
 

@@ -22,7 +22,7 @@ pub data IsPart (count : ℕ) (r : Round) : List Event → Type 0 where
   in_deliveries : (deliveries : List Event) → AreDeliveries deliveries
       → IsPart count r (moments_given 0 count r.moment ++ client_event r.at r.link r.number r.request ∷ deliveries)
 
--- The round happened: nodes and logs, messages and replies are those of the world behind it.
+-- The round happened: nodes and logs, messages and replies are those of the world after it.
 pub record HasServed {S : Type 0} (view : S → SeatView) (seats : List S) (network : NetworkView) (handed : List ToLink) (before : World) (next : ℕ)
     (r : Round) : Type 0 where
   pub events : List Event
@@ -30,7 +30,7 @@ pub record HasServed {S : Type 0} (view : S → SeatView) (seats : List S) (netw
   pub round : IsRound before next r events end
   pub stands : StandsFor view seats network handed end (length end.sent)
 
--- The schedule came to an end of rounds, to the world behind them (`whole`), and then to the last one (`end`), with no request under way, or with one.
+-- The schedule came to an end of rounds, to the world after them (`whole`), and then to the last one (`end`), with no request under way, or with one.
 pub data Came (routers : ℕ) (gives : ℕ → Type 0) (router : ℕ) : (rounds : List Round) → (under_way : List Request) → (whole end : World) → Type 0 where
   -- with the last round
   came_whole : (rounds : List Round) (events : List Event) (w : World) (next : ℕ) → Pipes routers rounds events w next → Came routers gives router rounds [] w w

@@ -1,4 +1,4 @@
--- Where a connection stands after one request, and after those that a framer gives.
+-- How a connection is after one request, and after those that a framer returns.
 use Rattle.std.specs.Prelude.{◌≡◌, ◌≢◌, ◌⊎◌, ℕ, Bool, List, ◌++◌, Result, Ok, Err}
 use Rattle.opmsg_frames.specs.Outline.{FrameFault, outline, partial_outline, faulty_outline}
 use Rattle.node_traits.specs.declared.outputs.StepFault.{StepFault}
@@ -10,7 +10,7 @@ use Rattle.pipe_driver.specs.Progress.{Serving, CutShort, PutShort}
 use Rattle.pipe_driver.specs.declared.status.Status.{Status}
 use Rattle.pipe_driver.specs.declared.status.Status.TheVariants as statuses
 
--- the status of a fault of a step: a node at its last step is told as one without memory
+-- the status of a fault of a step: a node at its last step is reported as out of memory
 abbrev pub status_for : StepFault → Status
 status_for (Disk faults) = statuses.DiskFailed
 status_for Steps = statuses.OutOfMemory

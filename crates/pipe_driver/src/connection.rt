@@ -27,7 +27,7 @@ use std::alloc::Global;
 use std::marker::Sync;
 use std::thread::Threads;
 
-/// How a connection ended: its status, and how many of the bytes taken stand after the last whole request.
+/// How a connection ended: its status, and how many of the bytes taken come after the last whole request.
 #[derive(Clone, Copy, Debug, PartialEq, Eq)]
 pub struct Ending {
     pub status: Status,

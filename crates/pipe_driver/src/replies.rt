@@ -55,7 +55,7 @@ fn put_each<K: Sink>(out: &mut K, replies: &[ToLink]) -> Result<(), Failed>
     Ok(())
 }
 
-/// How many replies there are behind one more request, of which `more` says whether it has moreToCome.
+/// Returns how many replies there are after one more request, of which `more` says whether it has moreToCome.
 pub fn replied_after(more: bool, replied: u64) -> u64
     requires { replied < 2 ^ 63 }
     ensures { result ≡ replies_after more replied }

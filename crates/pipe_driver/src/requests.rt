@@ -29,13 +29,13 @@ use std::alloc::Global;
 use std::marker::Sync;
 use std::thread::Threads;
 
-/// Serves a request in a round at the clock's moment, where so many replies were put before, and puts what the round gives; answers how many
+/// Serves a request in a round at the clock's moment, where so many replies were put before, and puts the replies of the round; returns how many
 /// replies there are then.
 ///
 /// # Errors
 /// - `Status::WriteFailed` if a write of a reply failed.
 /// - `Status::DiskFailed` if a disk failed: no reply of the round was put.
-/// - `Status::OutOfMemory` if there was no memory, or a node was at its last step: no reply of the round was put.
+/// - `Status::OutOfMemory` if memory ran out, or a node was at its last step: no reply of the round was put.
 pub fn answer_one<
     R: Threads + Sync,
     N: Node<Request = Request>,
@@ -90,12 +90,12 @@ pub fn answer_one<
     }
 }
 
-/// Serves the requests that the framer gives, one after another, up to the last that is whole, where so many replies were put before; answers
+/// Serves the requests that the framer returns, one after another, up to the last that is whole, where so many replies were put before; returns
 /// how many there are then.
 ///
 /// # Errors
 /// - `Status::BadInput` if what is left begins with no request; those before it were served.
-/// - `Status::WriteFailed`, `Status::DiskFailed` and `Status::OutOfMemory` as `answer_one`; the last also where the framer has no memory.
+/// - `Status::WriteFailed`, `Status::DiskFailed` and `Status::OutOfMemory` as `answer_one`; the last also if the framer runs out of memory.
 pub fn answer_all<
     R: Threads + Sync,
     N: Node<Request = Request>,

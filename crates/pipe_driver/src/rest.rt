@@ -1,10 +1,10 @@
-//! The rest behind the last whole request.
+//! The rest after the last whole request.
 
 ghost use Rattle.pipe_driver.specs.Rest.{Unframed};
 
 use opmsg_frames::{Outline, outline_of};
 
-/// How many bytes stand behind the last whole request of these bytes.
+/// Returns how many bytes come after the last whole request of these bytes.
 pub fn unframed(bytes: &[u8]) -> usize
     ensures { Unframed bytes.now result }
 {

@@ -16,7 +16,7 @@ pub enum Status {
     WriteFailed,
     /// A call of a disk failed.
     DiskFailed,
-    /// There was no memory, or a node was at its last step.
+    /// Out of memory, or a node was at its last step.
     OutOfMemory,
     /// The next bytes are no request.
     BadInput,

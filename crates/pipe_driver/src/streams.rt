@@ -39,8 +39,8 @@ pub fn new_piece(alloc: Global) -> Result<Vec<u8>, AllocError>
     vec![in alloc; 0; PIECE]
 }
 
-/// Takes at most `room` bytes into the front of the piece, and gives their number. What stood in the piece is written over, and what stands
-/// behind these bytes says nothing.
+/// Takes at most `room` bytes into the front of the piece, and returns their number. What was in the piece is overwritten, and what comes
+/// after these bytes has no meaning.
 ///
 /// # Errors
 /// Nothing was taken then.

@@ -5,7 +5,7 @@ use Rattle.std.specs.Vec.Iter.{into_iter_items, into_iter_len}
 use Rattle.cluster_top.specs.OpenJournals.{AreAllOpen, IsDurable, disks_of}
 use Rattle.cluster_top.proofs.journals.close_all.Given as goal
 
--- the disks so far, and those of the journals that are left
+-- the disks of the journals that were closed, and those of the journals that are left
 abbrev pub invariant-loop-journal : goal.invariant-loop-journal
 invariant-loop-journal g l = record {
   all : l.back.items ++ disks_of (into_iter_items l.journal-iterator) ≡ disks_of l.fn.journals.items;

@@ -4,7 +4,7 @@ use Rattle.std.specs.Vec.Iter.{into_iter_items, into_iter_len}
 use Rattle.cluster_top.specs.Seats.{seats_of}
 use Rattle.cluster_top.proofs.seats.put_in.Given as goal
 
--- the seats so far, and those of the nodes and journals that are left
+-- the seats that were made, and those of the nodes and journals that are left
 abbrev pub invariant-loop-log : goal.invariant-loop-log
 invariant-loop-log g l = record {
   all : l.seats.items ++ seats_of (into_iter_items l.nodes) (into_iter_items l.log-iterator) ≡ seats_of l.fn.nodes.items l.fn.journals.items;

@@ -5,7 +5,7 @@ use Rattle.std.specs.Vec.Iter.{into_iter_items, into_iter_len}
 use Rattle.cluster_top.specs.OpenJournals.{IsDurable}
 use Rattle.cluster_top.proofs.seats.take_disks.Given as goal
 
--- the disks so far, and those of the seats that are left
+-- the disks that were taken, and those of the seats that are left
 abbrev pub invariant-loop-seat : goal.invariant-loop-seat
 invariant-loop-seat g l = record {
   all : l.back.items ++ map (λ s. s.log.disk) (into_iter_items l.seat-iterator) ≡ map (λ s. s.log.disk) l.fn.seats.items;

@@ -139,7 +139,7 @@ returns-in-Ok-open_all-clause-later g c =
 pub returns-in-Ok-open_all-clause-places : goal.returns-in-Ok-open_all-clause-places
 returns-in-Ok-open_all-clause-places g c = c.serve.ensures.places ∙ (opened_places (disk_facts g.D.Disk.tells g.D.Disk.content g.D.Disk.may_leave g.D.Disk.moment g.D.Disk.left_since g.D.Disk.place g.D.Disk.fault_count) c.are_empty.new.disks.items c.in-Ok-open_all.opened.journals.items c.in-Ok-open_all.ensures.opened ∙ c.in-Ok-true.ensures.places)
 
--- there was no memory for the nodes
+-- memory ran out for the nodes
 pub returns-in-Err-nodes-clause-headline : goal.returns-in-Err-nodes-clause-headline
 returns-in-Err-nodes-clause-headline g c = λ asked new empty other.
     rw (c.untouched-in-Err-nodes.ensures.disks, c.untouched-in-Err-nodes.ensures.status)

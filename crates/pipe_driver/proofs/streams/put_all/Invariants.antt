@@ -5,7 +5,7 @@ use Rattle.pipe_driver.proofs.streams.put_all.Given as goal
 abbrev pub decreases-loop-at : goal.decreases-loop-at
 decreases-loop-at g l = length l.piece - l.at
 
--- what stands before the place was put
+-- what comes before the place was put
 abbrev pub invariant-loop-at : goal.invariant-loop-at
 invariant-loop-at g l = record {
   within : l.at ≤ length l.piece;
